@@ -1,0 +1,16 @@
+use Rattle.std.proofs.Common.{◌+◌, ◌-◌, ◌≡◌, ◌≤◌, false, cond, vec_len}
+use Rattle.std.specs.Io.KnownBytes.{prepend_known, IsAtEnd}
+use Rattle.port_edge.proofs.reading.read_rest.Given as goal
+
+abbrev pub invariant-loop-more : goal.invariant-loop-more
+invariant-loop-more g l = record {
+  taken : g.F.Files.rest l.initial.files ≡ prepend_known l.bytes.items (g.F.Files.rest l.files);
+  bound : vec_len l.bytes ≤ l.most;
+  at_end : l.more ≡ false → IsAtEnd (g.F.Files.rest l.files);
+  holds : g.F.Files.holds l.files ≡ g.F.Files.holds l.initial.files;
+  started : g.F.Files.started l.files ≡ g.F.Files.started l.initial.files;
+  faults : g.F.Files.faults l.initial.files ≤ g.F.Files.faults l.files;
+}
+
+abbrev pub decreases-loop-more : goal.decreases-loop-more
+decreases-loop-more g l = l.most - vec_len l.bytes + cond l.more 1 0

@@ -1,0 +1,17 @@
+use Rattle.std.proofs.Common.{ℕ, ◌∙◌, arith, length-take, length-drop}
+use Rattle.port_edge.proofs.SendingLemmas.{front_more, part_front}
+use Rattle.port_edge.proofs.ResultLemmas.{at_err}
+use Rattle.port_edge.proofs.sending.send.Goals as goal
+
+pub returns-in_err-at-clause-part : goal.returns-in_err-at-clause-part
+returns-in_err-at-clause-part g c = at_err c.from_residual.result
+    (part_front _ _ c.loop-at.at c.args.text.now (c.in_err-at.ensures.bytes ∙ c.loop-at.invariant.grew))
+
+pub loop-at-preserved : goal.loop-at-preserved
+loop-at-preserved g c = record {
+  within = omega (arith, c.in_ok-at.ensures.bound, length-take {A = ℕ}, length-drop {A = ℕ});
+  grew = front_more _ _ _ c.args.text.now c.loop-at.at c.in_ok-at.field-0 c.loop-at.invariant.grew c.in_ok-at.ensures.bytes;
+  faults = omega (arith, c.loop-at.invariant.faults, c.write.ensures.cause.later);
+  refusals = omega (arith, c.loop-at.invariant.refusals, c.write.ensures.memory.later);
+  untouched = grind arith;
+}

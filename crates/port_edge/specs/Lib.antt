@@ -1,0 +1,5 @@
+pub mod Ports
+pub mod HonestPorts
+pub mod Sending
+pub mod Reading
+pub mod RealPorts

@@ -1,0 +1,119 @@
+//! Files in memory that never fail: what they lack can only be memory.
+ghost use Rattle.std.specs.Prelude.{◌≡◌, ◌≤◌, Some, length, drop, map, take, string_bytes, position, min, IfOk, IsOk};
+ghost use Rattle.port_edge.specs.Ports.{FailedRaised, Reads};
+ghost use Rattle.port_edge.specs.HonestPorts.{FilesSeen, has_name, held, bytes_at, unread};
+
+use crate::ports::{Files, PortFault};
+use std::alloc::Global;
+use std::marker::Model;
+
+/// Files in memory: a table of names and bytes. They never fail, and tell all their meanings.
+///
+/// A name that isn't in the table holds no bytes. Of two entries with one name the first counts.
+#[derive(Drop)]
+pub struct HonestFiles {
+    alloc: Global,
+    table: Vec<(String, Vec<u8>)>,
+    place: Option<usize>,
+    taken: usize,
+    started: Vec<String>,
+}
+
+impl Model for HonestFiles {
+    ghost Value = { FilesSeen };
+
+    ghost view = { λ files. record {
+      table = files.table.items;
+      rest = drop files.taken (bytes_at files.table.items files.place);
+      started = map string_bytes files.started.items;
+    } };
+
+    ghost invariant = { λ files. files.taken ≤ length (bytes_at files.table.items files.place) };
+}
+
+impl HonestFiles {
+    /// Files that hold what this table says. None is started.
+    pub fn new(alloc: Global, table: Vec<(String, Vec<u8>)>) -> HonestFiles
+        ensures { result ≡ unread table.items }
+    {
+        HonestFiles {
+            alloc,
+            table,
+            place: None,
+            taken: 0,
+            started: Vec::new(alloc),
+        }
+    }
+
+    // What is left of the started entry.
+    fn left(&self) -> &[u8]
+        ensures { result.now ≡ self.now.rest }
+    {
+        &entry_bytes(&self.table, self.place)[self.taken..]
+    }
+}
+
+impl Files for HonestFiles {
+    ghost holds = { λ files. Some (held files.table) };
+
+    ghost rest = { λ files. Some files.rest };
+
+    ghost started = { λ files. Some files.started };
+
+    ghost faults = { λ _. 0 };
+
+    fn start(&mut self, name: &str) -> Result<(), PortFault> {
+        let kept = String::from_str(self.alloc, name)?;
+        self.started.push(kept)?;
+        let place = place_of(&self.table, name);
+        self.place = place;
+        self.taken = 0;
+        Ok(())
+    }
+
+    fn read(&mut self, buf: &mut [u8]) -> Result<usize, PortFault>
+        ensures holds { Some (held self.new.table) ≡ Some (held self.old.table) }
+        ensures started { Some self.new.started ≡ Some self.old.started }
+        ensures empty { length buf.old ≡ 0 → (result ≡ Ok 0) × (self.new ≡ self.old) }
+        ensures bound { IfOk result (λ n. n ≤ length buf.new) }
+        ensures bytes { Reads (Some self.old.rest) (Some self.new.rest) result buf.new }
+        ensures cause { FailedRaised 0 0 result }
+
+        // A read takes no memory, and no file fails.
+        ensures always { IsOk result }
+    {
+        let count = copy_front(self.left(), buf);
+        self.taken += count;
+        Ok(count)
+    }
+}
+
+// The place of the first entry of this name.
+fn place_of(table: &[(String, Vec<u8>)], name: &str) -> Option<usize>
+    ensures { result ≡ position (has_name name.now) table.now }
+{
+    table.iter().position(|entry| entry.0.as_str() == name)
+}
+
+// The bytes of the entry at this place, and none where there is no place.
+fn entry_bytes(table: &[(String, Vec<u8>)], place: Option<usize>) -> &[u8]
+    ensures { result.now ≡ bytes_at table.now place }
+{
+    let Some(place) = place else {
+        return &[];
+    };
+    match table.get(place) {
+        Some(entry) => &entry.1,
+        None => &[],
+    }
+}
+
+// Copies as many of the bytes as the buffer has room for to its front, and answers how many they are.
+fn copy_front(bytes: &[u8], buf: &mut [u8]) -> usize
+    ensures count { result ≡ min (length bytes.now) (length buf.old) }
+    ensures front { take result buf.new ≡ take result bytes.now }
+{
+    let count = bytes.len().min(buf.len());
+    buf[..count].copy_from_slice(&bytes[..count]);
+    count
+}

@@ -1,0 +1,94 @@
+//! The two traits through which the program reads and writes, and the faults that they answer.
+ghost use Rattle.std.specs.Prelude.{◌≡◌, ℕ, ◌<◌, ◌≤◌, List, Option, length, IfOk, OnOk, OnErr, IsErrOf};
+ghost use Rattle.port_edge.specs.Ports.{FailedRaised, RefusalRaised, started_after, Opens, Reads, Writes};
+ghost use Rattle.port_edge.specs.declared.ports.PortFault.TheVariants.{NoMemory};
+
+use std::alloc::{AllocError, AllocFailed};
+
+/// Why a call on a port gave no answer.
+#[derive(Clone, Copy, Debug, PartialEq, Eq)]
+pub enum PortFault {
+    /// The file or the output failed. It comes only where the port's count of faults rose.
+    Failed,
+
+    /// Memory was lacking.
+    NoMemory,
+}
+
+impl From<AllocError> for PortFault {
+    ghost from_gives = { λ _ fault. fault ≡ NoMemory };
+
+    fn from(_error: AllocError) -> PortFault {
+        PortFault::NoMemory
+    }
+}
+
+impl<T: Drop> From<AllocFailed<T>> for PortFault {
+    ghost from_gives = { λ _ fault. fault ≡ NoMemory };
+
+    fn from(_error: AllocFailed<T>) -> PortFault {
+        PortFault::NoMemory
+    }
+}
+
+/// Files that are read by name, one at a time.
+///
+/// Contracts see what each name holds, which no call changes; what is left of the started file; the list of
+/// the names that were started; and a count of faults. The first three are there where an implementation
+/// tells them. A name that isn't there holds no bytes.
+pub trait Files {
+    ghost holds: { Self → Option (List ℕ → List ℕ) };
+
+    ghost rest: { Self → Option (List ℕ) };
+
+    ghost started: { Self → Option (List (List ℕ)) };
+
+    ghost faults: { Self → ℕ };
+
+    /// Starts the file of this name: from here on `read` gives its bytes.
+    ///
+    /// On `Ok` and on `Failed` the list of started names grew by this one. On `NoMemory` all is as before.
+    fn start(&mut self, name: &str) -> Result<(), PortFault>
+        ensures holds { holds self.new ≡ holds self.old }
+        ensures opens { OnOk result (Opens (holds self.old) name.now (rest self.new)) }
+        ensures err { OnErr result (rest self.new ≡ rest self.old) }
+        ensures started { started self.new ≡ started_after (started self.old) name.now result }
+        ensures no_memory { IsErrOf result PortFault.NoMemory → faults self.new ≡ faults self.old }
+        ensures cause { FailedRaised (faults self.old) (faults self.new) result };
+
+    /// Puts the next bytes of the started file at the front of the buffer, and answers how many they are.
+    ///
+    /// An empty buffer changes nothing. For any other buffer 0 comes only at the file's end. After a fault
+    /// all that was left is left still.
+    fn read(&mut self, buf: &mut [u8]) -> Result<usize, PortFault>
+        ensures holds { holds self.new ≡ holds self.old }
+        ensures started { started self.new ≡ started self.old }
+        ensures empty { length buf.old ≡ 0 → (result ≡ Ok 0) × (self.new ≡ self.old) }
+        ensures bound { IfOk result (λ n. n ≤ length buf.new) }
+        ensures bytes { Reads (rest self.old) (rest self.new) result buf.new }
+        ensures cause { FailedRaised (faults self.old) (faults self.new) result };
+}
+
+/// A sink that takes bytes in order.
+///
+/// Contracts see the bytes written so far, where an implementation tells them, a count of faults and a count
+/// of refused memory.
+pub trait Sink {
+    ghost written: { Self → Option (List ℕ) };
+
+    ghost faults: { Self → ℕ };
+
+    ghost refusals: { Self → ℕ };
+
+    /// Writes a front of the piece, and answers of how many bytes.
+    ///
+    /// An empty piece changes nothing. Of any other piece at least one byte is taken. After a fault nothing
+    /// was written.
+    fn write(&mut self, piece: &[u8]) -> Result<usize, PortFault>
+        ensures empty { length piece.now ≡ 0 → (result ≡ Ok 0) × (self.new ≡ self.old) }
+        ensures bound { IfOk result (λ n. n ≤ length piece.now) }
+        ensures progress { IfOk result (λ n. 0 < length piece.now → 0 < n) }
+        ensures bytes { Writes (written self.old) (written self.new) result piece.now }
+        ensures cause { FailedRaised (faults self.old) (faults self.new) result }
+        ensures memory { RefusalRaised (refusals self.old) (refusals self.new) result };
+}
