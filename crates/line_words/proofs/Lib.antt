@@ -1,0 +1,6 @@
+pub mod CommentLemmas
+pub mod CutLemmas
+pub mod DecimalLemmas
+pub mod FeedLemmas
+pub mod LineLemmas
+pub mod WordLemmas

@@ -1,0 +1,5 @@
+pub mod Bytes
+pub mod Decimals
+pub mod LineFaults
+pub mod Lines
+pub mod Words

@@ -1,0 +1,37 @@
+//! Cuts a text into numbered lines and a line into words, and reads decimals.
+//!
+//! It is the lowest layer under every text that is read: nothing here takes memory, and each line
+//! and word is a part of the text that was passed. [`lines`] gives [`Lines`], an iterator that
+//! contracts see as the list of the numbered lines that are left, and [`words`] gives [`Words`],
+//! seen as the list of the words that are left. So a loop `for line in lines(text)` has as its
+//! invariant one equation on that list. [`check_line`] tells the two faults that a line of any
+//! text may have, and [`decimal`] is the one way in which numbers are read.
+//!
+//! The layer above rests on the contract of [`lines`]: it gives `lines_of` of the text, numbered
+//! from 1.
+//!
+//! ```text
+//! for line in lines(b"set in=1\r\nphase 2\n") {
+//!     // line.number is 1, then 2; line.bytes is b"set in=1", then b"phase 2"
+//!     check_line(line.bytes)?;
+//!     for word in words(line.bytes) {
+//!         // b"set", b"in=1"; then b"phase", b"2"
+//!     }
+//! }
+//! ```
+#![tactic(auto)]
+
+mod bytes;
+mod cuts;
+mod decimals;
+mod line_check;
+mod line_cursor;
+#[cfg(test)]
+mod tests;
+mod word_cursor;
+
+pub use cuts::{lines, words};
+pub use decimals::decimal;
+pub use line_check::{LONGEST_LINE, LineFault, check_line, is_comment};
+pub use line_cursor::{Line, Lines};
+pub use word_cursor::Words;
