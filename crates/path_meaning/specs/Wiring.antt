@@ -1,0 +1,45 @@
+-- Graphs: a list of node levels, and a list of places that hold a switch or none.
+-- After Bryant, "A Switch-Level Model and Simulator for MOS Digital Systems", 1984; the numbers of the levels are this project's own.
+use Rattle.std.specs.Prelude.{ℕ, ◌<◌, ◌≤◌, List, length, All, Option, Some, None, slice_index, slice_index_or}
+use Rattle.path_meaning.specs.declared.TheConstants.{INPUT_LEVEL, LEAST_SWITCH_LEVEL, GREATEST_SWITCH_LEVEL}
+use Rattle.path_meaning.specs.declared.switching.Switch.{Switch}
+
+-- levels are the numbers from 1 to that of an input node
+pub record IsLevel (level : ℕ) : Type 0 where
+  pub low : 1 ≤ level
+  pub high : level ≤ INPUT_LEVEL
+
+-- a graph as contracts see it: the level of each node, and what stands at each place
+pub record Wiring : Type 0 where
+  pub levels : List ℕ
+  pub places : List (Option Switch)
+
+-- how many nodes the graph has
+abbrev pub nodes : Wiring → ℕ
+nodes g = length g.levels
+
+-- the level of a node
+abbrev pub level_of : Wiring → ℕ → ℕ
+level_of g node = slice_index g.levels node
+
+-- what stands at a place; past the last place nothing does
+abbrev pub place_at : List (Option Switch) → ℕ → Option Switch
+place_at places place = slice_index_or places place None
+
+-- the switch fits a graph with so many nodes: its level is a switch's, its gate and its ends are nodes
+pub record Fits (count : ℕ) (switch : Switch) : Type 0 where
+  pub low : LEAST_SWITCH_LEVEL ≤ switch.level
+  pub high : switch.level ≤ GREATEST_SWITCH_LEVEL
+  pub gate : switch.gate < count
+  pub a : switch.a < count
+  pub b : switch.b < count
+
+-- an empty place fits any graph
+abbrev pub FitsPlace : ℕ → Option Switch → Type 0
+FitsPlace count None = Unit {0}
+FitsPlace count (Some switch) = Fits count switch
+
+-- each level is a level, and each switch fits
+pub record IsWired (g : Wiring) : Type 0 where
+  pub levels : All IsLevel g.levels
+  pub places : All (FitsPlace (length g.levels)) g.places
