@@ -3,3 +3,5 @@ pub mod Wiring
 pub mod Path
 pub mod Step
 pub mod Laws
+pub mod Room
+pub mod Spread

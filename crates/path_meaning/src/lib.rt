@@ -15,9 +15,17 @@
 //! Analysis of MOS Circuits", 1987.
 #![tactic(auto)]
 
+mod laws;
+mod plain;
+mod spread;
 mod switching;
 mod wiring;
 
+pub use laws::{
+    cycles_can_be_cut, every_node_is_reached, graphs_are_wired, reaches_on, roots_reach_themselves,
+    step_exists, step_is_unique, steps_join, steps_rest,
+};
+pub use plain::{PlainRoom, plain_step, plain_step_into};
 pub use switching::{Switch, SwitchKind, SwitchState, switch_state};
 pub use wiring::Graph;
 

@@ -1,5 +1,5 @@
 ghost use Rattle.std.specs.Prelude.{◌≡◌, ◌<◌, [], ◌∷◌, ◌++◌, length, Some, IfOk, OnErr, slice_set};
-ghost use Rattle.path_meaning.specs.Wiring.{nodes, level_of, place_at, IsLevel, Fits, FitsPlace};
+ghost use Rattle.path_meaning.specs.Wiring.{nodes, level_of, place_at, IsLevel, Fits, FitsPlace, IsWired};
 
 use crate::switching::Switch;
 use std::alloc::{AllocError, Global};
@@ -41,6 +41,16 @@ impl Graph {
         }
     }
 
+    /// An equal graph, its empty places included.
+    pub fn copy(&self, alloc: Global) -> Result<Graph, NoMemory>
+        ensures { IfOk result (λ graph. graph ≡ self.now) }
+    {
+        Ok(Graph {
+            levels: Vec::from_slice(alloc, &self.levels)?,
+            places: Vec::from_slice(alloc, &self.places)?,
+        })
+    }
+
     /// The number of nodes.
     pub fn nodes(&self) -> usize
         ensures { result ≡ nodes self.now }
@@ -53,6 +63,21 @@ impl Graph {
         ensures { result ≡ length self.now.places }
     {
         self.places.len()
+    }
+
+    /// The level of each node.
+    pub(crate) fn levels(&self) -> &[u8]
+        ensures { result.now ≡ self.now.levels }
+    {
+        &self.levels
+    }
+
+    /// What stands at each place.
+    pub(crate) fn switches(&self) -> &[Option<Switch>]
+        ensures value { result.now ≡ self.now.places }
+        ensures wired { IsWired self.now }
+    {
+        &self.places
     }
 
     /// The level of a node, from 1 to 16.

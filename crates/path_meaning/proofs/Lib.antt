@@ -1,0 +1,13 @@
+pub mod PathLemmas
+pub mod TableClosure
+pub mod StrongestPaths
+pub mod ReachedNodes
+pub mod CutCycles
+pub mod JoinedPaths
+pub mod SameSwitchesLemmas
+pub mod JoinedSteps
+pub mod RestingSteps
+pub mod ExistingSteps
+pub mod UniqueSteps
+pub mod SpreadLemmas
+pub mod TableMeaning
