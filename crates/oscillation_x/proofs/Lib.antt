@@ -1,0 +1,5 @@
+pub mod InputNodes
+pub mod KnownStates
+pub mod SettlingLemmas
+pub mod SettlingExists
+pub mod UniqueSettling

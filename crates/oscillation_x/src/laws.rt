@@ -1,0 +1,28 @@
+//! Laws of settling, over all graphs and all states.
+//!
+//! Each function here does nothing: its contract is the law, and its proof proves it. So a law can
+//! be cited like any other contract.
+ghost use Rattle.oscillation_x.specs.Laws.{EveryStateSettles, JoiningStepsMakeX, SettlingIsUnique};
+
+/// Every state of a graph settles, under every limit.
+///
+/// The unit steps end at the limit at the latest, and the joining steps after them end because each
+/// one that changes something makes some storage node X that wasn't. The state has one entry for
+/// each node.
+pub fn every_state_settles()
+    ensures { EveryStateSettles }
+{}
+
+/// A joining step that changes something makes some storage node X that wasn't.
+///
+/// An input node's steady state is its own state, so it never changes. On this one fact rests the
+/// bound of `settle`: no more joining steps change something than there are storage nodes.
+pub fn joining_steps_make_x()
+    ensures { JoiningStepsMakeX }
+{}
+
+/// A state settles in one way alone, so that settling is a function of the graph, the state and the
+/// limit, though it is defined as a relation: any two steppers that fit the graph settle alike.
+pub fn settling_is_unique()
+    ensures { SettlingIsUnique }
+{}

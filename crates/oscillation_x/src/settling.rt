@@ -1,0 +1,99 @@
+//! Settling over any stepper.
+ghost use Rattle.std.specs.Prelude.{◌≡◌, ℕ, ◌+◌, ◌^◌, ◌<◌, ◌≤◌, ◌↔◌, length, IsTrue};
+ghost use Rattle.path_meaning.specs.Wiring.{IsWired};
+ghost use Rattle.oscillation_x.specs.Settling.{Stepping, Joining, Settles, Moving, Fading, Shifts, raised, storage_nodes};
+
+use crate::stepping::Stepper;
+use path_meaning::{Graph, graphs_are_wired};
+use std::sync::ledger::Ledger;
+use ternary::Steps;
+
+/// How a state settled: the number of steps of both kinds that changed something, and whether a
+/// joining step was among them.
+#[derive(Clone, Copy, Debug, PartialEq, Eq)]
+pub struct Settled {
+    pub steps: u64,
+    pub joined: bool,
+}
+
+/// Settles a state: takes unit steps while they change something, at most `limit` that do, and
+/// after that joining steps while they change something.
+///
+/// `limit` is from 1 to 1,000,000. The graph is meant that is handed in; on a stepper that doesn't
+/// fit it the call ends all the same, within the bound by the number of nodes. A joining step that
+/// changes something makes some storage node X that wasn't, so no more of them change something
+/// than the graph has storage nodes. A call takes no memory and has no refusal.
+///
+/// In the manner of MOSSIM II: Bryant, "A Switch-Level Model and Simulator for MOS Digital
+/// Systems", 1984; that a node which moves past the limit is joined with its steady state, and its
+/// readers run again, is this project's choice of how to get X.
+pub fn settle<M: Stepper, L: Ledger>(
+    m: &mut M,
+    graph: &Graph,
+    limit: u64,
+    steps: &mut Steps<L>,
+) -> Settled
+    requires low { 1 ≤ limit }
+    requires high { limit ≤ 1000000 }
+    ensures settles { M.fits m.old graph.now
+        → Settles graph.now (M.state m.old) limit (M.state m.new) result.steps result.joined }
+    ensures fits { M.fits m.old graph.now → M.fits m.new graph.now }
+    ensures shifts { Shifts (M.state m.old) limit (M.state m.new) result.steps result.joined }
+    ensures nodes { length (M.state m.new) ≡ length (M.state m.old) }
+    ensures storage { M.fits m.old graph.now → result.steps ≤ limit + storage_nodes graph.now }
+    ensures bound { result.steps ≤ limit + length (M.state m.old) }
+    ensures moves { M.moves m.new ≡ raised (M.moves m.old) result.steps }
+    ensures placed { M.placed m.new ≡ M.placed m.old }
+{
+    graphs_are_wired(graph);
+    let first = step_while_changing(m, graph, limit, steps);
+    let second = join_while_changing(m, graph, steps);
+    Settled {
+        steps: first + second,
+        joined: second > 0,
+    }
+}
+
+/// Takes unit steps while they change something, at most `limit` that do, and answers how many did.
+fn step_while_changing<M: Stepper, L: Ledger>(
+    m: &mut M,
+    graph: &Graph,
+    limit: u64,
+    steps: &mut Steps<L>,
+) -> u64
+    ensures stepping { M.fits m.old graph.now
+        → Stepping graph.now limit (M.state m.old) result (M.state m.new) }
+    ensures fits { M.fits m.old graph.now → M.fits m.new graph.now }
+    ensures nodes { length (M.state m.new) ≡ length (M.state m.old) }
+    ensures moving { Moving limit (M.state m.old) result (M.state m.new) }
+    ensures moves { M.moves m.new ≡ raised (M.moves m.old) result }
+    ensures placed { M.placed m.new ≡ M.placed m.old }
+{
+    for count in 0..limit {
+        if !m.step(graph, steps) {
+            return count;
+        }
+    }
+    limit
+}
+
+/// Takes joining steps while they change something, and answers how many did.
+fn join_while_changing<M: Stepper, L: Ledger>(m: &mut M, graph: &Graph, steps: &mut Steps<L>) -> u64
+    requires { IsWired graph.now }
+    ensures joining { M.fits m.old graph.now
+        → Joining graph.now (M.state m.old) result (M.state m.new) }
+    ensures fits { M.fits m.old graph.now → M.fits m.new graph.now }
+    ensures nodes { length (M.state m.new) ≡ length (M.state m.old) }
+    ensures storage { M.fits m.old graph.now → result ≤ storage_nodes graph.now }
+    ensures fading { Fading (M.state m.old) result (M.state m.new) }
+    ensures bound { result ≤ length (M.state m.old) }
+    ensures few { result < 2 ^ 63 }
+    ensures moves { M.moves m.new ≡ raised (M.moves m.old) result }
+    ensures placed { M.placed m.new ≡ M.placed m.old }
+{
+    let mut count: u64 = 0;
+    while m.join_step(graph, steps) {
+        count += 1;
+    }
+    count
+}
