@@ -1,0 +1,27 @@
+//! The lines that a run of a script prints, as bytes in a buffer that is made before the run.
+//!
+//! The main type is `LineBuf`: bytes with a number `spare` of bytes that can be added without
+//! memory. The layer above reserves room, which may be refused, before it changes anything. Then it
+//! calls the writers of lines, which can't be refused: each appends exactly its line, and lowers
+//! `spare` by exactly the line's length.
+//!
+//! ```text
+//! wave_line(&mut out, 7, 2, true, &[Tern::One, Tern::Unk])
+//!     appends `7 2* 1X` and LF
+//! fault_line(&mut out, FaultPlace::Script(5), FaultCode::G1GroupNodes, b"s1", 201)
+//!     appends `script line 5: G1 GroupNodes s1 201` and LF
+//! ```
+#![tactic(auto)]
+
+mod faults;
+mod line_buf;
+mod lines;
+#[cfg(test)]
+mod tests;
+
+pub use faults::{FAULT_LINE_ROOM, FaultCode, FaultPlace, fault_line};
+pub use line_buf::LineBuf;
+pub use lines::{
+    EXPECT_LINE_ROOM, MOST_VALUES, REPORT_LINE_ROOM, WAVE_LINE_ROOM, expect_line, report_line,
+    wave_line,
+};

@@ -1,0 +1,125 @@
+ghost use Rattle.std.specs.Prelude.{◌≡◌, ◌+◌, ◌≤◌, ◌++◌, length, map, decimal};
+ghost use Rattle.ternary.specs.Tern.{letter};
+ghost use Rattle.wave_print.specs.Lines.{mark_of, values_of, wave_line_of, report_line_of, expect_line_of};
+
+use crate::line_buf::LineBuf;
+use itoa::Buffer;
+use ternary::Tern;
+
+/// The most values of one waveform line.
+pub const MOST_VALUES: usize = 256;
+
+/// Room for any waveform line of at most `MOST_VALUES` values: two numbers, the mark and the values.
+pub const WAVE_LINE_ROOM: usize = 300;
+
+/// Room for any report line.
+pub const REPORT_LINE_ROOM: usize = 300;
+
+/// Room for any expect line, beyond that for its name.
+pub const EXPECT_LINE_ROOM: usize = 60;
+
+/// The most digits of a number.
+pub(crate) const NUMBER_ROOM: usize = 20;
+
+/// Appends the waveform line `<n> <k><mark> <values>` and LF.
+///
+/// `n` is the line's number, `k` the number of steps that changed something. The mark `*` says that
+/// a joining step changed something. The values are one letter for each state, and `-` where there
+/// is none.
+pub fn wave_line(out: &mut LineBuf, n: u64, k: u64, mark: bool, values: &[Tern])
+    requires count { length values.now ≤ MOST_VALUES }
+    requires room { WAVE_LINE_ROOM ≤ out.old.spare }
+    ensures bytes { out.new.bytes ≡ out.old.bytes ++ wave_line_of n k mark values.now }
+    ensures spare { out.new.spare + length (wave_line_of n k mark values.now) ≡ out.old.spare }
+    ensures short { length (wave_line_of n k mark values.now) ≤ WAVE_LINE_ROOM }
+{
+    append_number(out, n);
+    out.append(b" ");
+    append_number(out, k);
+    append_mark(out, mark);
+    out.append(b" ");
+    append_values(out, values);
+    out.append(b"\n");
+}
+
+/// Appends the report line `groups <groups> texts <texts> new <new>` and LF.
+pub fn report_line(out: &mut LineBuf, groups: u64, texts: u64, new: u64)
+    requires room { REPORT_LINE_ROOM ≤ out.old.spare }
+    ensures bytes { out.new.bytes ≡ out.old.bytes ++ report_line_of groups texts new }
+    ensures spare { out.new.spare + length (report_line_of groups texts new) ≡ out.old.spare }
+    ensures short { length (report_line_of groups texts new) ≤ REPORT_LINE_ROOM }
+{
+    out.append(b"groups ");
+    append_number(out, groups);
+    out.append(b" texts ");
+    append_number(out, texts);
+    out.append(b" new ");
+    append_number(out, new);
+    out.append(b"\n");
+}
+
+/// Appends the line of an `expect` that wasn't met, `expect <name>=<want> got <got> after <n>` and
+/// LF.
+///
+/// `want` is the wanted state and `got` the present one; `n` is the number of waveform lines so far.
+pub fn expect_line(out: &mut LineBuf, name: &[u8], want: Tern, got: Tern, n: u64)
+    requires room { EXPECT_LINE_ROOM + length name.now ≤ out.old.spare }
+    ensures bytes { out.new.bytes ≡ out.old.bytes ++ expect_line_of name.now want got n }
+    ensures spare { out.new.spare + length (expect_line_of name.now want got n) ≡ out.old.spare }
+    ensures short { length (expect_line_of name.now want got n) ≤ EXPECT_LINE_ROOM + length name.now }
+{
+    out.append(b"expect ");
+    out.append(name);
+    out.append(b"=");
+    out.push(want.letter());
+    out.append(b" got ");
+    out.push(got.letter());
+    out.append(b" after ");
+    append_number(out, n);
+    out.append(b"\n");
+}
+
+/// Appends a number as a decimal without leading zeros.
+pub(crate) fn append_number(out: &mut LineBuf, n: u64)
+    requires room { NUMBER_ROOM ≤ out.old.spare }
+    ensures bytes { out.new.bytes ≡ out.old.bytes ++ decimal n }
+    ensures spare { out.new.spare + length (decimal n) ≡ out.old.spare }
+    ensures short { length (decimal n) ≤ NUMBER_ROOM }
+{
+    let mut buffer = Buffer::new();
+    out.append(buffer.format(n).as_bytes());
+}
+
+fn append_mark(out: &mut LineBuf, mark: bool)
+    requires room { 1 ≤ out.old.spare }
+    ensures bytes { out.new.bytes ≡ out.old.bytes ++ mark_of mark }
+    ensures spare { out.new.spare + length (mark_of mark) ≡ out.old.spare }
+    ensures short { length (mark_of mark) ≤ 1 }
+{
+    if mark {
+        out.append(b"*");
+    }
+}
+
+fn append_values(out: &mut LineBuf, values: &[Tern])
+    requires room { 1 + length values.now ≤ out.old.spare }
+    ensures bytes { out.new.bytes ≡ out.old.bytes ++ values_of values.now }
+    ensures spare { out.new.spare + length (values_of values.now) ≡ out.old.spare }
+    ensures short { length (values_of values.now) ≤ 1 + length values.now }
+{
+    if values.is_empty() {
+        out.append(b"-");
+    } else {
+        append_letters(out, values);
+    }
+}
+
+fn append_letters(out: &mut LineBuf, values: &[Tern])
+    requires room { length values.now ≤ out.old.spare }
+    ensures bytes { out.new.bytes ≡ out.old.bytes ++ map letter values.now }
+    ensures spare { out.new.spare + length values.now ≡ out.old.spare }
+{
+    for value in values {
+        out.push(value.letter());
+    }
+}
