@@ -1,0 +1,5 @@
+pub mod ValueLemmas
+pub mod GateLemmas
+pub mod ReachLemmas
+pub mod MadeLemmas
+pub mod WithinLemmas

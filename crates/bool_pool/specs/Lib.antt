@@ -1,0 +1,5 @@
+pub mod Gate
+pub mod Value
+pub mod Reach
+pub mod Made
+pub mod Choice

@@ -1,0 +1,28 @@
+//! Boolean formulas that share their parts.
+//!
+//! The main type is `Pool`, an ordered set of gates. A formula is an `Id`, the place of its gate,
+//! and a gate that is wanted twice is made once. Gates are only added, so each formula keeps its
+//! value and what it reaches.
+//!
+//! The layers above use one contract of `not`, `and` and `or`: for all values of the variables the
+//! answer has the operation's value on its operands' values, it reaches nothing but its own gate
+//! and what its operands reach, and making it takes one step.
+//!
+//! ```text
+//! let h = pool.var(0, steps)?;
+//! let l = pool.var(1, steps)?;
+//! let both = pool.and(h, l, steps)?;
+//! pool.and(l, h, steps)?                        is both, and adds no gate
+//! pool.value(alloc, both, &[true, true])?       is true
+//! pool.value(alloc, both, &[true])?             is false: a variable past the end is false
+//! ```
+//!
+//! Formulas with shared parts are those of Bryant, "Boolean Analysis of MOS Circuits", 1987.
+#![tactic(auto)]
+
+mod choice;
+mod gate;
+mod pool;
+
+pub use gate::{Gate, Id, Rails};
+pub use pool::Pool;
