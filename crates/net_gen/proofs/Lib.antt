@@ -1,0 +1,3 @@
+pub mod DrawsLemmas
+pub mod LinesLemmas
+pub mod FamiliesLemmas
