@@ -1,0 +1,11 @@
+pub mod TurnLemmas
+pub mod BeatLemmas
+pub mod EffectLemmas
+pub mod RunLemmas
+pub mod RequestLemmas
+pub mod EndLemmas
+pub mod CircuitLemmas
+pub mod FileLemmas
+pub mod NameLemmas
+pub mod NetlistLemmas
+pub mod ClockLemmas

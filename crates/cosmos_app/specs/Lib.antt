@@ -1,0 +1,11 @@
+pub mod Statuses
+pub mod Files
+pub mod Circuits
+pub mod Netlist
+pub mod Script
+pub mod Sessions
+pub mod Answers
+pub mod Stops
+pub mod Turns
+pub mod Readings
+pub mod Ends
