@@ -1,0 +1,46 @@
+//! The program: a switch-level simulator for MOS circuits.
+//!
+//! `cosmos sim NET SCRIPT` reads the netlist and the script of these names and obeys the script in
+//! the netlist's circuit, writing a line for each `step`. All other words are answered by the usage
+//! line. The exit status is that of `cosmos_app::run`, whose contract says what is written: 0 where
+//! all went well, 2 for words that are no command line, 3 and 4 for a refused line of the netlist
+//! or of the script, 5 and 6 where reading or writing failed, and 7 for want of memory.
+//!
+//! ```text
+//! cosmos sim inverter.sim inverter.cmd
+//! ```
+#![tactic(auto)]
+
+use cosmos_app::{Status, run};
+use port_edge::{RealFiles, RealSink};
+use std::process::ExitCode;
+use std::{env, io};
+
+fn main(rt: HostRuntime) -> ExitCode {
+    ExitCode::from(status(&rt).code())
+}
+
+// What the words of the command line come to. Words that aren't UTF-8 are no command line.
+fn status(rt: &HostRuntime) -> Status {
+    match words(rt) {
+        Ok(words) => answer(rt, &words),
+        Err(error) if error.kind() == io::ErrorKind::InvalidData => answer(rt, &[]),
+        Err(_) => Status::NoMemory,
+    }
+}
+
+// The words after the program's name.
+fn words(rt: &HostRuntime) -> io::Result<Vec<String>> {
+    let words = env::args(rt)?.skip(1).collect(rt.alloc())?;
+    Ok(words)
+}
+
+// Answers the words over the files of the system and the standard output.
+fn answer(rt: &HostRuntime, words: &[String]) -> Status {
+    run(
+        rt.alloc(),
+        words,
+        &mut RealFiles::new(rt),
+        &mut RealSink::new(rt),
+    )
+}
