@@ -9,3 +9,4 @@ pub mod FileLemmas
 pub mod NameLemmas
 pub mod NetlistLemmas
 pub mod ClockLemmas
+pub mod StartLemmas

@@ -9,3 +9,4 @@ pub mod Stops
 pub mod Turns
 pub mod Readings
 pub mod Ends
+pub mod Starts

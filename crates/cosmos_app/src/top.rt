@@ -7,7 +7,8 @@ ghost use Rattle.cosmos_app.specs.Script.{reading_at};
 ghost use Rattle.cosmos_app.specs.Sessions.{Runs, IsReady};
 ghost use Rattle.cosmos_app.specs.Turns.{TakesTurn};
 ghost use Rattle.cosmos_app.specs.Netlist.{netlist_of};
-ghost use Rattle.cosmos_app.specs.Answers.{IsAnswer, IsAnswered, IsSimulation, names_of};
+ghost use Rattle.cosmos_app.specs.Answers.{IsAnswer, IsAnswered, IsSimulation, names_of, request_of};
+ghost use Rattle.cosmos_app.specs.Starts.{RequestStarts, SimulationStarts, StartsAtMost, StartsFile};
 ghost use Rattle.cosmos_app.specs.Ends.{IsTold, IsRefusal, IsUsage, status_of, status_after};
 
 use crate::MOST_FILE_BYTES;
@@ -46,6 +47,9 @@ pub(crate) enum End {
 pub fn run<F: Files, S: Sink>(alloc: Global, words: &[String], files: &mut F, out: &mut S) -> Status
     ensures answer { IfSome (F.holds files.old) (λ holds. IsAnswered (names_of words.now) holds (S.written out.old) (S.written out.new) result) }
 
+    // The files are started in the order of the words, a later one only where the first has no refusal.
+    ensures started { RequestStarts (request_of (names_of words.now)) (F.holds files.old) (F.started files.old) (F.started files.new) }
+
     // A fault is answered only where the count of faults of its port has risen in this call.
     ensures read { result ≡ Status.ReadFault → Rose (F.faults files.old) (F.faults files.new) }
     ensures write { result ≡ Status.WriteFault → Rose (S.faults out.old) (S.faults out.new) }
@@ -76,6 +80,7 @@ fn answer<F: Files, S: Sink>(
     out: &mut S,
 ) -> Result<End, Stop>
     ensures told { IfSome (F.holds files.old) (λ holds. IsTold (IsAnswer (names_of words.now) holds) (S.written out.old) (S.written out.new) result) }
+    ensures started { RequestStarts (request_of (names_of words.now)) (F.holds files.old) (F.started files.old) (F.started files.new) }
     ensures read { IfErr result (λ stop. stop ≡ Stop.Read → Rose (F.faults files.old) (F.faults files.new)) }
     ensures write { IfErr result (λ stop. stop ≡ Stop.Write → Rose (S.faults out.old) (S.faults out.new)) }
 {
@@ -97,6 +102,7 @@ fn simulate<F: Files, S: Sink>(
     out: &mut S,
 ) -> Result<End, Stop>
     ensures told { IfSome (F.holds files.old) (λ holds. IsTold (IsSimulation (netlist_of (holds net.now)) (holds script.now)) (S.written out.old) (S.written out.new) result) }
+    ensures started { SimulationStarts (F.holds files.old) net.now script.now (F.started files.old) (F.started files.new) }
     ensures read { IfErr result (λ stop. stop ≡ Stop.Read → Rose (F.faults files.old) (F.faults files.new)) }
     ensures write { IfErr result (λ stop. stop ≡ Stop.Write → Rose (S.faults out.old) (S.faults out.new)) }
 {
@@ -124,6 +130,7 @@ fn run_script<F: Files, S: Sink>(
 ) -> Result<End, Stop>
     requires { IsSound circuit }
     ensures told { IfSome (F.holds files.old) (λ holds. IsTold (IsSimulation (Ok circuit) (holds script.now)) (S.written out.old) (S.written out.new) result) }
+    ensures started { StartsAtMost (F.started files.old) (F.started files.new) script.now }
     ensures read { IfErr result (λ stop. stop ≡ Stop.Read → Rose (F.faults files.old) (F.faults files.new)) }
     ensures write { IfErr result (λ stop. stop ≡ Stop.Write → Rose (S.faults out.old) (S.faults out.new)) }
 {
@@ -185,6 +192,7 @@ fn read_file<F: Files>(alloc: Global, files: &mut F, name: &str) -> Result<Vec<u
     ensures bytes { IfOk result (λ text. IfSome (F.holds files.old) (λ holds. text.items ≡ file.front_of (holds name.now))) }
     ensures bound { IfOk result (λ text. vec_len text ≤ MOST_FILE_BYTES + 1) }
     ensures holds { F.holds files.new ≡ F.holds files.old }
+    ensures started { StartsFile (F.started files.old) (F.started files.new) name.now result }
     ensures read { IfErr result (λ stop. stop ≡ Stop.Read → Rose (F.faults files.old) (F.faults files.new)) }
     ensures no_write { IfErr result (λ stop. stop ≢ Stop.Write) }
     ensures later { F.faults files.old ≤ F.faults files.new }

@@ -7,6 +7,7 @@ use Rattle.cosmos_app.specs.declared.stop.Stop.TheVariants.{Memory}
 use Rattle.cosmos_app.proofs.NetlistLemmas.{netlist_of-sound}
 use Rattle.cosmos_app.proofs.EndLemmas.{at_known, told_none}
 use Rattle.cosmos_app.proofs.RunLemmas.{files_answer, told_simulation}
+use Rattle.cosmos_app.proofs.StartLemmas.{starts_script}
 use Rattle.cosmos_app.proofs.top.simulate.Goals as goal
 
 pub returns-in_err-text-clause-told : goal.returns-in_err-text-clause-told
@@ -43,3 +44,9 @@ returns-clause-told g c =
     at_known (g.F.Files.holds c.args.files.now) _
     (λ holds. told_none (IsSimulation (netlist_of (holds net)) (holds script)) (g.S.Sink.written c.args.out.now) (Err Memory) Memory refl
     (files_answer (holds net) (holds script)))
+
+pub returns-in-Ok-clause-started : goal.returns-in-Ok-clause-started
+returns-in-Ok-clause-started g c =
+    starts_script (g.F.Files.holds c.args.files.now) c.args.net.now c.args.script.now c.in_ok-text.text.items c.deref.result.now c.in-Ok.circuit
+    (g.F.Files.started c.args.files.now) (g.F.Files.started c.read_file.new.files) (g.F.Files.started c.run_script.new.files)
+    c.in_ok-text.ensures.bytes c.deref.ensures.value c.in-Ok.ensures c.in_ok-text.ensures.started c.run_script.ensures.started
