@@ -13,11 +13,6 @@ use Rattle.cosmos_app.specs.Sessions.{Answer, after_text}
 use Rattle.cosmos_app.specs.Answers.{IsAnswer, IsAnswered}
 use Rattle.cosmos_app.specs.Ends.{IsTold, Tells, status_after}
 
--- what holds whatever a value is holds of a known one
-pub at_known : {X : Type 0} (known : Option X) (P : X → Type 0) → ((value : X) → P value) → IfSome known P
-at_known None P each = tt
-at_known (Some value) P each = each value
-
 -- where a call stopped before anything was written, any right answer serves
 pub told_none : (IsRight : Answer → Type 0) (known : Option (List ℕ)) (result : Result end.End Stop) (stop : Stop) → result ≡ Err stop
     → (answer : Answer) × IsRight answer → IsTold IsRight known known result

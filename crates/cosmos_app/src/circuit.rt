@@ -1,5 +1,6 @@
 //! The circuit of a netlist: its graph, and the names of its nodes.
 ghost use Rattle.std.specs.Prelude.{◌≡◌, ◌<◌, ◌≤◌, Some, None, IfOk, IfSome, slice_set};
+ghost use Rattle.path_meaning.specs.declared.TheConstants.{LEAST_SWITCH_LEVEL, GREATEST_SWITCH_LEVEL};
 ghost use Rattle.path_meaning.specs.Wiring.{nodes};
 ghost use Rattle.cosmos_app.specs.Circuits.{rails_alone, rail_of, node_of, with_name, with_new_name, with_transistor, AddsOrNot};
 ghost use Rattle.cosmos_app.specs.Readings.{transistor_seen};
@@ -116,8 +117,8 @@ impl Circuit {
     /// Adds a transistor, whose names that are new become storage nodes of size 1, in the order
     /// gate, source, drain. Answers false where that makes too many nodes or too many transistors.
     pub(crate) fn add_transistor(&mut self, transistor: Transistor<'_>) -> Result<bool, NoMemory>
-        requires low { 9 ≤ transistor.level }
-        requires high { transistor.level ≤ 15 }
+        requires low { LEAST_SWITCH_LEVEL ≤ transistor.level }
+        requires high { transistor.level ≤ GREATEST_SWITCH_LEVEL }
         ensures { IfOk result (λ fits. AddsOrNot (with_transistor self.old (transistor_seen transistor.entry)) fits self.new) }
     {
         let is_full = self.graph.places() >= MOST_SWITCHES;

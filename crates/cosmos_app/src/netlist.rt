@@ -9,7 +9,7 @@ use crate::MOST_FILE_BYTES;
 use crate::circuit::{Circuit, Transistor};
 use crate::files::cut_line;
 use line_words::{Line, check_line, lines, words};
-use path_meaning::SwitchKind;
+use path_meaning::{LEAST_SWITCH_LEVEL, SwitchKind};
 use std::alloc::Global;
 use ternary::NoMemory;
 
@@ -97,12 +97,12 @@ fn kind_named(word: &[u8]) -> Option<SwitchKind>
     }
 }
 
-// The level of a transistor of this kind.
+// The level of a transistor of this kind: that of strength 1 for depletion, of strength 2 for others.
 fn level_by(kind: SwitchKind) -> u8
     ensures { result ≡ spec.level_by kind }
 {
     match kind {
-        SwitchKind::NChan | SwitchKind::PChan => 10,
-        SwitchKind::Always => 9,
+        SwitchKind::NChan | SwitchKind::PChan => LEAST_SWITCH_LEVEL + 1,
+        SwitchKind::Always => LEAST_SWITCH_LEVEL,
     }
 }

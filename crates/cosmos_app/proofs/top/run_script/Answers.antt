@@ -2,7 +2,8 @@
 use Rattle.std.proofs.Common.{Ok}
 use Rattle.std.proofs.lemmas.Result.{err_from_is_err_and}
 use Rattle.cosmos_app.specs.Answers.{IsSimulation}
-use Rattle.cosmos_app.proofs.EndLemmas.{at_known, told_none}
+use Rattle.port_edge.proofs.ResultLemmas.{at_known}
+use Rattle.cosmos_app.proofs.EndLemmas.{told_none}
 use Rattle.cosmos_app.proofs.RunLemmas.{script_exists, start-ready, told_script}
 use Rattle.cosmos_app.proofs.top.run_script.Goals as goal
 

@@ -5,7 +5,8 @@ use Rattle.cosmos_app.specs.Netlist.{netlist_of}
 use Rattle.cosmos_app.specs.Answers.{IsSimulation}
 use Rattle.cosmos_app.specs.declared.stop.Stop.TheVariants.{Memory}
 use Rattle.cosmos_app.proofs.NetlistLemmas.{netlist_of-sound}
-use Rattle.cosmos_app.proofs.EndLemmas.{at_known, told_none}
+use Rattle.port_edge.proofs.ResultLemmas.{at_known}
+use Rattle.cosmos_app.proofs.EndLemmas.{told_none}
 use Rattle.cosmos_app.proofs.RunLemmas.{files_answer, told_simulation}
 use Rattle.cosmos_app.proofs.StartLemmas.{starts_script}
 use Rattle.cosmos_app.proofs.top.simulate.Goals as goal
