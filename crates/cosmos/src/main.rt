@@ -1,8 +1,8 @@
 //! The program: a switch-level simulator for MOS circuits.
 //!
 //! `cosmos sim NET SCRIPT` reads the netlist and the script of these names and obeys the script in
-//! the netlist's circuit, writing a line for each `step`. All other words are answered by the usage
-//! line. The exit status is that of `cosmos_app::run`, whose contract says what is written: 0 where
+//! the netlist's circuit, writing a line for each step and each phase. All other words are answered
+//! by the usage line. The exit status is that of `cosmos_app::run`, whose contract says what is written: 0 where
 //! all went well, 2 for words that are no command line, 3 and 4 for a refused line of the netlist
 //! or of the script, 5 and 6 where reading or writing failed, and 7 for want of memory.
 //!

@@ -9,8 +9,8 @@ use Rattle.ternary.specs.declared.tern.Tern.{Tern}
 use Rattle.ternary.specs.Tern.{of_letter}
 use Rattle.path_meaning.specs.Wiring.{nodes}
 use Rattle.line_words.specs.Words.{is_word}
-use Rattle.cosmos_app.specs.Script.{is_equals, states_of, beats_of, clocks_of}
-use Rattle.cosmos_app.specs.Turns.{clock_by, clock_of, parts_of, HasNoEquals, IsLastEquals, states_with}
+use Rattle.cosmos_app.specs.Script.{is_equals, states_of, parts_of, clocks_of}
+use Rattle.cosmos_app.specs.Turns.{clock_by, clock_of, HasNoEquals, IsLastEquals, states_with}
 use Rattle.cosmos_app.specs.Sessions.{SessionData, Beats, with_beat, clocks_by, input_node_of, IsInRange, have_places, places_of}
 
 -- ---- a word cut at its last `=`
@@ -123,21 +123,11 @@ clocks_words session (word ∷ words) =
 abbrev lettered : (List ℕ × List ℕ) → Option (List ℕ × List Tern)
 lettered parts = option_map (λ states. (parts.0, states)) (states_of parts.1)
 
--- a word's letters are its parts with the second read
-beats_of-parts : (word : List ℕ) → beats_of word ≡ option_and_then lettered (parts_of word)
-beats_of-parts word = by_test (is_word (before_last is_equals word) && is_word (after_last is_equals word)) (before_last is_equals word) (after_last is_equals word)
-  where
-    by_test : (test : Bool) (name letters : List ℕ) →
-        (if test then lettered (name, letters) else None) ≡ option_and_then lettered (if test then Some (name, letters) else None)
-    by_test true name letters = refl
-    by_test false name letters = refl
-
 -- they are the clocks of the words' letters
 pub clocks_words-are : (session : SessionData) (words : List (List ℕ)) → clocks_words session words ≡ option_and_then (clocks_by session) (clocks_of words)
 clocks_words-are session [] = refl
 clocks_words-are session (word ∷ words) =
     by_parts (parts_of word) (clocks_words session words) (clocks_of words) (clocks_words-are session words)
-    ∙ sym (ap (λ b. option_and_then (clocks_by session) (option_and_then (λ first. option_map (λ rest. first ∷ rest) (clocks_of words)) b)) (beats_of-parts word))
   where
     -- a name with no states is no clock
     no_states : (node : Option ℕ) (later : Option (List Beats)) →

@@ -52,12 +52,16 @@ states_of (byte ∷ bytes) =
 abbrev pub is_equals : ℕ → Bool
 is_equals byte = byte == 61
 
--- the letters of a clock are a word `name=letters`, cut at its last `=`: a name, and one letter of a state or more
-abbrev pub beats_of : List ℕ → Option (List ℕ × List Tern)
-beats_of word =
+-- the name and the letters of a word, cut at its last `=`, where both have a byte
+abbrev pub parts_of : List ℕ → Option (List ℕ × List ℕ)
+parts_of word =
     let name = before_last is_equals word in
     let letters = after_last is_equals word in
-    if is_word name && is_word letters then option_map (λ states. (name, states)) (states_of letters) else None
+    if is_word name && is_word letters then Some (name, letters) else None
+
+-- the letters of a clock are a word `name=letters`, where each letter is one of a state
+abbrev pub beats_of : List ℕ → Option (List ℕ × List Tern)
+beats_of word = option_and_then (λ parts. option_map (λ states. (parts.0, states)) (states_of parts.1)) (parts_of word)
 
 -- the letters of all words, or None where some word is none
 abbrev pub clocks_of : List (List ℕ) → Option (List (List ℕ × List Tern))
@@ -82,10 +86,19 @@ with_clocks None = BadCommand
 with_clocks (Some []) = BadCommand
 with_clocks (Some (first ∷ rest)) = Asks (Clock (first ∷ rest))
 
+-- a number from 1 to 1,000,000
+abbrev pub times_of : Option ℕ → Option ℕ
+times_of None = None
+times_of (Some n) = if nat_le 1 n && nat_le n MOST_TIMES then Some n else None
+
+-- a command that is given a number, where there is one
+abbrev pub counted : (ℕ → Command) → Option ℕ → Reading
+counted command None = BadCommand
+counted command (Some n) = Asks (command n)
+
 -- a command that is given a number from 1 to 1,000,000
 abbrev pub with_number : (ℕ → Command) → Option ℕ → Reading
-with_number command None = BadCommand
-with_number command (Some n) = if nat_le 1 n && nat_le n MOST_TIMES then Asks (command n) else BadCommand
+with_number command given = counted command (times_of given)
 
 -- the number that is given alone
 abbrev pub number_alone : List (List ℕ) → Option ℕ

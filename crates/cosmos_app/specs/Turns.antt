@@ -1,19 +1,17 @@
 -- What obeying one line of a script comes to, with what it wrote.
-use Rattle.std.specs.Prelude.{◌≡◌, ◌≢◌, ◌<◌, slice_index, slice_set, ℕ, Bool, true, false, ◌⊎◌, List, [], ◌∷◌, ◌++◌, length, nat_lt, nat_le, ◌&&◌, if◌then◌else◌, Option, Some, None, Result, Ok, Err}
-use Rattle.std.specs.List.{before_last, after_last}
+use Rattle.std.specs.Prelude.{◌≡◌, ◌≢◌, ◌<◌, slice_index, slice_set, ℕ, Bool, true, false, ◌⊎◌, List, [], ◌∷◌, ◌++◌, length, nat_lt, if◌then◌else◌, Option, Some, None, Result, Ok, Err}
 use Rattle.std.specs.Option.{option_and_then}
 use Rattle.std.specs.Io.KnownBytes.{append_known}
 use Rattle.port_edge.specs.Sending.{WritesPart}
 use Rattle.ternary.specs.declared.tern.Tern.{Tern}
-use Rattle.line_words.specs.Words.{is_word}
 use Rattle.oscillation_x.specs.Settling.{Settles}
 use Rattle.path_meaning.specs.Step.{IsStep}
 use Rattle.path_meaning.specs.Switching.{state_at}
 use Rattle.cosmos_app.specs.declared.stop.Stop.{Stop}
 use Rattle.cosmos_app.specs.declared.session.Turn.{Turn}
 use Rattle.cosmos_app.specs.declared.session.Turn.TheVariants.{Accepted, Refused}
-use Rattle.cosmos_app.specs.Script.{Reading, Nothing, assignment_of, states_of, is_equals}
-use Rattle.cosmos_app.specs.declared.TheConstants.{MOST_WATCHED, MOST_TIMES}
+use Rattle.cosmos_app.specs.Script.{Reading, Nothing, assignment_of, states_of, parts_of}
+use Rattle.cosmos_app.specs.declared.TheConstants.{MOST_WATCHED}
 use Rattle.cosmos_app.specs.Circuits.{node_of}
 use Rattle.cosmos_app.specs.Sessions.{SessionData, Obeys, IsRefused, IsPhase, AreBeats, Beats, after_assignment, after_step, input_node_of}
 
@@ -105,13 +103,6 @@ TakesBeats places old new before after (Ok _) =
 TakesBeats places old new before after (Err stop) =
     (next : SessionData) × (text : List ℕ) × AreBeats old places next text × WritesPart before after text
 
--- the name and the letters of a word, cut at its last `=`, where both have a byte
-abbrev pub parts_of : List ℕ → Option (List ℕ × List ℕ)
-parts_of word =
-    let name = before_last is_equals word in
-    let letters = after_last is_equals word in
-    if is_word name && is_word letters then Some (name, letters) else None
-
 -- no byte of the word is `=`
 abbrev pub HasNoEquals : List ℕ → Type 0
 HasNoEquals word = (k : ℕ) → k < length word → slice_index word k ≢ 61
@@ -136,8 +127,3 @@ clock_of (Some node) (Some states) = Some (record { node = node; states = states
 -- the clock that a word says, where there is one
 abbrev pub clock_by : SessionData → List ℕ → Option Beats
 clock_by session word = option_and_then (λ parts. clock_of (input_node_of session parts.0) (states_of parts.1)) (parts_of word)
-
--- a number from 1 to 1,000,000
-abbrev pub times_of : Option ℕ → Option ℕ
-times_of None = None
-times_of (Some n) = if nat_le 1 n && nat_le n MOST_TIMES then Some n else None

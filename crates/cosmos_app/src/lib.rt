@@ -4,9 +4,9 @@
 //! `run` is the call that the program makes. Its contract is the promise of the whole: where the
 //! files and the sink tell their bytes, the status and the bytes written are an answer of the
 //! words, that is, the netlist's text has its meaning as a circuit or a first refused line, the
-//! script's lines have their effects in order from the start, and every `step` is the unit step by
-//! unblocked paths in the circuit and the state at that point. After a fault or want of memory the
-//! bytes are a front of such an answer.
+//! script's lines have their effects in order from the start, every `step` is the unit step by
+//! unblocked paths in the circuit and the state at that point, and every phase settles by such
+//! steps. After a fault or want of memory the bytes are a front of such an answer.
 //!
 //! ```text
 //! run(alloc, ["sim", "inverter.sim", "inverter.cmd"], files, out)   is Status::Done

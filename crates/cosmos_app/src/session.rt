@@ -6,12 +6,12 @@ ghost use Rattle.std.specs.Io.KnownBytes.{append_known};
 ghost use Rattle.port_edge.specs.Ports.{Rose};
 ghost use Rattle.port_edge.specs.Sending.{WritesPart};
 ghost use Rattle.path_meaning.specs.Wiring.{nodes, level_of};
-ghost use Rattle.cosmos_app.specs.Script.{Input, Set, Watch, Limit, Step, Phase, Cycle, with_number, number_alone, with_clocks, clocks_of, states_of, reading_of, reading_of_words, reading_by, verb_of, assignment_of, assignments_of, with_names, with_assignments, alone};
+ghost use Rattle.cosmos_app.specs.Script.{parts_of, times_of, Input, Set, Watch, Limit, Step, Phase, Cycle, with_number, number_alone, with_clocks, clocks_of, states_of, reading_of, reading_of_words, reading_by, verb_of, assignment_of, assignments_of, with_names, with_assignments, alone};
 ghost use Rattle.cosmos_app.specs.Sessions.{clocks_by, start_of, own_node_of, after_name, one_more, wave_of, places_of, places_from, input_node_of, with_beat};
 ghost use Rattle.cosmos_app.specs.Sessions as spec;
 ghost use Rattle.oscillation_x.specs.Settling.{Settles};
 ghost use Rattle.oscillation_x.specs.PlainStepping.{HasRoom};
-ghost use Rattle.cosmos_app.specs.Turns.{TakesPhase, TakesBeats, SettlesTo, clock_by, parts_of, HasNoEquals, IsLastEquals, states_with, times_of, TakesTurn, QuietTurn, BecomesOrNot, MovesOn, after_word, after_watched};
+ghost use Rattle.cosmos_app.specs.Turns.{TakesPhase, TakesBeats, SettlesTo, clock_by, HasNoEquals, IsLastEquals, states_with, TakesTurn, QuietTurn, BecomesOrNot, MovesOn, after_word, after_watched};
 
 use crate::circuit::Circuit;
 use crate::stop::Stop;

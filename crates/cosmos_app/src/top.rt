@@ -39,7 +39,8 @@ pub(crate) enum End {
 /// Answers the words of a command line, which are those after the program's name.
 ///
 /// `sim NET SCRIPT` reads the netlist and the script of these names and obeys the script's lines in
-/// order, writing a waveform line for each `step`; all other words are answered by the usage line.
+/// order, writing a waveform line for each step and each phase; all other words are answered by the
+/// usage line.
 /// A netlist or a script with a refused line ends the run with the line of that refusal. A file is
 /// read to its end, or to the first byte too many, before any refusal of it is answered. After a
 /// fault of reading or writing, or want of memory, what was written is a front of the text that the
