@@ -3,7 +3,7 @@
 use Rattle.std.proofs.Common.{◌≡◌, ℕ, ◌<◌, Bool, true, List, [], ◌∷◌, refl, arith}
 use Rattle.ternary.specs.declared.tern.Tern.{Tern}
 use Rattle.ternary.specs.Tern.{may_one, may_zero}
-use Rattle.path_meaning.specs.declared.TheConstants.{INPUT_LEVEL}
+use Rattle.strength_order.specs.declared.TheConstants.{INPUT_LEVEL}
 use Rattle.path_meaning.specs.Switching.{state_at}
 use Rattle.path_meaning.specs.Wiring.{Wiring, IsWired, nodes, level_of}
 use Rattle.path_meaning.specs.Path.{Stand, at_root, IsBeaten, Reaches}

@@ -11,3 +11,4 @@ pub mod ExistingSteps
 pub mod UniqueSteps
 pub mod SpreadLemmas
 pub mod TableMeaning
+pub mod WalkLemmas

@@ -18,6 +18,7 @@ use Rattle.std.proofs.Common.{
   ◌∷◌,
   ◌++◌,
   length,
+  Option,
   Some,
   None,
   refl,
@@ -29,7 +30,8 @@ use Rattle.std.proofs.Math.ListN.{get_or-eq_default}
 use Rattle.ternary.specs.declared.tern.Tern.{Tern}
 use Rattle.path_meaning.specs.declared.switching.Switch.{Switch}
 use Rattle.path_meaning.specs.Switching.{is_closed, is_live, switch_state_at}
-use Rattle.path_meaning.specs.Wiring.{Wiring, IsLevel, IsWired, Fits, nodes, level_of, place_at}
+use Rattle.strength_order.specs.Levels.{IsLevel}
+use Rattle.path_meaning.specs.Wiring.{Wiring, IsWired, Fits, nodes, level_of, place_at}
 use Rattle.path_meaning.specs.Path.{Stand, Joins, Hop, Leads, at_root, LivePath, IsBeaten, IsBlocked, Reaches}
 
 -- what a definite path beats, it beats all the more at a lower strength
@@ -63,14 +65,19 @@ Hop-unique {g} {state} {here} {x} {y} one two =
     let definite : x.definite ≡ y.definite = cc in
     same_stand x y node strength definite
 
+-- where a switch stands there is a place
+pub place_inside : (places : List (Option Switch)) (place : ℕ) (switch : Switch) → place_at places place ≡ Some switch → place < length places
+place_inside places place switch stands =
+    elim (cases_lt place (length places)) [
+      | inl inside ↦ inside
+      | inr outside ↦ let none : place_at places place ≡ None = get_or-eq_default places None outside in absurd (cc)
+    ]
+
 -- a switch of a graph fits it
 pub switch_fits : (g : Wiring) → IsWired g → (place : ℕ) (switch : Switch) →
     place_at g.places place ≡ Some switch → Fits (nodes g) switch
 switch_fits g wired place switch stands =
-    elim (cases_lt place (length g.places)) [
-      | inl inside ↦ rw stands at (wired.places place None inside)
-      | inr outside ↦ let none : place_at g.places place ≡ None = get_or-eq_default g.places None outside in absurd cc
-    ]
+    rw stands at (wired.places place None (place_inside g.places place switch stands))
 
 -- a node's level is a level
 pub level_fits : (g : Wiring) → IsWired g → (node : ℕ) → node < nodes g → IsLevel (level_of g node)

@@ -5,7 +5,7 @@
 use Rattle.std.proofs.Common.{◌≡◌, ℕ, zero, suc, ◌+◌, ◌<◌, ◌≤◌, true, inl, inr, List, [], ◌∷◌, ◌++◌, refl, sym, ap, arith}
 use Rattle.std.proofs.lemmas.Bool.{cases_lt}
 use Rattle.ternary.specs.declared.tern.Tern.{Tern}
-use Rattle.path_meaning.specs.declared.TheConstants.{INPUT_LEVEL}
+use Rattle.strength_order.specs.declared.TheConstants.{INPUT_LEVEL}
 use Rattle.path_meaning.specs.Switching.{is_closed, switch_state_at}
 use Rattle.path_meaning.specs.Wiring.{Wiring, IsWired, nodes, level_of}
 use Rattle.path_meaning.specs.Path.{Stand, Hop, Leads, at_root}

@@ -31,7 +31,7 @@ use Rattle.std.proofs.Common.{
 use Rattle.std.proofs.lemmas.Bool.{cases_lt, cases_eq, cases_Bool}
 use Rattle.std.proofs.Math.ListN.{get_or-eq_default}
 use Rattle.ternary.specs.declared.tern.Tern.{Tern}
-use Rattle.path_meaning.specs.declared.TheConstants.{GREATEST_SWITCH_LEVEL}
+use Rattle.strength_order.specs.declared.TheConstants.{GREATEST_SWITCH_LEVEL}
 use Rattle.path_meaning.specs.declared.switching.Switch.{Switch}
 use Rattle.path_meaning.specs.declared.switching.SwitchState.{SwitchState}
 use Rattle.path_meaning.specs.Switching.{switch_state_at}

@@ -5,3 +5,5 @@ pub mod Step
 pub mod Laws
 pub mod Room
 pub mod Spread
+pub mod Walks
+pub mod Compared

@@ -1,13 +1,9 @@
 -- Graphs: a list of node levels, and a list of places that hold a switch or none.
 -- After Bryant, "A Switch-Level Model and Simulator for MOS Digital Systems", 1984; the numbers of the levels are this project's own.
 use Rattle.std.specs.Prelude.{ℕ, ◌<◌, ◌≤◌, List, length, All, Option, Some, None, slice_index, slice_index_or}
-use Rattle.path_meaning.specs.declared.TheConstants.{INPUT_LEVEL, LEAST_SWITCH_LEVEL, GREATEST_SWITCH_LEVEL}
+use Rattle.strength_order.specs.declared.TheConstants.{LEAST_SWITCH_LEVEL, GREATEST_SWITCH_LEVEL}
+use Rattle.strength_order.specs.Levels.{IsLevel}
 use Rattle.path_meaning.specs.declared.switching.Switch.{Switch}
-
--- levels are the numbers from 1 to that of an input node
-pub record IsLevel (level : ℕ) : Type 0 where
-  pub low : 1 ≤ level
-  pub high : level ≤ INPUT_LEVEL
 
 -- a graph as contracts see it: the level of each node, and what stands at each place
 pub record Wiring : Type 0 where

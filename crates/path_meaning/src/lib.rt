@@ -15,10 +15,14 @@
 //! Analysis of MOS Circuits", 1987.
 #![tactic(auto)]
 
+mod compared;
+#[cfg(test)]
+mod drawn;
 mod laws;
 mod plain;
 mod spread;
 mod switching;
+mod walks;
 mod wiring;
 
 pub use laws::{
@@ -27,13 +31,5 @@ pub use laws::{
 };
 pub use plain::{PlainRoom, plain_step, plain_step_into};
 pub use switching::{Switch, SwitchKind, SwitchState, switch_state};
+pub use walks::{Walk, WalkFacts};
 pub use wiring::Graph;
-
-/// The level of an input node, the greatest there is.
-pub const INPUT_LEVEL: u8 = 16;
-
-/// The level of the weakest switch.
-pub const LEAST_SWITCH_LEVEL: u8 = 9;
-
-/// The level of the strongest switch.
-pub const GREATEST_SWITCH_LEVEL: u8 = 15;

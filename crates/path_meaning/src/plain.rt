@@ -186,15 +186,15 @@ fn response(one: bool, zero: bool) -> Tern
 #[cfg(test)]
 mod tests {
     use super::*;
-    use crate::switching::SwitchKind::{self, Always, NChan, PChan};
+    use crate::drawn::{Drawn, drawn};
+    use crate::switching::SwitchKind::{Always, NChan, PChan};
     use std::test::Fail;
 
     struct Row {
         name: &'static str,
         // the level of each node; Gnd and Vdd come first
         levels: &'static [u8],
-        // kind, level, gate and the two ends
-        switches: &'static [(SwitchKind, u8, usize, usize, usize)],
+        switches: &'static [Drawn],
         before: &'static [u8],
         after: &'static [u8],
     }
@@ -265,7 +265,7 @@ mod tests {
     #[test]
     fn a_step_gives_each_node_its_steady_state(rt: HostRuntime) -> Result<(), Fail> {
         for row in &ROWS {
-            let graph = drawn(rt.alloc(), row)?.copy(rt.alloc())?;
+            let graph = drawn(rt.alloc(), row.levels, row.switches)?.copy(rt.alloc())?;
             let mut state = Vec::new(rt.alloc());
             for letter in row.before {
                 state.push(Tern::from_letter(*letter).unwrap_or(Tern::Unk))?;
@@ -279,33 +279,5 @@ mod tests {
             assert_eq!(rt; letters.as_slice(), row.after, "{}", row.name);
         }
         Ok(())
-    }
-
-    fn drawn(alloc: Global, row: &Row) -> Result<Graph, Fail> {
-        let mut graph = Graph::new(alloc);
-        for level in row.levels {
-            if (1..=16).contains(level) {
-                graph.add_node(*level)?;
-            }
-        }
-        for (kind, level, gate, a, b) in row.switches {
-            let switch = Switch {
-                kind: *kind,
-                level: *level,
-                gate: *gate,
-                a: *a,
-                b: *b,
-            };
-            let nodes = graph.nodes();
-            if switch.level >= 9
-                && switch.level <= 15
-                && switch.gate < nodes
-                && switch.a < nodes
-                && switch.b < nodes
-            {
-                graph.add_switch(switch)?;
-            }
-        }
-        Ok(graph)
     }
 }

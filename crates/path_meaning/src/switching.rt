@@ -4,7 +4,7 @@ ghost use Rattle.path_meaning.specs.Switching.{state_by};
 use ternary::Tern;
 
 /// The kind of a transistor.
-#[derive(Clone, Copy, Debug, PartialEq, Eq)]
+#[derive(Clone, Copy, Debug, PartialEq, Eq, Hash)]
 pub enum SwitchKind {
     /// An n-channel transistor: closed where its gate is 1.
     NChan,
@@ -27,7 +27,7 @@ pub enum SwitchState {
 
 /// A switch of a graph: its kind, its level from 9 to 15, the node of its gate, and its two ends,
 /// which are alike.
-#[derive(Clone, Copy, Debug, PartialEq, Eq)]
+#[derive(Clone, Copy, Debug, PartialEq, Eq, Hash)]
 pub struct Switch {
     pub kind: SwitchKind,
     pub level: u8,

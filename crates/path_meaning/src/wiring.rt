@@ -1,5 +1,6 @@
-ghost use Rattle.std.specs.Prelude.{◌≡◌, ◌<◌, [], ◌∷◌, ◌++◌, length, Some, IfOk, OnErr, slice_set};
-ghost use Rattle.path_meaning.specs.Wiring.{nodes, level_of, place_at, IsLevel, Fits, FitsPlace, IsWired};
+ghost use Rattle.std.specs.Prelude.{◌≡◌, ◌+◌, ◌<◌, [], ◌∷◌, ◌++◌, length, replicate, Some, IfOk, OnErr, slice_set};
+ghost use Rattle.strength_order.specs.Levels.{IsLevel};
+ghost use Rattle.path_meaning.specs.Wiring.{nodes, level_of, place_at, Fits, FitsPlace, IsWired};
 
 use crate::switching::Switch;
 use std::alloc::{AllocError, Global};
@@ -129,6 +130,25 @@ impl Graph {
     {
         let place = self.places.len();
         self.places.push(Some(switch)).map_err(AllocError::from)?;
+        Ok(place)
+    }
+
+    /// Adds so many nodes of this level, from 1 to 16, and then a place with this switch, whose
+    /// gate and ends may be new nodes, and answers the place, which is the old count of places. At
+    /// want of memory it adds nothing.
+    pub fn add_wired(&mut self, count: usize, level: u8, switch: Switch) -> Result<usize, NoMemory>
+        requires level { IsLevel level }
+        requires fits { Fits (nodes self.old + count) switch }
+        ensures number { IfOk result (λ place. place ≡ length self.old.places) }
+        ensures ok { IfOk result (λ _. self.new ≡ record { levels = self.old.levels ++ replicate count level; places = self.old.places ++ Some switch ∷ [] }) }
+        ensures err { OnErr result (self.new ≡ self.old) }
+    {
+        let place = self.places.len();
+        self.levels.reserve(count)?;
+        self.places.push(Some(switch)).map_err(AllocError::from)?;
+        for _ in 0..count {
+            self.levels.push_reserved(level);
+        }
         Ok(place)
     }
 

@@ -6,8 +6,9 @@ use Rattle.strength_order.specs.declared.Profile.{Profile}
 use Rattle.strength_order.specs.declared.Profile.TheVariants.{One}
 
 -- a level of the order: 1 to 16
-abbrev pub IsLevel : ℕ → Type 0
-IsLevel level = (1 ≤ level) × (level ≤ 16)
+pub record IsLevel (level : ℕ) : Type 0 where
+  pub low : 1 ≤ level
+  pub high : level ≤ 16
 
 -- a level that is kept for sizes: 1 to 8
 abbrev pub IsSizeLevel : ℕ → Type 0

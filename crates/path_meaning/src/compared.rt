@@ -1,0 +1,37 @@
+//! Graphs as keys: two are equal exactly where their levels and their places are, the empty places
+//! included, and equal graphs have equal hashes.
+
+ghost use Rattle.std.specs.Prelude.{◌≡◌, ◌↔◌, IsTrue};
+ghost use Rattle.path_meaning.specs.Compared.{same_wiring, same_wiring_equivalence, wiring_writes, wiring_writes-same};
+ghost use Rattle.std.specs.Cmp;
+
+use crate::wiring::Graph;
+use std::hash::{Hash, Hasher};
+
+impl PartialEq for Graph {
+    ghost eq = { same_wiring };
+
+    ghost laws = { Cmp.partial_equiv_from_equiv same_wiring_equivalence };
+
+    fn eq(&self, other: &Graph) -> bool
+        ensures value { result ≡ same_wiring self.now other.now }
+        ensures same { IsTrue result ↔ (self.now ≡ other.now) }
+    {
+        self.levels() == other.levels() && self.switches() == other.switches()
+    }
+}
+
+impl Eq for Graph {
+    ghost laws = { same_wiring_equivalence };
+}
+
+impl Hash for Graph {
+    ghost hash_input = { wiring_writes };
+
+    ghost respects_eq = { wiring_writes-same };
+
+    fn hash<H: Hasher>(&self, state: &mut H) {
+        self.levels().hash(state);
+        self.switches().hash(state);
+    }
+}

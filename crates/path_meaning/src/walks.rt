@@ -1,0 +1,183 @@
+//! What is known of a walk over the switches of a graph.
+
+ghost use Rattle.std.specs.Prelude.{◌≡◌, length};
+ghost use Rattle.path_meaning.specs.Wiring.{nodes};
+ghost use Rattle.path_meaning.specs.Walks.{AreFacts, AreFactsAfter, stand_of};
+
+use crate::switching::{SwitchState, switch_state};
+use crate::wiring::Graph;
+use ternary::Tern;
+
+/// A walk that may be a live path: it starts at its root and goes over the switches at these
+/// places, one after the other.
+#[derive(Drop)]
+pub struct Walk {
+    /// The node where the walk starts.
+    pub root: usize,
+    /// The places of the switches that it goes over.
+    pub hops: Vec<usize>,
+}
+
+/// What is known of a live path.
+#[derive(Clone, Copy, Debug, PartialEq, Eq)]
+pub struct WalkFacts {
+    /// The node where it ends.
+    pub end: usize,
+    /// The least of its root's level and its switches' levels.
+    pub strength: u8,
+    /// Whether all its switches are closed.
+    pub definite: bool,
+}
+
+impl Graph {
+    /// The facts of a walk that is a live path under this state, which has one entry for each node.
+    ///
+    /// `None` exactly where it is none: its root is no node, a hop is no place that holds a switch,
+    /// a hop's switch has no end where the walk stands, or a hop's switch is open.
+    ///
+    /// Bryant, "Boolean Analysis of MOS Circuits", 1987.
+    pub fn walk_facts(&self, state: &[Tern], walk: &Walk) -> Option<WalkFacts>
+        requires { length state.now ≡ nodes self.now }
+        ensures { AreFacts self.now state.now walk.now.root walk.now.hops.items result }
+    {
+        if walk.root >= self.nodes() {
+            return None;
+        }
+        let mut facts = WalkFacts {
+            end: walk.root,
+            strength: self.level(walk.root),
+            definite: true,
+        };
+        for &place in &walk.hops {
+            facts = self.after_hop(state, facts, place)?;
+        }
+        Some(facts)
+    }
+
+    /// The facts of a path after one hop more, or `None` where no hop leads on over this place.
+    fn after_hop(&self, state: &[Tern], facts: WalkFacts, place: usize) -> Option<WalkFacts>
+        requires { length state.now ≡ nodes self.now }
+        ensures { AreFactsAfter self.now state.now (stand_of facts) place result }
+    {
+        if place >= self.places() {
+            return None;
+        }
+        let switch = self.switch_at(place)?;
+        let end = if switch.a == facts.end {
+            switch.b
+        } else if switch.b == facts.end {
+            switch.a
+        } else {
+            return None;
+        };
+        let closed = match switch_state(switch.kind, state[switch.gate]) {
+            SwitchState::Open => return None,
+            SwitchState::Closed => true,
+            SwitchState::Unknown => false,
+        };
+        Some(WalkFacts {
+            end,
+            strength: facts.strength.min(switch.level),
+            definite: facts.definite && closed,
+        })
+    }
+}
+
+#[cfg(test)]
+mod tests {
+    use super::*;
+    use crate::drawn::{Drawn, drawn};
+    use crate::switching::SwitchKind::NChan;
+    use std::test::Fail;
+
+    // Gnd, Vdd, an input node at X, and two storage nodes, which Gnd, X and Vdd join
+    const LEVELS: [u8; 5] = [16, 16, 16, 1, 1];
+
+    const STATE: [Tern; 5] = [Tern::Zero, Tern::One, Tern::Unk, Tern::Zero, Tern::Zero];
+
+    const SWITCHES: [Drawn; 4] = [
+        (NChan, 10, 1, 0, 3),
+        (NChan, 9, 2, 4, 3),
+        (NChan, 10, 0, 3, 4),
+        (NChan, 10, 1, 3, 4),
+    ];
+
+    const EMPTY_PLACE: usize = 3;
+
+    struct Row {
+        name: &'static str,
+        root: usize,
+        hops: &'static [usize],
+        // end, strength and whether it is definite
+        facts: Option<(usize, u8, bool)>,
+    }
+
+    const ROWS: [Row; 8] = [
+        Row {
+            name: "a root alone",
+            root: 4,
+            hops: &[],
+            facts: Some((4, 1, true)),
+        },
+        Row {
+            name: "a closed switch",
+            root: 0,
+            hops: &[0],
+            facts: Some((3, 10, true)),
+        },
+        Row {
+            name: "an unknown switch, from its second end to its first",
+            root: 0,
+            hops: &[0, 1],
+            facts: Some((4, 9, false)),
+        },
+        Row {
+            name: "an open switch",
+            root: 0,
+            hops: &[0, 2],
+            facts: None,
+        },
+        Row {
+            name: "a switch with no end there",
+            root: 0,
+            hops: &[1],
+            facts: None,
+        },
+        Row {
+            name: "an empty place",
+            root: 3,
+            hops: &[3],
+            facts: None,
+        },
+        Row {
+            name: "a place past the last one",
+            root: 3,
+            hops: &[4],
+            facts: None,
+        },
+        Row {
+            name: "a root that is no node",
+            root: 5,
+            hops: &[],
+            facts: None,
+        },
+    ];
+
+    #[test]
+    fn a_walk_has_the_facts_of_its_live_path(rt: HostRuntime) -> Result<(), Fail> {
+        let mut graph = drawn(rt.alloc(), &LEVELS, &SWITCHES)?;
+        assert_eq!(rt; graph.places(), SWITCHES.len());
+        assert_eq!(rt; graph.nodes(), LEVELS.len());
+        graph.put_switch(EMPTY_PLACE, None);
+        for row in &ROWS {
+            let walk = Walk {
+                root: row.root,
+                hops: row.hops.to_vec(rt.alloc())?,
+            };
+            let facts = graph.walk_facts(&STATE, &walk);
+            let told = facts.map(|facts| (facts.end, facts.strength, facts.definite));
+            assert_eq!(rt; told, row.facts, "{}", row.name);
+        }
+        Ok(())
+    }
+}
