@@ -4,3 +4,4 @@ pub mod DecimalLemmas
 pub mod FeedLemmas
 pub mod LineLemmas
 pub mod WordLemmas
+pub mod FileLemmas

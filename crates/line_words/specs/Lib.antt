@@ -1,3 +1,4 @@
+pub mod Files
 pub mod Bytes
 pub mod Decimals
 pub mod LineFaults

@@ -5,7 +5,8 @@
 //! contracts see as the list of the numbered lines that are left, and [`words`] gives [`Words`],
 //! seen as the list of the words that are left. So a loop `for line in lines(text)` has as its
 //! invariant one equation on that list. [`check_line`] tells the two faults that a line of any
-//! text may have, and [`decimal`] is the one way in which numbers are read.
+//! text may have, and [`decimal`] is the one way in which numbers are read. [`front`] is what is
+//! read of a file, and [`cut_line`] is the number of the line at which a file is too long.
 //!
 //! The layer above rests on the contract of [`lines`]: it gives `lines_of` of the text, numbered
 //! from 1.
@@ -24,6 +25,7 @@
 mod bytes;
 mod cuts;
 mod decimals;
+mod files;
 mod line_check;
 mod line_cursor;
 #[cfg(test)]
@@ -32,6 +34,7 @@ mod word_cursor;
 
 pub use cuts::{lines, words};
 pub use decimals::decimal;
+pub use files::{MOST_FILE_BYTES, cut_line, front};
 pub use line_check::{LONGEST_LINE, LineFault, check_line, is_comment};
 pub use line_cursor::{Line, Lines};
 pub use word_cursor::Words;
