@@ -3,3 +3,4 @@ pub mod HonestPorts
 pub mod Sending
 pub mod Reading
 pub mod RealPorts
+pub mod MemPorts

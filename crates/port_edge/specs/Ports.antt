@@ -1,6 +1,6 @@
 -- What a call on a port may do: to the counts of faults, to the files started, to the bytes that are left
 -- and to the bytes written.
-use Rattle.std.specs.Prelude.{◌≡◌, ℕ, ◌+◌, ◌-◌, ◌^◌, ◌<◌, ◌≤◌, min, List, [], ◌∷◌, ◌++◌, length, take, Option, Some, option_map, Result, Ok, Err, MatchResult, IfErr, IfSome}
+use Rattle.std.specs.Prelude.{◌≡◌, ℕ, ◌+◌, ◌-◌, ◌^◌, ◌<◌, ◌≤◌, min, max, List, [], ◌∷◌, ◌++◌, length, take, Option, Some, option_map, Result, Ok, Err, MatchResult, IfErr, IfSome}
 use Rattle.std.specs.Io.KnownBytes.{append_known, prepend_known, IsAtEnd}
 use Rattle.port_edge.specs.declared.ports.PortFault.{PortFault}
 use Rattle.port_edge.specs.declared.ports.PortFault.TheVariants.{Failed, NoMemory}
@@ -8,6 +8,10 @@ use Rattle.port_edge.specs.declared.ports.PortFault.TheVariants.{Failed, NoMemor
 -- a count has risen, or stands at the last value of its type
 abbrev pub Rose : ℕ → ℕ → Type 0
 Rose before now = min (before + 1) (2 ^ 64 - 1) ≤ now
+
+-- one more, up to the last value that a count has
+abbrev pub raised : ℕ → ℕ
+raised count = max count (min (count + 1) (2 ^ 64 - 1))
 
 -- the count of faults has not fallen, and has risen where the call failed
 pub record FailedRaised {T : Type 0} (before now : ℕ) (result : Result T PortFault) : Type 0 where

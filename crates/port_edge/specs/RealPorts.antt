@@ -1,5 +1,6 @@
 -- The counts of the real ports, which are all that contracts see of them.
-use Rattle.std.specs.Prelude.{ℕ, ◌+◌, ◌-◌, ◌^◌, min, max, Result, Ok, Err}
+use Rattle.std.specs.Prelude.{ℕ, Result, Ok, Err}
+use Rattle.port_edge.specs.Ports.{raised}
 use Rattle.port_edge.specs.declared.ports.PortFault.{PortFault}
 use Rattle.port_edge.specs.declared.ports.PortFault.TheVariants.{Failed, NoMemory}
 
@@ -7,10 +8,6 @@ use Rattle.port_edge.specs.declared.ports.PortFault.TheVariants.{Failed, NoMemor
 pub record SinkCounts : Type 0 where
   pub faults : ℕ
   pub refusals : ℕ
-
--- one more, up to the last value that a count has
-abbrev pub raised : ℕ → ℕ
-raised count = max count (min (count + 1) (2 ^ 64 - 1))
 
 -- the count of faults after a fault: one more where the call failed
 abbrev pub faults_after : ℕ → PortFault → ℕ

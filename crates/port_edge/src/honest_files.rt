@@ -1,10 +1,11 @@
 //! Files in memory that never fail: what they lack can only be memory.
-ghost use Rattle.std.specs.Prelude.{◌≡◌, ◌≤◌, Some, length, drop, map, take, string_bytes, position, min, IfOk, IsOk};
+ghost use Rattle.std.specs.Prelude.{◌≡◌, ◌≤◌, [], ◌∷◌, ◌++◌, Some, length, drop, map, take, string_bytes, position, min, IfOk, IsOk, OnErr, OnOk};
 ghost use Rattle.port_edge.specs.Ports.{FailedRaised, Reads};
 ghost use Rattle.port_edge.specs.HonestPorts.{FilesSeen, has_name, held, bytes_at, unread};
+ghost use Rattle.port_edge.specs.MemPorts.{is_there};
 
 use crate::ports::{Files, PortFault};
-use std::alloc::Global;
+use std::alloc::{AllocError, Global};
 use std::marker::Model;
 
 /// Files in memory: a table of names and bytes. They never fail, and tell all their meanings.
@@ -45,6 +46,45 @@ impl HonestFiles {
         }
     }
 
+    // Whether there is an entry of this name.
+    pub(crate) fn has(&self, name: &str) -> bool
+        ensures { result ≡ is_there self.now.table name.now }
+    {
+        self.table.iter().any(|entry| entry.0.as_str() == name)
+    }
+
+    // Puts a name after those that were started.
+    pub(crate) fn note(&mut self, name: &str) -> Result<(), AllocError>
+        ensures ok { OnOk result (self.new ≡ record self.old { started = self.old.started ++ name.now ∷ [] }) }
+        ensures err { OnErr result (self.new ≡ self.old) }
+    {
+        let kept = String::from_str(self.alloc, name)?;
+        self.started.push(kept)?;
+        Ok(())
+    }
+
+    // Starts the first entry of this name, or none where there is none.
+    pub(crate) fn open(&mut self, name: &str)
+        ensures { self.new ≡ record self.old { rest = held self.old.table name.now } }
+    {
+        let place = place_of(&self.table, name);
+        self.place = place;
+        self.taken = 0;
+    }
+
+    // Takes the next bytes, at most so many and no more than the buffer has room for, puts them at its
+    // front, and answers how many they are.
+    pub(crate) fn take(&mut self, most: usize, buf: &mut [u8]) -> usize
+        ensures count { result ≡ min most (min (length buf.old) (length self.old.rest)) }
+        ensures front { take result buf.new ≡ take result self.old.rest }
+        ensures rest { self.new ≡ record self.old { rest = drop result self.old.rest } }
+    {
+        let left = self.left();
+        let count = copy_front(&left[..left.len().min(most)], buf);
+        self.taken += count;
+        count
+    }
+
     // What is left of the started entry.
     fn left(&self) -> &[u8]
         ensures { result.now ≡ self.now.rest }
@@ -63,11 +103,8 @@ impl Files for HonestFiles {
     ghost faults = { λ _. 0 };
 
     fn start(&mut self, name: &str) -> Result<(), PortFault> {
-        let kept = String::from_str(self.alloc, name)?;
-        self.started.push(kept)?;
-        let place = place_of(&self.table, name);
-        self.place = place;
-        self.taken = 0;
+        self.note(name)?;
+        self.open(name);
         Ok(())
     }
 
@@ -82,9 +119,7 @@ impl Files for HonestFiles {
         // A read takes no memory, and no file fails.
         ensures always { IsOk result }
     {
-        let count = copy_front(self.left(), buf);
-        self.taken += count;
-        Ok(count)
+        Ok(self.take(buf.len(), buf))
     }
 }
 

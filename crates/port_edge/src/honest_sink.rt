@@ -1,5 +1,6 @@
 //! A sink in memory that never fails: what it lacks can only be memory.
-ghost use Rattle.std.specs.Prelude.{◌≡◌, Some};
+ghost use Rattle.std.specs.Prelude.{◌≡◌, ◌++◌, Some, IfErr, OnErr, OnOk};
+ghost use Rattle.port_edge.specs.Ports.{raised};
 ghost use Rattle.port_edge.specs.HonestPorts.{SinkSeen, unwritten};
 
 use crate::ports::{PortFault, Sink};
@@ -36,6 +37,19 @@ impl HonestSink {
     {
         &self.written
     }
+
+    // Puts a whole piece after what was written. Where memory is lacking, that is counted.
+    pub(crate) fn append(&mut self, piece: &[u8]) -> Result<(), PortFault>
+        ensures ok { OnOk result (self.new ≡ record self.old { written = self.old.written ++ piece.now }) }
+        ensures err { OnErr result (self.new ≡ record self.old { refusals = raised self.old.refusals }) }
+        ensures cause { IfErr result (λ fault. fault ≡ PortFault.NoMemory) }
+    {
+        if self.written.extend_from_slice(piece).is_err() {
+            self.refusals = self.refusals.saturating_add(1);
+            return Err(PortFault::NoMemory);
+        }
+        Ok(())
+    }
 }
 
 impl Sink for HonestSink {
@@ -49,10 +63,7 @@ impl Sink for HonestSink {
         if piece.is_empty() {
             return Ok(0);
         }
-        if self.written.extend_from_slice(piece).is_err() {
-            self.refusals = self.refusals.saturating_add(1);
-            return Err(PortFault::NoMemory);
-        }
+        self.append(piece)?;
         Ok(piece.len())
     }
 }

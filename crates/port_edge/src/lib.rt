@@ -2,8 +2,10 @@
 //!
 //! `Files` and `Sink` are traits whose contracts say what a call does to the bytes that are left or written,
 //! where an implementation tells them, and to its counts of faults: a call fails only where a count rose.
-//! `HonestFiles` and `HonestSink` are ports in memory that tell everything. `RealFiles` and `RealSink` are
-//! the files of the system and standard output: they tell their counts alone, and are trusted for the rest.
+//! `HonestFiles` and `HonestSink` are ports in memory that tell everything and never fail. `MemFiles` and
+//! `MemSink` tell everything too; their calls are numbered, those of some numbers fail, and each moves a few
+//! bytes at most. `RealFiles` and `RealSink` are the files of the system and standard output: they tell their
+//! counts alone, and are trusted for the rest.
 //!
 //! The layers above use two calls. `send` writes a whole text: on `Ok` the sink grew by it, and after a
 //! fault by a front of it. `read_front` gives the first `most` bytes of what a name holds.
@@ -16,8 +18,11 @@
 //! ```
 #![tactic(auto)]
 
+mod calls;
 mod honest_files;
 mod honest_sink;
+mod mem_files;
+mod mem_sink;
 mod ports;
 mod reading;
 mod real_files;
@@ -26,6 +31,8 @@ mod sending;
 
 pub use honest_files::HonestFiles;
 pub use honest_sink::HonestSink;
+pub use mem_files::MemFiles;
+pub use mem_sink::MemSink;
 pub use ports::{Files, PortFault, Sink};
 pub use reading::read_front;
 pub use real_files::RealFiles;

@@ -1,5 +1,6 @@
 use crate::{
-    Files, HonestFiles, HonestSink, PortFault, RealFiles, RealSink, Sink, read_front, send,
+    Files, HonestFiles, HonestSink, MemFiles, MemSink, PortFault, RealFiles, RealSink, Sink,
+    read_front, send,
 };
 use std::alloc::{AllocError, Global};
 use std::test::Fail;
@@ -66,6 +67,42 @@ fn texts_are_written_one_after_another(rt: HostRuntime) -> Result<(), Fail> {
         send(&mut out, text.as_bytes())?;
     }
     assert_eq!(rt; out.written(), b"nodes 3\nnames 1\n".as_slice());
+    Ok(())
+}
+
+#[test]
+fn calls_on_files_fail_by_their_number(rt: HostRuntime) -> Result<(), Fail> {
+    let fails = vec![in rt.alloc(); 3, 7]?;
+    let mut files = MemFiles::new(rt.alloc(), small_table(rt.alloc())?, fails, 1);
+    assert_eq!(rt; files.start("row.net"), Ok(()));
+    let mut buf = [0; 4];
+    let rows = [
+        (Ok(1), b'n'),
+        (Err(PortFault::Failed), b'n'),
+        (Ok(1), b' '),
+        (Ok(1), b'a'),
+        (Ok(0), b'a'),
+        (Err(PortFault::Failed), b'a'),
+        (Ok(0), b'a'),
+    ];
+    for (answer, first) in rows {
+        assert_eq!(rt; files.read(&mut []), Ok(0));
+        assert_eq!(rt; files.read(&mut buf), answer);
+        assert_eq!(rt; buf, [first, 0, 0, 0]);
+    }
+    assert_eq!(rt; files.start("absent"), Err(PortFault::Failed));
+    let read = read_front(rt.alloc(), &mut files, "row.net", 9)?;
+    assert_eq!(rt; read.as_slice(), b"n a".as_slice());
+    Ok(())
+}
+
+#[test]
+fn writes_fail_by_their_number(rt: HostRuntime) -> Result<(), Fail> {
+    let mut out = MemSink::new(rt.alloc(), vec![in rt.alloc(); 2]?, 1);
+    assert_eq!(rt; send(&mut out, b"1 1 01\n"), Err(PortFault::Failed));
+    assert_eq!(rt; out.written(), b"1".as_slice());
+    assert_eq!(rt; send(&mut out, b" 1 10\n"), Ok(()));
+    assert_eq!(rt; out.written(), b"1 1 10\n".as_slice());
     Ok(())
 }
 

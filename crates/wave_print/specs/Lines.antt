@@ -1,5 +1,5 @@
--- The printed lines of a run of a script: waveform, expect and report. Each ends with LF.
-use Rattle.std.specs.Prelude.{ℕ, Bool, true, false, List, [], ◌∷◌, ◌++◌, map, codes, decimal}
+-- The printed lines that tell no fault: waveform, expect, report, check and group. Each ends with LF.
+use Rattle.std.specs.Prelude.{ℕ, Bool, true, false, List, [], ◌∷◌, ◌++◌, map, codes, decimal, Option, Some, None}
 use Rattle.ternary.specs.declared.tern.Tern.{Tern}
 use Rattle.ternary.specs.Tern.{letter}
 
@@ -29,3 +29,30 @@ abbrev pub expect_line_of : List ℕ → Tern → Tern → ℕ → List ℕ
 expect_line_of name want got n =
     codes "expect " ++ name ++ codes "=" ++ (letter want ∷ []) ++ codes " got " ++ (letter got ∷ [])
     ++ codes " after " ++ decimal n ++ codes "\n"
+
+-- the check line: `ok nodes <nodes> switches <switches> names <names>`
+abbrev pub check_line_of : ℕ → ℕ → ℕ → List ℕ
+check_line_of nodes switches names =
+    codes "ok nodes " ++ decimal nodes ++ codes " switches " ++ decimal switches ++ codes " names "
+    ++ decimal names ++ codes "\n"
+
+-- the number of the text of a group; `-` where the group is too large to have one
+abbrev pub text_number_of : Option ℕ → List ℕ
+text_number_of None = codes "-"
+text_number_of (Some number) = decimal number
+
+-- the start of a group line: `group <number> nodes <nodes> switches <switches> text <text>:`
+abbrev pub group_start_of : ℕ → ℕ → ℕ → Option ℕ → List ℕ
+group_start_of number nodes switches text =
+    codes "group " ++ decimal number ++ codes " nodes " ++ decimal nodes ++ codes " switches "
+    ++ decimal switches ++ codes " text " ++ text_number_of text ++ codes ":"
+
+-- names in a line, a blank before each
+abbrev pub names_after : List (List ℕ) → List ℕ
+names_after [] = []
+names_after (name ∷ names) = codes " " ++ name ++ names_after names
+
+-- the group line: its start, and the names of its members
+abbrev pub group_line_of : ℕ → ℕ → ℕ → Option ℕ → List (List ℕ) → List ℕ
+group_line_of number nodes switches text names =
+    group_start_of number nodes switches text ++ names_after names ++ codes "\n"

@@ -22,6 +22,7 @@ mod tests;
 pub use faults::{FAULT_LINE_ROOM, FaultCode, FaultPlace, fault_line};
 pub use line_buf::LineBuf;
 pub use lines::{
-    EXPECT_LINE_ROOM, MOST_VALUES, REPORT_LINE_ROOM, WAVE_LINE_ROOM, expect_line, report_line,
+    CHECK_LINE_ROOM, EXPECT_LINE_ROOM, GROUP_START_ROOM, MOST_VALUES, REPORT_LINE_ROOM,
+    WAVE_LINE_ROOM, check_line, expect_line, group_name, group_start, line_end, report_line,
     wave_line,
 };

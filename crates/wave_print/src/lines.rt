@@ -1,6 +1,6 @@
-ghost use Rattle.std.specs.Prelude.{◌≡◌, ◌+◌, ◌≤◌, ◌++◌, length, map, decimal};
+ghost use Rattle.std.specs.Prelude.{◌≡◌, ◌+◌, ◌≤◌, ◌++◌, length, map, codes, decimal};
 ghost use Rattle.ternary.specs.Tern.{letter};
-ghost use Rattle.wave_print.specs.Lines.{mark_of, values_of, wave_line_of, report_line_of, expect_line_of};
+ghost use Rattle.wave_print.specs.Lines.{mark_of, values_of, wave_line_of, report_line_of, expect_line_of, check_line_of, text_number_of, group_start_of};
 
 use crate::line_buf::LineBuf;
 use itoa::Buffer;
@@ -17,6 +17,12 @@ pub const REPORT_LINE_ROOM: usize = 300;
 
 /// Room for any expect line, beyond that for its name.
 pub const EXPECT_LINE_ROOM: usize = 60;
+
+/// Room for any check line.
+pub const CHECK_LINE_ROOM: usize = 300;
+
+/// Room for the start of any group line.
+pub const GROUP_START_ROOM: usize = 300;
 
 /// The most digits of a number.
 pub(crate) const NUMBER_ROOM: usize = 20;
@@ -77,6 +83,74 @@ pub fn expect_line(out: &mut LineBuf, name: &[u8], want: Tern, got: Tern, n: u64
     out.append(b" after ");
     append_number(out, n);
     out.append(b"\n");
+}
+
+/// Appends the check line `ok nodes <nodes> switches <switches> names <names>` and LF.
+pub fn check_line(out: &mut LineBuf, nodes: u64, switches: u64, names: u64)
+    requires room { CHECK_LINE_ROOM ≤ out.old.spare }
+    ensures bytes { out.new.bytes ≡ out.old.bytes ++ check_line_of nodes switches names }
+    ensures spare { out.new.spare + length (check_line_of nodes switches names) ≡ out.old.spare }
+    ensures short { length (check_line_of nodes switches names) ≤ CHECK_LINE_ROOM }
+{
+    out.append(b"ok nodes ");
+    append_number(out, nodes);
+    out.append(b" switches ");
+    append_number(out, switches);
+    out.append(b" names ");
+    append_number(out, names);
+    out.append(b"\n");
+}
+
+/// Appends the start of a group line, `group <number> nodes <nodes> switches <switches> text
+/// <text>:`, with `-` for the text of a group that is too large to have one.
+///
+/// The names of the members follow, each by `group_name`, and the line's end by `line_end`.
+pub fn group_start(out: &mut LineBuf, number: u64, nodes: u64, switches: u64, text: Option<u64>)
+    requires room { GROUP_START_ROOM ≤ out.old.spare }
+    ensures bytes { out.new.bytes ≡ out.old.bytes ++ group_start_of number nodes switches text }
+    ensures spare { out.new.spare + length (group_start_of number nodes switches text) ≡ out.old.spare }
+    ensures short { length (group_start_of number nodes switches text) ≤ GROUP_START_ROOM }
+{
+    out.append(b"group ");
+    append_number(out, number);
+    out.append(b" nodes ");
+    append_number(out, nodes);
+    out.append(b" switches ");
+    append_number(out, switches);
+    out.append(b" text ");
+    append_text_number(out, text);
+    out.append(b":");
+}
+
+/// Appends a blank and the name of a member to a group line.
+pub fn group_name(out: &mut LineBuf, name: &[u8])
+    requires room { 1 + length name.now ≤ out.old.spare }
+    ensures bytes { out.new.bytes ≡ out.old.bytes ++ codes " " ++ name.now }
+    ensures spare { out.new.spare + (1 + length name.now) ≡ out.old.spare }
+{
+    out.append(b" ");
+    out.append(name);
+}
+
+/// Appends LF, which ends a line.
+pub fn line_end(out: &mut LineBuf)
+    requires room { 1 ≤ out.old.spare }
+    ensures bytes { out.new.bytes ≡ out.old.bytes ++ codes "\n" }
+    ensures spare { out.new.spare + 1 ≡ out.old.spare }
+{
+    out.append(b"\n");
+}
+
+fn append_text_number(out: &mut LineBuf, text: Option<u64>)
+    requires room { NUMBER_ROOM ≤ out.old.spare }
+    ensures bytes { out.new.bytes ≡ out.old.bytes ++ text_number_of text }
+    ensures spare { out.new.spare + length (text_number_of text) ≡ out.old.spare }
+    ensures short { length (text_number_of text) ≤ NUMBER_ROOM }
+{
+    match text {
+        Some(number) => append_number(out, number),
+        None => out.append(b"-"),
+    }
 }
 
 /// Appends a number as a decimal without leading zeros.
