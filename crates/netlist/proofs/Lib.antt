@@ -1,0 +1,4 @@
+pub mod KeptLemmas
+pub mod NameLemmas
+pub mod NamingLemmas
+pub mod NetlistLemmas

@@ -1,0 +1,37 @@
+use Rattle.std.proofs.Common.{inl, inr, ◌∙◌}
+use Rattle.netlist.proofs.NetlistLemmas.{HasTerminals, add_fault-HasTerminals, with_transistor-wired}
+use Rattle.netlist.proofs.circuit.Circuit.add_switch.Goals as goal
+
+-- the names are in use where the switch is wired
+wired : (c : goal.In-Ok) → HasTerminals c.args.self.now c.self.inside.graph c.self.inside.names c.terminals.new.self c.self.inside.profile
+    c.args.gate.now c.args.source.now c.args.drain.now c.in_ok-terminals.terminals
+wired c = record {
+  whole = c.self.view_is;
+  counted = c.self.invariant.counted;
+  made = c.in_ok-terminals.ensures.ok;
+  nodes = c.in_ok-terminals.ensures.nodes;
+}
+
+-- and where it isn't
+refused : (c : goal.After-cut) → HasTerminals c.args.self.now c.self.inside.graph c.self.inside.names c.terminals.new.self c.self.inside.profile
+    c.args.gate.now c.args.source.now c.args.drain.now c.in_ok-terminals.terminals
+refused c = record {
+  whole = c.self.view_is;
+  counted = c.self.invariant.counted;
+  made = c.in_ok-terminals.ensures.ok;
+  nodes = c.in_ok-terminals.ensures.nodes;
+}
+
+pub returns-in-Ok-clause-ok : goal.returns-in-Ok-clause-ok
+returns-in-Ok-clause-ok c =
+    with_transistor-wired c.wire.new.graph c.args.kind c.args.strength c.in-Some.level c.nodes.result (wired c) c.in-Some.ensures.value.1
+    c.nodes.ensures c.in-Ok.ensures.ok
+
+pub returns-in-Ok-clause-allowed : goal.returns-in-Ok-clause-allowed
+returns-in-Ok-clause-allowed c =
+    add_fault-HasTerminals c.args.strength c.nodes.result (wired c) c.in-Some.ensures.value.0 c.nodes.ensures ∙ c.in-Ok.ensures.allowed
+
+pub returns-in-Err-clause-refused : goal.returns-in-Err-clause-refused
+returns-in-Err-clause-refused c =
+    let same = add_fault-HasTerminals c.args.strength c.nodes.result (refused c) c.in-Some.ensures.value.0 c.nodes.ensures in
+    elim c.in-Err.ensures.refused [ inl want ↦ inl want | inr limit ↦ inr (same ∙ limit) ]

@@ -1,0 +1,4 @@
+pub mod Names
+pub mod Naming
+pub mod Netlists
+pub mod Edits

@@ -1,0 +1,265 @@
+//! The names of a circuit, beside its graph.
+ghost use Rattle.std.specs.Prelude.{◌≡◌, ◌<◌, [], ◌∷◌, ◌++◌, length, IfOk, IfSome, None, OnErr, OnOk, Some};
+ghost use Rattle.netlist.specs.Names.{held, name_at, node_of, rail_of};
+ghost use Rattle.netlist.specs.Naming.{cut, entries_of, node_count, with_first, with_more, with_name, with_name_of, with_names, AreTerminals, Extends, HasNode, IsNaming};
+
+use crate::{GND, RAILS, VDD};
+use indexmap::IndexMap;
+use std::alloc::{AllocError, Global};
+use std::marker::Model;
+use ternary::NoMemory;
+
+/// How many names are in use and how many nodes but the rails there are, to cut back to.
+#[derive(Clone, Copy)]
+pub(crate) struct Mark {
+    names: usize,
+    nodes: usize,
+}
+
+/// The nodes of the names at a transistor's terminals.
+#[derive(Clone, Copy)]
+pub(crate) struct Terminals {
+    pub gate: usize,
+    pub source: usize,
+    pub drain: usize,
+}
+
+/// The names in use, each with its node.
+///
+/// Beside each node but the rails stands the place of its first name, so that a look-up by name or
+/// by node never goes through all names. A spelling of a rail is never among the names.
+#[derive(Drop)]
+pub(crate) struct Names {
+    table: IndexMap<Vec<u8>, usize>,
+    // of node k + 2 the place of its first name in the table
+    firsts: Vec<usize>,
+}
+
+impl Model for Names {
+    ghost use Rattle.netlist.specs.Naming.{Naming, IsNaming, entries_of};
+
+    ghost Value = { Naming };
+
+    ghost view = { λ names. record { entries = entries_of names.table.entries; firsts = names.firsts.items } };
+
+    ghost invariant = { λ names. IsNaming (record { entries = entries_of names.table.entries; firsts = names.firsts.items }) };
+}
+
+impl Names {
+    /// The rails alone: no names.
+    pub(crate) fn new(alloc: Global) -> Names
+        ensures { result ≡ record { entries = []; firsts = [] } }
+    {
+        Names {
+            table: IndexMap::new(alloc),
+            firsts: Vec::new(alloc),
+        }
+    }
+
+    /// The names are well formed. The call is for proofs alone.
+    pub(crate) fn are_well_formed(&self)
+        ensures { IsNaming self.now }
+    {
+        let _ = &self.table;
+    }
+
+    /// How many nodes there are, the rails included.
+    pub(crate) fn nodes(&self) -> usize
+        ensures { result ≡ node_count self.now }
+    {
+        self.firsts.len() + RAILS
+    }
+
+    /// How many names are in use.
+    pub(crate) fn len(&self) -> usize
+        ensures { result ≡ length self.now.entries }
+    {
+        self.table.len()
+    }
+
+    /// The node of a name, or None where the name isn't in use.
+    pub(crate) fn find(&self, name: &[u8]) -> Option<usize>
+        ensures value { result ≡ node_of self.now.entries name.now }
+        ensures within { IfSome result (λ node. node < node_count self.now) }
+    {
+        match rail_named(name) {
+            Some(rail) => Some(rail),
+            None => self.look_up(name),
+        }
+    }
+
+    /// What a node is called.
+    pub(crate) fn name_of(&self, node: usize) -> &[u8]
+        requires { node < node_count self.now }
+        ensures name { name_at self.now.entries node ≡ Some result.now }
+        ensures found { node_of self.now.entries result.now ≡ Some node }
+    {
+        if node == GND {
+            return b"Gnd";
+        }
+        if node == VDD {
+            return b"Vdd";
+        }
+        match self.table.get_index(self.firsts[node - RAILS]) {
+            Some((name, _)) => name,
+            None => unreachable!(),
+        }
+    }
+
+    /// The node of a name, which becomes the first name of a new node where it isn't in use.
+    pub(crate) fn node_or_new(&mut self, name: &[u8]) -> Result<usize, NoMemory>
+        ensures ok { OnOk result (self.new ≡ with_name self.old name.now) }
+        ensures node { IfOk result (λ node. HasNode self.new name.now node) }
+        ensures grown { Extends self.old self.new }
+        ensures err { OnErr result (self.new ≡ self.old) }
+    {
+        match self.find(name) {
+            Some(node) => Ok(node),
+            None => self.add_first(name),
+        }
+    }
+
+    /// Makes a name that isn't in use the first name of a new node, and answers the node.
+    pub(crate) fn add_first(&mut self, name: &[u8]) -> Result<usize, NoMemory>
+        requires { node_of self.old.entries name.now ≡ None }
+        ensures ok { OnOk result (self.new ≡ with_first self.old name.now) }
+        ensures number { IfOk result (λ node. node ≡ node_count self.old) }
+        ensures err { OnErr result (self.new ≡ self.old) }
+    {
+        let node = self.nodes();
+        let place = self.table.len();
+        let word = name.to_vec(*self.table.allocator())?;
+        self.firsts.reserve(1)?;
+        put_new(&mut self.table, word, node)?;
+        self.firsts.push_reserved(place);
+        Ok(node)
+    }
+
+    /// Makes a name one more name of a node, unless it is in use already.
+    pub(crate) fn add_name_of(&mut self, name: &[u8], node: usize) -> Result<(), NoMemory>
+        requires { node < node_count self.old }
+        ensures ok { OnOk result (self.new ≡ with_name_of self.old name.now node) }
+        ensures grown { Extends self.old self.new }
+        ensures err { OnErr result (self.new ≡ self.old) }
+    {
+        match self.find(name) {
+            Some(_) => Ok(()),
+            None => self.add_more(name, node),
+        }
+    }
+
+    // Makes a name that isn't in use one more name of a node.
+    fn add_more(&mut self, name: &[u8], node: usize) -> Result<(), NoMemory>
+        requires unused { node_of self.old.entries name.now ≡ None }
+        requires in_range { node < node_count self.old }
+        ensures ok { OnOk result (self.new ≡ with_more self.old name.now node) }
+        ensures err { OnErr result (self.new ≡ self.old) }
+    {
+        let word = name.to_vec(*self.table.allocator())?;
+        put_new(&mut self.table, word, node)
+    }
+
+    /// The nodes of the names at a transistor's terminals; those that aren't in use become the
+    /// first names of new nodes, in the order gate, source, drain.
+    pub(crate) fn terminals(
+        &mut self,
+        gate: &[u8],
+        source: &[u8],
+        drain: &[u8],
+    ) -> Result<Terminals, NoMemory>
+        ensures ok { OnOk result
+            (self.new ≡ with_names self.old (gate.now ∷ source.now ∷ drain.now ∷ [])) }
+        ensures nodes { IfOk result
+            (λ nodes. AreTerminals self.new gate.now source.now drain.now nodes) }
+        ensures grown { OnOk result (Extends self.old self.new) }
+        ensures err { OnErr result (self.new ≡ self.old) }
+    {
+        let mark = self.mark();
+        match self.try_terminals(gate, source, drain) {
+            Ok(terminals) => Ok(terminals),
+            Err(want) => {
+                self.cut(mark);
+                Err(want)
+            }
+        }
+    }
+
+    /// How many names and nodes there are.
+    pub(crate) fn mark(&self) -> Mark
+        ensures names { result.names ≡ length self.now.entries }
+        ensures nodes { result.nodes ≡ length self.now.firsts }
+        ensures well_formed { IsNaming self.now }
+    {
+        Mark {
+            names: self.table.len(),
+            nodes: self.firsts.len(),
+        }
+    }
+
+    /// Takes back the names and nodes that were added after the mark.
+    pub(crate) fn cut(&mut self, mark: Mark)
+        requires { IsNaming (cut self.old mark.names mark.nodes) }
+        ensures { self.new ≡ cut self.old mark.names mark.nodes }
+    {
+        self.table.truncate(mark.names);
+        self.firsts.truncate(mark.nodes);
+    }
+
+    // As `terminals`, but at want of memory some names may have been added.
+    fn try_terminals(
+        &mut self,
+        gate: &[u8],
+        source: &[u8],
+        drain: &[u8],
+    ) -> Result<Terminals, NoMemory>
+        ensures ok { OnOk result
+            (self.new ≡ with_names self.old (gate.now ∷ source.now ∷ drain.now ∷ [])) }
+        ensures nodes { IfOk result
+            (λ nodes. AreTerminals self.new gate.now source.now drain.now nodes) }
+        ensures grown { Extends self.old self.new }
+    {
+        let gate = self.node_or_new(gate)?;
+        let source = self.node_or_new(source)?;
+        let drain = self.node_or_new(drain)?;
+        Ok(Terminals {
+            gate,
+            source,
+            drain,
+        })
+    }
+
+    // The node under which the name is held.
+    fn look_up(&self, name: &[u8]) -> Option<usize>
+        ensures value { result ≡ held self.now.entries name.now }
+        ensures within { IfSome result (λ node. node < node_count self.now) }
+    {
+        self.table.get(name).copied()
+    }
+}
+
+// Puts a name that isn't held behind the others.
+fn put_new(table: &mut IndexMap<Vec<u8>, usize>, name: Vec<u8>, node: usize) -> Result<(), NoMemory>
+    requires { held (entries_of table.old.entries) name.items ≡ None }
+    ensures ok { OnOk result
+        (entries_of table.new.entries ≡ entries_of table.old.entries ++ (name.items, node) ∷ []) }
+    ensures err { OnErr result (entries_of table.new.entries ≡ entries_of table.old.entries) }
+{
+    match table.insert(name, node) {
+        Ok(_) => Ok(()),
+        Err(_) => Err(NoMemory),
+    }
+}
+
+// The rail that a name spells, in any ASCII case.
+fn rail_named(name: &[u8]) -> Option<usize>
+    ensures value { result ≡ rail_of name.now }
+    ensures within { IfSome result (λ rail. rail < RAILS) }
+{
+    if name.eq_ignore_ascii_case(b"gnd") || name.eq_ignore_ascii_case(b"gnd!") {
+        Some(GND)
+    } else if name.eq_ignore_ascii_case(b"vdd") || name.eq_ignore_ascii_case(b"vdd!") {
+        Some(VDD)
+    } else {
+        None
+    }
+}

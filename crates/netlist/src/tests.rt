@@ -1,0 +1,113 @@
+use crate::{Circuit, EditFault, GND, VDD};
+use path_meaning::SwitchKind::{self, Always, NChan, PChan};
+use std::test::Fail;
+use strength_order::Profile;
+
+enum Edit {
+    Node(&'static [u8]),
+    // kind, strength, gate, source and drain
+    Switch(SwitchKind, u64, &'static [u8], &'static [u8], &'static [u8]),
+    Alias(&'static [u8], &'static [u8]),
+    Input(&'static [u8]),
+    Store(&'static [u8], u64),
+}
+
+// Each edit of a new circuit in turn, with what it answers: the node, or the transistor's number.
+const EDITS: [(Edit, Result<u64, EditFault>); 20] = [
+    (Edit::Switch(NChan, 2, b"a", b"Gnd", b"out"), Ok(1)),
+    (Edit::Switch(PChan, 2, b"a", b"VDD!", b"out"), Ok(2)),
+    (
+        Edit::Switch(Always, 0, b"b", b"c", b"d"),
+        Err(EditFault::BadStrength),
+    ),
+    (
+        Edit::Switch(Always, 5, b"b", b"c", b"d"),
+        Err(EditFault::BadStrength),
+    ),
+    (Edit::Switch(Always, 4, b"b", b"b", b"vdd"), Ok(3)),
+    (Edit::Node(b"b"), Ok(4)),
+    (Edit::Node(b"B"), Ok(5)),
+    (Edit::Node(b"gND"), Ok(0)),
+    (Edit::Alias(b"out", b"y"), Ok(0)),
+    (Edit::Alias(b"z", b"y"), Ok(0)),
+    (Edit::Alias(b"power", b"Vdd"), Ok(0)),
+    (Edit::Alias(b"vdd!", b"power"), Ok(0)),
+    (Edit::Alias(b"a", b"out"), Err(EditFault::AliasTaken)),
+    (Edit::Alias(b"Gnd", b"power"), Err(EditFault::AliasTaken)),
+    (Edit::Alias(b"p", b"q"), Ok(0)),
+    (Edit::Alias(b"s", b"s"), Ok(0)),
+    (Edit::Input(b"a"), Ok(2)),
+    (Edit::Input(b"power"), Err(EditFault::Rail)),
+    (Edit::Store(b"z", 3), Ok(3)),
+    (Edit::Store(b"out", 4), Err(EditFault::BadSize)),
+];
+
+// What the names stand for at the end.
+const FOUND: [(&[u8], Option<usize>); 12] = [
+    (b"gnd", Some(GND)),
+    (b"Gnd!", Some(GND)),
+    (b"vDD", Some(VDD)),
+    (b"power", Some(VDD)),
+    (b"a", Some(2)),
+    (b"A", None),
+    (b"out", Some(3)),
+    (b"z", Some(3)),
+    (b"c", None),
+    (b"q", Some(6)),
+    (b"s", Some(7)),
+    (b"", None),
+];
+
+// What each node is called at the end, and its level.
+const CALLED: [(&[u8], u8); 8] = [
+    (b"Gnd", 16),
+    (b"Vdd", 16),
+    (b"a", 16),
+    (b"out", 3),
+    (b"b", 1),
+    (b"B", 1),
+    (b"p", 1),
+    (b"s", 1),
+];
+
+#[test]
+fn edits_make_and_name_nodes(rt: HostRuntime) -> Result<(), Fail> {
+    let mut circuit = Circuit::new(rt.alloc(), Profile::One)?;
+    for (edit, answer) in &EDITS {
+        assert_eq!(rt; apply(&mut circuit, edit), *answer);
+    }
+    for (name, node) in &FOUND {
+        assert_eq!(rt; circuit.find(name), *node);
+    }
+    assert_eq!(rt; circuit.names(), 10);
+    assert_eq!(rt; circuit.graph().nodes(), CALLED.len());
+    assert_eq!(rt; circuit.graph().places(), 3);
+    for (node, (name, level)) in CALLED.iter().enumerate() {
+        assert_eq!(rt; circuit.name_of(node), *name);
+        assert_eq!(rt; circuit.graph().level(node), *level);
+    }
+    Ok(())
+}
+
+fn apply(circuit: &mut Circuit, edit: &Edit) -> Result<u64, EditFault> {
+    match *edit {
+        Edit::Node(name) => Ok(circuit.node_or_new(name)? as u64),
+        Edit::Switch(kind, strength, gate, source, drain) => {
+            circuit.add_switch(kind, strength, gate, source, drain)
+        }
+        Edit::Alias(first, second) => {
+            circuit.alias(first, second)?;
+            Ok(0)
+        }
+        Edit::Input(name) => {
+            let node = circuit.node_or_new(name)?;
+            circuit.make_input(node)?;
+            Ok(node as u64)
+        }
+        Edit::Store(name, size) => {
+            let node = circuit.node_or_new(name)?;
+            circuit.make_store(node, size)?;
+            Ok(node as u64)
+        }
+    }
+}
