@@ -1,0 +1,4 @@
+pub mod CircuitLemmas
+pub mod HeaderLemmas
+pub mod ItemLemmas
+pub mod MeaningLemmas

@@ -1,0 +1,4 @@
+pub mod Header
+pub mod Items
+pub mod Meaning
+pub mod Records

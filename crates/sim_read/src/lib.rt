@@ -1,0 +1,27 @@
+//! Reads a .sim netlist: its lines are the entries of a circuit, or the first that isn't is refused.
+//!
+//! The main call is `read_netlist`. The layer above uses its contract: it gives `netlist_of` of the
+//! text, the circuit that the lines' entries give in order from the two rails alone, or the refusal
+//! of the first line that has one, with its number and its cause.
+//!
+//! ```text
+//! read_netlist(alloc, b"p a Vdd out\nn a Gnd out\n")      is a circuit with nodes Gnd, Vdd, a, out
+//! read_netlist(alloc, b"n a Gnd out\nq a b c\n")          is refused at line 2: BadRecord
+//! ```
+//!
+//! The format is the .sim format of the MIT and Berkeley circuit extractors, in this project's
+//! profile: docs/FORMATS.md has it whole.
+#![tactic(auto)]
+
+mod fault;
+mod header;
+mod items;
+mod laws;
+mod reader;
+mod records;
+#[cfg(test)]
+mod tests;
+
+pub use fault::{NetFault, NetWhat};
+pub use laws::{netlists_are_circuits_or_refused_lines, the_last_strength_counts};
+pub use reader::read_netlist;

@@ -1,0 +1,107 @@
+//! What no clause says: netlists of which the answer is known, read with ample memory.
+
+use super::*;
+use netlist::Circuit;
+use std::test::Fail;
+
+// The nodes, transistors and names of a circuit.
+fn sizes_of(circuit: &Circuit) -> (usize, usize, usize) {
+    let graph = circuit.graph();
+    (graph.nodes(), graph.places(), circuit.names())
+}
+
+#[test]
+fn netlists_give_circuits(rt: HostRuntime) {
+    const EXTRACTED: &[u8] = b"| units: 100 tech: scmos format: SU
+p a_12_34# Vdd! out 2 8 100 200 g=S_Vdd! s=A_40,P_28 d=A_40,P_28
+n a_12_34# GND! out 2 4 100 150 s=A_20,P_18 d=A_20,P_18
+p out q Vdd! 2 8 140 200 s=A_40,P_28 d=A_40,P_28
+n out GND! q 2 4 140 150
+C out GND! 5.2
+C a_12_34# Vdd! 1.5
+R out 120
+= out y
+= a_12_34# in
+= Vdd! vdd
+";
+    const ROWS: [(&[u8], (usize, usize, usize)); 12] = [
+        (b"", (2, 0, 0)),
+        (b"p a Vdd out\nn a Gnd out\n", (4, 2, 2)),
+        (EXTRACTED, (5, 4, 5)),
+        (
+            b"\r\n \t\r\nd u[3]/q@2 u[3]/q@2 VDD! 2 8 g=S_Vdd!,x\r\ne a# GND! u[3]/q@2",
+            (4, 2, 2),
+        ),
+        (b"A Vdd size:9\n", (2, 0, 0)),
+        (
+            b"= vdd! power\nA power size:9\n= a power\nA a input\n",
+            (2, 0, 2),
+        ),
+        (b"A a size:2,input\nn a a b\n", (4, 1, 2)),
+        (b"= b a\n= a c\nN d e f\n", (3, 0, 3)),
+        (b"\n| format: LBL\n", (2, 0, 0)),
+        (b"||format: LBL\n", (2, 0, 0)),
+        (b"| \xff format:\n", (2, 0, 0)),
+        (b" |format: mIt | format: LBL", (2, 0, 0)),
+    ];
+    for (text, wanted) in ROWS {
+        let sizes = read_netlist(rt.alloc(), text).map(|circuit| sizes_of(&circuit));
+        assert_eq!(rt; sizes, Ok(wanted));
+    }
+}
+
+#[test]
+fn the_first_bad_line_is_refused(rt: HostRuntime) {
+    const ROWS: [(&[u8], u64, NetWhat); 18] = [
+        (b"n a Gnd out\nq a b c\nq\n", 2, NetWhat::BadRecord),
+        (b"E a b c\n", 1, NetWhat::BadRecord),
+        (b"p a Vdd out\nn a G\n", 2, NetWhat::FewWords),
+        (b"= a\n", 1, NetWhat::FewWords),
+        (b"A\n", 1, NetWhat::FewWords),
+        (
+            b"| units: 100 tech: scmos format: LBL\n",
+            1,
+            NetWhat::Format,
+        ),
+        (b"|format: format: MIT", 1, NetWhat::Format),
+        (b"p a Vdd out\n= a out\n", 2, NetWhat::AliasTaken),
+        (b"= Vdd Gnd\n", 1, NetWhat::AliasTaken),
+        (b"n a b c g=strength:5\n", 1, NetWhat::BadStrength),
+        (b"n a b c g=strength:,strength:1\n", 1, NetWhat::BadStrength),
+        (b"\n\nA a size:0\n", 3, NetWhat::BadSize),
+        (b"A a size:4,input\n", 1, NetWhat::BadSize),
+        (b"n a b\x80 c\n", 1, NetWhat::BadByte),
+        (b"n a\rb c d\n", 1, NetWhat::BadByte),
+        (b"q \x7f\n", 1, NetWhat::BadByte),
+        (&[b'|'; 65_537], 1, NetWhat::LineTooLong),
+        (&[b'\x80'; 65_537], 1, NetWhat::LineTooLong),
+    ];
+    for (text, line, what) in ROWS {
+        let refusal = read_netlist(rt.alloc(), text).err();
+        assert_eq!(rt; refusal, Some(NetFault::At { line, what }));
+    }
+}
+
+#[test]
+fn the_last_strength_and_the_last_size_count(rt: HostRuntime) -> Result<(), Fail> {
+    const ROWS: [(&[u8], u8, u8); 5] = [
+        (b"n a b c\n", 10, 1),
+        (b"d a b c s=strength:4\n", 9, 1),
+        (
+            b"p a b c strength:4 g=strength:4,S_Vdd!,strength:1 g=strength:3,x\nA a input size:3\n",
+            11,
+            3,
+        ),
+        (b"e a b c g=,strength:4\nA a size:2,x input\n", 12, 16),
+        (b"A a size:2\nA a\nd a b c g=strength:2\n", 10, 2),
+    ];
+    for (text, switch, node) in ROWS {
+        let circuit = read_netlist(rt.alloc(), text)?;
+        let graph = circuit.graph();
+        assert_eq!(rt; graph.places(), 1);
+        assert_eq!(rt; graph.switch_at(0).map(|switch| switch.level), Some(switch));
+        assert!(rt; graph.nodes() > 2);
+        assert_eq!(rt; graph.level(2), node);
+    }
+    Ok(())
+}
