@@ -1,0 +1,4 @@
+pub mod CutLemmas
+pub mod FormLemmas
+pub mod ListLemmas
+pub mod ReadingLemmas

@@ -1,0 +1,106 @@
+-- What the reading of a line is, whatever the line: a well-formed command, nothing to do, or a refusal that has a cause.
+use Rattle.std.proofs.Common.{◌≡◌, ◌≢◌, ℕ, Bool, true, false, List, [], ◌∷◌, Option, Some, None, Result, Ok, Err, refl, sym, ◌∙◌, ap}
+use Rattle.std.specs.Prelude.{option_map, if◌then◌else◌}
+use Rattle.std.specs.Option.{ok_or}
+use Rattle.ternary.specs.declared.tern.Tern.{Tern}
+use Rattle.line_words.specs.declared.line_check.LineFault.{LineFault}
+use Rattle.line_words.specs.declared.line_check.LineFault.TheVariants as of_line
+use Rattle.line_words.specs.LineFaults.{line_fault, is_comment}
+use Rattle.line_words.specs.Words.{words_of}
+use Rattle.line_words.specs.Decimals.{decimal_of}
+use Rattle.script_lang.specs.declared.verb.Verb.{Verb}
+use Rattle.script_lang.specs.declared.verb.Verb.TheVariants as verb
+use Rattle.script_lang.specs.declared.command.Command.{Command}
+use Rattle.script_lang.specs.declared.command.Command.TheVariants.{Input, Store, Set, Charge, Watch, Limit, Step, Phase, Clock, Cycle, Expect}
+use Rattle.script_lang.specs.declared.command.ScriptFault.{ScriptFault}
+use Rattle.script_lang.specs.declared.command.ScriptFault.TheVariants.{NoMemory, BadValue, BadNumber}
+use Rattle.script_lang.specs.Parts.{all_of, assignment_of, beats_of, times_of}
+use Rattle.script_lang.specs.Commands.{verb_of, names_given, assignments_given, clocks_given, times_given, commanded, alone, store_by, command_by, some_command, reading_of_words, reading_by, reading_of}
+use Rattle.script_lang.specs.Forms.{IsFormed}
+use Rattle.script_lang.proofs.FormLemmas.{formed_words}
+
+-- a fault of a missing part is that fault
+missing : {X : Type 0} (found : Option X) (fault : ScriptFault) → fault ≢ NoMemory → ok_or found fault ≢ Err NoMemory
+missing None fault other same = other (let e : fault ≡ NoMemory = cc in e)
+missing (Some x) fault other same = cc
+
+-- a command's fault is that of what was given
+commanded-named : {X : Type 0} (command : X → Command) (given : Result X ScriptFault) → given ≢ Err NoMemory → commanded command given ≢ Err NoMemory
+commanded-named command (Ok x) named same = cc
+commanded-named command (Err fault) named same = named (let e : fault ≡ NoMemory = cc in ap Err e)
+
+names-named : (words : List (List ℕ)) → names_given words ≢ Err NoMemory
+names-named [] same = cc
+names-named (name ∷ names) same = cc
+
+assignments-named : (words : List (List ℕ)) → assignments_given words ≢ Err NoMemory
+assignments-named [] same = cc
+assignments-named (word ∷ words) same = missing (all_of assignment_of (word ∷ words)) BadValue (λ e. cc) same
+
+clocks-named : (words : List (List ℕ)) → clocks_given words ≢ Err NoMemory
+clocks-named [] same = cc
+clocks-named (word ∷ words) same = missing (all_of beats_of (word ∷ words)) BadValue (λ e. cc) same
+
+times-named : (words : List (List ℕ)) → times_given words ≢ Err NoMemory
+times-named [] same = cc
+times-named (word ∷ []) same = missing (times_of word) BadNumber (λ e. cc) same
+times-named (word ∷ other ∷ words) same = cc
+
+alone-named : (command : Command) (words : List (List ℕ)) → alone command words ≢ Err NoMemory
+alone-named command [] same = cc
+alone-named command (word ∷ words) same = cc
+
+store-named : (words : List (List ℕ)) → store_by words ≢ Err NoMemory
+store-named [] same = cc
+store-named (name ∷ []) same = cc
+store-named (name ∷ size ∷ []) same = missing (option_map (Store name) (decimal_of size)) BadNumber (λ e. cc) same
+store-named (name ∷ size ∷ other ∷ words) same = cc
+
+command-named : (found : Option Verb) (words : List (List ℕ)) → command_by found words ≢ Err NoMemory
+command-named None words same = cc
+command-named (Some verb.Input) words same = commanded-named Input (names_given words) (names-named words) same
+command-named (Some verb.Store) words same = store-named words same
+command-named (Some verb.Set) words same = commanded-named Set (assignments_given words) (assignments-named words) same
+command-named (Some verb.Charge) words same = commanded-named Charge (assignments_given words) (assignments-named words) same
+command-named (Some verb.Watch) words same = commanded-named Watch (names_given words) (names-named words) same
+command-named (Some verb.Limit) words same = commanded-named Limit (times_given words) (times-named words) same
+command-named (Some verb.Step) words same = alone-named Step words same
+command-named (Some verb.Phase) words same = alone-named Phase words same
+command-named (Some verb.Clock) words same = commanded-named Clock (clocks_given words) (clocks-named words) same
+command-named (Some verb.Cycle) words same = commanded-named Cycle (times_given words) (times-named words) same
+command-named (Some verb.Expect) words same = commanded-named Expect (assignments_given words) (assignments-named words) same
+
+some-named : (answer : Result Command ScriptFault) → answer ≢ Err NoMemory → some_command answer ≢ Err NoMemory
+some-named (Ok command) named same = cc
+some-named (Err fault) named same = named (let e : fault ≡ NoMemory = cc in ap Err e)
+
+words-named : (words : List (List ℕ)) → reading_of_words words ≢ Err NoMemory
+words-named [] same = cc
+words-named (word ∷ words) same = some-named (command_by (verb_of word) words) (command-named (verb_of word) words) same
+
+-- want of memory is the reading of no line
+pub reading-named : (line : List ℕ) → reading_of line ≢ Err NoMemory
+reading-named line = by (line_fault line) (is_comment line)
+  where
+    commented : (comment : Bool) → (if comment then Ok None else reading_of_words (words_of line)) ≢ Err NoMemory
+    commented true same = cc
+    commented false same = words-named (words_of line) same
+
+    by : (fault : Option LineFault) (comment : Bool) → reading_by line fault ≢ Err NoMemory
+    by (Some of_line.TooLong) comment same = cc
+    by (Some of_line.BadByte) comment same = cc
+    by None comment same = commented (is_comment line) same
+
+-- a command that a line asks for is well formed
+pub reading-formed : (line : List ℕ) (command : Command) → reading_of line ≡ Ok (Some command) → IsFormed command
+reading-formed line command asked = by (line_fault line) refl asked
+  where
+    commented : (comment : Bool) → line_fault line ≡ None → is_comment line ≡ comment →
+        (if comment then Ok None else reading_of_words (words_of line)) ≡ Ok (Some command) → IsFormed command
+    commented true sound is same = cc
+    commented false sound is same = formed_words line (Ok (Some command)) sound is same
+
+    by : (fault : Option LineFault) → line_fault line ≡ fault → reading_by line fault ≡ Ok (Some command) → IsFormed command
+    by (Some of_line.TooLong) is same = cc
+    by (Some of_line.BadByte) is same = cc
+    by None is same = commented (is_comment line) is refl same

@@ -1,0 +1,105 @@
+-- The commands of a script: which command a line is, if any, and why it is refused.
+-- The script language is this project's own.
+use Rattle.std.specs.Prelude.{ℕ, List, [], ◌∷◌, codes, bytes_eq, Option, Some, None, option_map, Result, Ok, Err, if◌then◌else◌}
+use Rattle.std.specs.Option.{ok_or}
+use Rattle.ternary.specs.declared.tern.Tern.{Tern}
+use Rattle.line_words.specs.declared.line_check.LineFault.{LineFault}
+use Rattle.line_words.specs.declared.line_check.LineFault.TheVariants as of_line
+use Rattle.line_words.specs.Decimals.{decimal_of}
+use Rattle.line_words.specs.LineFaults.{line_fault, is_comment}
+use Rattle.line_words.specs.Words.{words_of}
+use Rattle.script_lang.specs.declared.verb.Verb.{Verb}
+use Rattle.script_lang.specs.declared.verb.Verb.TheVariants as verb
+use Rattle.script_lang.specs.declared.command.Command.{Command}
+use Rattle.script_lang.specs.declared.command.Command.TheVariants.{Input, Store, Set, Charge, Watch, Limit, Step, Phase, Clock, Cycle, Expect}
+use Rattle.script_lang.specs.declared.command.ScriptFault.{ScriptFault}
+use Rattle.script_lang.specs.declared.command.ScriptFault.TheVariants.{LineTooLong, BadByte, BadCommand, FewWords, ManyWords, BadValue, BadNumber}
+use Rattle.script_lang.specs.Parts.{all_of, assignment_of, beats_of, times_of}
+
+-- the verb that a word is, compared byte by byte
+abbrev pub verb_of : List ℕ → Option Verb
+verb_of word =
+    if bytes_eq word (codes "input") then Some verb.Input
+    else (if bytes_eq word (codes "store") then Some verb.Store
+    else (if bytes_eq word (codes "set") then Some verb.Set
+    else (if bytes_eq word (codes "charge") then Some verb.Charge
+    else (if bytes_eq word (codes "watch") then Some verb.Watch
+    else (if bytes_eq word (codes "limit") then Some verb.Limit
+    else (if bytes_eq word (codes "step") then Some verb.Step
+    else (if bytes_eq word (codes "phase") then Some verb.Phase
+    else (if bytes_eq word (codes "clock") then Some verb.Clock
+    else (if bytes_eq word (codes "cycle") then Some verb.Cycle
+    else (if bytes_eq word (codes "expect") then Some verb.Expect else None))))))))))
+
+-- one name or more
+abbrev pub names_given : List (List ℕ) → Result (List (List ℕ)) ScriptFault
+names_given [] = Err FewWords
+names_given (name ∷ names) = Ok (name ∷ names)
+
+-- one assignment or more
+abbrev pub assignments_given : List (List ℕ) → Result (List (List ℕ × Tern)) ScriptFault
+assignments_given [] = Err FewWords
+assignments_given (word ∷ words) = ok_or (all_of assignment_of (word ∷ words)) BadValue
+
+-- the letters of one clock or more
+abbrev pub clocks_given : List (List ℕ) → Result (List (List ℕ × List Tern)) ScriptFault
+clocks_given [] = Err FewWords
+clocks_given (word ∷ words) = ok_or (all_of beats_of (word ∷ words)) BadValue
+
+-- a number from 1 to 1,000,000
+abbrev pub times_given : List (List ℕ) → Result ℕ ScriptFault
+times_given [] = Err FewWords
+times_given (word ∷ []) = ok_or (times_of word) BadNumber
+times_given (word ∷ other ∷ words) = Err ManyWords
+
+-- the command of what was given, or the fault
+abbrev pub commanded : {X : Type 0} → (X → Command) → Result X ScriptFault → Result Command ScriptFault
+commanded command (Ok given) = Ok (command given)
+commanded command (Err fault) = Err fault
+
+-- a command that is given nothing
+abbrev pub alone : Command → List (List ℕ) → Result Command ScriptFault
+alone command [] = Ok command
+alone command (word ∷ words) = Err ManyWords
+
+-- `store`, which is given a name and a size
+abbrev pub store_by : List (List ℕ) → Result Command ScriptFault
+store_by [] = Err FewWords
+store_by (name ∷ []) = Err FewWords
+store_by (name ∷ size ∷ []) = ok_or (option_map (Store name) (decimal_of size)) BadNumber
+store_by (name ∷ size ∷ other ∷ words) = Err ManyWords
+
+-- the command of a verb with the words after it
+abbrev pub command_by : Option Verb → List (List ℕ) → Result Command ScriptFault
+command_by None words = Err BadCommand
+command_by (Some verb.Input) words = commanded Input (names_given words)
+command_by (Some verb.Store) words = store_by words
+command_by (Some verb.Set) words = commanded Set (assignments_given words)
+command_by (Some verb.Charge) words = commanded Charge (assignments_given words)
+command_by (Some verb.Watch) words = commanded Watch (names_given words)
+command_by (Some verb.Limit) words = commanded Limit (times_given words)
+command_by (Some verb.Step) words = alone Step words
+command_by (Some verb.Phase) words = alone Phase words
+command_by (Some verb.Clock) words = commanded Clock (clocks_given words)
+command_by (Some verb.Cycle) words = commanded Cycle (times_given words)
+command_by (Some verb.Expect) words = commanded Expect (assignments_given words)
+
+-- a line's command, where it has words
+abbrev pub some_command : Result Command ScriptFault → Result (Option Command) ScriptFault
+some_command (Ok command) = Ok (Some command)
+some_command (Err fault) = Err fault
+
+-- the words of a line: none ask for nothing, else the first is the verb
+abbrev pub reading_of_words : List (List ℕ) → Result (Option Command) ScriptFault
+reading_of_words [] = Ok None
+reading_of_words (word ∷ words) = some_command (command_by (verb_of word) words)
+
+-- a line, by its fault as a line of any text; a comment asks for nothing
+abbrev pub reading_by : List ℕ → Option LineFault → Result (Option Command) ScriptFault
+reading_by line (Some of_line.TooLong) = Err LineTooLong
+reading_by line (Some of_line.BadByte) = Err BadByte
+reading_by line None = if is_comment line then Ok None else reading_of_words (words_of line)
+
+-- what a line of a script is: a command, nothing to do, or refused. The cases stand in the order in which one refusal wins
+abbrev pub reading_of : List ℕ → Result (Option Command) ScriptFault
+reading_of line = reading_by line (line_fault line)

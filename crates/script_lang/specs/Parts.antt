@@ -1,0 +1,61 @@
+-- The parts of a script's words: names, assignments, letters of clocks, numbers.
+use Rattle.std.specs.Prelude.{◌≡◌, ◌≢◌, ◌<◌, ℕ, Bool, ◌==◌, ◌&&◌, List, [], ◌∷◌, length, slice_index, nat_le, Option, Some, None, option_map, if◌then◌else◌}
+use Rattle.std.specs.List.{before_last, after_last}
+use Rattle.std.specs.Option.{option_and_then}
+use Rattle.ternary.specs.declared.tern.Tern.{Tern}
+use Rattle.ternary.specs.Tern.{of_letter}
+use Rattle.line_words.specs.Decimals.{decimal_of}
+use Rattle.line_words.specs.Words.{is_word}
+use Rattle.script_lang.specs.declared.TheConstants.{MOST_TIMES}
+
+-- what each item gives, in order, or none where some item gives none
+abbrev pub all_of : {X Y : Type 0} → (X → Option Y) → List X → Option (List Y)
+all_of f [] = Some []
+all_of f (item ∷ items) = option_and_then (λ first. option_map (λ rest. first ∷ rest) (all_of f items)) (f item)
+
+-- the byte is `=`
+abbrev pub is_equals : ℕ → Bool
+is_equals byte = byte == 61
+
+-- the name and the letters of a word `name=letters`, cut at its last `=`, where both have a byte
+abbrev pub parts_of : List ℕ → Option (List ℕ × List ℕ)
+parts_of word =
+    let name = before_last is_equals word in
+    let letters = after_last is_equals word in
+    if is_word name && is_word letters then Some (name, letters) else None
+
+-- the state that one letter alone stands for: `0`, `1`, `X` or `x`
+abbrev pub state_of : List ℕ → Option Tern
+state_of [] = None
+state_of (letter ∷ []) = of_letter letter
+state_of (letter ∷ other ∷ letters) = None
+
+-- an assignment is a word `name=v`, with v the letter of a state
+abbrev pub assignment_of : List ℕ → Option (List ℕ × Tern)
+assignment_of word = option_and_then (λ parts. option_map (λ state. (parts.0, state)) (state_of parts.1)) (parts_of word)
+
+-- the states of letters, or none where a byte is no letter of a state
+abbrev pub states_of : List ℕ → Option (List Tern)
+states_of letters = all_of of_letter letters
+
+-- the letters of a clock are a word `name=vvv..`, with v a letter of a state each time
+abbrev pub beats_of : List ℕ → Option (List ℕ × List Tern)
+beats_of word = option_and_then (λ parts. option_map (λ states. (parts.0, states)) (states_of parts.1)) (parts_of word)
+
+-- the number, where it is from 1 to 1,000,000
+abbrev pub times_within : ℕ → Option ℕ
+times_within number = if nat_le 1 number && nat_le number MOST_TIMES then Some number else None
+
+-- a number from 1 to 1,000,000
+abbrev pub times_of : List ℕ → Option ℕ
+times_of word = option_and_then times_within (decimal_of word)
+
+-- no byte of the word is `=`
+abbrev pub HasNoEquals : List ℕ → Type 0
+HasNoEquals word = (k : ℕ) → k < length word → slice_index word k ≢ 61
+
+-- the byte at a place is the last `=` of the word
+pub record IsLastEquals (word : List ℕ) (at : ℕ) : Type 0 where
+  pub inside : at < length word
+  pub here : slice_index word at ≡ 61
+  pub after : (k : ℕ) → at < k → k < length word → slice_index word k ≢ 61

@@ -1,0 +1,71 @@
+use crate::lists::{AssignList, ClockList, Name, NameList};
+use ternary::NoMemory;
+use thiserror::Error;
+
+/// A command of a test script.
+#[derive(Debug, Drop)]
+pub enum Command {
+    /// `input NAME..`: makes the nodes input nodes; their states stay.
+    Input(NameList),
+    /// `store NAME SIZE`: makes the node a storage node of this size; its state stays.
+    Store(Name, u64),
+    /// `set NAME=V..`: sets input nodes, from left to right.
+    Set(AssignList),
+    /// `charge NAME=V..`: sets storage nodes, from left to right.
+    Charge(AssignList),
+    /// `watch NAME..`: appends the nodes to the watch list.
+    Watch(NameList),
+    /// `limit N`: sets the limit of a phase.
+    Limit(u64),
+    /// `step`: one unit step, and a waveform line.
+    Step,
+    /// `phase`: unit steps until nothing changes, past the limit joining ones, and a waveform line.
+    Phase,
+    /// `clock NAME=VV..`: puts these clocks in place of all others.
+    Clock(ClockList),
+    /// `cycle N`: so many times, for each place of the clocks in order, sets their nodes and does what `phase` does.
+    Cycle(u64),
+    /// `expect NAME=V..`: a line for each node that isn't in this state.
+    Expect(AssignList),
+}
+
+/// Why a line of a script is no command. Where several causes stand together, the first here wins;
+/// among bad values and numbers, that of the first bad word.
+#[derive(Clone, Copy, Debug, Drop, Error, PartialEq, Eq)]
+pub enum ScriptFault {
+    /// The line has more bytes than a line may have.
+    #[error("the line is too long")]
+    LineTooLong,
+    /// The line is no comment, and has a byte that is none of tab, space and 0x21 to 0x7e.
+    #[error("a byte that may not stand in a line")]
+    BadByte,
+    /// The first word is no command.
+    #[error("no such command")]
+    BadCommand,
+    /// There are too few words after the first.
+    #[error("too few words")]
+    FewWords,
+    /// There are too many words after the first.
+    #[error("too many words")]
+    ManyWords,
+    /// A word that should be an assignment is none.
+    #[error("the value isn't one")]
+    BadValue,
+    /// A word that should be a number is none, or is out of range.
+    #[error("the number isn't one")]
+    BadNumber,
+    /// There was want of memory.
+    #[error("want of memory")]
+    NoMemory,
+}
+
+impl From<NoMemory> for ScriptFault {
+    ghost use Rattle.std.specs.Prelude.{◌≡◌};
+    ghost use Rattle.script_lang.specs.declared.command.ScriptFault.TheVariants.{NoMemory};
+
+    ghost from_gives = { λ _ fault. fault ≡ NoMemory };
+
+    fn from(_want: NoMemory) -> ScriptFault {
+        ScriptFault::NoMemory
+    }
+}

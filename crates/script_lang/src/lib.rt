@@ -1,0 +1,29 @@
+//! The commands of a test script, read from its lines.
+//!
+//! The main type is `Command`, and the main call is `read_command`. The layer above uses its
+//! contract: it gives `reading_of` of the line, a command, nothing to do, or the refusal, and
+//! commands that are well formed alone.
+//!
+//! ```text
+//! read_command(alloc, b"set a=1 b=0")     is Ok(Some(Command::Set([a One, b Zero])))
+//! read_command(alloc, b"| a comment")     is Ok(None)
+//! read_command(alloc, b"limit")           is Err(ScriptFault::FewWords)
+//! ```
+#![tactic(auto)]
+
+mod command;
+mod laws;
+mod lists;
+mod parts;
+mod reader;
+#[cfg(test)]
+mod tests;
+mod verb;
+
+pub use command::{Command, ScriptFault};
+pub use laws::readings_are_commands_or_refusals;
+pub use lists::{AssignList, ClockList, ItemList, Name, NameList, StateList};
+pub use reader::read_command;
+
+/// The greatest number of `limit` and of `cycle`.
+pub const MOST_TIMES: u64 = 1_000_000;

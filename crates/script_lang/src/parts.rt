@@ -1,0 +1,86 @@
+//! The parts of a script's words: assignments, letters of clocks, numbers.
+ghost use Rattle.std.specs.Prelude.{◌≡◌, IfOk, MatchOption, option_map};
+ghost use Rattle.script_lang.specs.Parts.{assignment_of, beats_of, parts_of, state_of, states_of, times_of, HasNoEquals, IsLastEquals};
+
+use crate::MOST_TIMES;
+use crate::lists::{Name, StateList};
+use line_words::decimal;
+use std::alloc::Global;
+use ternary::{NoMemory, Tern};
+
+/// The name and the state of a word `name=v`, or None where the word is no assignment.
+pub(crate) fn assignment(alloc: Global, word: &[u8]) -> Result<Option<(Name, Tern)>, NoMemory>
+    ensures { IfOk result (λ found. found ≡ assignment_of word.now) }
+{
+    let Some((name, letters)) = cut_at_last_equals(word) else {
+        return Ok(None);
+    };
+    let Some(state) = state(letters) else {
+        return Ok(None);
+    };
+    Ok(Some((Name::from_slice(alloc, name)?, state)))
+}
+
+/// The name and the states of a word `name=vvv..`, or None where the word is no such one.
+pub(crate) fn beats(alloc: Global, word: &[u8]) -> Result<Option<(Name, StateList)>, NoMemory>
+    ensures { IfOk result (λ found. found ≡ beats_of word.now) }
+{
+    let Some((name, letters)) = cut_at_last_equals(word) else {
+        return Ok(None);
+    };
+    let Some(states) = states(alloc, letters)? else {
+        return Ok(None);
+    };
+    Ok(Some((Name::from_slice(alloc, name)?, states)))
+}
+
+/// The number of a word, from 1 to the most that there may be, or None where it is no such one.
+pub(crate) fn times(word: &[u8]) -> Option<u64>
+    ensures { result ≡ times_of word.now }
+{
+    decimal(word).filter(|&times| 1 <= times && times <= MOST_TIMES)
+}
+
+// The state that a letter alone stands for.
+fn state(letters: &[u8]) -> Option<Tern>
+    ensures { result ≡ state_of letters.now }
+{
+    match letters {
+        [letter] => Tern::from_letter(*letter),
+        _ => None,
+    }
+}
+
+// The states of letters, or None where a byte is no letter of a state.
+fn states(alloc: Global, letters: &[u8]) -> Result<Option<StateList>, NoMemory>
+    ensures { IfOk result (λ states. states ≡ states_of letters.now) }
+{
+    let mut states = StateList::new(alloc);
+    for &letter in letters {
+        match Tern::from_letter(letter) {
+            Some(state) => states.push(state)?,
+            None => return Ok(None),
+        }
+    }
+    Ok(Some(states))
+}
+
+// The name and the letters of a word, cut at its last `=`, where both have a byte.
+fn cut_at_last_equals(word: &[u8]) -> Option<(&[u8], &[u8])>
+    ensures { option_map (λ parts. (parts.0.now, parts.1.now)) result ≡ parts_of word.now }
+{
+    let at = last_equals(word)?;
+    let (name, letters) = (&word[..at], &word[at + 1..]);
+    if name.is_empty() || letters.is_empty() {
+        None
+    } else {
+        Some((name, letters))
+    }
+}
+
+// The place of the last `=` of a word.
+fn last_equals(word: &[u8]) -> Option<usize>
+    ensures { MatchOption result (HasNoEquals word.now) (IsLastEquals word.now) }
+{
+    word.iter().rposition(|&byte| byte == b'=')
+}

@@ -1,0 +1,185 @@
+//! Reading a line of a script.
+ghost use Rattle.std.specs.Prelude.{◌≡◌, ◌⊎◌, Err, Ok, IfErr, IfOk, IfSome};
+ghost use Rattle.script_lang.specs.Parts.{all_of, assignment_of, beats_of};
+ghost use Rattle.script_lang.specs.Commands.{alone, assignments_given, clocks_given, command_by, names_given, reading_of, reading_of_words, store_by, times_given};
+ghost use Rattle.script_lang.specs.Forms.{IsFormed};
+
+use crate::command::{Command, ScriptFault};
+use crate::lists::{AssignList, ClockList, Name, NameList};
+use crate::parts::{assignment, beats, times};
+use crate::verb::{Verb, verb_named};
+use line_words::{LineFault, Words, check_line, decimal, is_comment, words};
+use std::alloc::Global;
+use ternary::NoMemory;
+
+/// Reads a line of a script: its command, or None exactly where it is no longer than a line may be
+/// and has no words or is a comment.
+///
+/// The refusals are those of `ScriptFault`, in its order.
+pub fn read_command(alloc: Global, bytes: &[u8]) -> Result<Option<Command>, ScriptFault>
+    ensures ok { IfOk result (λ found. reading_of bytes.now ≡ Ok found) }
+    ensures refused { IfErr result (λ fault.
+        (fault ≡ ScriptFault.NoMemory) ⊎ (reading_of bytes.now ≡ Err fault)) }
+    ensures formed { IfOk result (λ found. IfSome found IsFormed) }
+{
+    match check_line(bytes) {
+        Err(LineFault::TooLong) => Err(ScriptFault::LineTooLong),
+        Err(LineFault::BadByte) => Err(ScriptFault::BadByte),
+        Ok(()) if is_comment(bytes) => Ok(None),
+        Ok(()) => read_words(alloc, words(bytes)),
+    }
+}
+
+// Reads the words of a line: the first is the verb.
+fn read_words(alloc: Global, mut words: Words<'_>) -> Result<Option<Command>, ScriptFault>
+    ensures ok { IfOk result (λ found. reading_of_words words.entry ≡ Ok found) }
+    ensures refused { IfErr result (λ fault.
+        (fault ≡ ScriptFault.NoMemory) ⊎ (reading_of_words words.entry ≡ Err fault)) }
+{
+    let Some(word) = words.next() else {
+        return Ok(None);
+    };
+    Ok(Some(read_verb(alloc, verb_named(word), words)??))
+}
+
+// Reads the command of a verb with the words after it.
+fn read_verb(
+    alloc: Global,
+    verb: Option<Verb>,
+    words: Words<'_>,
+) -> Result<Result<Command, ScriptFault>, NoMemory>
+    ensures { IfOk result (λ answer. answer ≡ command_by verb words.entry) }
+{
+    match verb {
+        Some(Verb::Input) => Ok(read_names(alloc, words)?.map(Command::Input)),
+        Some(Verb::Store) => read_store(alloc, words),
+        Some(Verb::Set) => Ok(read_assignments(alloc, words)?.map(Command::Set)),
+        Some(Verb::Charge) => Ok(read_assignments(alloc, words)?.map(Command::Charge)),
+        Some(Verb::Watch) => Ok(read_names(alloc, words)?.map(Command::Watch)),
+        Some(Verb::Limit) => Ok(read_times(words).map(Command::Limit)),
+        Some(Verb::Step) => Ok(read_alone(Command::Step, words)),
+        Some(Verb::Phase) => Ok(read_alone(Command::Phase, words)),
+        Some(Verb::Clock) => Ok(read_clocks(alloc, words)?.map(Command::Clock)),
+        Some(Verb::Cycle) => Ok(read_times(words).map(Command::Cycle)),
+        Some(Verb::Expect) => Ok(read_assignments(alloc, words)?.map(Command::Expect)),
+        None => Ok(Err(ScriptFault::BadCommand)),
+    }
+}
+
+// Reads one name or more.
+fn read_names(alloc: Global, words: Words<'_>) -> Result<Result<NameList, ScriptFault>, NoMemory>
+    ensures { IfOk result (λ answer. answer ≡ names_given words.entry) }
+{
+    let names = all_names(alloc, words)?;
+    if names.items().is_empty() {
+        Ok(Err(ScriptFault::FewWords))
+    } else {
+        Ok(Ok(names))
+    }
+}
+
+// All words as names.
+fn all_names(alloc: Global, words: Words<'_>) -> Result<NameList, NoMemory>
+    ensures { IfOk result (λ names. names ≡ words.entry) }
+{
+    let mut names = NameList::new(alloc);
+    for word in words {
+        names.push(Name::from_slice(alloc, word)?)?;
+    }
+    Ok(names)
+}
+
+// Reads one assignment or more.
+fn read_assignments(
+    alloc: Global,
+    words: Words<'_>,
+) -> Result<Result<AssignList, ScriptFault>, NoMemory>
+    ensures { IfOk result (λ answer. answer ≡ assignments_given words.entry) }
+{
+    match all_assignments(alloc, words)? {
+        Some(list) if list.items().is_empty() => Ok(Err(ScriptFault::FewWords)),
+        Some(list) => Ok(Ok(list)),
+        None => Ok(Err(ScriptFault::BadValue)),
+    }
+}
+
+// All words as assignments, or None where one is none.
+fn all_assignments(alloc: Global, words: Words<'_>) -> Result<Option<AssignList>, NoMemory>
+    ensures { IfOk result (λ found. found ≡ all_of assignment_of words.entry) }
+{
+    let mut list = AssignList::new(alloc);
+    for word in words {
+        match assignment(alloc, word)? {
+            Some(item) => list.push(item)?,
+            None => return Ok(None),
+        }
+    }
+    Ok(Some(list))
+}
+
+// Reads the letters of one clock or more.
+fn read_clocks(alloc: Global, words: Words<'_>) -> Result<Result<ClockList, ScriptFault>, NoMemory>
+    ensures { IfOk result (λ answer. answer ≡ clocks_given words.entry) }
+{
+    match all_clocks(alloc, words)? {
+        Some(list) if list.items().is_empty() => Ok(Err(ScriptFault::FewWords)),
+        Some(list) => Ok(Ok(list)),
+        None => Ok(Err(ScriptFault::BadValue)),
+    }
+}
+
+// All words as the letters of clocks, or None where one is none.
+fn all_clocks(alloc: Global, words: Words<'_>) -> Result<Option<ClockList>, NoMemory>
+    ensures { IfOk result (λ found. found ≡ all_of beats_of words.entry) }
+{
+    let mut list = ClockList::new(alloc);
+    for word in words {
+        match beats(alloc, word)? {
+            Some(item) => list.push(item)?,
+            None => return Ok(None),
+        }
+    }
+    Ok(Some(list))
+}
+
+// Reads a number from 1 to the most that there may be.
+fn read_times(mut words: Words<'_>) -> Result<u64, ScriptFault>
+    ensures { result ≡ times_given words.entry }
+{
+    let Some(word) = words.next() else {
+        return Err(ScriptFault::FewWords);
+    };
+    match words.next() {
+        Some(_) => Err(ScriptFault::ManyWords),
+        None => times(word).ok_or(ScriptFault::BadNumber),
+    }
+}
+
+// Reads the name and the size of `store`.
+fn read_store(alloc: Global, mut words: Words<'_>) -> Result<Result<Command, ScriptFault>, NoMemory>
+    ensures { IfOk result (λ answer. answer ≡ store_by words.entry) }
+{
+    let Some(name) = words.next() else {
+        return Ok(Err(ScriptFault::FewWords));
+    };
+    let Some(size) = words.next() else {
+        return Ok(Err(ScriptFault::FewWords));
+    };
+    if words.next().is_some() {
+        return Ok(Err(ScriptFault::ManyWords));
+    }
+    let Some(size) = decimal(size) else {
+        return Ok(Err(ScriptFault::BadNumber));
+    };
+    Ok(Ok(Command::Store(Name::from_slice(alloc, name)?, size)))
+}
+
+// The command, which is given nothing.
+fn read_alone(command: Command, mut words: Words<'_>) -> Result<Command, ScriptFault>
+    ensures { result ≡ alone command words.entry }
+{
+    match words.next() {
+        Some(_) => Err(ScriptFault::ManyWords),
+        None => Ok(command),
+    }
+}
