@@ -1,0 +1,5 @@
+pub mod ForestLemmas
+pub mod NumberLemmas
+pub mod GroupingLemmas
+pub mod CollectingLemmas
+pub mod HeldLemmas

@@ -1,0 +1,4 @@
+pub mod Grouping
+pub mod Forest
+pub mod Numbers
+pub mod Collecting

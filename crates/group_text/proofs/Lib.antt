@@ -1,0 +1,9 @@
+pub mod LocalNodes
+pub mod LocalEdges
+pub mod WellFormedTexts
+pub mod AlikeNodes
+pub mod LocalHops
+pub mod LocalPaths
+pub mod Locality
+pub mod FirstsLemmas
+pub mod GroupLemmas

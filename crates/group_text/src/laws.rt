@@ -1,0 +1,19 @@
+//! Laws of texts.
+
+ghost use Rattle.group_text.specs.Laws.{TextsAreWellFormed, ResponsesAreLocal};
+
+/// The text of a group is well formed.
+pub fn texts_are_well_formed()
+    ensures { TextsAreWellFormed }
+{}
+
+/// Responses are local: the steady state of a member in its group's local graph, under the local
+/// state, is its steady state in the whole graph.
+///
+/// So a group can be analysed by itself, and what was found holds wherever its text stands.
+///
+/// After Bryant, Beatty, Brace, Cho and Sheffler, "COSMOS: A Compiled Simulator for MOS Circuits",
+/// 1987.
+pub fn responses_are_local()
+    ensures { ResponsesAreLocal }
+{}
