@@ -1,0 +1,168 @@
+ghost use Rattle.std.specs.Prelude.{◌≡◌, ◌<◌, ◌++◌, map, Some, All, IfOk, OnOk, OnErr};
+ghost use Rattle.std.specs.Io.KnownBytes.{append_known};
+ghost use Rattle.port_edge.specs.Ports.{FailedRaised};
+ghost use Rattle.port_edge.specs.Sending.{WritesPart};
+ghost use Rattle.path_meaning.specs.Wiring.{nodes};
+ghost use Rattle.group_meaning.specs.Groups.{AreGroups, IsGroup};
+ghost use Rattle.wave_print.specs.Lines.{names_after};
+ghost use Rattle.group_report.specs.Report.{Reports, called, line_with, lines_of};
+ghost use Rattle.group_report.specs.Noted.{NotesGroup, NotesText, noted_number, number_at};
+
+use channel_groups::{Group, Groups};
+use group_text::{GroupText, TextFault, text_of};
+use indexmap::IndexMap;
+use netlist::Circuit;
+use path_meaning::Graph;
+use port_edge::{PortFault, Sink, send};
+use std::alloc::Global;
+use ternary::NoMemory;
+use wave_print::{GROUP_START_ROOM, LineBuf, group_name, group_start, line_end};
+
+/// Writes the report of a circuit's groups: a line for each, numbered from 1 in order of their
+/// least nodes.
+///
+/// A line says how many members and switches the group has, the number of the first group that has
+/// the same text, and the members' names. A group that is too large to have a text has `-` there.
+/// After a fault, and after want of memory, a front of the report was written.
+pub fn report_groups<S: Sink>(
+    alloc: Global,
+    circuit: &Circuit,
+    out: &mut S,
+) -> Result<(), PortFault>
+    ensures report { Reports circuit.now (S.written out.old) (S.written out.new) result }
+    ensures cause { FailedRaised (S.faults out.old) (S.faults out.new) result }
+{
+    match Groups::of(alloc, circuit.graph()) {
+        Ok(groups) => write_lines(alloc, circuit, groups.list(), out),
+        Err(want) => Err(memory_fault(want)),
+    }
+}
+
+// Writes the lines of all groups of a circuit.
+fn write_lines<S: Sink>(
+    alloc: Global,
+    circuit: &Circuit,
+    groups: &[Group],
+    out: &mut S,
+) -> Result<(), PortFault>
+    requires { AreGroups circuit.now.graph groups.now }
+    ensures ok { OnOk result
+        (S.written out.new ≡ append_known (S.written out.old) (lines_of circuit.now groups.now)) }
+    ensures part { OnErr result
+        (WritesPart (S.written out.old) (S.written out.new) (lines_of circuit.now groups.now)) }
+    ensures cause { FailedRaised (S.faults out.old) (S.faults out.new) result }
+{
+    let mut noted = IndexMap::new(alloc);
+    let mut line = LineBuf::new(alloc, GROUP_START_ROOM).map_err(memory_fault)?;
+    for (place, group) in groups.iter().enumerate() {
+        let number = place as u64 + 1;
+        make_line(alloc, circuit, group, number, &mut noted, &mut line).map_err(memory_fault)?;
+        send(out, line.bytes())?;
+    }
+    Ok(())
+}
+
+// Want of memory, as the answer of a call that writes.
+fn memory_fault(_want: NoMemory) -> PortFault
+    ensures { result ≡ PortFault.NoMemory }
+{
+    PortFault::NoMemory
+}
+
+// Makes the line of a group with this number. Its text, where it is new, is noted with the number.
+fn make_line(
+    alloc: Global,
+    circuit: &Circuit,
+    group: &Group,
+    number: u64,
+    noted: &mut IndexMap<GroupText, u64>,
+    line: &mut LineBuf,
+) -> Result<(), NoMemory>
+    requires { IsGroup circuit.now.graph group.now }
+    ensures line { OnOk result (line.new.bytes
+        ≡ line_with circuit.now number (noted_number circuit.now.graph noted.new group.now) group.now) }
+    ensures noted { OnOk result (NotesGroup circuit.now.graph group.now number noted.old noted.new) }
+{
+    let text = number_text(alloc, circuit.graph(), group, number, noted)?;
+    put_line(line, circuit, group, number, text)?;
+    Ok(())
+}
+
+// The number of the text of a group with this number, None where the group is too large to have a
+// text. A text that isn't noted is noted with the group's number.
+fn number_text(
+    alloc: Global,
+    graph: &Graph,
+    group: &Group,
+    number: u64,
+    noted: &mut IndexMap<GroupText, u64>,
+) -> Result<Option<u64>, NoMemory>
+    requires { IsGroup graph.now group.now }
+    ensures value { IfOk result (λ first. first ≡ noted_number graph.now noted.new group.now) }
+    ensures noted { OnOk result (NotesGroup graph.now group.now number noted.old noted.new) }
+{
+    match text_of(alloc, graph, group.members(), group.switches()) {
+        Ok((text, _nodes)) => Ok(Some(first_number(noted, text, number)?)),
+        Err(TextFault::NoMemory) => Err(NoMemory),
+        Err(_too_large) => Ok(None),
+    }
+}
+
+// The number under which a text is noted. One that isn't is noted with this number.
+fn first_number(
+    noted: &mut IndexMap<GroupText, u64>,
+    text: GroupText,
+    number: u64,
+) -> Result<u64, NoMemory>
+    ensures value { IfOk result (λ first. number_at noted.new text ≡ Some first) }
+    ensures noted { OnOk result (NotesText text number noted.old noted.new) }
+{
+    match noted.get(&text).copied() {
+        Some(first) => Ok(first),
+        None => match noted.insert(text, number) {
+            Ok(_) => Ok(number),
+            Err(_) => Err(NoMemory),
+        },
+    }
+}
+
+// Puts the line of a group into the buffer in place of what was there.
+fn put_line(
+    line: &mut LineBuf,
+    circuit: &Circuit,
+    group: &Group,
+    number: u64,
+    text: Option<u64>,
+) -> Result<(), NoMemory>
+    requires { All (λ member. member < nodes circuit.now.graph) group.now.members }
+    ensures { OnOk result (line.new.bytes ≡ line_with circuit.now number text group.now) }
+{
+    line.clear();
+    line.reserve(GROUP_START_ROOM)?;
+    let members = group.members();
+    group_start(
+        line,
+        number,
+        members.len() as u64,
+        group.switches().len() as u64,
+        text,
+    );
+    append_names(line, circuit, members)?;
+    line.reserve(1)?;
+    line_end(line);
+    Ok(())
+}
+
+// Appends the names of nodes to a group line.
+fn append_names(line: &mut LineBuf, circuit: &Circuit, members: &[usize]) -> Result<(), NoMemory>
+    requires { All (λ member. member < nodes circuit.now.graph) members.now }
+    ensures { OnOk result
+        (line.new.bytes ≡ line.old.bytes ++ names_after (map (called circuit.now) members.now)) }
+{
+    for &member in members {
+        let name = circuit.name_of(member);
+        line.reserve(1 + name.len())?;
+        group_name(line, name);
+    }
+    Ok(())
+}
