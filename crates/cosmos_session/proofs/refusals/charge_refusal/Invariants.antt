@@ -1,0 +1,10 @@
+use Rattle.std.proofs.Common.{◌≡◌, ℕ, List, drop}
+use Rattle.ternary.specs.declared.tern.Tern.{Tern}
+use Rattle.netlist.specs.Names.{node_of}
+use Rattle.cosmos_session.specs.Refusals.{first_refusal, charge_refusal}
+use Rattle.cosmos_session.proofs.refusals.charge_refusal.Given as goal
+
+abbrev pub invariant-loop-name : goal.invariant-loop-name
+invariant-loop-name l =
+    let refusal = (λ (item : List ℕ × Tern). charge_refusal l.circuit (node_of l.circuit.names item.0)) in
+    first_refusal refusal (drop l.name-index l.list) ≡ first_refusal refusal l.list

@@ -1,0 +1,10 @@
+use Rattle.std.proofs.Common.{◌≡◌, ℕ, List, drop}
+use Rattle.ternary.specs.declared.tern.Tern.{Tern}
+use Rattle.netlist.specs.Names.{node_of}
+use Rattle.cosmos_session.specs.Refusals.{first_refusal, known_refusal}
+use Rattle.cosmos_session.proofs.refusals.expect_refusal.Given as goal
+
+abbrev pub invariant-loop-name : goal.invariant-loop-name
+invariant-loop-name l =
+    let refusal = (λ (item : List ℕ × Tern). known_refusal (node_of l.circuit.names item.0)) in
+    first_refusal refusal (drop l.name-index l.list) ≡ first_refusal refusal l.list

@@ -1,0 +1,20 @@
+use Rattle.std.proofs.Common.{◌≡◌, refl, sym, None}
+use Rattle.cosmos_session.specs.Refusals.{length_refusal, first_refusal, set_refusal}
+use Rattle.cosmos_session.specs.contracts.session.Session.{the_view}
+use Rattle.cosmos_session.proofs.RefusalLemmas.{or_else-none, set_known}
+use Rattle.cosmos_session.proofs.ClockLemmas.{IsSession-clocks}
+use Rattle.cosmos_session.proofs.session.Session.set_clocks.Goals as goal
+
+pub returns-in-Some : goal.returns-in-Some
+returns-in-Some c = (rw (← c.self.view_is, ← c.items.ensures) (sym c.in-Some.ensures), refl)
+
+pub named_clocks-requires : goal.named_clocks-requires
+named_clocks-requires c =
+    let allowed = or_else-none _ _ (sym (rw (c.in_default.is, c.items.ensures) at c.clocks_refusal.ensures)) in
+    rw c.items-2.ensures (set_known c.self.inside.circuit c.args.list.now allowed.1)
+
+pub invariant_of-self : goal.invariant_of-self
+invariant_of-self c =
+    let allowed = or_else-none _ _ (sym (rw (c.in_default.is, c.items.ensures) at c.clocks_refusal.ensures)) in
+    IsSession-clocks (the_view c.self.inside) c.args.list.now _ c.requires allowed.0
+    (rw c.items-2.ensures at c.in_ok-self-inside.ensures.items) c.in_ok-self-inside.ensures.within c.self.invariant

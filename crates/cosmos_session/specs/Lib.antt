@@ -1,0 +1,5 @@
+pub mod Sessions
+pub mod Refusals
+pub mod Lines
+pub mod Effects
+pub mod Outcomes

@@ -1,0 +1,64 @@
+-- The data of a session: what commands read and change.
+use Rattle.std.specs.Prelude.{◌≡◌, ◌≢◌, ℕ, Bool, true, false, ◌-◌, ◌<◌, ◌≤◌, ◌==◌, List, [], ◌∷◌, length, replicate, All}
+use Rattle.std.specs.List.{list_all}
+use Rattle.ternary.specs.declared.tern.Tern.{Tern}
+use Rattle.ternary.specs.declared.tern.Tern.TheVariants.{Zero, One, Unk}
+use Rattle.path_meaning.specs.Wiring.{nodes}
+use Rattle.netlist.specs.declared.TheConstants.{RAILS}
+use Rattle.netlist.specs.Netlists.{Netlist, IsNetlist}
+use Rattle.script_lang.specs.declared.TheConstants.{MOST_TIMES}
+use Rattle.cosmos_session.specs.declared.TheConstants.{MOST_WATCHED, FIRST_LIMIT}
+
+-- a clock: a node, and its states at the places of a cycle
+pub record Beats : Type 0 where
+  pub node : ℕ
+  pub states : List Tern
+
+-- the circuit, the state of its nodes, the nodes that are watched, the clocks, the limit of a phase, how many waveform lines there
+-- were, and whether some `expect` was not met
+pub record SessionData : Type 0 where
+  pub circuit : Netlist
+  pub state : List Tern
+  pub watched : List ℕ
+  pub clocks : List Beats
+  pub limit : ℕ
+  pub count : ℕ
+  pub missed : Bool
+
+-- at the start Gnd is 0, Vdd is 1 and every other node X; nothing is watched, there are no clocks, and nothing was missed
+abbrev pub start_of : Netlist → SessionData
+start_of circuit = record {
+  circuit = circuit;
+  state = Zero ∷ One ∷ replicate (nodes circuit.graph - RAILS) Unk;
+  watched = [];
+  clocks = [];
+  limit = FIRST_LIMIT;
+  count = 0;
+  missed = false;
+}
+
+-- how many places a cycle of these clocks has
+abbrev pub places_of : List Beats → ℕ
+places_of [] = 0
+places_of (clock ∷ clocks) = length clock.states
+
+-- each clock has so many places
+abbrev pub have_places : ℕ → List Beats → Bool
+have_places count clocks = list_all (λ clock. length clock.states == count) clocks
+
+-- the circuit is one, and there is one state for each node: so each command has an outcome
+pub record IsReady (session : SessionData) : Type 0 where
+  pub netlist : IsNetlist session.circuit
+  pub states : length session.state ≡ nodes session.circuit.graph
+
+-- the session is ready; each watched node is a node, and so is each clock's; the watched nodes are few, the limit is within its range,
+-- and all clocks have the same number of places, one at least
+pub record IsSession (session : SessionData) : Type 0 where
+  pub ready : IsReady session
+  pub watched : All (λ node. node < nodes session.circuit.graph) session.watched
+  pub few : length session.watched ≤ MOST_WATCHED
+  pub clocks : All (λ clock. clock.node < nodes session.circuit.graph) session.clocks
+  pub places : have_places (places_of session.clocks) session.clocks ≡ true
+  pub some : session.clocks ≢ [] → 0 < places_of session.clocks
+  pub low : 1 ≤ session.limit
+  pub high : session.limit ≤ MOST_TIMES
