@@ -1,13 +1,18 @@
 //! The program: a switch-level simulator for MOS circuits.
 //!
 //! `cosmos sim NET SCRIPT` reads the netlist and the script of these names and obeys the script in
-//! the netlist's circuit, writing a line for each step and each phase. All other words are answered
-//! by the usage line. The exit status is that of `cosmos_app::run`, whose contract says what is written: 0 where
-//! all went well, 2 for words that are no command line, 3 and 4 for a refused line of the netlist
-//! or of the script, 5 and 6 where reading or writing failed, and 7 for want of memory.
+//! the netlist's circuit, writing a line for each step and each phase, and for each expectation that
+//! isn't met. `cosmos check NET` reads the netlist and writes how many nodes, transistors and names it
+//! has. All other words are answered by the usage line.
+//!
+//! The exit status is that of `cosmos_app::run`, whose contract says what is written: 0 where all went
+//! well, 1 where an expectation wasn't met, 2 for words that are no command line, 3 and 4 for a refused
+//! line of the netlist or of the script, 5 and 6 where reading or writing failed, and 7 for want of
+//! memory.
 //!
 //! ```text
 //! cosmos sim inverter.sim inverter.cmd
+//! cosmos check inverter.sim
 //! ```
 #![tactic(auto)]
 

@@ -3,13 +3,13 @@ use Rattle.std.proofs.Common.{◌≡◌, ℕ, ◌≤◌, IfErr, arith, List, [],
 use Rattle.std.specs.Io.KnownBytes.{append_known}
 use Rattle.port_edge.specs.Ports.{Rose}
 use Rattle.port_edge.proofs.SendingLemmas.{append_known-append, sends_part, part_none}
-use Rattle.cosmos_app.specs.declared.top.End as end
-use Rattle.cosmos_app.specs.declared.top.End.TheVariants as ended
+use Rattle.cosmos_app.specs.declared.stop.End as end
+use Rattle.cosmos_app.specs.declared.stop.End.TheVariants as ended
 use Rattle.cosmos_app.specs.declared.stop.Stop.{Stop}
 use Rattle.cosmos_app.specs.declared.stop.Stop.TheVariants.{Read, Write, Memory}
 use Rattle.cosmos_app.specs.declared.status.Status.{Status}
 use Rattle.cosmos_app.specs.declared.status.Status.TheVariants.{ReadFault, WriteFault}
-use Rattle.cosmos_app.specs.Sessions.{Answer, after_text}
+use Rattle.cosmos_app.specs.Runs.{Answer, after_text}
 use Rattle.cosmos_app.specs.Answers.{IsAnswer, IsAnswered}
 use Rattle.cosmos_app.specs.Ends.{IsTold, Tells, status_after}
 
@@ -55,6 +55,7 @@ rose_since (Err stop) which before now new later rose = λ is. let risen = rose 
 pub answered : (words : List (List ℕ)) (holds : List ℕ → List ℕ) (old new : Option (List ℕ)) (result : Result end.End Stop)
     → IsTold (IsAnswer words holds) old new result → IsAnswered words holds old new (status_after result)
 answered words holds old new (Ok ended.Done) told = record { answer = told.answer; right = told.right; written = told.told }
+answered words holds old new (Ok ended.Mismatch) told = record { answer = told.answer; right = told.right; written = told.told }
 answered words holds old new (Ok ended.Usage) told = record { answer = told.answer; right = told.right; written = told.told }
 answered words holds old new (Ok ended.NetRefused) told = record { answer = told.answer; right = told.right; written = told.told }
 answered words holds old new (Ok ended.ScriptRefused) told = record { answer = told.answer; right = told.right; written = told.told }
@@ -73,6 +74,7 @@ answered_known (Some holds) words old new result status same told =
 pub read_cause : (result : Result end.End Stop) (before new : ℕ) → IfErr result (λ stop. stop ≡ Read → Rose before new)
     → status_after result ≡ ReadFault → Rose before new
 read_cause (Ok ended.Done) before new rose is = absurd (cc)
+read_cause (Ok ended.Mismatch) before new rose is = absurd (cc)
 read_cause (Ok ended.Usage) before new rose is = absurd (cc)
 read_cause (Ok ended.NetRefused) before new rose is = absurd (cc)
 read_cause (Ok ended.ScriptRefused) before new rose is = absurd (cc)
@@ -84,6 +86,7 @@ read_cause (Err Memory) before new rose is = absurd (cc)
 pub write_cause : (result : Result end.End Stop) (before new : ℕ) → IfErr result (λ stop. stop ≡ Write → Rose before new)
     → status_after result ≡ WriteFault → Rose before new
 write_cause (Ok ended.Done) before new rose is = absurd (cc)
+write_cause (Ok ended.Mismatch) before new rose is = absurd (cc)
 write_cause (Ok ended.Usage) before new rose is = absurd (cc)
 write_cause (Ok ended.NetRefused) before new rose is = absurd (cc)
 write_cause (Ok ended.ScriptRefused) before new rose is = absurd (cc)

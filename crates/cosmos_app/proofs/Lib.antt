@@ -1,12 +1,7 @@
-pub mod TurnLemmas
-pub mod BeatLemmas
-pub mod EffectLemmas
-pub mod RunLemmas
-pub mod RequestLemmas
+pub mod LowerLemmas
 pub mod EndLemmas
-pub mod CircuitLemmas
-pub mod FileLemmas
-pub mod NameLemmas
-pub mod NetlistLemmas
-pub mod ClockLemmas
+pub mod RunLemmas
+pub mod TurnLemmas
+pub mod NetLemmas
 pub mod StartLemmas
+pub mod CutLemmas

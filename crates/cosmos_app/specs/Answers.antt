@@ -1,38 +1,68 @@
 -- What the program answers to the words of its command line, and what a call that meets a fault may have written.
-use Rattle.std.specs.Prelude.{◌≡◌, ℕ, List, [], ◌∷◌, map, String, string_bytes, codes, bytes_eq, Option, Result, Ok, Err, if◌then◌else◌}
+use Rattle.std.specs.Prelude.{◌≡◌, ℕ, List, [], map, length, count_by, is_some, String, string_bytes, codes, Option, Result, Ok, Err}
 use Rattle.std.specs.declared.alloc.Global.{Global}
 use Rattle.std.specs.Io.KnownBytes.{append_known}
 use Rattle.port_edge.specs.Sending.{WritesPart}
+use Rattle.path_meaning.specs.Wiring.{nodes}
+use Rattle.line_words.specs.Files.{lines_in, cut_line}
+use Rattle.netlist.specs.Netlists.{Netlist}
+use Rattle.sim_read.specs.declared.fault.NetFault.{NetFault}
+use Rattle.sim_read.specs.declared.fault.NetFault.TheVariants.{At, NoMemory}
+use Rattle.sim_read.specs.Meaning.{netlist_of}
+use Rattle.wave_print.specs.Lines.{check_line_of}
 use Rattle.wave_print.specs.Faults.{fault_line_of}
+use Rattle.wave_print.specs.declared.faults.FaultPlace.{FaultPlace}
 use Rattle.wave_print.specs.declared.faults.FaultPlace.TheVariants.{Net}
-use Rattle.wave_print.specs.declared.faults.FaultCode.TheVariants.{N1BadRecord}
+use Rattle.wave_print.specs.declared.faults.FaultCode.{FaultCode}
+use Rattle.group_report.specs.Report.{IsReport}
+use Rattle.cosmos_session.specs.Sessions.{start_of}
 use Rattle.cosmos_app.specs.declared.status.Status.{Status}
-use Rattle.cosmos_app.specs.declared.status.Status.TheVariants.{Done, Mismatch, Usage, NetRefused, ScriptRefused, ReadFault, WriteFault, NoMemory}
-use Rattle.cosmos_app.specs.Files.{lines_in, cut_line}
-use Rattle.cosmos_app.specs.Circuits.{Schematic}
-use Rattle.cosmos_app.specs.Netlist.{netlist_of}
-use Rattle.cosmos_app.specs.Sessions.{Answer, Runs, start_of}
+use Rattle.cosmos_app.specs.declared.status.Status.TheVariants as status
+use Rattle.cosmos_app.specs.Codes.{net_code}
+use Rattle.cosmos_app.specs.Requests.{Request, Simulate, Check, Cut, Unclear, request_of}
+use Rattle.cosmos_app.specs.Runs.{Answer, Runs}
 
--- what the words ask for: a simulation of the netlist and the script with these names, or nothing that there is
-pub data Request : Type 0 where
-  Simulate : List ℕ → List ℕ → Request
-  Unclear : Request
+-- the answer is the line of a refusal alone
+abbrev pub IsRefusal : FaultPlace → FaultCode → Status → Answer → Type 0
+IsRefusal place code status answer = answer ≡ record { status = status; text = fault_line_of place code [] 0 }
 
--- `sim NET SCRIPT`, compared byte by byte, asks for a simulation
-abbrev pub request_of : List (List ℕ) → Request
-request_of (command ∷ net ∷ script ∷ []) = if bytes_eq command (codes "sim") then Simulate net script else Unclear
-request_of _ = Unclear
+-- the answer is the usage line alone
+abbrev pub IsUsage : Answer → Type 0
+IsUsage answer = answer ≡ record { status = status.Usage; text = codes "bad command line\n" }
 
--- the answer of a simulation: the first line of the netlist that is refused, or what the script writes from the start in the netlist's circuit
-abbrev pub IsSimulation : Result Schematic ℕ → List ℕ → Answer → Type 0
-IsSimulation (Err number) script answer =
-    answer ≡ record { status = NetRefused; text = fault_line_of (Net number) N1BadRecord [] 0 }
-IsSimulation (Ok circuit) script answer = Runs (cut_line script) (start_of circuit) (lines_in script) answer
+-- the answer where the netlist is refused: the line of its refusal. No netlist is refused by want of memory
+abbrev pub IsNetRefusal : NetFault → Answer → Type 0
+IsNetRefusal (At line what) answer = IsRefusal (Net line) (net_code what) status.NetRefused answer
+IsNetRefusal NoMemory answer = ⊥
+
+-- the answer over a netlist: that in its circuit, or its refusal
+abbrev pub IsOver : (Netlist → Answer → Type 0) → Result Netlist NetFault → Answer → Type 0
+IsOver IsRight (Ok circuit) answer = IsRight circuit answer
+IsOver IsRight (Err fault) answer = IsNetRefusal fault answer
+
+-- the answer of a simulation: what the script writes from the start in the circuit
+abbrev pub IsSimulation : List ℕ → Netlist → Answer → Type 0
+IsSimulation script circuit answer = Runs (cut_line script) (start_of circuit) (lines_in script) answer
+
+-- the answer of a check: how many nodes the circuit has, the rails among them, how many transistors, and how many names
+abbrev pub IsCheck : Netlist → Answer → Type 0
+IsCheck circuit answer =
+    answer ≡ record {
+      status = status.Done;
+      text = check_line_of (nodes circuit.graph) (count_by is_some circuit.graph.places) (length circuit.names);
+    }
+
+-- the answer of a request for groups: a line for each channel-connected group of the circuit
+abbrev pub IsCut : Netlist → Answer → Type 0
+IsCut circuit answer =
+    (text : List ℕ) × IsReport circuit text × (answer ≡ record { status = status.Done; text = text })
 
 -- the answer to a request, by what the names hold
 abbrev pub IsAnswerTo : Request → (List ℕ → List ℕ) → Answer → Type 0
-IsAnswerTo (Simulate net script) holds answer = IsSimulation (netlist_of (holds net)) (holds script) answer
-IsAnswerTo Unclear holds answer = answer ≡ record { status = Usage; text = codes "bad command line\n" }
+IsAnswerTo (Simulate net script) holds answer = IsOver (IsSimulation (holds script)) (netlist_of (holds net)) answer
+IsAnswerTo (Check net) holds answer = IsOver IsCheck (netlist_of (holds net)) answer
+IsAnswerTo (Cut net) holds answer = IsOver IsCut (netlist_of (holds net)) answer
+IsAnswerTo Unclear holds answer = IsUsage answer
 
 -- the answer of the words
 abbrev pub IsAnswer : List (List ℕ) → (List ℕ → List ℕ) → Answer → Type 0
@@ -40,14 +70,14 @@ IsAnswer words holds answer = IsAnswerTo (request_of words) holds answer
 
 -- the sink grew by the whole text of the answer, whose status is this one; after a fault or want of memory, by a part of it from its start
 abbrev pub Answers : Option (List ℕ) → Option (List ℕ) → Status → Answer → Type 0
-Answers old new Done answer = (answer.status ≡ Done) × (new ≡ append_known old answer.text)
-Answers old new Mismatch answer = (answer.status ≡ Mismatch) × (new ≡ append_known old answer.text)
-Answers old new Usage answer = (answer.status ≡ Usage) × (new ≡ append_known old answer.text)
-Answers old new NetRefused answer = (answer.status ≡ NetRefused) × (new ≡ append_known old answer.text)
-Answers old new ScriptRefused answer = (answer.status ≡ ScriptRefused) × (new ≡ append_known old answer.text)
-Answers old new ReadFault answer = WritesPart old new answer.text
-Answers old new WriteFault answer = WritesPart old new answer.text
-Answers old new NoMemory answer = WritesPart old new answer.text
+Answers old new status.Done answer = (answer.status ≡ status.Done) × (new ≡ append_known old answer.text)
+Answers old new status.Mismatch answer = (answer.status ≡ status.Mismatch) × (new ≡ append_known old answer.text)
+Answers old new status.Usage answer = (answer.status ≡ status.Usage) × (new ≡ append_known old answer.text)
+Answers old new status.NetRefused answer = (answer.status ≡ status.NetRefused) × (new ≡ append_known old answer.text)
+Answers old new status.ScriptRefused answer = (answer.status ≡ status.ScriptRefused) × (new ≡ append_known old answer.text)
+Answers old new status.ReadFault answer = WritesPart old new answer.text
+Answers old new status.WriteFault answer = WritesPart old new answer.text
+Answers old new status.NoMemory answer = WritesPart old new answer.text
 
 -- some answer of the words was written, wholly or in part as its status says
 pub record IsAnswered (words : List (List ℕ)) (holds : List ℕ → List ℕ) (old new : Option (List ℕ)) (status : Status) : Type 0 where

@@ -1,21 +1,19 @@
 -- How a run ends, with what it wrote: inside the program, before the end becomes a status.
-use Rattle.std.specs.Prelude.{◌≡◌, ℕ, List, [], codes, Option, Result, Ok, Err}
+use Rattle.std.specs.Prelude.{◌≡◌, ℕ, List, Option, Result, Ok, Err}
 use Rattle.std.specs.Io.KnownBytes.{append_known}
 use Rattle.port_edge.specs.Sending.{WritesPart}
-use Rattle.wave_print.specs.Faults.{fault_line_of}
-use Rattle.wave_print.specs.declared.faults.FaultPlace.{FaultPlace}
-use Rattle.wave_print.specs.declared.faults.FaultCode.{FaultCode}
-use Rattle.cosmos_app.specs.declared.top.End as end
-use Rattle.cosmos_app.specs.declared.top.End.TheVariants as ended
+use Rattle.cosmos_app.specs.declared.stop.End as end
+use Rattle.cosmos_app.specs.declared.stop.End.TheVariants as ended
 use Rattle.cosmos_app.specs.declared.stop.Stop.{Stop}
 use Rattle.cosmos_app.specs.declared.stop.Stop.TheVariants.{Read, Write, Memory}
 use Rattle.cosmos_app.specs.declared.status.Status.{Status}
 use Rattle.cosmos_app.specs.declared.status.Status.TheVariants as status
-use Rattle.cosmos_app.specs.Sessions.{Answer}
+use Rattle.cosmos_app.specs.Runs.{Answer}
 
 -- the status of a run that met no fault and no want of memory
 abbrev pub status_of : end.End → Status
 status_of ended.Done = status.Done
+status_of ended.Mismatch = status.Mismatch
 status_of ended.Usage = status.Usage
 status_of ended.NetRefused = status.NetRefused
 status_of ended.ScriptRefused = status.ScriptRefused
@@ -37,11 +35,3 @@ pub record IsTold (IsRight : Answer → Type 0) (old new : Option (List ℕ)) (r
   pub answer : Answer
   pub right : IsRight answer
   pub told : Tells old new result answer
-
--- the answer is the line of this refusal alone
-abbrev pub IsRefusal : FaultPlace → FaultCode → Status → Answer → Type 0
-IsRefusal place code status answer = answer ≡ record { status = status; text = fault_line_of place code [] 0 }
-
--- the answer is the usage line alone
-abbrev pub IsUsage : Answer → Type 0
-IsUsage answer = answer ≡ record { status = status.Usage; text = codes "bad command line\n" }

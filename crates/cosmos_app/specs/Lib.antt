@@ -1,12 +1,9 @@
 pub mod Statuses
-pub mod Files
-pub mod Circuits
-pub mod Netlist
-pub mod Script
-pub mod Sessions
+pub mod Codes
+pub mod Requests
+pub mod Runs
 pub mod Answers
 pub mod Stops
 pub mod Turns
-pub mod Readings
 pub mod Ends
 pub mod Starts

@@ -2,9 +2,10 @@
 use Rattle.std.specs.Prelude.{◌≡◌, ℕ, ⊤, ◌⊎◌, List, Option, IfSome, Result, Ok, Err}
 use Rattle.port_edge.specs.Ports.{with_name}
 use Rattle.cosmos_app.specs.declared.stop.Stop.{Stop}
-use Rattle.cosmos_app.specs.Circuits.{Schematic}
-use Rattle.cosmos_app.specs.Netlist.{netlist_of}
-use Rattle.cosmos_app.specs.Answers.{Request, Simulate, Unclear}
+use Rattle.netlist.specs.Netlists.{Netlist}
+use Rattle.sim_read.specs.declared.fault.NetFault.{NetFault}
+use Rattle.sim_read.specs.Meaning.{netlist_of}
+use Rattle.cosmos_app.specs.Requests.{Request, Simulate, Check, Cut, Unclear}
 
 -- the started names, where they are told
 abbrev pub Started : Type 0
@@ -20,9 +21,9 @@ StartsFile old new name (Ok _) = new ≡ with_name old name
 StartsFile old new name (Err stop) = StartsAtMost old new name
 
 -- the netlist has no refusal
-abbrev pub IsAccepted : Result Schematic ℕ → Type 0
+abbrev pub IsAccepted : Result Netlist NetFault → Type 0
 IsAccepted (Ok circuit) = ⊤
-IsAccepted (Err line) = ⊥
+IsAccepted (Err fault) = ⊥
 
 -- a simulation starts nothing, or its netlist, or its netlist and then its script; the script only where the netlist has no refusal
 abbrev pub SimulationStarts : Option (List ℕ → List ℕ) → List ℕ → List ℕ → Started → Started → Type 0
@@ -33,4 +34,6 @@ SimulationStarts known net script old new =
 -- what a request starts
 abbrev pub RequestStarts : Request → Option (List ℕ → List ℕ) → Started → Started → Type 0
 RequestStarts (Simulate net script) known old new = SimulationStarts known net script old new
+RequestStarts (Check net) known old new = StartsAtMost old new net
+RequestStarts (Cut net) known old new = StartsAtMost old new net
 RequestStarts Unclear known old new = new ≡ old

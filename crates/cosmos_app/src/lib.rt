@@ -10,40 +10,17 @@
 //!
 //! ```text
 //! run(alloc, ["sim", "inverter.sim", "inverter.cmd"], files, out)   is Status::Done
+//! run(alloc, ["check", "inverter.sim"], files, out)                 is Status::Done, and writes
+//!     `ok nodes 4 switches 2 names 2`
 //! ```
 #![tactic(auto)]
 
-mod circuit;
-mod files;
-mod netlist;
-mod session;
+mod codes;
+mod refusal;
+mod script;
 mod status;
 mod stop;
 mod top;
 
 pub use status::Status;
 pub use top::run;
-
-/// The most bytes of a file that are accepted.
-const MOST_FILE_BYTES: usize = 67_108_864;
-
-/// The node of the rail Gnd.
-const GND: usize = 0;
-
-/// The node of the rail Vdd.
-const VDD: usize = 1;
-
-/// How many rails there are; the other nodes are numbered after them.
-const RAILS: usize = 2;
-
-/// The most nodes of a circuit, the rails included.
-const MOST_NODES: usize = 1_000_000;
-
-/// The most transistors of a netlist.
-const MOST_SWITCHES: usize = 2_000_000;
-
-/// The most entries of the watch list.
-const MOST_WATCHED: usize = 256;
-
-/// The most steps of a phase before it joins, and the most cycles of one command.
-const MOST_TIMES: u64 = 1_000_000;

@@ -5,6 +5,21 @@ use port_edge::PortFault;
 use std::alloc::AllocError;
 use ternary::NoMemory;
 
+/// How a run ends that meets no fault and no want of memory.
+#[derive(Clone, Copy, Debug, PartialEq, Eq)]
+pub(crate) enum End {
+    /// The script was obeyed to its end, or all that was asked for was written.
+    Done,
+    /// The script was obeyed to its end, and an expectation was not met.
+    Mismatch,
+    /// The words are no command line.
+    Usage,
+    /// A line of the netlist was refused.
+    NetRefused,
+    /// A line of the script was refused.
+    ScriptRefused,
+}
+
 /// What ends a run before its answer is written.
 #[derive(Clone, Copy, Debug, PartialEq, Eq)]
 pub(crate) enum Stop {

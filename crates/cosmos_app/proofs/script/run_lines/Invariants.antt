@@ -1,0 +1,10 @@
+use Rattle.std.proofs.Common.{◌≤◌}
+use Rattle.line_words.specs.Files as file
+use Rattle.cosmos_app.proofs.RunLemmas.{HasCome}
+use Rattle.cosmos_app.proofs.script.run_lines.Given as goal
+
+abbrev pub invariant-loop-line : goal.invariant-loop-line
+invariant-loop-line g l = record {
+  come : HasCome l.cut l.fn.session (file.lines_in l.text) (g.S.Sink.written l.fn.out) l.session l.line-iterator (g.S.Sink.written l.out);
+  later : g.S.Sink.faults l.fn.out ≤ g.S.Sink.faults l.out;
+}

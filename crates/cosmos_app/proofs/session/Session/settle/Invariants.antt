@@ -1,5 +1,0 @@
--- Nothing counts the steps.
-use Rattle.cosmos_app.proofs.session.Session.settle.Given as goal
-
-abbrev pub ghosts-settle_uncounted : goal.ghosts-settle_uncounted
-ghosts-settle_uncounted a = record { name = a.blank.name; parts = a.blank.parts }

@@ -1,0 +1,117 @@
+//! Running the lines of a script.
+
+ghost use Rattle.std.specs.Prelude.{◌≡◌, ◌≢◌, ◌≤◌, IfErr};
+ghost use Rattle.line_words.specs.Files as file;
+ghost use Rattle.script_lang.specs.Forms.{IsFormed};
+ghost use Rattle.cosmos_session.specs.Sessions.{IsReady};
+ghost use Rattle.cosmos_app.specs.Runs.{Runs, end_answer};
+ghost use Rattle.cosmos_app.specs.Turns.{TakesTurn, TakesCommand};
+ghost use Rattle.cosmos_app.specs.Ends.{IsTold, status_of};
+ghost use Rattle.cosmos_app.specs.Stops.{RaisedAt};
+
+use crate::codes::{apply_code, script_code};
+use crate::refusal::refuse;
+use crate::stop::{End, Stop};
+use cosmos_session::{ApplyFault, Session};
+use line_words::{Line, cut_line, front, lines};
+use port_edge::Sink;
+use script_lang::{Command, read_command};
+use std::alloc::Global;
+use wave_print::{FaultCode, FaultPlace};
+
+/// What became of a line of the script.
+#[derive(Clone, Copy, Debug, PartialEq, Eq)]
+pub(crate) enum Turn {
+    /// It was obeyed, or there was nothing to do.
+    Accepted,
+    /// It is refused under this code.
+    Refused(FaultCode),
+}
+
+/// Runs the lines of a script, in order, to the end or to the first that is refused.
+pub(crate) fn run_lines<S: Sink>(
+    alloc: Global,
+    session: &mut Session,
+    text: &[u8],
+    out: &mut S,
+) -> Result<End, Stop>
+    requires { IsReady session.old }
+    ensures told { IsTold
+        (Runs (file.cut_line text.now) session.old (file.lines_in text.now))
+        (S.written out.old) (S.written out.new) result }
+    ensures no_read { IfErr result (λ stop. stop ≢ Stop.Read) }
+    ensures write { RaisedAt Stop.Write (S.faults out.old) (S.faults out.new) result }
+{
+    let cut = cut_line(text);
+    for line in lines(front(text)) {
+        match run_line(alloc, session, cut, line, out)? {
+            Turn::Accepted => {}
+            Turn::Refused(code) => return refuse(
+                alloc,
+                FaultPlace::Script(line.number),
+                code,
+                End::ScriptRefused,
+                out,
+            ),
+        }
+    }
+    Ok(end_of(session))
+}
+
+// How a script ends that was obeyed to its end.
+fn end_of(session: &Session) -> End
+    ensures { status_of result ≡ (end_answer session.now).status }
+{
+    if session.met() {
+        End::Done
+    } else {
+        End::Mismatch
+    }
+}
+
+// Runs one line; the one that holds the first byte too many of the script is refused.
+fn run_line<S: Sink>(
+    alloc: Global,
+    session: &mut Session,
+    cut: Option<u64>,
+    line: Line<'_>,
+    out: &mut S,
+) -> Result<Turn, Stop>
+    ensures turn { TakesTurn
+        cut (line.entry.number, line.entry.bytes.now)
+        session.old session.new (S.written out.old) (S.written out.new) result }
+    ensures no_read { IfErr result (λ stop. stop ≢ Stop.Read) }
+    ensures write { RaisedAt Stop.Write (S.faults out.old) (S.faults out.new) result }
+    ensures later { S.faults out.old ≤ S.faults out.new }
+{
+    if cut == Some(line.number) {
+        return Ok(Turn::Refused(FaultCode::S11TooLong));
+    }
+    match read_command(alloc, line.bytes) {
+        Ok(Some(command)) => run_command(session, &command, out),
+        Ok(None) => Ok(Turn::Accepted),
+        Err(fault) => match script_code(fault) {
+            Some(code) => Ok(Turn::Refused(code)),
+            None => Err(Stop::Memory),
+        },
+    }
+}
+
+// Does a command.
+fn run_command<S: Sink>(session: &mut Session, command: &Command, out: &mut S) -> Result<Turn, Stop>
+    requires { IsFormed command.now }
+    ensures turn { TakesCommand
+        session.old command.now session.new (S.written out.old) (S.written out.new) result }
+    ensures no_read { IfErr result (λ stop. stop ≢ Stop.Read) }
+    ensures write { RaisedAt Stop.Write (S.faults out.old) (S.faults out.new) result }
+    ensures later { S.faults out.old ≤ S.faults out.new }
+{
+    match session.apply(command, out) {
+        Ok(()) => Ok(Turn::Accepted),
+        Err(ApplyFault::WriteFault) => Err(Stop::Write),
+        Err(fault) => match apply_code(fault) {
+            Some(code) => Ok(Turn::Refused(code)),
+            None => Err(Stop::Memory),
+        },
+    }
+}
