@@ -2,7 +2,7 @@ ghost use Rattle.std.specs.Prelude.{◌≡◌, ◌↔◌, ◌||◌, false, IfSom
 ghost use Rattle.ternary.specs.Tern.{may_one, may_zero, of_rails, join, letter, of_letter};
 
 /// The state of a node.
-#[derive(Clone, Copy, Debug, PartialEq, Eq)]
+#[derive(Clone, Copy, Debug, PartialEq, Eq, Hash)]
 pub enum Tern {
     /// The node is 0.
     Zero,
