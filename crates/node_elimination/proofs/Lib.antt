@@ -1,0 +1,11 @@
+pub mod SolutionLemmas
+pub mod GrowthLemmas
+pub mod EquationsLemmas
+pub mod PassingLemmas
+pub mod SolvingLemmas
+pub mod LevelLemmas
+pub mod LinkLemmas
+pub mod LevelSystemLemmas
+pub mod BaseLemmas
+pub mod InputLemmas
+pub mod DescentLemmas

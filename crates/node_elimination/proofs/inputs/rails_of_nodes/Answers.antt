@@ -1,0 +1,22 @@
+-- One node more.
+use Rattle.std.proofs.Common.{◌+◌, ◌*◌, ◌≤◌, arith}
+use Rattle.ternary.specs.Tern.{may_one, may_zero}
+use Rattle.node_elimination.proofs.GrowthLemmas.{Extends-trans}
+use Rattle.node_elimination.proofs.InputLemmas.{AreRails-push}
+use Rattle.node_elimination.proofs.inputs.rails_of_nodes.Goals as goal
+
+pub loop-node-preserved : goal.loop-node-preserved
+loop-node-preserved g c =
+    let so_far = c.loop-node.invariant in
+    let next = c.in_ok-rails.ensures in
+    record {
+      extends = Extends-trans _ _ _ so_far.extends next.extends;
+      hi = rw c.in_ok-add_to.ensures
+          (AreRails-push may_one (λ node. 2 * node) c.args.constants.now c.loop-node.node _ _ c.loop-node.hi.items c.in_ok-rails.rails.hi next.extends
+          so_far.hi next.hi);
+      lo = rw c.in_ok-add_to-2.ensures
+          (AreRails-push may_zero (λ node. 2 * node + 1) c.args.constants.now c.loop-node.node _ _ c.loop-node.lo.items c.in_ok-rails.rails.lo next.extends
+          so_far.lo next.lo);
+      rises = omega (arith, so_far.rises, next.rises);
+      few = omega (arith, so_far.few, next.few);
+    }

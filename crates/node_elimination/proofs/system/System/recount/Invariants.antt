@@ -1,0 +1,6 @@
+-- Counting changes nothing that contracts see.
+use Rattle.std.proofs.Common.{◌≡◌}
+use Rattle.node_elimination.proofs.system.System.recount.Given as goal
+
+abbrev pub invariant-loop-i : goal.invariant-loop-i
+invariant-loop-i l = l.self ≡ l.initial.self

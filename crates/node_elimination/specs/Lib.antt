@@ -1,0 +1,10 @@
+pub mod Solution
+pub mod Levels
+pub mod Laws
+pub mod Growth
+pub mod Equations
+pub mod Elimination
+pub mod LevelSystem
+pub mod Analysis
+pub mod Inputs
+pub mod Descent
