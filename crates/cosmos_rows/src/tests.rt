@@ -1,4 +1,5 @@
 use super::*;
+use port_edge::{MemFiles, MemSink};
 use std::test::Fail;
 
 const INVERTER: &[u8] = b"p a Vdd out\nn a Gnd out\n";
@@ -146,6 +147,15 @@ const CHECKS: [(&[u8], Status, &[u8]); 9] = [
     ),
 ];
 
+// Over ports that give and take one byte at a time: the script's name, which calls of the files and
+// of the sink fail, and the status and what was written.
+const FAULTS: [(&str, &[u64], &[u64], Status, &[u8]); 4] = [
+    ("script", &[], &[], Status::Done, b"1 1 01\n"),
+    ("script", &[2], &[], Status::ReadFault, b""),
+    ("elsewhere", &[], &[], Status::ReadFault, b""),
+    ("script", &[], &[2], Status::WriteFault, b"1"),
+];
+
 // The status and the text that these words have, where `net` and `script` hold these texts.
 fn answer(
     alloc: Global,
@@ -202,5 +212,27 @@ fn no_words_have_the_usage_line(rt: HostRuntime) -> Result<(), Fail> {
     let (found, written) = answer(rt.alloc(), &[], b"", b"")?;
     assert_eq!(rt; found, Status::Usage);
     assert_eq!(rt; written.as_slice(), b"bad command line\n".as_slice());
+    Ok(())
+}
+
+#[test]
+fn faults_of_ports_have_their_status(rt: HostRuntime) -> Result<(), Fail> {
+    let alloc = rt.alloc();
+    let lines: &[u8] = b"input a\nwatch a out\nset a=0\nstep\n";
+    for (script, reads, writes, status, text) in FAULTS {
+        let table = vec![in alloc;
+            (String::from_str(alloc, "net")?, INVERTER.to_vec(alloc)?),
+            (String::from_str(alloc, "script")?, lines.to_vec(alloc)?),
+        ]?;
+        let mut files = MemFiles::new(alloc, table, reads.to_vec(alloc)?, 1);
+        let mut out = MemSink::new(alloc, writes.to_vec(alloc)?, 1);
+        let words = vec![in alloc;
+            String::from_str(alloc, "sim")?,
+            String::from_str(alloc, "net")?,
+            String::from_str(alloc, script)?,
+        ]?;
+        assert_eq!(rt; run(alloc, &words, &mut files, &mut out), status);
+        assert_eq!(rt; out.written(), text);
+    }
     Ok(())
 }
