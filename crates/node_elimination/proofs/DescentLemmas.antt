@@ -4,6 +4,7 @@ use Rattle.std.proofs.Common.{◌≡◌, ℕ, ◌+◌, ◌*◌, ◌<◌, ◌≤�
 use Rattle.std.specs.Prelude.{◌↔◌, All, slice_index_or}
 use Rattle.std.proofs.lemmas.Bool.{cases_lt, cases_Bool, leb-true, le-leb, eqb-true}
 use Rattle.std.proofs.lemmas.List.{length-append, length-replicate, get_or-replicate}
+use Rattle.std.proofs.lemmas.Nat.{mul-le}
 use Rattle.std.proofs.lemmas.List.Elements.{All-append, All-replicate}
 use Rattle.ternary.specs.declared.tern.Tern.{Tern}
 use Rattle.ternary.specs.Tern.{may_one, may_zero}
@@ -19,7 +20,7 @@ use Rattle.bool_pool.specs.Reach.{IsWithin}
 use Rattle.node_elimination.specs.declared.inputs.Inputs.{Inputs}
 use Rattle.node_elimination.specs.declared.descent.Levels.{Levels}
 use Rattle.node_elimination.specs.Growth.{place_of, AreFormulas, AreWithin, AreGrown, Grows}
-use Rattle.node_elimination.specs.Levels.{Reached, IsClear, Driven}
+use Rattle.node_elimination.specs.Levels.{Reached, IsClear, Driven, IsUnused}
 use Rattle.node_elimination.specs.LevelSystem.{value_of, FitLinks, IsConstant, reached_base, driven_base, SolvesLevel}
 use Rattle.node_elimination.specs.Analysis.{HasMembers}
 use Rattle.node_elimination.specs.Inputs.{input_formulas, HaveInputs, ShowsState}
@@ -27,6 +28,7 @@ use Rattle.node_elimination.specs.Descent.{level_formulas, HaveLevels, ShowsLeve
 use Rattle.node_elimination.proofs.SolutionLemmas.{or_either, or_first, or_second, and_both, both_parts}
 use Rattle.node_elimination.proofs.GrowthLemmas.{Extends-trans, All-front, All-back, AreFormulas-extends, AreWithin-moved}
 use Rattle.node_elimination.proofs.LinkLemmas.{value_of-extends, place-inside}
+use Rattle.node_elimination.proofs.LevelLemmas.{never_reached, never_driven, reached_down, driven_down, reached_up, driven_up}
 use Rattle.node_elimination.proofs.LevelSystemLemmas.{definite_level, unblocked_level}
 
 -- the parts of the input formulas
@@ -128,12 +130,17 @@ HaveInputs-extends g before after inputs extends falsehood truth have = record {
   formulas = AreFormulas-extends before after (input_formulas inputs) extends have.formulas;
 }
 
+-- the value of each of a list of equal formulas
+replicate-value : (pool : List Gate) (ids : List Id) (count : ℕ) (id : Id) (vars : ℕ → Bool) (k : ℕ) → ids ≡ replicate count id → k < count →
+    value_of pool ids vars k ≡ value_at pool vars id.place
+replicate-value pool ids count id vars k same below =
+    ap (value_at pool vars) (ap (λ (xs : List Id). place_of xs k) same ∙ ap (λ x. x.place) (get_or-replicate count k id (record { place = 0 }) below))
+
 -- what is sure is true
 pub sure-true : (g : Wiring) (pool : List Gate) (inputs : Inputs) (vars : ℕ → Bool) (k : ℕ) → k < nodes g → IsConstant true pool inputs.truth →
     inputs.sure.items ≡ replicate (nodes g) inputs.truth → value_of pool inputs.sure.items vars k ≡ true
 sure-true g pool inputs vars k below truth sure =
-    ap (value_at pool vars) (ap (λ ids. place_of ids k) sure ∙ ap (λ id. id.place) (get_or-replicate (nodes g) k inputs.truth (record { place = 0 }) below))
-    ∙ truth.value_is vars
+    replicate-value pool inputs.sure.items (nodes g) inputs.truth vars k sure below ∙ truth.value_is vars
 
 module _ (g : Wiring) (wired : IsWired g) (members : ℕ) (parts : HasMembers g members) (state : List Tern) (vars : ℕ → Bool) (s : ℕ) (low : 1 ≤ s)
     (high : s ≤ INPUT_LEVEL) where
@@ -210,6 +217,9 @@ pub Grows-next : (inputs : Inputs) (above next : Levels) (p0 p1 p2 p3 p4 : List 
     Grows p0 (input_formulas inputs ++ level_formulas above) p4 (level_formulas next) total
 Grows-next inputs above next p0 p1 p2 p3 p4 clear t1 t2 t3 t4 total e1 e2 e3 e4 g1 g2 g3 g4 sum = record { grown = grown }
   where
+    joined : (a b c d e : List ℕ) → (a ++ (b ++ (c ++ d))) ++ e ≡ a ++ (b ++ (c ++ (d ++ e)))
+    joined a b c d e = simp append_assoc
+
     grown : (listed : List ℕ) (bound : ℕ) → AreWithin p0 listed bound (input_formulas inputs ++ level_formulas above) →
         AreGrown p4 listed bound total (level_formulas next)
     grown listed bound within =
@@ -259,5 +269,110 @@ Grows-next inputs above next p0 p1 p2 p3 p4 clear t1 t2 t3 t4 total e1 e2 e3 e4 
             length-append m3.more (m2.more ++ m1.more),
             length-append m2.more m1.more,
           );
-          within = rw (append_assoc, append_assoc, append_assoc) (all_levels (λ id. IsWithin p4 l4 bound id.place) next m4.within one4 zero4);
+          within = rw (joined m4.more m3.more m2.more m1.more listed) (all_levels (λ id. IsWithin p4 l4 bound id.place) next m4.within one4 zero4);
         }
+
+-- above the level of an input node nothing is reached and nothing is driven
+module _ (g : Wiring) (wired : IsWired g) (members : ℕ) (pool : List Gate) (levels : Levels) (falsehood : Id) (constant : IsConstant false pool falsehood)
+    (strong : levels.strong.items ≡ replicate members falsehood) (one : levels.one.items ≡ replicate members falsehood)
+    (zero : levels.zero.items ≡ replicate members falsehood) where
+  none_shown : (ids : List Id) → ids ≡ replicate members falsehood → (vars : ℕ → Bool) (Q : Type 0) → (Q → ⊥) → (i : ℕ) → i < members →
+      (value_of pool ids vars i ≡ true) ↔ Q
+  none_shown ids same vars Q never i inside = (
+    (λ set. absurd (true≢false (sym set ∙ replicate-value pool ids members falsehood vars i same inside ∙ constant.value_is vars))),
+    (λ q. absurd (never q)),
+  )
+
+  pub ShowsLevel-start : (state : List Tern) (vars : ℕ → Bool) → ShowsLevel g members pool levels (INPUT_LEVEL + 1) state vars
+  ShowsLevel-start state vars = record {
+    strong = λ i inside. none_shown levels.strong.items strong vars _ (never_reached g wired state (INPUT_LEVEL + 1) i (omega arith)) i inside;
+    one = λ i inside. none_shown levels.one.items one vars _ (never_driven g wired state may_one (INPUT_LEVEL + 1) i (omega arith)) i inside;
+    zero = λ i inside. none_shown levels.zero.items zero vars _ (never_driven g wired state may_zero (INPUT_LEVEL + 1) i (omega arith)) i inside;
+  }
+
+  -- whatever holds of that formula holds of all of this level
+  start_all : (P : Id → Type 0) → P falsehood → All P (level_formulas levels)
+  start_all P here =
+      all_levels P levels (rw strong (All-replicate P members falsehood here)) (rw one (All-replicate P members falsehood here))
+      (rw zero (All-replicate P members falsehood here))
+
+  pub HaveLevels-start : HaveLevels members pool levels
+  HaveLevels-start = record {
+    each_strong = ap length strong ∙ length-replicate members falsehood;
+    each_one = ap length one ∙ length-replicate members falsehood;
+    each_zero = ap length zero ∙ length-replicate members falsehood;
+    formulas = start_all (λ id. id.place < length pool) constant.inside;
+  }
+
+  pub Grows-start : (ids : List Id) (count : ℕ) → Grows pool ids pool (ids ++ level_formulas levels) count
+  Grows-start ids count = record {
+    grown = λ listed bound within. record {
+      more = [];
+      few = omega arith;
+      within = All-append (λ id. IsWithin pool listed bound id.place) ids (level_formulas levels) within
+          (start_all (λ id. IsWithin pool listed bound id.place) (constant.within listed bound));
+    };
+  }
+
+-- where nothing has a level, the formulas of the level above serve
+pub ShowsLevel-unused : (g : Wiring) (members : ℕ) (pool : List Gate) (levels : Levels) (s : ℕ) (state : List Tern) (vars : ℕ → Bool) → IsUnused g s →
+    ShowsLevel g members pool levels (s + 1) state vars → ShowsLevel g members pool levels s state vars
+ShowsLevel-unused g members pool levels s state vars unused shown = record {
+  strong = λ i inside. (
+    (λ set. reached_down g state s i ((shown.strong i inside).0 set)),
+    (λ reached. (shown.strong i inside).1 (reached_up g state s unused i reached)),
+  );
+  one = λ i inside. (
+    (λ set. driven_down may_one g state s i ((shown.one i inside).0 set)),
+    (λ driven. (shown.one i inside).1 (driven_up g state s unused may_one s i refl driven)),
+  );
+  zero = λ i inside. (
+    (λ set. driven_down may_zero g state s i ((shown.zero i inside).0 set)),
+    (λ driven. (shown.zero i inside).1 (driven_up g state s unused may_zero s i refl driven)),
+  );
+}
+
+-- they reach nothing more
+pub Grows-unused : (pool : List Gate) (ids : List Id) (levels : Levels) (count : ℕ) → Grows pool (ids ++ level_formulas levels) pool (level_formulas levels) count
+Grows-unused pool ids levels count = record {
+  grown = λ listed bound within. record {
+    more = [];
+    few = omega arith;
+    within = All-back (λ id. IsWithin pool listed bound id.place) ids (level_formulas levels) within;
+  };
+}
+
+-- all that is held once one more level is made
+pub Grows-down : (ids : List Id) (above next : Levels) (a b c : List Gate) (m n count : ℕ) → Extends b c → Grows a ids b (ids ++ level_formulas above) m →
+    Grows b (ids ++ level_formulas above) c (level_formulas next) n → m + n ≤ count → Grows a ids c (ids ++ level_formulas next) count
+Grows-down ids above next a b c m n count extends first second sum = record { grown = grown }
+  where
+    grown : (listed : List ℕ) (bound : ℕ) → AreWithin a listed bound ids → AreGrown c listed bound count (ids ++ level_formulas next)
+    grown listed bound within =
+        let one : AreGrown b listed bound m (ids ++ level_formulas above) = first.grown listed bound within in
+        let two : AreGrown c (one.more ++ listed) bound n (level_formulas next) = second.grown (one.more ++ listed) bound one.within in
+        let held : AreWithin c (two.more ++ (one.more ++ listed)) bound ids =
+        AreWithin-moved b c two.more (one.more ++ listed) bound ids extends
+        (All-front (λ id. IsWithin b (one.more ++ listed) bound id.place) ids (level_formulas above) one.within) in
+        record {
+          more = two.more ++ one.more;
+          few = omega (arith, one.few, two.few, length-append two.more one.more);
+          within = rw append_assoc
+              (All-append (λ id. IsWithin c (two.more ++ (one.more ++ listed)) bound id.place) ids (level_formulas next) held two.within);
+        }
+
+-- the formulas show the same level, by another name of it and of the number of members
+pub ShowsLevel-same : (g : Wiring) (m n : ℕ) (pool : List Gate) (levels : Levels) (s t : ℕ) (state : List Tern) (vars : ℕ → Bool) → m ≡ n → s ≡ t →
+    ShowsLevel g m pool levels s state vars → ShowsLevel g n pool levels t state vars
+ShowsLevel-same g m n pool levels s t state vars same_members same_level shown =
+    subst (λ k. ShowsLevel g n pool levels k state vars) same_level (subst (λ k. ShowsLevel g k pool levels s state vars) same_members shown)
+
+-- the levels so far and the next one
+pub costs-more : (start now next done cost : ℕ) → now ≤ start + done * cost → next ≤ now + cost → next ≤ start + (done + 1) * cost
+costs-more start now next done cost so_far more = omega arith
+
+-- they are no more than all
+pub costs-within : (start now next done cost all : ℕ) → done < all → now ≤ start + done * cost → next ≤ now + cost → next ≤ start + all * cost
+costs-within start now next done cost all below so_far more =
+    let most : (done + 1) * cost ≤ all * cost = mul-le (done + 1) cost all cost (omega arith) (omega arith) in
+    omega (arith, most, costs-more start now next done cost so_far more)

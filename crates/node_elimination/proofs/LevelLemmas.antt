@@ -1,17 +1,18 @@
 -- The equations of the levels are the paths.
 -- D: over each closed switch a definite path goes on, and along a definite path D is kept. U: onto a clear node an unblocked path goes on,
 -- and along an unblocked path U is kept at the strength of the path, since where the path grows weaker U goes down with it.
-use Rattle.std.proofs.Common.{◌≡◌, ℕ, zero, suc, ◌+◌, ◌<◌, ◌≤◌, min, Bool, true, ◌&&◌, inl, inr, List, [], ◌∷◌, ◌++◌, Some, refl, sym, ap, ◌∙◌, subst, ◌-◌, add-zero, arith}
+use Rattle.std.proofs.Common.{◌≡◌, ◌≢◌, ℕ, zero, suc, ◌+◌, ◌<◌, ◌≤◌, min, Bool, true, ◌&&◌, inl, inr, List, [], ◌∷◌, ◌++◌, Some, refl, sym, ap, ◌∙◌, subst, ◌-◌, add-zero, arith}
 use Rattle.std.specs.Prelude.{◌↔◌}
 use Rattle.ternary.specs.declared.tern.Tern.{Tern}
+use Rattle.strength_order.specs.declared.TheConstants.{INPUT_LEVEL}
 use Rattle.path_meaning.specs.declared.switching.Switch.{Switch}
 use Rattle.path_meaning.specs.Switching.{is_closed, is_live, state_at, switch_state_at}
-use Rattle.path_meaning.specs.Wiring.{Wiring, IsWired, nodes, level_of, place_at}
+use Rattle.path_meaning.specs.Wiring.{Wiring, IsWired, Fits, nodes, level_of, place_at}
 use Rattle.path_meaning.specs.Path.{Stand, Joins, Hop, Leads, at_root, LivePath, IsBeaten, Reaches}
 use Rattle.path_meaning.specs.Step.{Responds}
-use Rattle.path_meaning.proofs.PathLemmas.{IsBeaten-lower, beyond, Hop-over, Leads-more, Leads-definite, Leads-weaker, Leads-positive, level_fits, Goes, Goes-here, Goes-leads, Goes-more, Goes-from_unblocked, unblocked-from_Goes}
+use Rattle.path_meaning.proofs.PathLemmas.{IsBeaten-lower, beyond, Hop-over, Leads-more, Leads-definite, Leads-weaker, Leads-positive, level_fits, switch_fits, Goes, Goes-here, Goes-leads, Goes-more, Goes-from_unblocked, unblocked-from_Goes}
 use Rattle.path_meaning.proofs.StrongestPaths.{closed-live, and-second, in_range-from_level}
-use Rattle.node_elimination.specs.Levels.{Reached, IsClear, Driven}
+use Rattle.node_elimination.specs.Levels.{Reached, IsClear, Driven, IsUnused}
 use Rattle.node_elimination.specs.Levels.Reached.{own, over}
 use Rattle.node_elimination.specs.Levels.Driven.{above, root, onto}
 use Rattle.node_elimination.specs.Laws.{HasDefinitePath, HasUnblockedPath, ReachedByPaths, DrivenByPaths}
@@ -90,6 +91,25 @@ module _ (g : Wiring) (wired : IsWired g) (state : List Tern) where
         definite = way.definite;
         stronger = omega (arith, way.strong);
       })
+
+  -- no definite path is stronger than an input node
+  pub never_reached : (t n : ℕ) → INPUT_LEVEL < t → Reached g state t n → ⊥
+  never_reached t n above_all (own strong) =
+      let level = level_fits g wired n (in_range-from_level g wired state n (omega arith)) in
+      absurd (omega (arith, level.high))
+  never_reached t n above_all (over m place switch stands joins closed strong reached) =
+      let fits : Fits (nodes g) switch = switch_fits g wired place switch stands in
+      absurd (omega (arith, fits.high))
+
+  -- nor any other path
+  pub never_driven : (rail : Tern → Bool) (t n : ℕ) → INPUT_LEVEL < t → Driven rail g state t n → ⊥
+  never_driven rail t n above_all (above driven) = never_driven rail (t + 1) n (omega arith) driven
+  never_driven rail t n above_all (root clear level set) =
+      let own_level = level_fits g wired n (in_range-from_level g wired state n (omega arith)) in
+      absurd (omega (arith, own_level.high))
+  never_driven rail t n above_all (onto m place switch stands joins live strong clear driven) =
+      let fits : Fits (nodes g) switch = switch_fits g wired place switch stands in
+      absurd (omega (arith, fits.high))
 
   module _ (rail : Tern → Bool) where
     -- an unblocked path of strength at least s leads to the node, from a root that has the rail, stand by stand
@@ -219,3 +239,30 @@ reached_by_paths g wired state s n low = (path-from_Reached g wired state s n lo
 -- U(s, n) for a rail holds exactly where an unblocked path of strength at least s leads to n from a root that has the rail
 pub driven_by_paths : DrivenByPaths
 driven_by_paths rail g wired state s n low = (path-from_Driven g wired state rail s n low, driven-from_path g wired state rail s n)
+
+-- D goes down the levels
+pub reached_down : (g : Wiring) (state : List Tern) (t n : ℕ) → Reached g state (t + 1) n → Reached g state t n
+reached_down g state t n (own strong) = own (omega arith)
+reached_down g state t n (over m place switch stands joins closed strong reached) =
+    over m place switch stands joins closed (omega arith) (reached_down g state t m reached)
+
+-- and so does U
+pub driven_down : (rail : Tern → Bool) (g : Wiring) (state : List Tern) (t n : ℕ) → Driven rail g state (t + 1) n → Driven rail g state t n
+driven_down rail g state t n driven = above driven
+
+-- where nothing has a level, D and U are those of the level above
+module _ (g : Wiring) (state : List Tern) (s : ℕ) (unused : IsUnused g s) where
+  pub reached_up : (n : ℕ) → Reached g state s n → Reached g state (s + 1) n
+  reached_up n (own strong) = let other : level_of g n ≢ s = unused.nodes n in own (omega arith)
+  reached_up n (over m place switch stands joins closed strong reached) =
+      let other : switch.level ≢ s = unused.switches place switch stands in
+      over m place switch stands joins closed (omega arith) (reached_up m reached)
+
+  pub driven_up : (rail : Tern → Bool) (t n : ℕ) → t ≡ s → Driven rail g state t n → Driven rail g state (s + 1) n
+  driven_up rail t n same (above driven) = subst (λ k. Driven rail g state (k + 1) n) same driven
+  driven_up rail t n same (root clear level set) = absurd (unused.nodes n (level ∙ same))
+  driven_up rail t n same (onto m place switch stands joins live strong clear driven) =
+      let other : switch.level ≢ s = unused.switches place switch stands in
+      onto m place switch stands joins live (omega arith)
+      (λ reached. clear (subst (λ k. Reached g state (k + 1) n) (sym same) (reached_down g state (s + 1) n reached)))
+      (driven_up rail t m same driven)

@@ -9,8 +9,7 @@ use Rattle.path_meaning.specs.declared.switching.Switch.{Switch}
 use Rattle.path_meaning.specs.Switching.{is_closed, is_live, state_at, switch_state_at}
 use Rattle.path_meaning.specs.Wiring.{Wiring, IsWired, Fits, nodes, level_of, place_at}
 use Rattle.path_meaning.specs.Path.{Joins}
-use Rattle.path_meaning.proofs.PathLemmas.{switch_fits, level_fits}
-use Rattle.path_meaning.proofs.StrongestPaths.{in_range-from_level}
+use Rattle.path_meaning.proofs.PathLemmas.{switch_fits}
 use Rattle.bool_pool.specs.declared.gate.Gate.{Gate}
 use Rattle.bool_pool.specs.declared.gate.Id.{Id}
 use Rattle.bool_pool.specs.Reach.{IsWithin}
@@ -25,6 +24,7 @@ use Rattle.node_elimination.specs.Elimination.{Moves, Solves}
 use Rattle.node_elimination.specs.LevelSystem.{Link, Fed, value_of, AddsLinks, IsFresh, IsPlace, IsLevelSystem, SolvesLevel}
 use Rattle.node_elimination.specs.Analysis.{HasMembers}
 use Rattle.node_elimination.proofs.GrowthLemmas.{All-back}
+use Rattle.node_elimination.proofs.LevelLemmas.{never_reached}
 use Rattle.node_elimination.proofs.PassingLemmas.{left-inside}
 use Rattle.node_elimination.proofs.LinkLemmas.{place-inside}
 
@@ -155,18 +155,10 @@ module _ (g : Wiring) (wired : IsWired g) (members : ℕ) (parts : HasMembers g 
     reached-other : (t m : ℕ) → IsOther m → t ≤ INPUT_LEVEL → Reached g state t m
     reached-other t m other most = own (omega (arith, parts.outside m other.0 other.1))
 
-    never-reached : (n : ℕ) → Reached g state (INPUT_LEVEL + 1) n → ⊥
-    never-reached n (own strong) =
-        let level = level_fits g wired n (in_range-from_level g wired state n (omega arith)) in
-        absurd (omega (arith, level.high))
-    never-reached n (over m place switch stands joins closed strong reached) =
-        let fits : Fits (nodes g) switch = switch_fits g wired place switch stands in
-        absurd (omega (arith, fits.high))
-
     driven-other : (more t m : ℕ) → t + more ≡ INPUT_LEVEL → IsOther m → rail (state_at state m) ≡ true → Driven rail g state t m
     driven-other zero t m sum other set =
         let same : t ≡ INPUT_LEVEL = omega arith in
-        root (λ reached. never-reached m (subst (λ k. Reached g state (k + 1) m) same reached)) (omega (arith, parts.outside m other.0 other.1)) set
+        root (λ reached. never_reached g wired state (t + 1) m (omega arith) reached) (omega (arith, parts.outside m other.0 other.1)) set
     driven-other (suc more) t m sum other set = above (driven-other more (t + 1) m (omega arith) other set)
 
     other-driven : (t m : ℕ) → 1 ≤ t → IsOther m → Driven rail g state t m → rail (state_at state m) ≡ true

@@ -1,6 +1,6 @@
 -- The three families of the levels s, for a graph under a state: D(s, n), clear(s, n), and U(s, n) for either rail.
 -- After Bryant, "Boolean Analysis of MOS Circuits", 1987.
-use Rattle.std.specs.Prelude.{◌≡◌, ℕ, ◌+◌, ◌≤◌, Bool, true, List, Some}
+use Rattle.std.specs.Prelude.{◌≡◌, ◌≢◌, ℕ, ◌+◌, ◌≤◌, Bool, true, List, Some}
 use Rattle.ternary.specs.declared.tern.Tern.{Tern}
 use Rattle.path_meaning.specs.declared.switching.Switch.{Switch}
 use Rattle.path_meaning.specs.Switching.{is_closed, is_live, state_at, switch_state_at}
@@ -24,3 +24,8 @@ pub data Driven (rail : Tern → Bool) (g : Wiring) (state : List Tern) : ℕ �
   root : {s n : ℕ} → IsClear g state s n → level_of g n ≡ s → rail (state_at state n) ≡ true → Driven rail g state s n
   onto : {s n : ℕ} (m place : ℕ) (switch : Switch) → place_at g.places place ≡ Some switch → Joins switch m n →
       is_live (switch_state_at state switch) ≡ true → s ≤ switch.level → IsClear g state s n → Driven rail g state s m → Driven rail g state s n
+
+-- no node and no switch has this level
+pub record IsUnused (g : Wiring) (s : ℕ) : Type 0 where
+  pub nodes : (n : ℕ) → level_of g n ≢ s
+  pub switches : (place : ℕ) (switch : Switch) → place_at g.places place ≡ Some switch → switch.level ≢ s

@@ -2,9 +2,10 @@
 //!
 //! The levels from the strongest down have three families of equations: which nodes a definite path
 //! of some strength reaches, which are clear of stronger ones, and which an unblocked path drives to
-//! a rail. The main call today is `solve`, which gives the least solution of one level's system as
-//! formulas, in any order of elimination and with a bound on their gates; a level is built and solved
-//! for both rails. Going down all levels of a group stands on this and isn't built yet.
+//! a rail. The main call today is `go_down`, which gives the formulas of a graph's members after all
+//! levels; each level's systems are built, and solved by eliminating one unknown after another, in
+//! any order and with a bound on the gates. A public call that gives the pairs of formulas stands on
+//! this and isn't built yet.
 //!
 //! The layers above will use the law that the equations are the paths, and that elimination keeps
 //! the least solution.

@@ -1,0 +1,9 @@
+-- No switch so far has the level.
+use Rattle.std.proofs.Common.{◌≡◌, ◌≢◌, ℕ, ◌<◌, Some}
+use Rattle.path_meaning.specs.declared.switching.Switch.{Switch}
+use Rattle.path_meaning.specs.Wiring.{place_at}
+use Rattle.node_elimination.proofs.descent.has_switch.Given as goal
+
+abbrev pub invariant-loop-place : goal.invariant-loop-place
+invariant-loop-place l =
+    (place : ℕ) → place < l.place → (switch : Switch) → place_at l.graph.places place ≡ Some switch → switch.level ≢ l.level
