@@ -88,8 +88,8 @@ impl GroupText {
         self.constants[local]
     }
 
-    /// The constants of all local nodes.
-    pub(crate) fn constants(&self) -> &[Option<Tern>]
+    /// The constants of all local nodes, in order.
+    pub fn constants(&self) -> &[Option<Tern>]
         ensures { result.now ≡ self.now.constants }
     {
         &self.constants
