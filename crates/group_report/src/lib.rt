@@ -12,5 +12,7 @@
 #![tactic(auto)]
 
 mod report;
+#[cfg(test)]
+mod tests;
 
 pub use report::report_groups;
