@@ -3,3 +3,4 @@ pub mod Value
 pub mod Reach
 pub mod Made
 pub mod Choice
+pub mod Pairs
