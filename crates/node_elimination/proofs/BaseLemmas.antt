@@ -1,6 +1,6 @@
 -- The bases of a level's system, and the level solved over them.
-use Rattle.std.proofs.Common.{◌≡◌, ◌≢◌, ℕ, ◌+◌, ◌*◌, ◌<◌, ◌≤◌, ◌⊎◌, Bool, true, false, ◌&&◌, ◌||◌, ◌==◌, eq-eqb, nat_le, if◌then◌else◌, inl, inr, List, [], ◌∷◌, ◌++◌, length, replicate, refl, sym, ap, ◌∙◌, subst, append_assoc, arith}
-use Rattle.std.specs.Prelude.{◌↔◌, All, slice_index_or}
+use Rattle.std.proofs.Common.{◌≡◌, ◌≢◌, ℕ, ◌+◌, ◌*◌, ◌<◌, ◌≤◌, Bool, true, false, ◌&&◌, ◌||◌, ◌==◌, eq-eqb, if◌then◌else◌, inl, inr, List, [], ◌∷◌, ◌++◌, length, replicate, refl, sym, ap, ◌∙◌, subst, append_assoc, arith}
+use Rattle.std.specs.Prelude.{All, slice_index_or}
 use Rattle.std.proofs.lemmas.Bool.{cases_eq, ne_eqb}
 use Rattle.std.proofs.lemmas.List.{length-append, length-replicate, get_or-replicate}
 use Rattle.std.proofs.lemmas.List.Elements.{All-append, All-replicate, All-from_get_or}
@@ -10,14 +10,14 @@ use Rattle.bool_pool.specs.declared.gate.Gate.{Gate}
 use Rattle.bool_pool.specs.declared.gate.Id.{Id}
 use Rattle.bool_pool.specs.Gate.{Extends}
 use Rattle.bool_pool.specs.Value.{value_at}
-use Rattle.bool_pool.specs.Reach.{IsWithin, AllWithin}
+use Rattle.bool_pool.specs.Reach.{IsWithin}
 use Rattle.bool_pool.specs.Made.{IsFormed}
 use Rattle.bool_pool.proofs.WithinLemmas.{IsGrown-within}
-use Rattle.node_elimination.specs.Growth.{place_of, AreFormulas, AreWithin, AreGrown, Grows}
+use Rattle.node_elimination.specs.Growth.{place_of, AreWithin, AreGrown, Grows}
 use Rattle.node_elimination.specs.Equations.{Equations, IsSquare, IsWhole, formulas_of, edge_at, right_at, is_left, all_reset, put_right, edge, right}
 use Rattle.node_elimination.specs.Elimination.{Moves, PutsRight, PutsRights}
-use Rattle.node_elimination.specs.LevelSystem.{Link, Fed, value_of, FitLinks, IsConstant, driven_base, IsFresh, IsPlace, IsLevelSystem, SolvesLevel}
-use Rattle.node_elimination.proofs.GrowthLemmas.{All-front, All-back, AreWithin-moved}
+use Rattle.node_elimination.specs.LevelSystem.{value_of, FitLinks, IsConstant, driven_base, IsFresh, IsPlace, SolvesLevel}
+use Rattle.node_elimination.proofs.GrowthLemmas.{All-front, All-back}
 use Rattle.node_elimination.proofs.EquationsLemmas.{right_at-put_same, right_at-put_other}
 use Rattle.node_elimination.proofs.LinkLemmas.{Link-along, Fed-along, value_of-extends, gate_same, pass_same, source_same}
 

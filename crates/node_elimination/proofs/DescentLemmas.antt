@@ -1,8 +1,8 @@
 -- From one level down to the next. The pools are p0 at first, p1 with the negations, p2 with U for "may be 1", p3 with U for "may be 0",
 -- and p4 with D.
-use Rattle.std.proofs.Common.{◌≡◌, ℕ, ◌+◌, ◌*◌, ◌<◌, ◌≤◌, ◌⊎◌, Bool, true, false, not, ◌&&◌, ◌||◌, ◌==◌, eqb, eq-eqb, nat_le, inl, inr, List, [], ◌∷◌, ◌++◌, length, replicate, Some, refl, sym, ap, ◌∙◌, subst, true≢false, append_assoc, arith}
-use Rattle.std.specs.Prelude.{◌↔◌, All, slice_index_or}
-use Rattle.std.proofs.lemmas.Bool.{cases_lt, cases_Bool, leb-true, le-leb, eqb-true}
+use Rattle.std.proofs.Common.{◌≡◌, ℕ, ◌+◌, ◌*◌, ◌<◌, ◌≤◌, ◌⊎◌, Bool, true, false, not, ◌&&◌, ◌==◌, eq-eqb, inl, inr, List, [], ◌++◌, length, replicate, Some, refl, sym, ap, ◌∙◌, subst, true≢false, append_assoc, arith}
+use Rattle.std.specs.Prelude.{◌↔◌, All}
+use Rattle.std.proofs.lemmas.Bool.{leb-true, le-leb, eqb-true}
 use Rattle.std.proofs.lemmas.List.{length-append, length-replicate, get_or-replicate}
 use Rattle.std.proofs.lemmas.Nat.{mul-le}
 use Rattle.std.proofs.lemmas.List.Elements.{All-append, All-replicate}
@@ -24,9 +24,9 @@ use Rattle.node_elimination.specs.Levels.{Reached, IsClear, Driven, IsUnused}
 use Rattle.node_elimination.specs.LevelSystem.{value_of, FitLinks, IsConstant, reached_base, driven_base, SolvesLevel}
 use Rattle.node_elimination.specs.Analysis.{HasMembers}
 use Rattle.node_elimination.specs.Inputs.{input_formulas, HaveInputs, ShowsState}
-use Rattle.node_elimination.specs.Descent.{level_formulas, HaveLevels, ShowsLevel, AreNegations}
+use Rattle.node_elimination.specs.Descent.{level_formulas, HaveLevels, ShowsLevel}
 use Rattle.node_elimination.proofs.SolutionLemmas.{or_either, or_first, or_second, and_both, both_parts}
-use Rattle.node_elimination.proofs.GrowthLemmas.{Extends-trans, All-front, All-back, AreFormulas-extends, AreWithin-moved}
+use Rattle.node_elimination.proofs.GrowthLemmas.{All-front, All-back, AreFormulas-extends, AreWithin-moved}
 use Rattle.node_elimination.proofs.LinkLemmas.{value_of-extends, place-inside}
 use Rattle.node_elimination.proofs.LevelLemmas.{never_reached, never_driven, reached_down, driven_down, reached_up, driven_up}
 use Rattle.node_elimination.proofs.LevelSystemLemmas.{definite_level, unblocked_level}

@@ -1,6 +1,6 @@
 -- A system after one edge or one right side was put.
-use Rattle.std.proofs.Common.{◌≡◌, ◌≢◌, ℕ, ◌+◌, ◌*◌, ◌<◌, ◌≤◌, ◌⊎◌, Bool, true, false, inl, inr, ⊎_elim, List, [], ◌++◌, length, set, cond, refl, sym, ap, ◌∙◌, subst, get_or-set_same, get_or-set_other, arith}
-use Rattle.std.specs.Prelude.{All, slice_index_or}
+use Rattle.std.proofs.Common.{◌≡◌, ◌≢◌, ℕ, ◌+◌, ◌*◌, ◌<◌, ◌≤◌, ◌⊎◌, Bool, true, false, ⊎_elim, List, ◌++◌, length, set, cond, refl, ap, ◌∙◌, get_or-set_same, get_or-set_other, arith}
+use Rattle.std.specs.Prelude.{All}
 use Rattle.std.proofs.lemmas.List.{length-set}
 use Rattle.std.proofs.lemmas.List.Elements.{All-append, All-set}
 use Rattle.std.proofs.lemmas.List.Sums.{sum_by-set}
@@ -8,11 +8,10 @@ use Rattle.std.proofs.lemmas.Nat.{mul-add-lt, same_from_place}
 use Rattle.bool_pool.specs.declared.gate.Gate.{Gate}
 use Rattle.bool_pool.specs.declared.gate.Id.{Id}
 use Rattle.bool_pool.specs.Gate.{Extends}
-use Rattle.bool_pool.specs.Value.{value_at}
 use Rattle.bool_pool.specs.Reach.{IsWithin, IsGrown}
 use Rattle.bool_pool.specs.Made.{IsFormed}
 use Rattle.bool_pool.proofs.ValueLemmas.{value_at-extends}
-use Rattle.node_elimination.specs.Growth.{AreFormulas, AreWithin, AreGrown, Grows}
+use Rattle.node_elimination.specs.Growth.{AreWithin, AreGrown, Grows}
 use Rattle.node_elimination.specs.Equations.{Equations, IsSquare, IsWhole, formulas_of, edge_at, right_at, is_left, left_count, put_edge, put_right, put_left, edge, right}
 use Rattle.node_elimination.specs.Elimination.{Moves}
 use Rattle.node_elimination.proofs.GrowthLemmas.{Extends-same, Extends-trans, All-front, All-back, AreFormulas-extends, AreWithin-moved, Grows-same, Grows-trans, IsHeld, AreHeld, IsHeld-front, IsHeld-back, inside-held, AllWithin-held}

@@ -1,14 +1,13 @@
 -- The equations of the levels are the paths.
 -- D: over each closed switch a definite path goes on, and along a definite path D is kept. U: onto a clear node an unblocked path goes on,
 -- and along an unblocked path U is kept at the strength of the path, since where the path grows weaker U goes down with it.
-use Rattle.std.proofs.Common.{◌≡◌, ◌≢◌, ℕ, zero, suc, ◌+◌, ◌<◌, ◌≤◌, min, Bool, true, ◌&&◌, inl, inr, List, [], ◌∷◌, ◌++◌, Some, refl, sym, ap, ◌∙◌, subst, ◌-◌, add-zero, arith}
+use Rattle.std.proofs.Common.{◌≡◌, ◌≢◌, ℕ, zero, suc, ◌+◌, ◌<◌, ◌≤◌, Bool, true, List, [], ◌∷◌, ◌++◌, refl, sym, ◌∙◌, subst, ◌-◌, add-zero, arith}
 use Rattle.std.specs.Prelude.{◌↔◌}
 use Rattle.ternary.specs.declared.tern.Tern.{Tern}
 use Rattle.strength_order.specs.declared.TheConstants.{INPUT_LEVEL}
-use Rattle.path_meaning.specs.declared.switching.Switch.{Switch}
-use Rattle.path_meaning.specs.Switching.{is_closed, is_live, state_at, switch_state_at}
-use Rattle.path_meaning.specs.Wiring.{Wiring, IsWired, Fits, nodes, level_of, place_at}
-use Rattle.path_meaning.specs.Path.{Stand, Joins, Hop, Leads, at_root, LivePath, IsBeaten, Reaches}
+use Rattle.path_meaning.specs.Switching.{is_closed, state_at, switch_state_at}
+use Rattle.path_meaning.specs.Wiring.{Wiring, IsWired, Fits, nodes, level_of}
+use Rattle.path_meaning.specs.Path.{Stand, Hop, Leads, at_root, IsBeaten}
 use Rattle.path_meaning.specs.Step.{Responds}
 use Rattle.path_meaning.proofs.PathLemmas.{IsBeaten-lower, beyond, Hop-over, Leads-more, Leads-definite, Leads-weaker, Leads-positive, level_fits, switch_fits, Goes, Goes-here, Goes-leads, Goes-more, Goes-from_unblocked, unblocked-from_Goes}
 use Rattle.path_meaning.proofs.StrongestPaths.{closed-live, and-second, in_range-from_level}

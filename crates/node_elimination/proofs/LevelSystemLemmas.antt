@@ -1,5 +1,5 @@
 -- The solution of a level's system is the level.
-use Rattle.std.proofs.Common.{◌≡◌, ℕ, zero, suc, ◌+◌, ◌-◌, ◌<◌, ◌≤◌, ◌⊎◌, Bool, true, false, inl, inr, List, [], ◌++◌, length, Some, refl, sym, ap, ◌∙◌, subst, true≢false, append_assoc, arith}
+use Rattle.std.proofs.Common.{◌≡◌, ℕ, zero, suc, ◌+◌, ◌-◌, ◌<◌, ◌≤◌, ◌⊎◌, Bool, true, false, inl, inr, List, [], ◌++◌, Some, refl, sym, ap, ◌∙◌, subst, true≢false, append_assoc, arith}
 use Rattle.std.specs.Prelude.{◌↔◌, slice_index_or}
 use Rattle.std.proofs.lemmas.Bool.{cases_lt}
 use Rattle.std.proofs.lemmas.List.{length-append}
@@ -21,7 +21,7 @@ use Rattle.node_elimination.specs.Levels.Driven.{above, root, onto}
 use Rattle.node_elimination.specs.Growth.{AreWithin, AreGrown, Grows}
 use Rattle.node_elimination.specs.Equations.{Equations, IsSquare, formulas_of, right_at, is_left, edge, right}
 use Rattle.node_elimination.specs.Elimination.{Moves, Solves}
-use Rattle.node_elimination.specs.LevelSystem.{Link, Fed, value_of, AddsLinks, IsFresh, IsPlace, IsLevelSystem, SolvesLevel}
+use Rattle.node_elimination.specs.LevelSystem.{Link, value_of, AddsLinks, IsFresh, IsPlace, SolvesLevel}
 use Rattle.node_elimination.specs.Analysis.{HasMembers}
 use Rattle.node_elimination.proofs.GrowthLemmas.{All-back}
 use Rattle.node_elimination.proofs.LevelLemmas.{never_reached}

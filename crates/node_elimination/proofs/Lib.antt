@@ -9,3 +9,4 @@ pub mod LevelSystemLemmas
 pub mod BaseLemmas
 pub mod InputLemmas
 pub mod DescentLemmas
+pub mod AnalysisLemmas

@@ -1,6 +1,6 @@
 -- Building the system of a level: one link after the other.
-use Rattle.std.proofs.Common.{◌≡◌, ◌≢◌, ℕ, ◌+◌, ◌*◌, ◌<◌, ◌≤◌, ◌⊎◌, Bool, true, false, ◌&&◌, ◌||◌, inl, inr, List, [], ◌∷◌, ◌++◌, length, take, Option, Some, None, Result, Ok, Err, refl, sym, ap, ◌∙◌, subst, true≢false, arith}
-use Rattle.std.specs.Prelude.{◌↔◌, IfOk, is_some, count_by, slice_index_or, if◌then◌else◌}
+use Rattle.std.proofs.Common.{◌≡◌, ◌≢◌, ℕ, ◌+◌, ◌*◌, ◌<◌, ◌≤◌, ◌⊎◌, Bool, true, ◌&&◌, ◌||◌, inl, inr, List, [], ◌∷◌, ◌++◌, length, take, Option, Some, None, Result, Ok, Err, refl, sym, ap, ◌∙◌, subst, arith}
+use Rattle.std.specs.Prelude.{IfOk, is_some, count_by, if◌then◌else◌}
 use Rattle.std.proofs.lemmas.Bool.{cases_eq, cases_lt, cases_Bool}
 use Rattle.std.proofs.lemmas.List.{get_or_past}
 use Rattle.std.proofs.lemmas.List.Sums.{count_by_more_yes, count_by_more_no}
@@ -15,11 +15,11 @@ use Rattle.bool_pool.specs.Reach.{IsWithin, AllWithin, IsGrown}
 use Rattle.bool_pool.specs.Made.{IsMade, IsFormed}
 use Rattle.bool_pool.proofs.ValueLemmas.{value_at-extends}
 use Rattle.bool_pool.proofs.WithinLemmas.{IsWithin-listed, IsWithin-extends, IsGrown-made, IsGrown-after}
-use Rattle.node_elimination.specs.Growth.{place_of, AreFormulas}
-use Rattle.node_elimination.specs.Equations.{Equations, IsWhole, edge_at, right_at, put_edge, put_right, edge, right}
-use Rattle.node_elimination.specs.LevelSystem.{Link, Fed, value_of, FitLinks, AddsLink, AddsLinks, IsPlace}
+use Rattle.node_elimination.specs.Growth.{place_of}
+use Rattle.node_elimination.specs.Equations.{Equations, IsWhole, put_edge, put_right, edge, right}
+use Rattle.node_elimination.specs.LevelSystem.{Link, Fed, value_of, FitLinks, AddsLink, AddsLinks}
 use Rattle.node_elimination.proofs.SolutionLemmas.{or_either, or_first, or_second, and_both, both_parts}
-use Rattle.node_elimination.proofs.GrowthLemmas.{All-front, All-back, IsHeld, IsHeld-front, IsHeld-back, inside-held}
+use Rattle.node_elimination.proofs.GrowthLemmas.{IsHeld, IsHeld-front, IsHeld-back, inside-held}
 use Rattle.node_elimination.proofs.EquationsLemmas.{edge-extends, right-extends, edge_at-put_same, edge_at-put_other, right_at-put_edge, right_at-put_same, right_at-put_other, edge_at-put_right}
 
 -- the formula "into, or all of first, second and third" is formed in one step more

@@ -1,5 +1,5 @@
 -- What is done to the values of a system, one edge or right side after the other.
-use Rattle.std.proofs.Common.{◌≡◌, ◌≢◌, ℕ, ◌+◌, ◌*◌, ◌<◌, ◌≤◌, ◌⊎◌, Bool, true, false, ◌&&◌, ◌||◌, inl, inr, ⊎_elim, List, length, refl, sym, ap, ◌∙◌, true≢false, arith}
+use Rattle.std.proofs.Common.{◌≡◌, ◌≢◌, ℕ, ◌+◌, ◌<◌, ◌≤◌, ◌⊎◌, Bool, true, false, ◌&&◌, ◌||◌, inl, inr, List, length, refl, sym, ap, ◌∙◌, true≢false, arith}
 use Rattle.std.specs.Prelude.{slice_index_or}
 use Rattle.std.proofs.lemmas.Bool.{cases_eq, cases_lt}
 use Rattle.std.proofs.lemmas.List.{get_or_past}
@@ -8,7 +8,7 @@ use Rattle.bool_pool.specs.declared.gate.Id.{Id}
 use Rattle.bool_pool.specs.Gate.{Extends}
 use Rattle.bool_pool.specs.Value.{value_at}
 use Rattle.node_elimination.specs.Solution.{edge_past, right_past}
-use Rattle.node_elimination.specs.Equations.{Equations, IsSquare, IsWhole, edge_at, right_at, is_left, put_edge, put_right, edge, right}
+use Rattle.node_elimination.specs.Equations.{Equations, IsSquare, IsWhole, is_left, put_edge, put_right, edge, right}
 use Rattle.node_elimination.specs.Elimination.{PassesEdge, PassesEdges, PassesRow, PassesRows, PutsRight, with_next, Follows, Gathers}
 use Rattle.node_elimination.proofs.SolutionLemmas.{or_either, or_first, or_second, and_both, both_parts}
 use Rattle.node_elimination.proofs.EquationsLemmas.{edge-extends, right-extends, edge_at-put_same, edge_at-put_other, right_at-put_edge, right_at-put_same, right_at-put_other, edge_at-put_right}

@@ -1,13 +1,13 @@
 -- One unknown is taken out, what is left is solved, and the unknown is read back.
 -- a, x is the pool and the system at first; b, y once k was eliminated; c, z once what is left was solved; d, w once k was read back.
-use Rattle.std.proofs.Common.{◌≡◌, ◌≢◌, ℕ, ◌+◌, ◌*◌, ◌<◌, ◌≤◌, ◌⊎◌, Bool, true, false, not, ◌&&◌, ◌||◌, ◌==◌, eq-eqb, inl, inr, ⊎_elim, List, [], length, set, refl, sym, ap, ◌∙◌, true≢false, get_or-set_same, get_or-set_other, arith}
+use Rattle.std.proofs.Common.{◌≡◌, ◌≢◌, ℕ, ◌+◌, ◌<◌, ◌≤◌, ◌⊎◌, Bool, true, false, not, ◌&&◌, ◌==◌, eq-eqb, inl, inr, List, [], length, set, refl, sym, ap, ◌∙◌, true≢false, get_or-set_same, get_or-set_other, arith}
 use Rattle.std.specs.Prelude.{◌↔◌, slice_index_or}
 use Rattle.std.proofs.lemmas.Bool.{cases_eq}
 use Rattle.std.proofs.lemmas.List.{set-set, set-get_or}
 use Rattle.bool_pool.specs.declared.gate.Gate.{Gate}
 use Rattle.node_elimination.specs.Solution.{Sol, without, edge_past, right_past}
 use Rattle.node_elimination.specs.Solution.Sol.{begins, follows}
-use Rattle.node_elimination.specs.Equations.{Equations, IsSquare, IsWhole, formulas_of, edge_at, right_at, is_left, put_left, edge, right}
+use Rattle.node_elimination.specs.Equations.{Equations, IsSquare, formulas_of, edge_at, right_at, is_left, put_left, edge, right}
 use Rattle.node_elimination.specs.Elimination.{Moves, PassesRows, Follows, Gathers, Solves}
 use Rattle.node_elimination.proofs.SolutionLemmas.{or_either, both_parts, without-left, left-without, Sol-along, elimination_keeps}
 use Rattle.node_elimination.proofs.EquationsLemmas.{IsWhole-put_left}

@@ -1,7 +1,7 @@
 -- What the formulas of a graph's members are: the rails of their steady states, with few gates.
 -- The members are the first nodes, so many of them. They are storage nodes, and all other nodes are input nodes.
 -- After Bryant, "Boolean Analysis of MOS Circuits", 1987.
-use Rattle.std.specs.Prelude.{◌≡◌, ℕ, ◌+◌, ◌-◌, ◌*◌, ◌^◌, ◌<◌, ◌≤◌, ◌⊎◌, ◌↔◌, Bool, true, List, length, Option, Some, None, is_some, count_by, slice_get, slice_index_or}
+use Rattle.std.specs.Prelude.{◌≡◌, ℕ, ◌+◌, ◌-◌, ◌*◌, ◌^◌, ◌<◌, ◌≤◌, ◌↔◌, Bool, true, List, length, Option, Some, None, is_some, count_by, slice_get, slice_index_or}
 use Rattle.ternary.specs.declared.tern.Tern.{Tern}
 use Rattle.ternary.specs.Tern.{may_one, may_zero}
 use Rattle.strength_order.specs.declared.TheConstants.{INPUT_LEVEL}
@@ -10,9 +10,8 @@ use Rattle.path_meaning.specs.Wiring.{Wiring, nodes, level_of}
 use Rattle.path_meaning.specs.Step.{Responds}
 use Rattle.bool_pool.specs.declared.gate.Gate.{Gate}
 use Rattle.bool_pool.specs.declared.gate.Rails.{Rails}
-use Rattle.bool_pool.specs.Gate.{gate_at, IsOperation}
 use Rattle.bool_pool.specs.Value.{value_at}
-use Rattle.bool_pool.specs.Reach.{Reaches, ReachesVar}
+use Rattle.dual_rail.specs.Variables.{AreVariables}
 
 -- the members are the first nodes and storage nodes, and all other nodes are input nodes
 pub record HasMembers (g : Wiring) (members : ℕ) : Type 0 where
@@ -28,11 +27,6 @@ constant_at constants node = slice_index_or constants node None
 abbrev pub HasConstants : List (Option Tern) → List Tern → Type 0
 HasConstants constants state =
     (node : ℕ) (constant : Tern) → constant_at constants node ≡ Some constant → state_at state node ≡ constant
-
--- the variables 2j and 2j + 1 are the rails of node j, "may be 1" and "may be 0"
-pub record AreVariables (state : List Tern) (vars : ℕ → Bool) : Type 0 where
-  pub one : (node : ℕ) → node < length state → vars (2 * node) ≡ may_one (state_at state node)
-  pub zero : (node : ℕ) → node < length state → vars (2 * node + 1) ≡ may_zero (state_at state node)
 
 -- the two formulas have the rails of the node's steady state
 pub record AreRailsOfResponse (g : Wiring) (state : List Tern) (gates : List Gate) (vars : ℕ → Bool) (node : ℕ) (rails : Rails) : Type 0 where
@@ -50,23 +44,6 @@ abbrev pub AreResponses : Wiring → List (Option Tern) → List Gate → List R
 AreResponses g constants gates answers =
     (state : List Tern) (vars : ℕ → Bool) → IsAssignment g constants state vars →
     (k : ℕ) (rails : Rails) → slice_get answers k ≡ Some rails → AreRailsOfResponse g state gates vars k rails
-
--- one of the formulas reaches the gate at this place
-pub record AreReaching (gates : List Gate) (answers : List Rails) (place : ℕ) : Type 0 where
-  pub k : ℕ
-  pub rails : Rails
-  pub answer : slice_get answers k ≡ Some rails
-  pub reached : Reaches gates rails.hi.place place ⊎ Reaches gates rails.lo.place place
-
--- the gate at this place is an And, an Or or a Not that one of the formulas reaches
-abbrev pub IsOperationOf : List Gate → List Rails → ℕ → Type 0
-IsOperationOf gates answers place = IsOperation (gate_at gates place) × AreReaching gates answers place
-
--- each variable that one of the formulas reaches is below the bound
-abbrev pub HasVariablesBelow : List Gate → List Rails → ℕ → Type 0
-HasVariablesBelow gates answers bound =
-    (k : ℕ) (rails : Rails) (v : ℕ) → slice_get answers k ≡ Some rails →
-    ReachesVar gates rails.hi.place v ⊎ ReachesVar gates rails.lo.place v → v < bound
 
 -- the bound on steps and gates, for n members, e other nodes and t switches
 abbrev pub gate_bound : ℕ → ℕ → ℕ → ℕ

@@ -1,14 +1,14 @@
-//! Boolean formulas for the steady states of a group's nodes, by eliminating nodes.
+//! Boolean formulas for the steady states of a group's members, by eliminating nodes.
 //!
-//! The levels from the strongest down have three families of equations: which nodes a definite path
-//! of some strength reaches, which are clear of stronger ones, and which an unblocked path drives to
-//! a rail. The main call today is `go_down`, which gives the formulas of a graph's members after all
-//! levels; each level's systems are built, and solved by eliminating one unknown after another, in
-//! any order and with a bound on the gates. A public call that gives the pairs of formulas stands on
-//! this and isn't built yet.
+//! The one call that computes is `analyse`: two formulas for each member of a group's text. The layer
+//! above uses its clauses: in every state of the local nodes the formulas have the values of the
+//! rails of the member's steady state in the local graph, and all formulas together reach no more
+//! gates than the text's bound.
 //!
-//! The layers above will use the law that the equations are the paths, and that elimination keeps
-//! the least solution.
+//! From the strongest level down there are three systems of equations: which members a definite path
+//! of some strength reaches, and which an unblocked path drives to 1, or to 0. Each is solved by
+//! eliminating one unknown after another, in any order. Two laws carry this: the equations are the
+//! paths, and elimination keeps the least solution.
 //!
 //! ```text
 //! x0 = b0 or (a01 and x1), x1 = b1: eliminating x1 gives x0 = b0 or (a01 and b1)
@@ -17,6 +17,7 @@
 //! After Bryant, "Boolean Analysis of MOS Circuits", 1987.
 #![tactic(auto)]
 
+mod analysis;
 mod descent;
 mod inputs;
 mod laws;
@@ -24,4 +25,5 @@ mod level;
 mod solve;
 mod system;
 
+pub use analysis::analyse;
 pub use laws::{elimination_keeps_the_solution, equations_are_the_paths};

@@ -1,5 +1,5 @@
 -- One level after the other, from above that of an input node.
-use Rattle.std.proofs.Common.{◌≡◌, ℕ, ◌+◌, ◌-◌, ◌*◌, ◌<◌, ◌≤◌, true, false, replicate, rules, ap, ◌∙◌, sym, subst, arith}
+use Rattle.std.proofs.Common.{◌≡◌, ◌+◌, ◌-◌, true, false, replicate, rules, ap, ◌∙◌, sym, subst, arith}
 use Rattle.std.proofs.lemmas.List.{get_or-replicate}
 use Rattle.strength_order.specs.declared.TheConstants.{INPUT_LEVEL}
 use Rattle.node_elimination.specs.declared.descent.Levels.{Levels}
@@ -11,7 +11,6 @@ use Rattle.node_elimination.proofs.GrowthLemmas.{Extends-same, Extends-trans}
 use Rattle.node_elimination.proofs.PassingLemmas.{left-same}
 use Rattle.node_elimination.proofs.InputLemmas.{IsConstant-extends}
 use Rattle.node_elimination.proofs.DescentLemmas.{ShowsState-extends, HaveInputs-extends, ShowsLevel-start, HaveLevels-start, Grows-start, Grows-down, ShowsLevel-same, costs-more, costs-within}
-use Rattle.node_elimination.proofs.descent.go_down.Given as given
 use Rattle.node_elimination.proofs.descent.go_down.Goals as goal
 
 pub loop-done-init : goal.loop-done-init

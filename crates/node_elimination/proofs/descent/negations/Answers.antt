@@ -1,5 +1,5 @@
 -- One negation more.
-use Rattle.std.proofs.Common.{◌+◌, ◌≤◌, arith}
+use Rattle.std.proofs.Common.{arith}
 use Rattle.node_elimination.proofs.GrowthLemmas.{Extends-trans}
 use Rattle.node_elimination.proofs.InputLemmas.{AreNegations-push, Grows-negation}
 use Rattle.node_elimination.proofs.descent.negations.Goals as goal

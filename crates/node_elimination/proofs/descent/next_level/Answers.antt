@@ -1,6 +1,6 @@
 -- Clear, U for both rails, and D, each from what was held before.
-use Rattle.std.proofs.Common.{◌≡◌, ℕ, ◌+◌, ◌*◌, ◌<◌, ◌≤◌, Bool, true, false, ◌++◌, length, ap, ◌∙◌, sym, arith}
-use Rattle.std.specs.Prelude.{◌↔◌, All, List}
+use Rattle.std.proofs.Common.{◌≡◌, ℕ, ◌+◌, ◌<◌, Bool, true, false, length, ap, ◌∙◌, arith}
+use Rattle.std.specs.Prelude.{◌↔◌, List}
 use Rattle.std.proofs.lemmas.List.{length-replicate}
 use Rattle.ternary.specs.declared.tern.Tern.{Tern}
 use Rattle.ternary.specs.Tern.{may_one, may_zero}
@@ -9,13 +9,12 @@ use Rattle.bool_pool.specs.declared.gate.Id.{Id}
 use Rattle.bool_pool.specs.Gate.{Extends}
 use Rattle.node_elimination.specs.declared.descent.Levels.{Levels}
 use Rattle.node_elimination.specs.Levels.{Reached, IsClear, Driven}
-use Rattle.node_elimination.specs.Growth.{AreFormulas}
-use Rattle.node_elimination.specs.LevelSystem.{IsConstant, FitLinks, value_of}
+use Rattle.node_elimination.specs.LevelSystem.{value_of}
 use Rattle.node_elimination.specs.Inputs.{ShowsState}
 use Rattle.node_elimination.specs.Descent.{ShowsLevel}
 use Rattle.node_elimination.proofs.GrowthLemmas.{Extends-trans, AreFormulas-extends}
 use Rattle.node_elimination.proofs.InputLemmas.{IsConstant-extends}
-use Rattle.node_elimination.proofs.DescentLemmas.{all_hi, all_lo, all_closed, all_live, all_sure, all_strong, all_one, all_zero, all_levels, FitLinks-of, ShowsState-extends, sure-true, strong_shown, driven_shown, clear_shown, shown-extends, Grows-next}
+use Rattle.node_elimination.proofs.DescentLemmas.{all_hi, all_lo, all_closed, all_live, all_sure, all_one, all_zero, all_levels, FitLinks-of, ShowsState-extends, sure-true, strong_shown, driven_shown, clear_shown, shown-extends, Grows-next}
 use Rattle.node_elimination.proofs.descent.next_level.Given as given
 use Rattle.node_elimination.proofs.descent.next_level.Goals as goal
 

@@ -1,11 +1,8 @@
 -- The rails were made first, then the passes of both kinds over them.
-use Rattle.std.proofs.Common.{◌≡◌, ◌<◌, rules, ◌*◌, ◌+◌, ◌∙◌, ◌++◌, length, replicate, true, false, ap, arith}
+use Rattle.std.proofs.Common.{◌≡◌, ◌<◌, rules, ◌*◌, ◌+◌, ◌++◌, length, replicate, true, false}
 use Rattle.std.proofs.lemmas.List.Elements.{All-append}
 use Rattle.ternary.specs.Tern.{may_one, may_zero}
 use Rattle.path_meaning.specs.Wiring.{nodes}
-use Rattle.bool_pool.specs.declared.gate.Id.{Id}
-use Rattle.bool_pool.specs.Gate.{Extends}
-use Rattle.node_elimination.specs.Growth.{AreFormulas}
 use Rattle.node_elimination.specs.LevelSystem.{IsConstant}
 use Rattle.node_elimination.specs.declared.inputs.Inputs.{Inputs}
 use Rattle.node_elimination.specs.Inputs.{AreRails, ArePasses}

@@ -1,9 +1,7 @@
 -- What the switch does is told by the rails of its gate.
 use Rattle.std.proofs.Common.{◌≡◌, ◌<◌, length, Some, true, false, refl, sym, ◌∙◌, arith}
-use Rattle.std.specs.Prelude.{All}
 use Rattle.std.proofs.lemmas.Result.{IfOk-weaker}
 use Rattle.path_meaning.specs.Wiring.{Fits, nodes, place_at}
-use Rattle.dual_rail.specs.Conduct.{AreInside}
 use Rattle.node_elimination.proofs.GrowthLemmas.{All-front, All-back}
 use Rattle.node_elimination.proofs.InputLemmas.{IsPass-tells, IsPass-empty}
 use Rattle.node_elimination.proofs.inputs.pass_of.Goals as goal

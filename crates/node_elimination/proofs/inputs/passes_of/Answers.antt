@@ -1,7 +1,5 @@
 -- One place more.
-use Rattle.std.proofs.Common.{◌≡◌, ◌+◌, ◌*◌, ◌<◌, ◌≤◌, length, take, Some, arith}
-use Rattle.std.specs.Prelude.{is_some, count_by}
-use Rattle.path_meaning.specs.Wiring.{Fits, nodes, place_at}
+use Rattle.std.proofs.Common.{◌+◌, arith}
 use Rattle.path_meaning.proofs.PathLemmas.{switch_fits}
 use Rattle.node_elimination.proofs.GrowthLemmas.{Extends-trans}
 use Rattle.node_elimination.proofs.InputLemmas.{IsConstant-extends, ArePasses-push, pass_steps, all_steps}

@@ -1,5 +1,5 @@
 -- One node more.
-use Rattle.std.proofs.Common.{◌+◌, ◌*◌, ◌≤◌, arith}
+use Rattle.std.proofs.Common.{◌+◌, ◌*◌, arith}
 use Rattle.ternary.specs.Tern.{may_one, may_zero}
 use Rattle.node_elimination.proofs.GrowthLemmas.{Extends-trans}
 use Rattle.node_elimination.proofs.InputLemmas.{AreRails-push}

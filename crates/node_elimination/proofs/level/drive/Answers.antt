@@ -1,7 +1,6 @@
 -- The level is solved over the bases that were put.
 use Rattle.std.proofs.Common.{◌≡◌, ◌++◌, ap, ◌∙◌, arith}
 use Rattle.std.proofs.lemmas.Result.{IfOk-weaker}
-use Rattle.node_elimination.specs.Equations.{all_reset}
 use Rattle.node_elimination.specs.LevelSystem.{IsFresh}
 use Rattle.node_elimination.proofs.BaseLemmas.{within-reset, IsFresh-reset, IsFresh-puts, SolvesLevel-extends, Grows-drive}
 use Rattle.node_elimination.proofs.level.drive.Goals as goal

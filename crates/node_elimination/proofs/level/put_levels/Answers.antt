@@ -1,5 +1,5 @@
 -- One member more.
-use Rattle.std.proofs.Common.{◌≡◌, ℕ, ◌<◌, nat_le, if◌then◌else◌, ◌∙◌, ap, arith}
+use Rattle.std.proofs.Common.{nat_le, if◌then◌else◌, ◌∙◌, arith}
 use Rattle.path_meaning.specs.Wiring.{level_of}
 use Rattle.node_elimination.proofs.EquationsLemmas.{IsSquare-put_right, edges-put_right, size-put_right, left-put_right}
 use Rattle.node_elimination.proofs.BaseLemmas.{rights-more}

@@ -1,8 +1,6 @@
 -- The level is solved over bases that are constants.
-use Rattle.std.proofs.Common.{◌≡◌, ℕ, ◌<◌, nat_le, length, replicate, ◌++◌, refl, ap, ◌∙◌, arith}
+use Rattle.std.proofs.Common.{◌≡◌, length, ◌++◌, ap, ◌∙◌, arith}
 use Rattle.std.proofs.lemmas.Result.{IfOk-weaker}
-use Rattle.path_meaning.specs.Wiring.{level_of}
-use Rattle.node_elimination.specs.Equations.{right_at}
 use Rattle.node_elimination.proofs.GrowthLemmas.{Extends-same}
 use Rattle.node_elimination.proofs.PassingLemmas.{left-same}
 use Rattle.node_elimination.proofs.BaseLemmas.{IsWhole-bases, IsFresh-bases, SolvesLevel-extends, Grows-reach, value-chosen, within-bases}

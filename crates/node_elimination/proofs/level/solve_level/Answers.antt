@@ -1,6 +1,5 @@
 -- The right sides are the solution of the system with the links.
 use Rattle.std.proofs.Common.{◌<◌, length, ◌∙◌, arith}
-use Rattle.node_elimination.specs.Elimination.{Moves, Solves}
 use Rattle.node_elimination.proofs.GrowthLemmas.{All-back}
 use Rattle.node_elimination.proofs.LevelSystemLemmas.{SolvesLevel-solved, Grows-level}
 use Rattle.node_elimination.proofs.level.solve_level.Goals as goal

@@ -1,7 +1,5 @@
 -- The unknown is taken out, what is left is solved, and the unknown is read back.
-use Rattle.std.proofs.Common.{◌≡◌, ◌+◌, ◌-◌, ◌≤◌, [], ap, ◌∙◌, false, arith}
-use Rattle.node_elimination.specs.Equations.{Equations, put_left}
-use Rattle.node_elimination.specs.Elimination.{Moves, PassesRows, Solves}
+use Rattle.std.proofs.Common.{arith}
 use Rattle.node_elimination.proofs.SolvingLemmas.{Solves-step, Moves-step}
 use Rattle.node_elimination.proofs.solve.+solve.Goals as goal
 

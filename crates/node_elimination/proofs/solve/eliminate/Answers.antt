@@ -1,5 +1,5 @@
 -- One row more.
-use Rattle.std.proofs.Common.{◌+◌, ◌*◌, ◌≤◌, [], arith}
+use Rattle.std.proofs.Common.{[], arith}
 use Rattle.node_elimination.proofs.EquationsLemmas.{Moves-trans}
 use Rattle.node_elimination.proofs.PassingLemmas.{PassesRows-more}
 use Rattle.node_elimination.proofs.solve.eliminate.Goals as goal

@@ -1,5 +1,5 @@
 -- One unknown more.
-use Rattle.std.proofs.Common.{◌+◌, ◌*◌, ◌≤◌, [], arith}
+use Rattle.std.proofs.Common.{[], arith}
 use Rattle.node_elimination.proofs.EquationsLemmas.{Moves-trans}
 use Rattle.node_elimination.proofs.PassingLemmas.{Gathers-more}
 use Rattle.node_elimination.proofs.solve.gather.Goals as goal

@@ -1,5 +1,5 @@
 -- One edge more.
-use Rattle.std.proofs.Common.{◌≡◌, ◌+◌, ◌*◌, ◌<◌, ◌≤◌, [], inl, inr, arith}
+use Rattle.std.proofs.Common.{◌≡◌, [], inl, inr, arith}
 use Rattle.std.proofs.lemmas.Bool.{cases_eq}
 use Rattle.node_elimination.proofs.EquationsLemmas.{Moves-trans}
 use Rattle.node_elimination.proofs.PassingLemmas.{PassesEdges-more, gone-same}

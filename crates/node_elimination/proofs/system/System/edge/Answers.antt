@@ -1,5 +1,5 @@
 -- The edge stands at its index.
-use Rattle.std.proofs.Common.{◌≡◌, ◌∙◌, ◌*◌, ◌+◌, ◌<◌, length, ap, arith}
+use Rattle.std.proofs.Common.{◌*◌, ◌+◌, ap}
 use Rattle.std.proofs.lemmas.List.{get_or_read}
 use Rattle.node_elimination.specs.Equations.{edge_at}
 use Rattle.node_elimination.proofs.EquationsLemmas.{index_in, edge-inside}

@@ -1,5 +1,5 @@
 -- The right side stands at its index.
-use Rattle.std.proofs.Common.{◌≡◌, ◌∙◌, ◌<◌, length, ap, arith}
+use Rattle.std.proofs.Common.{◌<◌, ap, arith}
 use Rattle.std.proofs.lemmas.List.{get_or_read}
 use Rattle.node_elimination.specs.Equations.{right_at}
 use Rattle.node_elimination.proofs.EquationsLemmas.{right-inside}
