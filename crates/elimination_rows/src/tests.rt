@@ -1,0 +1,160 @@
+ghost use Rattle.std.specs.Prelude.{◌≡◌, ◌≢◌, length, IfOk};
+ghost use Rattle.dual_rail.specs.Conduct.{AreInside};
+
+use bool_pool::{Pool, Rails};
+use channel_groups::Groups;
+use group_text::{GroupText, text_of};
+use node_elimination::analyse;
+use path_meaning::plain_step;
+use sim_read::read_netlist;
+use std::alloc::{AllocError, Global};
+use std::marker::Brand;
+use std::sync::ledger::{Blank, Ledger};
+use std::test::Fail;
+use ternary::{NoMemory, Steps, Tern};
+
+struct Row {
+    name: &'static str,
+    net: &'static [u8],
+    // how many states the local nodes of all groups have, the rails at their constants
+    states: u64,
+}
+
+const ROWS: [Row; 4] = [
+    Row {
+        name: "the weaker path to a rail is blocked",
+        net: b"d out out Vdd\ne a Gnd out\nA a input\n",
+        states: 9,
+    },
+    Row {
+        name: "a bus shares its charge with a cell",
+        net: b"n g bus cell\nA g input\nA bus size:2\n",
+        states: 27,
+    },
+    Row {
+        name: "a path is blocked in its middle",
+        net: b"n Vdd Vdd m g=strength:1\nn Vdd Gnd m\nn x m out\nA x input\n",
+        states: 27,
+    },
+    Row {
+        name: "an inverter of itself, and two behind it",
+        net: b"p a Vdd a\nn a Gnd a\np a Vdd o\nn a Gnd o\np o Vdd q\nn o Gnd q\n",
+        states: 21,
+    },
+];
+
+#[test]
+fn formulas_have_the_values_of_the_plain_step(rt: HostRuntime) -> Result<(), Fail> {
+    for row in &ROWS {
+        let circuit = read_netlist(rt.alloc(), row.net)?;
+        let graph = circuit.graph();
+        let groups = Groups::of(rt.alloc(), graph)?;
+        let mut compared = Compared::default();
+        for group in groups.list() {
+            let (text, _nodes) = text_of(rt.alloc(), graph, group.members(), group.switches())?;
+            compare_text::<Brand>(rt.alloc(), &text, &mut compared, Blank::new(1))?;
+        }
+        assert_eq!(rt; compared.states, row.states, "{}", row.name);
+        assert_eq!(rt; compared.wrong, 0, "{}", row.name);
+    }
+    Ok(())
+}
+
+// How many states were tried, and how many rails were not those of the plain step.
+#[derive(Default, Drop)]
+struct Compared {
+    states: u64,
+    wrong: u64,
+}
+
+// Compares the formulas of a text with the plain step of its local graph, over all states.
+fn compare_text<L: Ledger>(
+    alloc: Global,
+    text: &GroupText,
+    compared: &mut Compared,
+    blank: Blank,
+) -> Result<(), NoMemory>
+    requires name { blank.name ≡ L.name }
+    requires parts { blank.parts ≡ L.parts }
+    requires some { blank.parts ≢ 0 }
+{
+    let mut pool = Pool::new(alloc);
+    let mut steps: Steps<L> = Steps::new(blank);
+    let answers = analyse(alloc, &mut pool, text, &mut steps)?;
+    for number in 0..count_states(text.constants()) {
+        let state = numbered_state(alloc, text.constants(), number)?;
+        let next = plain_step(alloc, text.graph(), &state)?;
+        let vars = variables_of(alloc, &state)?;
+        for member in 0..text.members() {
+            let told = rails_told(alloc, &pool, answers[member], &vars)?;
+            let want = (next[member].may_one(), next[member].may_zero());
+            compared.wrong = compared.wrong.saturating_add(u64::from(told != want));
+        }
+        compared.states = compared.states.saturating_add(1);
+    }
+    Ok(())
+}
+
+// How many states there are: three for each node that has no constant.
+fn count_states(constants: &[Option<Tern>]) -> u64 {
+    let mut count: u64 = 1;
+    for constant in constants {
+        if constant.is_none() {
+            count = count.saturating_mul(3);
+        }
+    }
+    count
+}
+
+// The state with this number: its digits to the base 3 are the states of the nodes that have no
+// constant.
+fn numbered_state(
+    alloc: Global,
+    constants: &[Option<Tern>],
+    number: u64,
+) -> Result<Vec<Tern>, AllocError>
+    ensures { IfOk result (λ state. length state.items ≡ length constants.now) }
+{
+    let mut digits = number;
+    let mut state = Vec::new(alloc);
+    for constant in constants {
+        let node = constant.unwrap_or(numbered_tern(digits % 3));
+        if constant.is_none() {
+            digits /= 3;
+        }
+        state.push(node)?;
+    }
+    Ok(state)
+}
+
+fn numbered_tern(digit: u64) -> Tern {
+    match digit {
+        0 => Tern::Zero,
+        1 => Tern::One,
+        _ => Tern::Unk,
+    }
+}
+
+// The variables of a state: for each node whether it may be 1, and whether it may be 0.
+fn variables_of(alloc: Global, state: &[Tern]) -> Result<Vec<bool>, AllocError> {
+    let mut vars = Vec::new(alloc);
+    for node in state {
+        vars.push(node.may_one())?;
+        vars.push(node.may_zero())?;
+    }
+    Ok(vars)
+}
+
+// The values of a pair of formulas.
+fn rails_told(
+    alloc: Global,
+    pool: &Pool,
+    rails: Rails,
+    vars: &[bool],
+) -> Result<(bool, bool), NoMemory>
+    requires { AreInside pool.now rails }
+{
+    let one = pool.value(alloc, rails.hi, vars)?;
+    let zero = pool.value(alloc, rails.lo, vars)?;
+    Ok((one, zero))
+}
