@@ -2,3 +2,4 @@ pub mod Header
 pub mod Items
 pub mod Meaning
 pub mod Records
+pub mod Visible

@@ -3,6 +3,7 @@
 ghost use Rattle.std.specs.Prelude.{◌≡◌, ◌⊎◌, Ok, Err, Some, IfOk, IfErr, OnOk};
 ghost use Rattle.sim_read.specs.Items.{IsAccepted};
 ghost use Rattle.sim_read.specs.Meaning as spec;
+ghost use Rattle.sim_read.specs.Visible.{HasVisibleNames};
 
 use crate::fault::{NetFault, NetWhat};
 use crate::header::is_header;
@@ -24,6 +25,7 @@ pub fn read_netlist(alloc: Global, text: &[u8]) -> Result<Circuit, NetFault>
     ensures ok { IfOk result (λ circuit. spec.netlist_of text.now ≡ Ok circuit) }
     ensures refused { IfErr result
         (λ fault. (fault ≡ NetFault.NoMemory) ⊎ (spec.netlist_of text.now ≡ Err fault)) }
+    ensures visible { IfOk result HasVisibleNames }
 {
     let cut = cut_line(text);
     let mut circuit = Circuit::new(alloc, Profile::One)?;
