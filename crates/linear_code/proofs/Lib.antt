@@ -1,0 +1,5 @@
+pub mod ResultLemmas
+pub mod RunLemmas
+pub mod PlaceLemmas
+pub mod LoweringLemmas
+pub mod LinearLemmas

@@ -1,0 +1,4 @@
+pub mod Code
+pub mod Linear
+pub mod Lowering
+pub mod Places

@@ -1,0 +1,20 @@
+//! Straight-line code for formulas.
+//!
+//! The main type is `Code`: instructions, each an And, an Or or a Not of constants, rails of inputs
+//! and earlier results, and a pair of operands for each output. The layer above uses that `linearise`
+//! gives code that means its formulas, with one instruction for each operation that they reach, and
+//! that `Code::run` gives what the code means, with one step for each instruction and no memory.
+//!
+//! ```text
+//! the formulas (h0 and l1, not h0)      t0 = h0 & l1, t1 = ! h0, and the output (t0, t1)
+//! ```
+//!
+//! After Bryant, Beatty, Brace, Cho and Sheffler, "COSMOS: A Compiled Simulator for MOS Circuits",
+//! 1987.
+#![tactic(auto)]
+
+mod code;
+mod linear;
+
+pub use code::{Code, Instruction, Operand, Output};
+pub use linear::linearise;
