@@ -3,3 +3,10 @@ pub mod RunLemmas
 pub mod PlaceLemmas
 pub mod LoweringLemmas
 pub mod LinearLemmas
+pub mod ListingLemmas
+pub mod MovedLemmas
+pub mod NextLemmas
+pub mod BuildLemmas
+pub mod BuiltLemmas
+pub mod WritesLemmas
+pub mod ListingTextLemmas

@@ -1,4 +1,9 @@
 pub mod Code
 pub mod Linear
-pub mod Lowering
 pub mod Places
+pub mod Lowering
+pub mod Listing
+pub mod Parts
+pub mod Moved
+pub mod ListingText
+pub mod Pieces

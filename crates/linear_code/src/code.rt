@@ -1,5 +1,5 @@
 ghost use Rattle.std.specs.Prelude.{◌≡◌, ℕ, ◌+◌, ◌<◌, ◌≤◌, Bool, length};
-ghost use Rattle.linear_code.specs.Code.{operand_value, instruction_value, settled, output_state, code_value, IsAllowed, AreAllowed, IsOutput};
+ghost use Rattle.linear_code.specs.Code.{IsProgram, operand_value, instruction_value, settled, output_state, code_value, IsAllowed, AreAllowed, IsOutput};
 
 use std::marker::Model;
 use std::sync::ledger::Ledger;
@@ -80,6 +80,21 @@ impl Code {
         self.outputs.len()
     }
 
+    // Its instructions, in order.
+    pub(crate) fn instructions(&self) -> &[Instruction]
+        ensures value { result.now ≡ self.now.instructions }
+        ensures program { IsProgram self.now }
+    {
+        &self.instructions
+    }
+
+    // The rails of its outputs.
+    pub(crate) fn output_pairs(&self) -> &[Output]
+        ensures { result.now ≡ self.now.outputs }
+    {
+        &self.outputs
+    }
+
     /// Runs the code on the states of its inputs, and writes those of its outputs, X where neither
     /// rail is set.
     ///
@@ -110,8 +125,8 @@ impl Code {
     }
 }
 
-// The result of an instruction, by the states of the inputs and the results so far.
-fn instruction_value(instruction: Instruction, input: &[Tern], done: &[bool]) -> bool
+/// The result of an instruction, by the states of the inputs and the results so far.
+pub(crate) fn instruction_value(instruction: Instruction, input: &[Tern], done: &[bool]) -> bool
     requires { AreAllowed (length input.now) (length done.now) instruction }
     ensures { result ≡ instruction_value input.now done.now instruction }
 {
@@ -122,8 +137,8 @@ fn instruction_value(instruction: Instruction, input: &[Tern], done: &[bool]) ->
     }
 }
 
-// The state of an output.
-fn output_state(output: Output, input: &[Tern], done: &[bool]) -> Tern
+/// The state of an output.
+pub(crate) fn output_state(output: Output, input: &[Tern], done: &[bool]) -> Tern
     requires { IsOutput (length input.now) (length done.now) output }
     ensures { result ≡ output_state input.now done.now output }
 {
