@@ -10,3 +10,8 @@ pub mod BuildLemmas
 pub mod BuiltLemmas
 pub mod WritesLemmas
 pub mod ListingTextLemmas
+pub mod TextLemmas
+pub mod OperandLemmas
+pub mod StorageLemmas
+pub mod AddingLemmas
+pub mod ReadingLemmas

@@ -7,3 +7,5 @@ pub mod Parts
 pub mod Moved
 pub mod ListingText
 pub mod Pieces
+pub mod Reading
+pub mod Adding

@@ -7,7 +7,8 @@
 //!
 //! A `Listing` puts the code of groups, its `Part`s, together over the nodes of a circuit: its step
 //! moves each member of a part to what the part's code gives, and its text has a line for each node,
-//! each instruction and each next state.
+//! each instruction and each next state. `read_listing` reads such a text back, and names the first
+//! bad line of any other.
 //!
 //! ```text
 //! the formulas (h0 and l1, not h0)      t0 = h0 & l1, t1 = ! h0, and the output (t0, t1)
@@ -22,8 +23,12 @@ mod linear;
 mod listing;
 mod listing_text;
 mod part;
+mod reading;
+#[cfg(test)]
+mod tests;
 
 pub use code::{Code, Instruction, Operand, Output};
 pub use linear::linearise;
 pub use listing::Listing;
 pub use part::Part;
+pub use reading::{ListingFault, read_listing};

@@ -118,6 +118,22 @@ impl Listing {
         }
         Ok(next)
     }
+
+    // The listing with these nodes, instructions and next states.
+    pub(crate) fn from_parts(
+        nodes: Vec<ListedNode>,
+        instructions: Vec<Instruction>,
+        nexts: Vec<Output>,
+    ) -> Listing
+        requires { IsListing (record { entries = map (λ node. record { is_storage = node.is_storage; name = node.name.items }) nodes.items; instructions = instructions.items; nexts = nexts.items }) }
+        ensures { result ≡ record { entries = map (λ node. record { is_storage = node.is_storage; name = node.name.items }) nodes.items; instructions = instructions.items; nexts = nexts.items } }
+    {
+        Listing {
+            nodes,
+            instructions,
+            nexts,
+        }
+    }
 }
 
 // Neither rail is ever set.
