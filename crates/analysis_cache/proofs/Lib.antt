@@ -1,0 +1,3 @@
+pub mod NewTextLemmas
+pub mod EntryLemmas
+pub mod KeepingLemmas
