@@ -24,7 +24,8 @@ use Rattle.node_elimination.specs.declared.inputs.Inputs.{Inputs}
 use Rattle.node_elimination.specs.declared.descent.Levels.{Levels}
 use Rattle.node_elimination.specs.Growth.{AreGrown, Grows}
 use Rattle.node_elimination.specs.LevelSystem.{value_of}
-use Rattle.node_elimination.specs.Analysis.{AreRailsOfResponse, gate_bound, switch_count, bound_of}
+use Rattle.analysis_cache.specs.Meaning.{gate_bound, switch_count, bound_of}
+use Rattle.node_elimination.specs.Analysis.{AreRailsOfResponse}
 use Rattle.node_elimination.specs.Inputs.{input_formulas}
 use Rattle.node_elimination.specs.Descent.{level_formulas, HaveLevels, ShowsLevel, level_cost, ArePairs}
 use Rattle.node_elimination.proofs.GrowthLemmas.{All-back}

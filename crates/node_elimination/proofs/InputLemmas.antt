@@ -26,7 +26,8 @@ use Rattle.dual_rail.specs.Conduct.{AreRailsOf, Tells}
 use Rattle.node_elimination.specs.Growth.{place_of, AreFormulas, AreWithin, AreGrown, Grows}
 use Rattle.node_elimination.specs.LevelSystem.{value_of, IsConstant}
 use Rattle.node_elimination.specs.declared.inputs.Inputs.{Inputs}
-use Rattle.node_elimination.specs.Analysis.{constant_at, IsAssignment, switch_count}
+use Rattle.analysis_cache.specs.Meaning.{constant_at, switch_count}
+use Rattle.node_elimination.specs.Analysis.{IsAssignment}
 use Rattle.node_elimination.specs.Inputs.{IsRail, AreRails, IsPass, ArePasses, input_formulas, HaveInputs, ShowsState}
 use Rattle.node_elimination.specs.Descent.{AreNegations}
 use Rattle.node_elimination.proofs.GrowthLemmas.{Extends-trans, All-front, All-back, AreFormulas-extends, AreWithin-moved}

@@ -10,3 +10,4 @@ pub mod BaseLemmas
 pub mod InputLemmas
 pub mod DescentLemmas
 pub mod AnalysisLemmas
+pub mod MeaningLemmas

@@ -1,32 +1,23 @@
 -- What the formulas of a graph's members are: the rails of their steady states, with few gates.
 -- The members are the first nodes, so many of them. They are storage nodes, and all other nodes are input nodes.
 -- After Bryant, "Boolean Analysis of MOS Circuits", 1987.
-use Rattle.std.specs.Prelude.{◌≡◌, ℕ, ◌+◌, ◌-◌, ◌*◌, ◌^◌, ◌<◌, ◌≤◌, ◌↔◌, Bool, true, List, length, Option, Some, None, is_some, count_by, slice_get, slice_index_or}
+use Rattle.std.specs.Prelude.{◌≡◌, ℕ, ◌<◌, ◌≤◌, ◌↔◌, Bool, true, List, length, Option, Some, slice_get}
 use Rattle.ternary.specs.declared.tern.Tern.{Tern}
 use Rattle.ternary.specs.Tern.{may_one, may_zero}
 use Rattle.strength_order.specs.declared.TheConstants.{INPUT_LEVEL}
-use Rattle.path_meaning.specs.Switching.{state_at}
 use Rattle.path_meaning.specs.Wiring.{Wiring, nodes, level_of}
 use Rattle.path_meaning.specs.Step.{Responds}
 use Rattle.bool_pool.specs.declared.gate.Gate.{Gate}
 use Rattle.bool_pool.specs.declared.gate.Rails.{Rails}
 use Rattle.bool_pool.specs.Value.{value_at}
 use Rattle.dual_rail.specs.Variables.{AreVariables}
+use Rattle.analysis_cache.specs.Meaning.{HasConstants}
 
 -- the members are the first nodes and storage nodes, and all other nodes are input nodes
 pub record HasMembers (g : Wiring) (members : ℕ) : Type 0 where
   pub within : members ≤ nodes g
   pub storage : (node : ℕ) → node < members → level_of g node < INPUT_LEVEL
   pub outside : (node : ℕ) → members ≤ node → node < nodes g → level_of g node ≡ INPUT_LEVEL
-
--- the constant of a node, where it has one
-abbrev pub constant_at : List (Option Tern) → ℕ → Option Tern
-constant_at constants node = slice_index_or constants node None
-
--- under the state each node that has a constant has that state
-abbrev pub HasConstants : List (Option Tern) → List Tern → Type 0
-HasConstants constants state =
-    (node : ℕ) (constant : Tern) → constant_at constants node ≡ Some constant → state_at state node ≡ constant
 
 -- the two formulas have the rails of the node's steady state
 pub record AreRailsOfResponse (g : Wiring) (state : List Tern) (gates : List Gate) (vars : ℕ → Bool) (node : ℕ) (rails : Rails) : Type 0 where
@@ -44,15 +35,3 @@ abbrev pub AreResponses : Wiring → List (Option Tern) → List Gate → List R
 AreResponses g constants gates answers =
     (state : List Tern) (vars : ℕ → Bool) → IsAssignment g constants state vars →
     (k : ℕ) (rails : Rails) → slice_get answers k ≡ Some rails → AreRailsOfResponse g state gates vars k rails
-
--- the bound on steps and gates, for n members, e other nodes and t switches
-abbrev pub gate_bound : ℕ → ℕ → ℕ → ℕ
-gate_bound n e t = 16 * (8 * n ^ 3 + 40 * n ^ 2 + 40 * t + 40 * n) + 4 * (n + e)
-
--- how many switches the graph has
-abbrev pub switch_count : Wiring → ℕ
-switch_count g = count_by is_some g.places
-
--- the bound of a graph with so many members
-abbrev pub bound_of : Wiring → ℕ → ℕ
-bound_of g members = gate_bound members (nodes g - members) (switch_count g)

@@ -13,7 +13,7 @@ use Rattle.bool_pool.specs.Reach.{IsWithin, IsGrown}
 use Rattle.node_elimination.specs.declared.inputs.Inputs.{Inputs}
 use Rattle.node_elimination.specs.Growth.{place_of, AreFormulas, AreWithin, Grows}
 use Rattle.node_elimination.specs.LevelSystem.{value_of, IsConstant}
-use Rattle.node_elimination.specs.Analysis.{constant_at}
+use Rattle.analysis_cache.specs.Meaning.{constant_at}
 
 -- the formula is this rail of a node's state, where the state is the node's constant if it has one, and the variable has the rail
 pub record IsRail (rail : Tern → Bool) (constant : Option Tern) (variable : ℕ) (gates : List Gate) (p : ℕ) : Type 0 where

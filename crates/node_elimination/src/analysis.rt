@@ -5,7 +5,8 @@ ghost use Rattle.path_meaning.specs.Wiring.{nodes};
 ghost use Rattle.bool_pool.specs.Gate.{Extends};
 ghost use Rattle.bool_pool.specs.Pairs.{ReachAtMost, HasVariablesBelow};
 ghost use Rattle.dual_rail.specs.Conduct.{AreInside};
-ghost use Rattle.node_elimination.specs.Analysis.{HasMembers, AreResponses, bound_of};
+ghost use Rattle.analysis_cache.specs.Meaning.{bound_of};
+ghost use Rattle.node_elimination.specs.Analysis.{HasMembers, AreResponses};
 ghost use Rattle.node_elimination.specs.Descent.{ArePairs};
 
 use crate::descent::go_down;

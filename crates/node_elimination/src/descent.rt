@@ -9,7 +9,8 @@ ghost use Rattle.strength_order.specs.Levels.{IsLevel};
 ghost use Rattle.node_elimination.specs.Growth.{AreFormulas, Grows};
 ghost use Rattle.node_elimination.specs.Equations.{is_left};
 ghost use Rattle.node_elimination.specs.LevelSystem.{value_of};
-ghost use Rattle.node_elimination.specs.Analysis.{HasMembers, switch_count};
+ghost use Rattle.analysis_cache.specs.Meaning.{switch_count};
+ghost use Rattle.node_elimination.specs.Analysis.{HasMembers};
 ghost use Rattle.node_elimination.specs.Inputs.{input_formulas, HaveInputs, ShowsState};
 ghost use Rattle.node_elimination.specs.Descent.{level_formulas, HaveLevels, ShowsLevel, AreNegations, level_cost};
 

@@ -6,7 +6,8 @@ ghost use Rattle.path_meaning.specs.Wiring.{nodes, place_at};
 ghost use Rattle.bool_pool.specs.Gate.{Extends};
 ghost use Rattle.node_elimination.specs.Growth.{AreFormulas, AreGrown};
 ghost use Rattle.node_elimination.specs.LevelSystem.{IsConstant};
-ghost use Rattle.node_elimination.specs.Analysis.{IsAssignment, switch_count};
+ghost use Rattle.analysis_cache.specs.Meaning.{switch_count};
+ghost use Rattle.node_elimination.specs.Analysis.{IsAssignment};
 ghost use Rattle.node_elimination.specs.Inputs.{IsRail, AreRails, IsPass, ArePasses, input_formulas, HaveInputs, ShowsState};
 
 use bool_pool::{Id, Pool, Rails};

@@ -9,7 +9,7 @@ ghost use Rattle.node_elimination.specs.Growth.{AreFormulas, Grows};
 ghost use Rattle.node_elimination.specs.Equations.{IsSquare, IsWhole, formulas_of, is_left, right_at, right};
 ghost use Rattle.node_elimination.specs.Elimination.{Moves, PutsRight, PutsRights};
 ghost use Rattle.node_elimination.specs.LevelSystem.{IsConstant, reached_base, driven_base, value_of, FitLinks, AddsLink, AddsLinks, IsFresh, IsPlace, SolvesLevel};
-ghost use Rattle.node_elimination.specs.Analysis.{switch_count};
+ghost use Rattle.analysis_cache.specs.Meaning.{switch_count};
 
 use crate::solve::{or_and, solve};
 use crate::system::System;

@@ -3,7 +3,7 @@
 //! The one call that computes is `analyse`: two formulas for each member of a group's text. The layer
 //! above uses its clauses: in every state of the local nodes the formulas have the values of the
 //! rails of the member's steady state in the local graph, and all formulas together reach no more
-//! gates than the text's bound.
+//! gates than the text's bound. `SymbolicAnalyst` makes code of them, for whoever keeps analyses.
 //!
 //! From the strongest level down there are three systems of equations: which members a definite path
 //! of some strength reaches, and which an unblocked path drives to 1, or to 0. Each is solved by
@@ -18,6 +18,7 @@
 #![tactic(auto)]
 
 mod analysis;
+mod analyst;
 mod descent;
 mod inputs;
 mod laws;
@@ -26,4 +27,5 @@ mod solve;
 mod system;
 
 pub use analysis::analyse;
+pub use analyst::SymbolicAnalyst;
 pub use laws::{elimination_keeps_the_solution, equations_are_the_paths};

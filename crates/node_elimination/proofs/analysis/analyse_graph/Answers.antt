@@ -1,7 +1,7 @@
 -- The inputs are made, then the levels; the pairs of the last one are the answers.
 use Rattle.std.proofs.Common.{◌-◌, ◌*◌, [], arith}
 use Rattle.path_meaning.specs.Wiring.{nodes}
-use Rattle.node_elimination.specs.Analysis.{switch_count}
+use Rattle.analysis_cache.specs.Meaning.{switch_count}
 use Rattle.node_elimination.proofs.AnalysisLemmas.{AreInside-pairs, ReachAtMost-analysed, HasVariablesBelow-analysed, AreRails-shown, steps-within}
 use Rattle.node_elimination.proofs.analysis.analyse_graph.Goals as goal
 

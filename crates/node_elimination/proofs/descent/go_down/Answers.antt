@@ -4,7 +4,7 @@ use Rattle.std.proofs.lemmas.List.{get_or-replicate}
 use Rattle.strength_order.specs.declared.TheConstants.{INPUT_LEVEL}
 use Rattle.node_elimination.specs.declared.descent.Levels.{Levels}
 use Rattle.node_elimination.specs.Equations.{is_left}
-use Rattle.node_elimination.specs.Analysis.{switch_count}
+use Rattle.analysis_cache.specs.Meaning.{switch_count}
 use Rattle.node_elimination.specs.Inputs.{input_formulas}
 use Rattle.node_elimination.specs.Descent.{HaveLevels, level_cost}
 use Rattle.node_elimination.proofs.GrowthLemmas.{Extends-same, Extends-trans}

@@ -5,7 +5,7 @@ use Rattle.strength_order.specs.declared.TheConstants.{INPUT_LEVEL}
 use Rattle.bool_pool.specs.Gate.{Extends}
 use Rattle.node_elimination.specs.Growth.{Grows}
 use Rattle.node_elimination.specs.Equations.{is_left}
-use Rattle.node_elimination.specs.Analysis.{switch_count}
+use Rattle.analysis_cache.specs.Meaning.{switch_count}
 use Rattle.node_elimination.specs.Inputs.{input_formulas, HaveInputs, ShowsState}
 use Rattle.node_elimination.specs.Descent.{level_formulas, HaveLevels, ShowsLevel, level_cost}
 use Rattle.node_elimination.proofs.descent.go_down.Given as goal
