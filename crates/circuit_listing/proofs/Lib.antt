@@ -1,0 +1,6 @@
+pub mod SizeLemmas
+pub mod PairedLists
+pub mod PartLemmas
+pub mod MemberLemmas
+pub mod StepLemmas
+pub mod FaithfulLemmas

@@ -1,0 +1,3 @@
+pub mod Faithful
+pub mod Sizes
+pub mod Parts
