@@ -1,10 +1,13 @@
 ghost use Rattle.std.specs.Prelude.{◌≡◌, ◌≢◌, length, IfOk};
 ghost use Rattle.dual_rail.specs.Conduct.{AreInside};
+ghost use Rattle.analysis_cache.specs.Meaning.{MeansText};
 
+use analysis_cache::Analyst;
 use bool_pool::{Pool, Rails};
 use channel_groups::Groups;
 use group_text::{GroupText, text_of};
-use node_elimination::analyse;
+use linear_code::Code;
+use node_elimination::{SymbolicAnalyst, analyse};
 use path_meaning::plain_step;
 use sim_read::read_netlist;
 use std::alloc::{AllocError, Global};
@@ -60,7 +63,27 @@ fn formulas_have_the_values_of_the_plain_step(rt: HostRuntime) -> Result<(), Fai
     Ok(())
 }
 
-// How many states were tried, and how many rails were not those of the plain step.
+#[test]
+fn code_gives_the_plain_step(rt: HostRuntime) -> Result<(), Fail> {
+    for row in &ROWS {
+        let circuit = read_netlist(rt.alloc(), row.net)?;
+        let graph = circuit.graph();
+        let groups = Groups::of(rt.alloc(), graph)?;
+        let mut analyst = SymbolicAnalyst::new(rt.alloc());
+        let mut compared = Compared::default();
+        for group in groups.list() {
+            let (text, _nodes) = text_of(rt.alloc(), graph, group.members(), group.switches())?;
+            let code = analyst.analyse(rt.alloc(), &text)?;
+            compare_code::<Brand>(rt.alloc(), &text, &code, &mut compared, Blank::new(1))?;
+        }
+        assert_eq!(rt; analyst.analysed(), groups.count(), "{}", row.name);
+        assert_eq!(rt; compared.states, row.states, "{}", row.name);
+        assert_eq!(rt; compared.wrong, 0, "{}", row.name);
+    }
+    Ok(())
+}
+
+// How many states were tried, and how many rails or states were not those of the plain step.
 #[derive(Default, Drop)]
 struct Compared {
     states: u64,
@@ -89,6 +112,36 @@ fn compare_text<L: Ledger>(
             let told = rails_told(alloc, &pool, answers[member], &vars)?;
             let want = (next[member].may_one(), next[member].may_zero());
             compared.wrong = compared.wrong.saturating_add(u64::from(told != want));
+        }
+        compared.states = compared.states.saturating_add(1);
+    }
+    Ok(())
+}
+
+// Compares the code of a text with the plain step of its local graph, over all states.
+fn compare_code<L: Ledger>(
+    alloc: Global,
+    text: &GroupText,
+    code: &Code,
+    compared: &mut Compared,
+    blank: Blank,
+) -> Result<(), NoMemory>
+    requires means { MeansText text.now code.now }
+    requires name { blank.name ≡ L.name }
+    requires parts { blank.parts ≡ L.parts }
+    requires some { blank.parts ≢ 0 }
+{
+    let mut steps: Steps<L> = Steps::new(blank);
+    for number in 0..count_states(text.constants()) {
+        let mut scratch = vec![in alloc; false; code.len()]?;
+        let mut out = vec![in alloc; Tern::Unk; text.members()]?;
+        let state = numbered_state(alloc, text.constants(), number)?;
+        let next = plain_step(alloc, text.graph(), &state)?;
+        code.run(&state, &mut scratch, &mut out, &mut steps);
+        for member in 0..text.members() {
+            compared.wrong = compared
+                .wrong
+                .saturating_add(u64::from(out[member] != next[member]));
         }
         compared.states = compared.states.saturating_add(1);
     }
