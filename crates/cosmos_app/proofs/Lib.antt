@@ -5,3 +5,4 @@ pub mod TurnLemmas
 pub mod NetLemmas
 pub mod StartLemmas
 pub mod CutLemmas
+pub mod ListLemmas

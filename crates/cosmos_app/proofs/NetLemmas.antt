@@ -12,7 +12,7 @@ use Rattle.cosmos_app.specs.declared.stop.Stop.{Stop}
 use Rattle.cosmos_app.specs.declared.stop.Stop.TheVariants.{Memory}
 use Rattle.cosmos_app.specs.declared.stop.End as end
 use Rattle.cosmos_app.specs.Runs.{Answer, Runs}
-use Rattle.cosmos_app.specs.Answers.{IsOver, IsNetRefusal, IsSimulation, IsCheck, IsCut}
+use Rattle.cosmos_app.specs.Answers.{IsOver, IsNetRefusal, IsSimulation, IsCheck, IsCompiled, IsCut}
 use Rattle.cosmos_app.specs.Ends.{IsTold}
 use Rattle.group_report.proofs.ReportLemmas.{report_exists}
 use Rattle.cosmos_app.proofs.LowerLemmas.{netlist_of-meant, netlist_of-netlist, netlist_of-front_of, ready-start}
@@ -55,6 +55,9 @@ check_exists net = over_exists IsCheck net (λ circuit is. (_, refl))
 -- and so have the groups
 pub groups_exist : (net : List ℕ) → Exists (IsOver IsCut (netlist_of net))
 groups_exist net = over_exists IsCut net (λ circuit is. let report = report_exists circuit is in (_, (report.0, report.1, refl)))
+
+pub listing_exists : (net : List ℕ) → Exists (IsOver IsCompiled (netlist_of net))
+listing_exists net = over_exists IsCompiled net (λ circuit is. (_, inr (inr refl)))
 
 -- a netlist means what its front that was read means
 pub netlist_of-read : (net text seen : List ℕ) → text ≡ front_of net → seen ≡ text → netlist_of net ≡ netlist_of seen

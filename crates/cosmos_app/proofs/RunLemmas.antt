@@ -1,10 +1,8 @@
 -- How a script runs: it has an answer from everywhere, and what was sent so far is where the answer begins.
 -- The plan: a record of how far a script has come says that each answer from here, with what was sent before it, is an answer from the
 -- start. Each line takes it one step on; at the end, at a refused line and at a fault it gives what is told of the whole script.
-use Rattle.std.proofs.Common.{◌≡◌, ◌≢◌, ℕ, ◌⊎◌, inl, inr, Bool, true, false, List, [], ◌∷◌, ◌++◌, Option, None, Some, Result, Ok, Err, refl, sym, ap, subst, ◌∙◌, append_assoc, append-nil}
-use Rattle.std.specs.Option.{option_map}
+use Rattle.std.proofs.Common.{◌≡◌, ◌≢◌, ℕ, inl, inr, Bool, true, false, List, [], ◌∷◌, ◌++◌, Option, None, Some, Result, Ok, Err, refl, sym, ap, subst, ◌∙◌, append_assoc, append-nil}
 use Rattle.std.specs.Io.KnownBytes.{append_known}
-use Rattle.port_edge.specs.Sending.{WritesPart}
 use Rattle.port_edge.proofs.SendingLemmas.{append_known-nil, append_known-append, sends_part, part_whole, part_longer}
 use Rattle.line_words.specs.Files.{is_cut}
 use Rattle.netlist.specs.declared.fault.EditFault.{EditFault}
@@ -16,8 +14,6 @@ use Rattle.script_lang.specs.Commands.{reading_of}
 use Rattle.cosmos_session.specs.declared.fault.ApplyFault.{ApplyFault}
 use Rattle.cosmos_session.specs.declared.fault.ApplyFault.TheVariants as apply
 use Rattle.cosmos_session.specs.Sessions.{SessionData, IsReady}
-use Rattle.cosmos_session.specs.Refusals.{refusal_of, fault_of}
-use Rattle.cosmos_session.specs.Outcomes.{Does}
 use Rattle.wave_print.specs.declared.faults.FaultCode.{FaultCode}
 use Rattle.wave_print.specs.declared.faults.FaultCode.TheVariants.{S11TooLong}
 use Rattle.wave_print.specs.declared.faults.FaultPlace.TheVariants.{Script}
@@ -28,7 +24,7 @@ use Rattle.cosmos_app.specs.declared.script.Turn.TheVariants.{Accepted, Refused}
 use Rattle.cosmos_app.specs.Codes.{script_code, edit_code, apply_code}
 use Rattle.cosmos_app.specs.Runs.{Answer, Runs, ends, passes, obeys, refuses, IsIdle, Asks, IsRefused, too_long, unread, refused, end_answer, refused_at, after_text}
 use Rattle.cosmos_app.specs.Answers.{IsRefusal}
-use Rattle.cosmos_app.specs.Turns.{Passes, Follows, Starts, TakesTurn}
+use Rattle.cosmos_app.specs.Turns.{Follows, TakesTurn}
 use Rattle.cosmos_app.specs.Ends.{IsTold, status_of}
 use Rattle.cosmos_session.proofs.FaultLemmas.{IsMeant}
 use Rattle.cosmos_app.proofs.LowerLemmas.{reading_of-meant, reading_of-formed, does_or_refused, ready-does, refusal_of-meant}

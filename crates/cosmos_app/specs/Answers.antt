@@ -1,5 +1,5 @@
 -- What the program answers to the words of its command line, and what a call that meets a fault may have written.
-use Rattle.std.specs.Prelude.{◌≡◌, ℕ, List, [], map, length, count_by, is_some, String, string_bytes, codes, Option, Result, Ok, Err}
+use Rattle.std.specs.Prelude.{◌≡◌, ◌⊎◌, ℕ, List, [], map, length, count_by, is_some, String, string_bytes, codes, Option, Result, Ok, Err}
 use Rattle.std.specs.declared.alloc.Global.{Global}
 use Rattle.std.specs.Io.KnownBytes.{append_known}
 use Rattle.port_edge.specs.Sending.{WritesPart}
@@ -12,19 +12,31 @@ use Rattle.sim_read.specs.Meaning.{netlist_of}
 use Rattle.wave_print.specs.Lines.{check_line_of}
 use Rattle.wave_print.specs.Faults.{fault_line_of}
 use Rattle.wave_print.specs.declared.faults.FaultPlace.{FaultPlace}
-use Rattle.wave_print.specs.declared.faults.FaultPlace.TheVariants.{Net}
+use Rattle.wave_print.specs.declared.faults.FaultPlace.TheVariants.{Net, NetWhole}
 use Rattle.wave_print.specs.declared.faults.FaultCode.{FaultCode}
+use Rattle.wave_print.specs.declared.faults.FaultCode.TheVariants.{G1GroupNodes, G2GroupSwitches}
+use Rattle.linear_code.specs.Listing.{Listed, IsListing}
+use Rattle.linear_code.specs.ListingText.{listing_text}
+use Rattle.circuit_listing.specs.declared.circuit.ListFault.{ListFault}
+use Rattle.circuit_listing.specs.declared.circuit.ListFault.TheVariants as list
+use Rattle.circuit_listing.specs.declared.circuit.ListFault.TheVariants.{GroupNodes, GroupSwitches}
+use Rattle.circuit_listing.specs.Faithful.{called, IsFaithful}
+use Rattle.circuit_listing.specs.Sizes.{AllFit, TellsTooLarge}
 use Rattle.group_report.specs.Report.{IsReport}
 use Rattle.cosmos_session.specs.Sessions.{start_of}
 use Rattle.cosmos_app.specs.declared.status.Status.{Status}
 use Rattle.cosmos_app.specs.declared.status.Status.TheVariants as status
 use Rattle.cosmos_app.specs.Codes.{net_code}
-use Rattle.cosmos_app.specs.Requests.{Request, Simulate, Check, Cut, Unclear, request_of}
+use Rattle.cosmos_app.specs.Requests.{Request, Simulate, Check, Cut, Compile, Unclear, request_of}
 use Rattle.cosmos_app.specs.Runs.{Answer, Runs}
 
--- the answer is the line of a refusal alone
+-- the answer is the line of a refusal alone, with this name and count
+abbrev pub IsNamedRefusal : FaultPlace → FaultCode → List ℕ → ℕ → Status → Answer → Type 0
+IsNamedRefusal place code name count status answer = answer ≡ record { status = status; text = fault_line_of place code name count }
+
+-- the answer is the line of a refusal without a name
 abbrev pub IsRefusal : FaultPlace → FaultCode → Status → Answer → Type 0
-IsRefusal place code status answer = answer ≡ record { status = status; text = fault_line_of place code [] 0 }
+IsRefusal place code status answer = IsNamedRefusal place code [] 0 status answer
 
 -- the answer is the usage line alone
 abbrev pub IsUsage : Answer → Type 0
@@ -57,11 +69,40 @@ abbrev pub IsCut : Netlist → Answer → Type 0
 IsCut circuit answer =
     (text : List ℕ) × IsReport circuit text × (answer ≡ record { status = status.Done; text = text })
 
+-- the answer is a faithful listing of the circuit, in which no group is too large
+pub record IsListed (circuit : Netlist) (answer : Answer) : Type 0 where
+  pub listing : Listed
+  pub is : IsListing listing
+  pub faithful : IsFaithful circuit listing
+  pub fits : AllFit circuit.graph
+  pub told : answer ≡ record { status = status.Done; text = listing_text listing }
+
+-- the line of a group that is too large: it is named by its least node, and so is the count of what it has too many of
+abbrev pub size_line : Netlist → ListFault → List ℕ
+size_line circuit (GroupNodes node count) = fault_line_of NetWhole G1GroupNodes (called circuit node) count
+size_line circuit (GroupSwitches node count) = fault_line_of NetWhole G2GroupSwitches (called circuit node) count
+size_line circuit list.NoMemory = []
+
+-- the answer is the line of the first group that is too large
+pub record IsTooLarge (circuit : Netlist) (answer : Answer) : Type 0 where
+  pub fault : ListFault
+  pub first : TellsTooLarge circuit.graph fault
+  pub told : answer ≡ record { status = status.NetRefused; text = size_line circuit fault }
+
+-- the answer is that of a run that stops before it has a listing: nothing is written
+abbrev pub IsUnfinished : Answer → Type 0
+IsUnfinished answer = answer ≡ record { status = status.NoMemory; text = [] }
+
+-- the answer of a compilation: a faithful listing, or the refusal of a group that is too large. A run that stops may have neither
+abbrev pub IsCompiled : Netlist → Answer → Type 0
+IsCompiled circuit answer = IsListed circuit answer ⊎ (IsTooLarge circuit answer ⊎ IsUnfinished answer)
+
 -- the answer to a request, by what the names hold
 abbrev pub IsAnswerTo : Request → (List ℕ → List ℕ) → Answer → Type 0
 IsAnswerTo (Simulate net script) holds answer = IsOver (IsSimulation (holds script)) (netlist_of (holds net)) answer
 IsAnswerTo (Check net) holds answer = IsOver IsCheck (netlist_of (holds net)) answer
 IsAnswerTo (Cut net) holds answer = IsOver IsCut (netlist_of (holds net)) answer
+IsAnswerTo (Compile net) holds answer = IsOver IsCompiled (netlist_of (holds net)) answer
 IsAnswerTo Unclear holds answer = IsUsage answer
 
 -- the answer of the words

@@ -5,7 +5,7 @@ use Rattle.cosmos_app.specs.declared.stop.Stop.{Stop}
 use Rattle.netlist.specs.Netlists.{Netlist}
 use Rattle.sim_read.specs.declared.fault.NetFault.{NetFault}
 use Rattle.sim_read.specs.Meaning.{netlist_of}
-use Rattle.cosmos_app.specs.Requests.{Request, Simulate, Check, Cut, Unclear}
+use Rattle.cosmos_app.specs.Requests.{Request, Simulate, Check, Cut, Compile, Unclear}
 
 -- the started names, where they are told
 abbrev pub Started : Type 0
@@ -36,4 +36,5 @@ abbrev pub RequestStarts : Request → Option (List ℕ → List ℕ) → Starte
 RequestStarts (Simulate net script) known old new = SimulationStarts known net script old new
 RequestStarts (Check net) known old new = StartsAtMost old new net
 RequestStarts (Cut net) known old new = StartsAtMost old new net
+RequestStarts (Compile net) known old new = StartsAtMost old new net
 RequestStarts Unclear known old new = new ≡ old

@@ -1,7 +1,6 @@
 -- What running one line of a script comes to, with what it wrote.
 use Rattle.std.specs.Prelude.{◌≡◌, ℕ, ◌⊎◌, List, Option, Some, Result, Ok, Err}
 use Rattle.std.specs.Option.{option_map}
-use Rattle.std.specs.Io.KnownBytes.{append_known}
 use Rattle.script_lang.specs.declared.command.Command.{Command}
 use Rattle.cosmos_session.specs.Sessions.{SessionData}
 use Rattle.cosmos_session.specs.Outcomes.{Accepts, Begins}

@@ -4,20 +4,26 @@ ghost use Rattle.std.specs.Prelude.{◌≡◌, ◌≢◌, ◌+◌, ◌≤◌, �
 ghost use Rattle.port_edge.specs.Ports.{Rose};
 ghost use Rattle.line_words.specs.Files as file;
 ghost use Rattle.netlist.specs.Netlists.{IsNetlist};
-ghost use Rattle.cosmos_app.specs.Requests.{Simulate, Check, Cut, Unclear, request_of};
-ghost use Rattle.cosmos_app.specs.Answers.{IsAnswer, IsAnswered, IsAnswerTo, IsCheck, IsCut, IsSimulation, IsUsage, names_of};
+ghost use Rattle.sim_read.specs.Visible as visible;
+ghost use Rattle.circuit_listing.specs.Faithful.{IsFaithful};
+ghost use Rattle.circuit_listing.specs.Sizes.{AllFit};
+ghost use Rattle.cosmos_app.specs.Requests.{Simulate, Check, Cut, Compile, Unclear, request_of};
+ghost use Rattle.cosmos_app.specs.Answers.{IsAnswer, IsAnswered, IsAnswerTo, IsCheck, IsCompiled, IsCut, IsSimulation, IsUsage, names_of};
 ghost use Rattle.cosmos_app.specs.Stops.{RaisedAt};
 ghost use Rattle.cosmos_app.specs.Starts.{RequestStarts, SimulationStarts, StartsAtMost, StartsFile};
 ghost use Rattle.cosmos_app.specs.Ends.{IsTold, status_after};
 
-use crate::refusal::refuse_net;
+use crate::refusal::{refuse_net, refuse_size};
 use crate::script::run_lines;
 use crate::status::Status;
 use crate::stop::{End, Stop};
+use circuit_listing::list_circuit;
 use cosmos_session::Session;
 use group_report::report_groups;
 use line_words::MOST_FILE_BYTES;
+use linear_code::Listing;
 use netlist::Circuit;
+use node_elimination::SymbolicAnalyst;
 use path_meaning::Graph;
 use port_edge::{Files, Sink, read_front, send};
 use sim_read::read_netlist;
@@ -29,7 +35,9 @@ use wave_print::{CHECK_LINE_ROOM, LineBuf, check_line};
 /// `sim NET SCRIPT` reads the netlist and the script of these names and runs the script's lines in
 /// order, writing a waveform line for each step and each phase and a line for each expectation that
 /// isn't met. `check NET` reads the netlist and writes how many nodes, transistors and names it has;
-/// `groups NET` writes a line for each of its channel-connected groups. All other words are answered by the usage line.
+/// `groups NET` writes a line for each of its channel-connected groups; `compile NET` writes a
+/// listing of the circuit, or the line of its first group that is too large. All other words are
+/// answered by the usage line.
 ///
 /// A netlist or a script with a refused line ends the run with the line of that refusal. A file is
 /// read to its end, or to the first byte too many, before any refusal of it is answered. After a
@@ -126,6 +134,8 @@ fn answer_net<F: Files, S: Sink>(
         check(alloc, net, files, out)
     } else if command == "groups" {
         groups(alloc, net, files, out)
+    } else if command == "compile" {
+        compile(alloc, net, files, out)
     } else {
         refuse_words(out)
     }
@@ -224,6 +234,62 @@ fn list_groups<S: Sink>(alloc: Global, circuit: &Circuit, out: &mut S) -> Result
     ensures write { RaisedAt Stop.Write (S.faults out.old) (S.faults out.new) result }
 {
     match report_groups(alloc, circuit, out) {
+        Ok(()) => Ok(End::Done),
+        Err(fault) => Err(Stop::of_write(fault)),
+    }
+}
+
+// `compile NET`.
+fn compile<F: Files, S: Sink>(
+    alloc: Global,
+    net: &str,
+    files: &mut F,
+    out: &mut S,
+) -> Result<End, Stop>
+    ensures told { IfSome (F.holds files.old) (λ holds. IsTold
+        (IsAnswerTo (Compile net.now) holds)
+        (S.written out.old) (S.written out.new) result) }
+    ensures started { StartsAtMost (F.started files.old) (F.started files.new) net.now }
+    ensures read { RaisedAt Stop.Read (F.faults files.old) (F.faults files.new) result }
+    ensures write { RaisedAt Stop.Write (S.faults out.old) (S.faults out.new) result }
+{
+    let text = read_file(alloc, files, net)?;
+    match read_netlist(alloc, &text) {
+        Ok(circuit) => write_listing(alloc, &circuit, out),
+        Err(fault) => refuse_net(alloc, fault, out),
+    }
+}
+
+// Writes the listing of a circuit, or the line of the first group that is too large.
+fn write_listing<S: Sink>(alloc: Global, circuit: &Circuit, out: &mut S) -> Result<End, Stop>
+    requires { visible.HasVisibleNames circuit.now }
+    ensures told { IsTold (IsCompiled circuit.now) (S.written out.old) (S.written out.new) result }
+    ensures no_read { IfErr result (λ stop. stop ≢ Stop.Read) }
+    ensures write { RaisedAt Stop.Write (S.faults out.old) (S.faults out.new) result }
+{
+    let mut analyst = SymbolicAnalyst::new(alloc);
+    match list_circuit(alloc, circuit, &mut analyst) {
+        Ok(listing) => send_listing(alloc, circuit, &listing, out),
+        Err(fault) => refuse_size(alloc, circuit, fault, out),
+    }
+}
+
+// Writes the text of a circuit's listing.
+fn send_listing<S: Sink>(
+    alloc: Global,
+    _circuit: &Circuit,
+    listing: &Listing,
+    out: &mut S,
+) -> Result<End, Stop>
+    requires faithful { IsFaithful _circuit.now listing.now }
+    requires fits { AllFit _circuit.now.graph }
+    ensures told { IsTold (IsCompiled _circuit.now) (S.written out.old) (S.written out.new) result }
+    ensures no_read { IfErr result (λ stop. stop ≢ Stop.Read) }
+    ensures write { RaisedAt Stop.Write (S.faults out.old) (S.faults out.new) result }
+{
+    let mut text = Vec::new(alloc);
+    listing.write(&mut text)?;
+    match send(out, &text) {
         Ok(()) => Ok(End::Done),
         Err(fault) => Err(Stop::of_write(fault)),
     }
