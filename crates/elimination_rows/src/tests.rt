@@ -2,13 +2,13 @@ ghost use Rattle.std.specs.Prelude.{◌≡◌, ◌≢◌, length, IfOk};
 ghost use Rattle.dual_rail.specs.Conduct.{AreInside};
 ghost use Rattle.analysis_cache.specs.Meaning.{MeansText};
 
-use analysis_cache::Analyst;
+use analysis_cache::{Analyst, Kept};
 use bool_pool::{Pool, Rails};
 use channel_groups::Groups;
-use group_text::{GroupText, text_of};
+use group_text::{GroupText, TextFault, text_of};
 use linear_code::Code;
 use node_elimination::{SymbolicAnalyst, analyse};
-use path_meaning::plain_step;
+use path_meaning::{Graph, plain_step};
 use sim_read::read_netlist;
 use std::alloc::{AllocError, Global};
 use std::marker::Brand;
@@ -81,6 +81,33 @@ fn code_gives_the_plain_step(rt: HostRuntime) -> Result<(), Fail> {
         assert_eq!(rt; compared.wrong, 0, "{}", row.name);
     }
     Ok(())
+}
+
+#[test]
+fn equal_groups_are_analysed_once(rt: HostRuntime) -> Result<(), Fail> {
+    let net = b"p a Vdd b\nn a Gnd b\np b Vdd c\nn b Gnd c\nn a d e\nA a input\n";
+    let circuit = read_netlist(rt.alloc(), net)?;
+    let texts = texts_of(rt.alloc(), circuit.graph())?;
+    let mut analyst = SymbolicAnalyst::new(rt.alloc());
+    let mut kept = Kept::new(rt.alloc());
+    assert_eq!(rt; kept.ensure(&texts, &mut analyst), Ok(2));
+    assert_eq!(rt; kept.ensure(&texts, &mut analyst), Ok(0));
+    assert_eq!(rt; (kept.size(), analyst.analysed()), (2, 2));
+    for text in &texts {
+        assert!(rt; kept.code(text).is_some());
+    }
+    Ok(())
+}
+
+// The texts of all groups of a graph.
+fn texts_of(alloc: Global, graph: &Graph) -> Result<Vec<GroupText>, TextFault> {
+    let groups = Groups::of(alloc, graph)?;
+    let mut texts = Vec::new(alloc);
+    for group in groups.list() {
+        let (text, _nodes) = text_of(alloc, graph, group.members(), group.switches())?;
+        texts.push(text).map_err(|_| TextFault::NoMemory)?;
+    }
+    Ok(texts)
 }
 
 // How many states were tried, and how many rails or states were not those of the plain step.
