@@ -1,1 +1,2 @@
 pub mod TernLemmas
+pub mod CountsLemmas

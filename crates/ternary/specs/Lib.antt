@@ -1,1 +1,2 @@
 pub mod Tern
+pub mod Counts

@@ -10,6 +10,9 @@
 //! Tern::from_letter(b'x')            is Some(Tern::Unk)
 //! ```
 //!
+//! For the proofs of crates above: `TernLemmas`, laws of states, their rails and their joins;
+//! `CountsLemmas`, laws of counts that stay at the last value of their type.
+//!
 //! After Bryant, "Boolean Analysis of MOS Circuits", 1987.
 #![tactic(auto)]
 
