@@ -3,7 +3,9 @@ use Rattle.std.proofs.Common.{◌≡◌, ◌≢◌, ℕ, suc, ◌+◌, ◌<◌, 
 use Rattle.std.proofs.lemmas.List.Sums.{sum_by-cons}
 use Rattle.ternary.specs.declared.tern.Tern.{Tern}
 use Rattle.ternary.specs.declared.tern.Tern.TheVariants.{Zero, One, Unk}
+use Rattle.ternary.proofs.TernLemmas.{same_or_other}
 use Rattle.path_meaning.specs.Switching.{state_at}
+use Rattle.path_meaning.specs.Graphs.{GraphData, level_of, is_storage_level}
 
 -- a marked node that is 0 or 1 counts
 abbrev pub weight : Bool → Tern → ℕ
@@ -16,6 +18,10 @@ weight true Unk = 0
 abbrev pub known : (ℕ → Bool) → List Tern → ℕ
 known marked [] = 0
 known marked (state ∷ states) = weight (marked 0) state + known (λ node. marked (suc node)) states
+
+-- how many storage nodes are 0 or 1
+abbrev pub known_storage : GraphData → List Tern → ℕ
+known_storage g = known (λ node. is_storage_level (level_of g node))
 
 -- a node keeps its state, or it is marked and becomes X
 abbrev pub Fades : Bool → Tern → Tern → Type 0
@@ -84,19 +90,12 @@ known-count_by test [] [] count = omega arith
 known-count_by test [] (state ∷ states) count = absurd (omega arith)
 known-count_by test (level ∷ levels) [] count = absurd (omega arith)
 known-count_by test (level ∷ levels) (state ∷ states) count =
-    omega (arith, sum_by-cons (λ x. cond (test x) 1 0) level levels, weight-cond (test level) state, known-count_by test levels states (omega arith))
-
--- two states of a node are the same or not
-same_or_other : (s t : Tern) → (s ≡ t) ⊎ (s ≢ t)
-same_or_other Zero Zero = inl refl
-same_or_other Zero One = inr (λ same. cc)
-same_or_other Zero Unk = inr (λ same. cc)
-same_or_other One Zero = inr (λ same. cc)
-same_or_other One One = inl refl
-same_or_other One Unk = inr (λ same. cc)
-same_or_other Unk Zero = inr (λ same. cc)
-same_or_other Unk One = inr (λ same. cc)
-same_or_other Unk Unk = inl refl
+    omega (
+      arith,
+      sum_by-cons (λ x. cond (test x) 1 0) level levels,
+      weight-cond (test level) state,
+      known-count_by test levels states (omega arith),
+    )
 
 -- two states of all nodes are the same, or they differ at some node
 pub same_or_somewhere : (old new : List Tern) → length new ≡ length old →

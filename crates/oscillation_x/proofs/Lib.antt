@@ -1,4 +1,3 @@
-pub mod InputNodes
 pub mod KnownStates
 pub mod SettlingLemmas
 pub mod SettlingExists

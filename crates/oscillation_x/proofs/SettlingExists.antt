@@ -1,50 +1,28 @@
 -- Every state of a graph settles.
--- The unit steps: a state has a step, and it is decided whether that changes something, so as many steps as the limit allows can be
--- taken one after the other. The joining steps: each one that changes something leaves fewer storage nodes known, so they end.
-use Rattle.std.proofs.Common.{◌≡◌, ◌≢◌, ℕ, zero, suc, ◌+◌, ◌<◌, ◌↔◌, Bool, true, false, ◌⊎◌, inl, inr, List, [], ◌∷◌, length, refl, ◌∙◌, arith, slice_index}
+-- The unit steps: a state has a step, and it is decided whether that changes something, so as many steps as the
+-- limit allows can be taken one after the other. The joining steps: each one that changes something leaves
+-- fewer storage nodes known, so they end.
+use Rattle.std.proofs.Common.{◌≡◌, ℕ, zero, suc, ◌+◌, ◌<◌, ◌↔◌, Bool, true, false, inl, inr, List, [], ◌∷◌, length, refl, ◌∙◌, arith}
 use Rattle.std.specs.Bool.{IsTrue}
 use Rattle.ternary.specs.declared.tern.Tern.{Tern}
-use Rattle.ternary.specs.declared.tern.Tern.TheVariants.{Zero, One, Unk}
 use Rattle.ternary.specs.Tern.{join}
+use Rattle.ternary.proofs.TernLemmas.{all_same_or_other}
 use Rattle.path_meaning.specs.Switching.{state_at}
-use Rattle.path_meaning.specs.Wiring.{Wiring, IsWired, nodes}
+use Rattle.path_meaning.specs.Graphs.{GraphData, IsWired, nodes}
 use Rattle.path_meaning.specs.Laws.{IsJoin}
 use Rattle.path_meaning.proofs.ExistingSteps.{exists}
-use Rattle.oscillation_x.specs.Settling.{Stepping, IsJoinStep, Joining, is_storage}
+use Rattle.oscillation_x.specs.Settling.{Stepping, IsJoinStep, Joining}
 use Rattle.oscillation_x.specs.Laws.{EveryStateSettles}
-use Rattle.oscillation_x.proofs.KnownStates.{known}
+use Rattle.oscillation_x.proofs.KnownStates.{known_storage}
 use Rattle.oscillation_x.proofs.SettlingLemmas.{storage-falls}
 
--- two states of a node are equal, or they aren't
-same_tern : (s t : Tern) → (s ≡ t) ⊎ (s ≢ t)
-same_tern Zero Zero = inl refl
-same_tern Zero One = inr (λ same. absurd cc)
-same_tern Zero Unk = inr (λ same. absurd cc)
-same_tern One Zero = inr (λ same. absurd cc)
-same_tern One One = inl refl
-same_tern One Unk = inr (λ same. absurd cc)
-same_tern Unk Zero = inr (λ same. absurd cc)
-same_tern Unk One = inr (λ same. absurd cc)
-same_tern Unk Unk = inl refl
-
--- and so it is with the states of all nodes
-same_state : (new old : List Tern) → (new ≡ old) ⊎ (new ≢ old)
-same_state [] [] = inl refl
-same_state [] (s ∷ old) = inr (λ same. absurd cc)
-same_state (t ∷ new) [] = inr (λ same. absurd cc)
-same_state (t ∷ new) (s ∷ old) =
-    elim (same_tern t s) [
-      | inl one ↦ elim (same_state new old) [ inl rest ↦ inl cc | inr differ ↦ inr (λ same. differ cc) ]
-      | inr differ ↦ inr (λ same. differ cc)
-    ]
-
 -- unit steps while they change something, as many as are left
-stepping : (g : Wiring) → IsWired g → (left : ℕ) (old : List Tern) → length old ≡ nodes g →
+stepping : (g : GraphData) → IsWired g → (left : ℕ) (old : List Tern) → length old ≡ nodes g →
     (count : ℕ) × (new : List Tern) × Stepping g left old count new × (length new ≡ nodes g)
 stepping g wired zero old fits = (0, old, (refl, refl), fits)
 stepping g wired (suc left) old fits =
     let step = exists g wired old in
-    elim (same_state step.0 old) [
+    elim (all_same_or_other step.0 old) [
       | inl same ↦ (0, old, (step.0, step.1, inl (same, refl, refl)), fits)
       | inr changed ↦
           let rest = stepping g wired left step.0 step.1.count in
@@ -52,7 +30,8 @@ stepping g wired (suc left) old fits =
     ]
 
 -- one node more is joined
-join-more : (s t : Tern) (old response joined : List Tern) → IsJoin old response joined → (node : ℕ) → node < length (join s t ∷ joined) →
+join-more : (s t : Tern) (old response joined : List Tern) → IsJoin old response joined → (node : ℕ) →
+    node < length (join s t ∷ joined) →
     state_at (join s t ∷ joined) node ≡ join (state_at (s ∷ old) node) (state_at (t ∷ response) node)
 join-more s t old response joined joins zero inside = refl
 join-more s t old response joined joins (suc node) inside = joins.each node (omega arith)
@@ -73,20 +52,21 @@ join_exists (s ∷ old) (t ∷ response) count =
     )
 
 -- a state has a joining step
-join_step_exists : (g : Wiring) → IsWired g → (old : List Tern) → length old ≡ nodes g → (new : List Tern) × IsJoinStep g old new
+join_step_exists : (g : GraphData) → IsWired g → (old : List Tern) → length old ≡ nodes g →
+    (new : List Tern) × IsJoinStep g old new
 join_step_exists g wired old fits =
     let step = exists g wired old in
     let joined = join_exists old step.0 (omega (arith, fits, step.1.count)) in
     (joined.0, record { response = step.0; step = step.1; joins = joined.1 })
 
 -- joining steps while they change something, where fewer storage nodes than this are known
-joining : (g : Wiring) → IsWired g → (most : ℕ) (old : List Tern) → length old ≡ nodes g →
-    known (λ node. is_storage (slice_index g.levels node)) old < most →
+joining : (g : GraphData) → IsWired g → (most : ℕ) (old : List Tern) → length old ≡ nodes g →
+    known_storage g old < most →
     (count : ℕ) × (new : List Tern) × Joining g old count new
 joining g wired zero old fits fewer = absurd (omega (arith, fewer))
 joining g wired (suc most) old fits fewer =
     let step = join_step_exists g wired old fits in
-    elim (same_state step.0 old) [
+    elim (all_same_or_other step.0 old) [
       | inl same ↦ (0, old, ((rw same at step.1), refl))
       | inr changed ↦
           let falls = storage-falls g wired old step.0 step.1 changed in
@@ -103,7 +83,7 @@ mark_of (suc count) = (true, ((λ yes. omega arith), (λ positive. refl)))
 pub every_state : EveryStateSettles
 every_state g wired old fits limit =
     let first = stepping g wired limit old fits in
-    let most = known (λ node. is_storage (slice_index g.levels node)) first.1 + 1 in
+    let most = known_storage g first.1 + 1 in
     let second = joining g wired most first.1 first.3 (omega arith) in
     let mark = mark_of second.0 in (
       second.1,

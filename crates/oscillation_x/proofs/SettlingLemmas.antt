@@ -1,26 +1,20 @@
 -- One replacement more, of either kind, and what a joining step leaves known.
-use Rattle.std.proofs.Common.{◌≡◌, ◌≢◌, ℕ, zero, suc, ◌+◌, ◌-◌, ◌<◌, ◌≤◌, ◌↔◌, true, ◌⊎◌, inl, inr, List, length, refl, sym, ◌∙◌, ap, subst, arith, slice_index}
+use Rattle.std.proofs.Common.{◌≡◌, ◌≢◌, ℕ, zero, suc, ◌+◌, ◌-◌, ◌<◌, ◌≤◌, ◌↔◌, true, inl, inr, List, length, refl, sym, ◌∙◌, ap, subst, arith}
 use Rattle.std.proofs.lemmas.Bool.{cases_lt}
 use Rattle.std.proofs.lemmas.Bool.Decides.{nat_tests}
 use Rattle.ternary.specs.declared.tern.Tern.{Tern}
-use Rattle.ternary.specs.declared.tern.Tern.TheVariants.{Zero, One, Unk}
-use Rattle.ternary.specs.Tern.{join}
+use Rattle.ternary.specs.declared.tern.Tern.TheVariants.{Unk}
 use Rattle.strength_order.specs.declared.TheConstants.{INPUT_LEVEL}
 use Rattle.path_meaning.specs.Switching.{state_at}
-use Rattle.path_meaning.specs.Wiring.{Wiring, IsWired, nodes, level_of}
+use Rattle.path_meaning.specs.Graphs.{GraphData, IsWired, nodes, level_of, is_storage_level, IsStorage}
+use Rattle.path_meaning.specs.Laws.{IsJoin}
 use Rattle.path_meaning.specs.Step.{IsStep}
-use Rattle.oscillation_x.specs.Settling.{Stepping, IsJoinStep, Joining, StaysOrBecomesX, is_storage, storage_nodes, raised}
+use Rattle.oscillation_x.specs.Settling.{Stepping, IsJoinStep, Joining, StaysOrBecomesX, storage_nodes}
+use Rattle.ternary.proofs.TernLemmas.{join-same, join-fades}
 use Rattle.path_meaning.proofs.PathLemmas.{level_fits}
-use Rattle.oscillation_x.proofs.InputNodes.{input_keeps}
-use Rattle.oscillation_x.proofs.KnownStates.{Fades, known, known-falls, known-count_by, same_or_somewhere}
-
--- a count that rose by one and then by more
-pub raised-more : (count one more : ℕ) → raised (raised count one) more ≡ raised count (one + more)
-raised-more count one more = omega arith
-
--- a count that rose by none
-pub raised-none : (count : ℕ) → count ≡ raised count 0
-raised-none count = omega arith
+use Rattle.path_meaning.proofs.InputNodes.{input_response}
+use Rattle.path_meaning.proofs.UniqueSteps.{response_is_unique}
+use Rattle.oscillation_x.proofs.KnownStates.{Fades, known, known_storage, known-falls, known-count_by, same_or_somewhere}
 
 -- what holds of a count and one more of the rest holds of one more and the rest
 pub counted : (count more : ℕ) (P : ℕ → Type 0) → P (count + (more + 1)) → P ((count + 1) + more)
@@ -35,56 +29,60 @@ counted_none count P holds =
     subst P same holds
 
 -- where the limit isn't reached, a step that changes something comes before the rest
-pub Stepping-more : (g : Wiring) (limit done : ℕ) (old next : List Tern) (count : ℕ) (new : List Tern) → done < limit →
-    IsStep g old next → next ≢ old → Stepping g (limit - (done + 1)) next count new → Stepping g (limit - done) old (count + 1) new
+pub Stepping-more : (g : GraphData) (limit done : ℕ) (old next : List Tern) (count : ℕ) (new : List Tern) → done < limit →
+    IsStep g old next → next ≢ old → Stepping g (limit - (done + 1)) next count new →
+    Stepping g (limit - done) old (count + 1) new
 Stepping-more g limit done old next count new left step changed rest =
     let more : limit - done ≡ suc (limit - (done + 1)) = omega arith in
     rw more (next, step, inr (changed, (count, refl, rest)))
 
 -- where the limit isn't reached, a step that changes nothing ends them
-pub Stepping-rests : (g : Wiring) (limit done : ℕ) (old next : List Tern) → done < limit →
+pub Stepping-rests : (g : GraphData) (limit done : ℕ) (old next : List Tern) → done < limit →
     IsStep g old next → next ≡ old → Stepping g (limit - done) old 0 next
 Stepping-rests g limit done old next left step same =
     let more : limit - done ≡ suc (limit - (done + 1)) = omega arith in
     rw more (next, step, inl (same, refl, same))
 
 -- at the limit there is no step
-pub Stepping-ends : (g : Wiring) (limit done : ℕ) (old : List Tern) → limit ≤ done → Stepping g (limit - done) old 0 old
+pub Stepping-ends : (g : GraphData) (limit done : ℕ) (old : List Tern) → limit ≤ done → Stepping g (limit - done) old 0 old
 Stepping-ends g limit done old reached =
     let none : limit - done ≡ 0 = omega arith in
     rw none (refl, refl)
 
 -- a joining step that changes something comes before the rest
-pub Joining-more : (g : Wiring) (old next : List Tern) (count : ℕ) (new : List Tern) →
+pub Joining-more : (g : GraphData) (old next : List Tern) (count : ℕ) (new : List Tern) →
     IsJoinStep g old next → next ≢ old → Joining g next count new → Joining g old (count + 1) new
 Joining-more g old next count new step changed rest =
     let more : count + 1 ≡ suc count = omega arith in
     rw more (next, step, changed, rest)
 
 -- and one that changes nothing ends them
-pub Joining-rests : (g : Wiring) (old next : List Tern) → IsJoinStep g old next → next ≡ old → Joining g old 0 next
+pub Joining-rests : (g : GraphData) (old next : List Tern) → IsJoinStep g old next → next ≡ old → Joining g old 0 next
 Joining-rests g old next step same = ((rw same at step), same)
 
--- the join with an equal state changes nothing
-join-same : (t : Tern) → join t t ≡ t
-join-same Zero = refl
-join-same One = refl
-join-same Unk = refl
+-- so many steps as there were before the limit was reached lead to a steady state
+pub Stepping-steady : (g : GraphData) (limit : ℕ) (old : List Tern) (count : ℕ) (new : List Tern) →
+    Stepping g limit old count new → count < limit → IsStep g new new
+Stepping-steady g zero old count new steps fewer = absurd (omega arith)
+Stepping-steady g (suc left) old count new steps fewer =
+    elim steps.2 [
+      | inl rests ↦ rw rests.2 (rw rests.0 at steps.1)
+      | inr moves ↦ Stepping-steady g left steps.0 moves.1.0 new moves.1.2 (omega (arith, moves.1.1))
+    ]
 
--- a node whose state is joined with another keeps it or becomes X
-join-fades : (s t : Tern) → (join s t ≡ s) ⊎ (join s t ≡ Unk)
-join-fades Zero Zero = inl refl
-join-fades Zero One = inr refl
-join-fades Zero Unk = inr refl
-join-fades One Zero = inr refl
-join-fades One One = inl refl
-join-fades One Unk = inr refl
-join-fades Unk Zero = inr refl
-join-fades Unk One = inr refl
-join-fades Unk Unk = inr refl
+-- at a steady state the joining steps end at once
+pub Joining-steady : (g : GraphData) (old : List Tern) → IsStep g old old → Joining g old 0 old
+Joining-steady g old step =
+    let joins : IsJoin old old old = record {
+      left = refl;
+      right = refl;
+      each =
+          λ node inside. sym (join-same (state_at old node));
+    } in
+    (record { response = old; step = step; joins = joins }, refl)
 
 -- a joining step changes storage nodes alone, and makes them X
-module _ (g : Wiring) (wired : IsWired g) (old new : List Tern) (step : IsJoinStep g old new) where
+module _ (g : GraphData) (wired : IsWired g) (old new : List Tern) (step : IsJoinStep g old new) where
   -- as many states as nodes
   pub joined_count : length old ≡ nodes g
   joined_count = omega (arith, step.joins.left, step.joins.right, step.step.count)
@@ -93,12 +91,14 @@ module _ (g : Wiring) (wired : IsWired g) (old new : List Tern) (step : IsJoinSt
   input_stays : (node : ℕ) → node < length old → level_of g node ≡ INPUT_LEVEL → state_at new node ≡ state_at old node
   input_stays node inside input =
       let in_range : node < nodes g = omega (arith, joined_count) in
-      let steady = input_keeps g wired old node in_range input (state_at step.response node) (step.step.each node in_range) in
+      let own = input_response g wired old node in_range input in
+      let steady : state_at step.response node ≡ state_at old node =
+      response_is_unique g old node (state_at step.response node) (state_at old node) (step.step.each node in_range) own in
       step.joins.each node (omega (arith, step.joins.left)) ∙ (rw steady (join-same (state_at old node)))
 
   -- a storage node keeps its state or becomes X
-  storage_fades : (node : ℕ) → node < length old → is_storage (slice_index g.levels node) ≡ true →
-      Fades (is_storage (slice_index g.levels node)) (state_at old node) (state_at new node)
+  storage_fades : (node : ℕ) → node < length old → is_storage_level (level_of g node) ≡ true →
+      Fades (is_storage_level (level_of g node)) (state_at old node) (state_at new node)
   storage_fades node inside storage =
       let joined = step.joins.each node (omega (arith, step.joins.left)) in
       elim (join-fades (state_at old node) (state_at step.response node)) [
@@ -107,9 +107,10 @@ module _ (g : Wiring) (wired : IsWired g) (old new : List Tern) (step : IsJoinSt
       ]
 
   -- so every node fades
-  node_fades : (node : ℕ) → node < length old → Fades (is_storage (slice_index g.levels node)) (state_at old node) (state_at new node)
+  node_fades : (node : ℕ) → node < length old → Fades (is_storage_level (level_of g node)) (state_at old node)
+      (state_at new node)
   node_fades node inside =
-      let level = slice_index g.levels node in
+      let level = level_of g node in
       let in_range : node < nodes g = omega (arith, joined_count) in
       let high : level ≤ INPUT_LEVEL = (level_fits g wired node in_range).high in
       elim (cases_lt level INPUT_LEVEL) [
@@ -119,28 +120,29 @@ module _ (g : Wiring) (wired : IsWired g) (old new : List Tern) (step : IsJoinSt
 
   -- a joining step that changes something leaves fewer storage nodes known
   pub storage-falls : new ≢ old →
-      known (λ node. is_storage (slice_index g.levels node)) new < known (λ node. is_storage (slice_index g.levels node)) old
-  storage-falls changed = known-falls (λ node. is_storage (slice_index g.levels node)) old new step.joins.left node_fades changed
+      known_storage g new < known_storage g old
+  storage-falls changed = known-falls (λ node. is_storage_level (level_of g node)) old new step.joins.left node_fades changed
 
   -- the node at which it changes something is a storage node that was known, and is X now
   made_x : (node : ℕ) → node < length old → state_at new node ≢ state_at old node →
-      (node < nodes g) × (level_of g node < INPUT_LEVEL) × (state_at old node ≢ Unk) × (state_at new node ≡ Unk)
+      IsStorage g node × (state_at old node ≢ Unk) × (state_at new node ≡ Unk)
   made_x node inside changed =
       let in_range : node < nodes g = omega (arith, joined_count) in
       let high : level_of g node ≤ INPUT_LEVEL = (level_fits g wired node in_range).high in
-      let unknown : state_at new node ≡ Unk = elim (node_fades node inside) [ inl same ↦ absurd (changed same) | inr faded ↦ faded.1 ] in
+      let unknown : state_at new node ≡ Unk = elim
+      (node_fades node inside) [ inl same ↦ absurd (changed same) | inr faded ↦ faded.1 ] in
       let below : level_of g node < INPUT_LEVEL = elim (cases_lt (level_of g node) INPUT_LEVEL) [
         | inl below ↦ below
         | inr above ↦ absurd (changed (input_stays node inside (omega arith)))
       ] in
-      (in_range, below, (λ was. changed (unknown ∙ sym was)), unknown)
+      (record { inside = in_range; below = below }, (λ was. changed (unknown ∙ sym was)), unknown)
 
   -- a joining step that changes something makes some storage node X that wasn't
   pub some_made_x : new ≢ old →
-      (node : ℕ) × (node < nodes g) × (level_of g node < INPUT_LEVEL) × (state_at old node ≢ Unk) × (state_at new node ≡ Unk)
+      (node : ℕ) × IsStorage g node × (state_at old node ≢ Unk) × (state_at new node ≡ Unk)
   some_made_x changed = elim (same_or_somewhere old new step.joins.left) [
     | inl same ↦ absurd (changed same)
-    | inr there ↦ let made = made_x there.0 there.1 there.2 in (there.0, made.0, made.1, made.2, made.3)
+    | inr there ↦ let made = made_x there.0 there.1 there.2 in (there.0, made.0, made.1, made.2)
   ]
 
 -- and so it is with all nodes, whatever was joined
@@ -151,12 +153,12 @@ all-falls old new count each changed =
     (λ node inside. elim (each node inside) [ inl same ↦ inl same | inr unknown ↦ inr (refl, unknown) ]) changed
 
 -- no more joining steps changed something than there are storage nodes: one more, while fewer are left known
-pub storage-more : (g : Wiring) → IsWired g → (count : ℕ) (old new : List Tern) →
-    (0 < count → count + known (λ node. is_storage (slice_index g.levels node)) old ≤ storage_nodes g) →
+pub storage-more : (g : GraphData) → IsWired g → (count : ℕ) (old new : List Tern) →
+    (0 < count → count + known_storage g old ≤ storage_nodes g) →
     IsJoinStep g old new → new ≢ old →
-    (count + 1) + known (λ node. is_storage (slice_index g.levels node)) new ≤ storage_nodes g
+    (count + 1) + known_storage g new ≤ storage_nodes g
 storage-more g wired zero old new before step changed =
-    let most = known-count_by is_storage g.levels old (joined_count g wired old new step) in
+    let most = known-count_by is_storage_level g.levels old (joined_count g wired old new step) in
     omega (arith, most, storage-falls g wired old new step changed)
 storage-more g wired (suc count) old new before step changed =
     omega (arith, before (omega arith), storage-falls g wired old new step changed)

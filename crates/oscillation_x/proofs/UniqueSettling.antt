@@ -4,20 +4,21 @@ use Rattle.std.proofs.Common.{◌≡◌, ℕ, zero, suc, ◌+◌, ◌<◌, ◌�
 use Rattle.std.proofs.lemmas.List.{ext_get_or}
 use Rattle.ternary.specs.declared.tern.Tern.{Tern}
 use Rattle.ternary.specs.declared.tern.Tern.TheVariants.{Zero}
-use Rattle.path_meaning.specs.Wiring.{Wiring}
+use Rattle.path_meaning.specs.Graphs.{GraphData}
 use Rattle.path_meaning.proofs.UniqueSteps.{unique}
 use Rattle.oscillation_x.specs.Settling.{Stepping, IsJoinStep, Joining}
 use Rattle.oscillation_x.specs.Laws.{SettlingIsUnique}
 
 -- a state has one joining step at most
-JoinStep-unique : (g : Wiring) (old new other : List Tern) → IsJoinStep g old new → IsJoinStep g old other → new ≡ other
+JoinStep-unique : (g : GraphData) (old new other : List Tern) → IsJoinStep g old new → IsJoinStep g old other → new ≡ other
 JoinStep-unique g old new other one two =
     let same : one.response ≡ two.response = unique g old one.response two.response one.step two.step in
     ext_get_or Zero new other (one.joins.left ∙ sym two.joins.left) (λ node inside.
     one.joins.each node inside ∙ (rw same (sym (two.joins.each node (omega (arith, one.joins.left, two.joins.left))))))
 
 -- plain replacements lead one way
-Stepping-unique : (g : Wiring) (limit : ℕ) (old : List Tern) (count : ℕ) (new : List Tern) (other_count : ℕ) (other : List Tern) →
+Stepping-unique : (g : GraphData) (limit : ℕ) (old : List Tern) (count : ℕ) (new : List Tern) (other_count : ℕ)
+    (other : List Tern) →
     Stepping g limit old count new → Stepping g limit old other_count other → (count ≡ other_count) × (new ≡ other)
 Stepping-unique g zero old count new other_count other one two = (one.0 ∙ sym two.0, one.1 ∙ sym two.1)
 Stepping-unique g (suc left) old count new other_count other one two =
@@ -36,7 +37,7 @@ Stepping-unique g (suc left) old count new other_count other one two =
     ]
 
 -- joining replacements lead one way
-Joining-unique : (g : Wiring) (old : List Tern) (count : ℕ) (new : List Tern) (other_count : ℕ) (other : List Tern) →
+Joining-unique : (g : GraphData) (old : List Tern) (count : ℕ) (new : List Tern) (other_count : ℕ) (other : List Tern) →
     Joining g old count new → Joining g old other_count other → (count ≡ other_count) × (new ≡ other)
 Joining-unique g old zero new zero other one two = (refl, one.1 ∙ sym two.1)
 Joining-unique g old zero new (suc other_count) other one two =

@@ -1,15 +1,15 @@
 -- The stepper by plain steps, as contracts see it.
 use Rattle.std.specs.Prelude.{◌≡◌, ℕ, ◌≤◌, List, length}
 use Rattle.ternary.specs.declared.tern.Tern.{Tern}
-use Rattle.path_meaning.specs.Wiring.{Wiring, nodes}
+use Rattle.path_meaning.specs.Graphs.{GraphData, nodes}
 
 -- the state of each node, for how many places there is room, and how often a step changed the state
-pub record PlainSeen : Type 0 where
+pub record PlainStepperData : Type 0 where
   pub state : List Tern
   pub places : ℕ
   pub moves : ℕ
 
 -- a stepper fits the graphs with as many nodes as its state, and no more places than it has room for
-pub record HasRoom (stepper : PlainSeen) (g : Wiring) : Type 0 where
+pub record HasRoom (stepper : PlainStepperData) (g : GraphData) : Type 0 where
   pub count : length stepper.state ≡ nodes g
   pub places : length g.places ≤ stepper.places

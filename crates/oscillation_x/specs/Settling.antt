@@ -1,17 +1,16 @@
 -- Settling: unit steps while they change something, and past a limit joining steps.
--- In the manner of MOSSIM II: Bryant, "A Switch-Level Model and Simulator for MOS Digital Systems", 1984; the limit and the joining step
--- are this project's own.
-use Rattle.std.specs.Prelude.{◌≡◌, ◌≢◌, ℕ, zero, suc, ◌+◌, ◌-◌, ◌^◌, ◌<◌, ◌≤◌, min, ◌↔◌, nat_lt, Bool, ◌⊎◌, List, length, count_by, IsTrue}
+-- In the manner of MOSSIM II: Bryant, "A Switch-Level Model and Simulator for MOS Digital Systems", 1984; the
+-- limit and the joining step are this project's own.
+use Rattle.std.specs.Prelude.{◌≡◌, ◌≢◌, ℕ, zero, suc, ◌+◌, ◌<◌, ◌≤◌, ◌↔◌, Bool, ◌⊎◌, List, length, count_by, IsTrue}
 use Rattle.ternary.specs.declared.tern.Tern.{Tern}
 use Rattle.ternary.specs.declared.tern.Tern.TheVariants.{Unk}
-use Rattle.strength_order.specs.declared.TheConstants.{INPUT_LEVEL}
 use Rattle.path_meaning.specs.Switching.{state_at}
-use Rattle.path_meaning.specs.Wiring.{Wiring}
+use Rattle.path_meaning.specs.Graphs.{GraphData, is_storage_level}
 use Rattle.path_meaning.specs.Step.{IsStep}
 use Rattle.path_meaning.specs.Laws.{IsJoin}
 
 -- plain replacements: the state gives way to its step while that changes something, at most `limit` times
-abbrev pub Stepping : Wiring → ℕ → List Tern → ℕ → List Tern → Type 0
+abbrev pub Stepping : GraphData → ℕ → List Tern → ℕ → List Tern → Type 0
 Stepping g zero old count new = (count ≡ 0) × (new ≡ old)
 Stepping g (suc left) old count new =
     (next : List Tern) × IsStep g old next ×
@@ -19,19 +18,20 @@ Stepping g (suc left) old count new =
     ((next ≢ old) × ((rest : ℕ) × (count ≡ rest + 1) × Stepping g left next rest new)))
 
 -- a joining step: every node takes the join of its state and its steady state, all under the same old state
-pub record IsJoinStep (g : Wiring) (old new : List Tern) : Type 0 where
+pub record IsJoinStep (g : GraphData) (old new : List Tern) : Type 0 where
   pub response : List Tern
   pub step : IsStep g old response
   pub joins : IsJoin old response new
 
 -- joining replacements: the state gives way to its joining step while that changes something
-abbrev pub Joining : Wiring → List Tern → ℕ → List Tern → Type 0
+abbrev pub Joining : GraphData → List Tern → ℕ → List Tern → Type 0
 Joining g old zero new = IsJoinStep g old old × (new ≡ old)
 Joining g old (suc count) new =
     (next : List Tern) × IsJoinStep g old next × (next ≢ old) × Joining g next count new
 
--- a state settles: plain replacements first, then joining ones; `steps` counts both kinds, `joined` says whether there was one of the second
-pub record Settles (g : Wiring) (old : List Tern) (limit : ℕ) (new : List Tern) (steps : ℕ) (joined : Bool) : Type 0 where
+-- a state settles: plain replacements first, then joining ones; `steps` counts both kinds, `joined` says
+-- whether there was one of the second
+pub record Settles (g : GraphData) (old : List Tern) (limit : ℕ) (new : List Tern) (steps : ℕ) (joined : Bool) : Type 0 where
   pub first : ℕ
   pub second : ℕ
   pub mid : List Tern
@@ -45,17 +45,20 @@ abbrev pub StaysOrBecomesX : List Tern → List Tern → Type 0
 StaysOrBecomesX old new =
     (node : ℕ) → node < length old → (state_at new node ≡ state_at old node) ⊎ (state_at new node ≡ Unk)
 
--- so many steps that changed something, at most `limit`, lead from one state to another, and none of them leaves it as it was
+-- so many steps that changed something, at most `limit`, lead from one state to another, and none of them
+-- leaves it as it was
 pub record Moving (limit : ℕ) (old : List Tern) (count : ℕ) (new : List Tern) : Type 0 where
   pub limited : count ≤ limit
   pub unmoved : count ≡ 0 → new ≡ old
 
--- so many steps, in which nodes became X alone, lead from one state to another, which is the same exactly where there is none of them
+-- so many steps, in which nodes became X alone, lead from one state to another, which is the same exactly where
+-- there is none of them
 pub record Fading (old : List Tern) (count : ℕ) (new : List Tern) : Type 0 where
   pub fades : StaysOrBecomesX old new
   pub rested : (count ≡ 0) ↔ (new ≡ old)
 
--- on any graph a stepper's state shifts: by steps, at most `limit`, and then by joining steps, both counted as where it settles
+-- on any graph a stepper's state shifts: by steps, at most `limit`, and then by joining steps, both counted as
+-- where it settles
 pub record Shifts (old : List Tern) (limit : ℕ) (new : List Tern) (steps : ℕ) (joined : Bool) : Type 0 where
   pub first : ℕ
   pub second : ℕ
@@ -65,14 +68,6 @@ pub record Shifts (old : List Tern) (limit : ℕ) (new : List Tern) (steps : ℕ
   pub total : steps ≡ first + second
   pub was_joined : IsTrue joined ↔ (0 < second)
 
--- a storage node is one whose level is below that of an input node
-abbrev pub is_storage : ℕ → Bool
-is_storage level = nat_lt level INPUT_LEVEL
-
 -- how many storage nodes a graph has
-abbrev pub storage_nodes : Wiring → ℕ
-storage_nodes g = count_by is_storage g.levels
-
--- a count after so many more, as far as a u64 goes
-abbrev pub raised : ℕ → ℕ → ℕ
-raised count more = count + min more (2 ^ 64 - 1 - count)
+abbrev pub storage_nodes : GraphData → ℕ
+storage_nodes g = count_by is_storage_level g.levels

@@ -2,27 +2,29 @@
 //!
 //! The main type is the trait `Stepper`: a state that moves by unit steps, however these are
 //! computed. `settle` steps it while that changes something, at most as often as its limit says.
-//! After that it takes joining steps, in which each node gets the join of its state and its steady
-//! state: a node that oscillates becomes X, and so does what reads it. Its contract, `Settles`, is
-//! what the layers above use. `PlainStepper` is the stepper by plain steps.
+//! Past the limit it takes joining steps, in which each node gets the join of its state and its
+//! steady state: a node that oscillates becomes X, and so does what reads it. Its contract,
+//! `Settles`, is what the layers above use. `PlainStepper` is the stepper by plain steps.
 //!
 //! ```text
 //! an inverter that feeds itself, at 0, with the limit 4: four steps change it, and 1 joining step
 //! gives X; the answer is 5 steps, and that it joined
 //! ```
 //!
+//! For the proofs of crates above: `SettlingExists`, that every state settles.
+//!
 //! In the manner of MOSSIM II: Bryant, "A Switch-Level Model and Simulator for MOS Digital
 //! Systems", 1984. The limit, and that it counts steps of the whole graph, are this project's own.
 #![tactic(auto)]
 
 mod laws;
-mod plain;
+mod plain_stepping;
 mod settling;
 mod stepping;
 #[cfg(test)]
 mod tests;
 
 pub use laws::{every_state_settles, joining_steps_make_x, settling_is_unique};
-pub use plain::PlainStepper;
-pub use settling::{Settled, settle};
+pub use plain_stepping::PlainStepper;
+pub use settling::{MOST_LIMIT, Settled, settle};
 pub use stepping::Stepper;

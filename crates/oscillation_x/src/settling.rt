@@ -1,12 +1,16 @@
 //! Settling over any stepper.
 ghost use Rattle.std.specs.Prelude.{◌≡◌, ℕ, ◌+◌, ◌^◌, ◌<◌, ◌≤◌, ◌↔◌, length, IsTrue};
-ghost use Rattle.path_meaning.specs.Wiring.{IsWired};
-ghost use Rattle.oscillation_x.specs.Settling.{Stepping, Joining, Settles, Moving, Fading, Shifts, raised, storage_nodes};
+ghost use Rattle.path_meaning.specs.Graphs.{IsWired};
+ghost use Rattle.oscillation_x.specs.Settling.{Stepping, Joining, Settles, Moving, Fading, Shifts, storage_nodes};
+ghost use Rattle.ternary.specs.Counts.{raised};
 
 use crate::stepping::Stepper;
 use path_meaning::{Graph, graphs_are_wired};
 use std::sync::ledger::Ledger;
 use ternary::Steps;
+
+/// The greatest limit.
+pub const MOST_LIMIT: u64 = 1_000_000;
 
 /// How a state settled: the number of steps of both kinds that changed something, and whether a
 /// joining step was among them.
@@ -19,10 +23,11 @@ pub struct Settled {
 /// Settles a state: takes unit steps while they change something, at most `limit` that do, and
 /// after that joining steps while they change something.
 ///
-/// `limit` is from 1 to 1,000,000. The graph is meant that is handed in; on a stepper that doesn't
-/// fit it the call ends all the same, within the bound by the number of nodes. A joining step that
-/// changes something makes some storage node X that wasn't, so no more of them change something
-/// than the graph has storage nodes. A call takes no memory and has no refusal.
+/// `limit` is from 1 to [`MOST_LIMIT`]. Where fewer unit steps changed something, the last one left
+/// a steady state, and no joining step is computed. The graph is meant that is handed in; on a
+/// stepper that doesn't fit it the call ends all the same, within the bound by the number of nodes.
+/// A joining step that changes something makes some storage node X that wasn't, so no more of them
+/// change something than the graph has storage nodes. A call takes no memory and has no refusal.
 ///
 /// In the manner of MOSSIM II: Bryant, "A Switch-Level Model and Simulator for MOS Digital
 /// Systems", 1984; that a node which moves past the limit is joined with its steady state, and its
@@ -34,7 +39,7 @@ pub fn settle<M: Stepper, L: Ledger>(
     steps: &mut Steps<L>,
 ) -> Settled
     requires low { 1 ≤ limit }
-    requires high { limit ≤ 1000000 }
+    requires high { limit ≤ MOST_LIMIT }
     ensures settles { M.fits m.old graph.now
         → Settles graph.now (M.state m.old) limit (M.state m.new) result.steps result.joined }
     ensures fits { M.fits m.old graph.now → M.fits m.new graph.now }
@@ -47,6 +52,12 @@ pub fn settle<M: Stepper, L: Ledger>(
 {
     graphs_are_wired(graph);
     let first = step_while_changing(m, graph, limit, steps);
+    if first < limit {
+        return Settled {
+            steps: first,
+            joined: false,
+        };
+    }
     let second = join_while_changing(m, graph, steps);
     Settled {
         steps: first + second,
@@ -54,7 +65,7 @@ pub fn settle<M: Stepper, L: Ledger>(
     }
 }
 
-/// Takes unit steps while they change something, at most `limit` that do, and answers how many did.
+// Takes unit steps while they change something, at most `limit` that do, and answers how many did.
 fn step_while_changing<M: Stepper, L: Ledger>(
     m: &mut M,
     graph: &Graph,
@@ -77,7 +88,7 @@ fn step_while_changing<M: Stepper, L: Ledger>(
     limit
 }
 
-/// Takes joining steps while they change something, and answers how many did.
+// Takes joining steps while they change something, and answers how many did.
 fn join_while_changing<M: Stepper, L: Ledger>(m: &mut M, graph: &Graph, steps: &mut Steps<L>) -> u64
     requires { IsWired graph.now }
     ensures joining { M.fits m.old graph.now

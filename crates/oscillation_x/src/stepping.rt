@@ -2,9 +2,10 @@
 ghost use Rattle.std.specs.Prelude.{◌≡◌, ◌≢◌, ℕ, ◌^◌, ◌<◌, List, length};
 ghost use Rattle.std.specs.Bool.{OnTrue, OnFalse};
 ghost use Rattle.ternary.specs.declared.tern.Tern.{Tern};
-ghost use Rattle.path_meaning.specs.Wiring.{Wiring};
+ghost use Rattle.path_meaning.specs.Graphs.{GraphData};
 ghost use Rattle.path_meaning.specs.Step.{IsStep};
-ghost use Rattle.oscillation_x.specs.Settling.{IsJoinStep, StaysOrBecomesX, raised};
+ghost use Rattle.oscillation_x.specs.Settling.{IsJoinStep, StaysOrBecomesX};
+ghost use Rattle.ternary.specs.Counts.{raised};
 
 use path_meaning::Graph;
 use std::sync::ledger::Ledger;
@@ -20,7 +21,7 @@ use ternary::Steps;
 pub trait Stepper {
     ghost state: { Self → List Tern };
 
-    ghost fits: { Self → Wiring → Type 0 };
+    ghost fits: { Self → GraphData → Type 0 };
 
     ghost moves: { Self → ℕ };
 

@@ -1,6 +1,6 @@
 -- A cycle can be cut out of an unblocked path.
--- Round a cycle a path only grows weaker, so before the cycle it stands at the same node at least as strong as after it. What goes on
--- unblocked after the cycle goes on so from there too.
+-- Round a cycle a path only grows weaker, so before the cycle it stands at the same node at least as strong as
+-- after it. What goes on unblocked after the cycle goes on so from there too.
 use Rattle.std.proofs.Common.{◌≤◌, ◌++◌, sym}
 use Rattle.path_meaning.specs.Path.{Stand, at_root, LivePath}
 use Rattle.path_meaning.specs.Laws.{CyclesCanBeCut}

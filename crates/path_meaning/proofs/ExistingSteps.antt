@@ -1,34 +1,9 @@
 -- Every state of a graph has a step.
--- For each rail there is the closed table of going on over live switches to where no stronger definite path leads, from the roots that
--- set the rail: an entry is positive exactly where an unblocked path from such a root leads to its node. So it is decided which rails
--- each node responds with; one of them is set, since every node is reached by some root and that root has a state.
-use Rattle.std.proofs.Common.{
-  ◌≡◌,
-  ℕ,
-  zero,
-  suc,
-  ◌<◌,
-  ◌≤◌,
-  min,
-  Bool,
-  true,
-  false,
-  ◌⊎◌,
-  inl,
-  inr,
-  List,
-  [],
-  ◌∷◌,
-  ◌++◌,
-  length,
-  Some,
-  refl,
-  sym,
-  ap,
-  subst,
-  ◌∙◌,
-  arith,
-}
+-- For each rail there is the closed table of going on over live switches to where no stronger definite path
+-- leads, from the roots that set the rail: an entry is positive exactly where an unblocked path from such a
+-- root leads to its node. So it is decided which rails each node responds with; one of them is set, since every
+-- node is reached by some root and that root has a state.
+use Rattle.std.proofs.Common.{◌≡◌, ℕ, zero, suc, ◌<◌, ◌≤◌, min, Bool, true, false, ◌⊎◌, inl, inr, List, [], ◌∷◌, ◌++◌, length, Some, refl, sym, ap, subst, ◌∙◌, arith}
 use Rattle.std.proofs.lemmas.Bool.{cases_lt, cases_eq}
 use Rattle.std.proofs.lemmas.List.{get_or_push}
 use Rattle.std.proofs.Math.ListN.{get_or-append, length-append}
@@ -37,11 +12,11 @@ use Rattle.ternary.specs.declared.tern.Tern.TheVariants.{Zero, One, Unk}
 use Rattle.ternary.specs.Tern.{may_one, may_zero}
 use Rattle.path_meaning.specs.declared.switching.Switch.{Switch}
 use Rattle.path_meaning.specs.Switching.{is_live, state_at, switch_state_at}
-use Rattle.path_meaning.specs.Wiring.{Wiring, IsWired, nodes, level_of, place_at}
+use Rattle.path_meaning.specs.Graphs.{GraphData, IsWired, nodes, level_of, place_at}
 use Rattle.path_meaning.specs.Path.{Stand, Joins, Hop, at_root}
 use Rattle.path_meaning.specs.Step.{Responds, IsResponse}
 use Rattle.path_meaning.specs.Laws.{StepExists}
-use Rattle.path_meaning.proofs.PathLemmas.{beyond, Hop-over, Hop-in_range, Leads-positive, Goes, Goes-here, Goes-more, Goes-from_Reaches, Reaches-from_Goes, level_fits}
+use Rattle.path_meaning.proofs.PathLemmas.{beyond, Hop-over, Hop-in_range, Leads-positive, Goes, Goes-here, Goes-from_Reaches, Arrives, Arrives-with, Arrives-at_root, Arrives-more, Reaches-from_Arrives, level_fits}
 use Rattle.path_meaning.proofs.TableClosure.{pick, IsClosed, closed_table}
 use Rattle.path_meaning.proofs.StrongestPaths.{IsBest, best_table, in_range-from_level, unbeaten-from_best, best-from_unbeaten}
 use Rattle.path_meaning.proofs.ReachedNodes.{reached}
@@ -55,17 +30,12 @@ abbrev rooted : Bool → ℕ → ℕ
 rooted true strength = strength
 rooted false strength = 0
 
-module _ (rail : Tern → Bool) (g : Wiring) (wired : IsWired g) (state : List Tern) (best : ℕ → ℕ) (is_best : IsBest g state best) where
+module _ (rail : Tern → Bool) (g : GraphData) (wired : IsWired g) (state : List Tern) (best : ℕ → ℕ)
+    (is_best : IsBest g state best) where
   -- an unblocked path of this strength leads to the node from a root that sets the rail
   record IsDriven (node strength : ℕ) : Type 0 where
-    root : ℕ
-    in_range : root < nodes g
-    set : rail (state_at state root) ≡ true
-    hops : List ℕ
-    there : Stand
-    goes : Goes g state (at_root g root) hops there
-    ends : there.node ≡ node
-    strong : there.strength ≡ strength
+    way : Arrives g state node strength
+    set : rail (state_at state way.root) ≡ true
 
   -- a node starts with its level where it sets the rail and no definite path is stronger
   abbrev start : ℕ → ℕ
@@ -80,16 +50,9 @@ module _ (rail : Tern → Bool) (g : Wiring) (wired : IsWired g) (state : List T
       (over : (level_of g node < best node) ⊎ (best node ≤ level_of g node)) →
       0 < rooted set (pick over 0 (level_of g node)) → IsDriven node (rooted set (pick over 0 (level_of g node)))
   starts_from node true set (inl over) positive = absurd (omega arith)
-  starts_from node true set (inr under) positive = record {
-    root = node;
-    in_range = in_range-from_level g wired state node positive;
-    set = set;
-    hops = [];
-    there = at_root g node;
-    goes = (unbeaten-from_best g state best is_best node (level_of g node) under, refl);
-    ends = refl;
-    strong = refl;
-  }
+  starts_from node true set (inr under) positive =
+      let unbeaten = unbeaten-from_best g state best is_best node (level_of g node) under in
+      record { way = Arrives-at_root g state node (in_range-from_level g wired state node positive) unbeaten; set = set }
   starts_from node false set over positive = absurd (omega arith)
 
   -- what starts comes from somewhere
@@ -100,22 +63,16 @@ module _ (rail : Tern → Bool) (g : Wiring) (wired : IsWired g) (state : List T
   -- where no stronger definite path leads, an unblocked path goes on over a live switch
   onward : (m n strength place : ℕ) (switch : Switch) →
       IsDriven m strength → place_at g.places place ≡ Some switch → Joins switch m n →
-      is_live (switch_state_at state switch) ≡ true → best n ≤ min strength switch.level → IsDriven n (min strength switch.level)
+      is_live (switch_state_at state switch) ≡ true → best n ≤ min strength switch.level →
+      IsDriven n (min strength switch.level)
   onward m n strength place switch driven stands joins live above =
-      let next : Stand = beyond state driven.there switch n in
-      let over : Hop g state driven.there place next = Hop-over stands (rw driven.ends joins) live in
-      let strong : next.strength ≡ min strength switch.level = rw driven.strong refl in
+      let way = driven.way in
+      let next : Stand = beyond state way.there switch n in
+      let over : Hop g state way.there place next = Hop-over stands (rw way.ends joins) live in
+      let strong : next.strength ≡ min strength switch.level = rw way.strong refl in
       let unbeaten = unbeaten-from_best g state best is_best n next.strength (omega arith) in
-      record {
-        root = driven.root;
-        in_range = driven.in_range;
-        set = driven.set;
-        hops = driven.hops ++ place ∷ [];
-        there = next;
-        goes = Goes-more g state driven.hops (at_root g driven.root) driven.there next place driven.goes over unbeaten;
-        ends = refl;
-        strong = strong;
-      }
+      let longer = Arrives-more g state way place next over unbeaten in
+      record { way = Arrives-with g state longer strong; set = driven.set }
 
   -- along an unblocked path no stand is stronger than its node's entry
   driven_along : (table : Table) (hops : List ℕ) (here there : Stand) → Goes g state here hops there →
@@ -126,7 +83,8 @@ module _ (rail : Tern → Bool) (g : Wiring) (wired : IsWired g) (state : List T
       let hop = goes.1.1 in
       let unbeaten = Goes-here g state hops next there goes.1.2 in
       let above = best-from_unbeaten g state best is_best next.node next.strength (Hop-in_range wired hop) unbeaten in
-      let spread = table.spread place hop.switch here.node next.node hop.at_place hop.joins hop.live (omega (arith, hop.strength, above)) in
+      let spread = table.spread place hop.switch here.node next.node hop.at_place hop.joins hop.live
+      (omega (arith, hop.strength, above)) in
       driven_along table hops next there goes.1.2 (omega (arith, hop.strength, spread))
 
   -- a root that sets the rail, and that no definite path beats, starts with its level
@@ -158,8 +116,7 @@ module _ (rail : Tern → Bool) (g : Wiring) (wired : IsWired g) (state : List T
       elim (cases_lt 0 (table.table node)) [
         | inl positive ↦
             let driven = table.come node positive in
-            let root = driven.root in
-            inl (root, Reaches-from_Goes g state root node driven.hops driven.there driven.in_range driven.goes driven.ends, driven.set)
+            inl (driven.way.root, Reaches-from_Arrives g state driven.way, driven.set)
         | inr none ↦ inr (λ way. absurd (omega (arith, positive-from_responds table node way)))
       ]
 
@@ -174,7 +131,7 @@ some_rail One = inl refl
 some_rail Unk = inl refl
 
 -- the steady state of a node by the rails that it responds with
-response_of : (g : Wiring) → IsWired g → (state : List Tern) (node : ℕ) → node < nodes g →
+response_of : (g : GraphData) → IsWired g → (state : List Tern) (node : ℕ) → node < nodes g →
     Decided (Responds may_one g state node) → Decided (Responds may_zero g state node) →
     (answer : Tern) × IsResponse g state node answer
 response_of g wired state node in_range (inl one) (inl zero_too) =
@@ -208,7 +165,8 @@ collected P (suc count) each =
                 rw here (subst (λ n. P n last.0) (sym same) last.1)
             | inr other ↦
                 let within : node < length before.0 = omega (arith, before.1) in
-                let here : state_at states node ≡ state_at before.0 node = get_or-append before.0 (last.0 ∷ []) Zero node within in
+                let here : state_at states node ≡ state_at before.0 node =
+                get_or-append before.0 (last.0 ∷ []) Zero node within in
                 rw here (before.2 node (omega arith))
           ],
     )
@@ -219,6 +177,7 @@ exists g wired state =
     let table = best_table g wired state in
     let one = decided may_one g wired state table.0 table.1 in
     let zero_too = decided may_zero g wired state table.0 table.1 in
-    let responses = λ (node : ℕ) (in_range : node < nodes g). response_of g wired state node in_range (one node) (zero_too node) in
+    let responses = λ (node : ℕ) (in_range : node < nodes g). response_of g wired state node in_range (one node)
+    (zero_too node) in
     let step = collected (IsResponse g state) (nodes g) responses in
     (step.0, record { count = step.1; each = step.2 })

@@ -1,10 +1,11 @@
 -- Unblocked paths joined at a node.
--- Where an unblocked path ends, no definite path is stronger, and the empty path of that node is definite. So it ends at least as strong
--- as the node's own level, and a path from that node goes on from it unblocked, as it does from its root.
+-- Where an unblocked path ends, no definite path is stronger, and the empty path of that node is definite. So
+-- it ends at least as strong as the node's own level, and a path from that node goes on from it unblocked, as
+-- it does from its root.
 use Rattle.std.proofs.Common.{ℕ, ◌<◌, ◌≤◌, inl, inr, List, [], ◌++◌, refl, sym, ◌∙◌}
 use Rattle.std.proofs.lemmas.Bool.{cases_lt}
 use Rattle.ternary.specs.declared.tern.Tern.{Tern}
-use Rattle.path_meaning.specs.Wiring.{Wiring, nodes, level_of}
+use Rattle.path_meaning.specs.Graphs.{GraphData, nodes, level_of}
 use Rattle.path_meaning.specs.Path.{at_root, Reaches}
 use Rattle.path_meaning.specs.Laws.{ReachesOn, RootsReachThemselves}
 use Rattle.path_meaning.proofs.PathLemmas.{
@@ -18,7 +19,7 @@ use Rattle.path_meaning.proofs.PathLemmas.{
 }
 
 -- what reaches a node is at least as strong there as the node's level
-pub strong_enough : (g : Wiring) (state : List Tern) (r m : ℕ) (reached : Reaches g state r m) → m < nodes g →
+pub strong_enough : (g : GraphData) (state : List Tern) (r m : ℕ) (reached : Reaches g state r m) → m < nodes g →
     level_of g m ≤ reached.there.strength
 strong_enough g state r m reached in_range =
     let goes = Goes-from_Reaches g state r m reached in

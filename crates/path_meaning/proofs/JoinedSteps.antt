@@ -1,44 +1,22 @@
 -- The step of a join is the join of the steps, while the switches stay as they are.
--- Under the join every switch has the state that it has under both, so the same paths are unblocked under all three. A root sets a rail
--- under the join where it sets it under one of the two, so a rail of the steady state is set where one of the two steps sets it.
-use Rattle.std.proofs.Common.{◌≡◌, ℕ, ◌<◌, ◌↔◌, Bool, true, false, ◌||◌, ◌⊎◌, inl, inr, List, length, refl, sym, ap, ◌∙◌, arith}
-use Rattle.std.proofs.lemmas.Bool.{or_cases}
+-- Under the join every switch has the state that it has under both, so the same paths are unblocked under all
+-- three. A root sets a rail under the join where it sets it under one of the two, so a rail of the steady state
+-- is set where one of the two steps sets it.
+use Rattle.std.proofs.Common.{◌≡◌, ℕ, ◌<◌, ◌↔◌, Bool, true, ◌||◌, ◌⊎◌, inl, inr, List, length, refl, sym, ap, ◌∙◌, arith}
+use Rattle.std.proofs.lemmas.Bool.{or_cases, or_left, or_right}
 use Rattle.ternary.specs.declared.tern.Tern.{Tern}
 use Rattle.ternary.specs.declared.tern.Tern.TheVariants.{Zero, One, Unk}
 use Rattle.ternary.specs.Tern.{may_one, may_zero, join}
+use Rattle.ternary.proofs.TernLemmas.{may_one-join, may_zero-join}
 use Rattle.path_meaning.specs.declared.switching.SwitchKind.{SwitchKind}
 use Rattle.path_meaning.specs.declared.switching.SwitchKind.TheVariants.{NChan, PChan, Always}
 use Rattle.path_meaning.specs.declared.switching.SwitchState.TheVariants.{Closed}
 use Rattle.path_meaning.specs.Switching.{state_at, state_by}
-use Rattle.path_meaning.specs.Wiring.{Wiring, IsWired, nodes}
+use Rattle.path_meaning.specs.Graphs.{GraphData, IsWired, nodes}
 use Rattle.path_meaning.specs.Step.{Responds}
 use Rattle.path_meaning.specs.Laws.{SameSwitches, IsJoin, StepsJoin}
 use Rattle.path_meaning.proofs.PathLemmas.{switch_fits}
 use Rattle.path_meaning.proofs.SameSwitchesLemmas.{SameSwitches-sym, Reaches-same}
-
--- a join may be 1 where one of the two may
-may_one-join : (s t : Tern) → may_one (join s t) ≡ (may_one s || may_one t)
-may_one-join Zero Zero = refl
-may_one-join Zero One = refl
-may_one-join Zero Unk = refl
-may_one-join One Zero = refl
-may_one-join One One = refl
-may_one-join One Unk = refl
-may_one-join Unk Zero = refl
-may_one-join Unk One = refl
-may_one-join Unk Unk = refl
-
--- and 0 where one of the two may
-may_zero-join : (s t : Tern) → may_zero (join s t) ≡ (may_zero s || may_zero t)
-may_zero-join Zero Zero = refl
-may_zero-join Zero One = refl
-may_zero-join Zero Unk = refl
-may_zero-join One Zero = refl
-may_zero-join One One = refl
-may_zero-join One Unk = refl
-may_zero-join Unk Zero = refl
-may_zero-join Unk One = refl
-may_zero-join Unk Unk = refl
 
 -- a depletion switch is closed
 always_closed : (t : Tern) → state_by Always t ≡ Closed
@@ -47,7 +25,8 @@ always_closed One = refl
 always_closed Unk = refl
 
 -- a switch whose state two gates agree on has it under their join
-state_by-join : (kind : SwitchKind) (s t : Tern) → state_by kind s ≡ state_by kind t → state_by kind s ≡ state_by kind (join s t)
+state_by-join : (kind : SwitchKind) (s t : Tern) → state_by kind s ≡ state_by kind t →
+    state_by kind s ≡ state_by kind (join s t)
 state_by-join NChan Zero Zero same = refl
 state_by-join NChan Zero One same = absurd cc
 state_by-join NChan Zero Unk same = same
@@ -68,17 +47,9 @@ state_by-join PChan Unk One same = refl
 state_by-join PChan Unk Unk same = refl
 state_by-join Always s t same = always_closed s ∙ sym (always_closed (join s t))
 
--- a disjunction holds where its first part does
-or-first : (a b : Bool) → a ≡ true → (a || b) ≡ true
-or-first a b holds = rw holds refl
-
--- and where its second part does
-or-second : (a b : Bool) → b ≡ true → (a || b) ≡ true
-or-second true b holds = refl
-or-second false b holds = holds
-
 -- under a join of two states that agree on the switches, the switches are as under the first
-join_same : (g : Wiring) → IsWired g → (a b joined : List Tern) → length a ≡ nodes g → SameSwitches g a b → IsJoin a b joined →
+join_same : (g : GraphData) → IsWired g → (a b joined : List Tern) → length a ≡ nodes g → SameSwitches g a b →
+    IsJoin a b joined →
     SameSwitches g a joined
 join_same g wired a b joined count same is_join place switch stands =
     let fits = switch_fits g wired place switch stands in
@@ -88,7 +59,7 @@ join_same g wired a b joined count same is_join place switch stands =
     rw (is_join.each switch.gate inside) (state_by-join switch.kind one other (same place switch stands))
 
 -- two states, their join, and a rail that a join has where one of the two has it
-module _ (g : Wiring) (a b joined : List Tern) (count : length joined ≡ nodes g) (is_join : IsJoin a b joined)
+module _ (g : GraphData) (a b joined : List Tern) (count : length joined ≡ nodes g) (is_join : IsJoin a b joined)
     (same_a : SameSwitches g a joined) (same_b : SameSwitches g b joined)
     (rail : Tern → Bool) (rail-join : (s t : Tern) → rail (join s t) ≡ (rail s || rail t)) where
   -- a root sets the rail under the join where it does under one of the two
@@ -101,14 +72,14 @@ module _ (g : Wiring) (a b joined : List Tern) (count : length joined ≡ nodes 
   responds-first : (node : ℕ) → Responds rail g a node → Responds rail g joined node
   responds-first node way =
       let root = way.0 in
-      let set = or-first (rail (state_at a root)) (rail (state_at b root)) way.2 in
+      let set = or_left (rail (state_at a root)) (rail (state_at b root)) way.2 in
       (root, Reaches-same g a joined same_a root node way.1, joined_sets root way.1.path.in_range ∙ set)
 
   -- and what responds under the second does
   responds-second : (node : ℕ) → Responds rail g b node → Responds rail g joined node
   responds-second node way =
       let root = way.0 in
-      let set = or-second (rail (state_at a root)) (rail (state_at b root)) way.2 in
+      let set = or_right (rail (state_at a root)) (rail (state_at b root)) way.2 in
       (root, Reaches-same g b joined same_b root node way.1, joined_sets root way.1.path.in_range ∙ set)
 
   -- what responds under the join responds under one of the two
@@ -131,8 +102,8 @@ module _ (g : Wiring) (a b joined : List Tern) (count : length joined ≡ nodes 
       | inr second ↦ responds-second node (two.0 second)
     ]),
     (λ way. rail-join s t ∙ elim (responds-either node way) [
-      | inl first ↦ or-first (rail s) (rail t) (one.1 first)
-      | inr second ↦ or-second (rail s) (rail t) (two.1 second)
+      | inl first ↦ or_left (rail s) (rail t) (one.1 first)
+      | inr second ↦ or_right (rail s) (rail t) (two.1 second)
     ]),
   )
 

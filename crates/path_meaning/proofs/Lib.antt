@@ -7,6 +7,7 @@ pub mod JoinedPaths
 pub mod SameSwitchesLemmas
 pub mod JoinedSteps
 pub mod RestingSteps
+pub mod InputNodes
 pub mod ExistingSteps
 pub mod UniqueSteps
 pub mod SpreadLemmas

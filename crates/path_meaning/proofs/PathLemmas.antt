@@ -1,41 +1,20 @@
--- Laws of paths, over one graph and one state: a path taken apart at any of its stands, and the unblocked path as a recursion.
--- A path is followed hop by hop from its root. `Goes` says of each stand that no stronger definite path leads there, so an unblocked
--- path is one that goes; the last lemma, that a stronger stand goes at least as far, carries the laws of cycles and of joined paths.
-use Rattle.std.proofs.Common.{
-  ◌≡◌,
-  ℕ,
-  ◌<◌,
-  ◌≤◌,
-  min,
-  true,
-  false,
-  ◌&&◌,
-  Bool,
-  inl,
-  inr,
-  List,
-  [],
-  ◌∷◌,
-  ◌++◌,
-  length,
-  Option,
-  Some,
-  None,
-  refl,
-  arith,
-  append_assoc,
-}
+-- Laws of paths, over one graph and one state: a path taken apart at any of its stands, and the unblocked path
+-- as a recursion.
+-- A path is followed hop by hop from its root. `Goes` says of each stand that no stronger definite path leads
+-- there, so an unblocked path is one that goes; the last lemma, that a stronger stand goes at least as far,
+-- carries the laws of cycles and of joined paths.
+use Rattle.std.proofs.Common.{◌≡◌, ℕ, ◌<◌, ◌≤◌, min, true, false, ◌&&◌, Bool, inl, inr, List, [], ◌∷◌, ◌++◌, length, Option, Some, None, refl, ◌∙◌, arith, append_assoc}
 use Rattle.std.proofs.lemmas.Bool.{cases_lt}
 use Rattle.std.proofs.Math.ListN.{get_or-eq_default}
 use Rattle.ternary.specs.declared.tern.Tern.{Tern}
 use Rattle.path_meaning.specs.declared.switching.Switch.{Switch}
 use Rattle.path_meaning.specs.Switching.{is_closed, is_live, switch_state_at}
 use Rattle.strength_order.specs.Levels.{IsLevel}
-use Rattle.path_meaning.specs.Wiring.{Wiring, IsWired, Fits, nodes, level_of, place_at}
+use Rattle.path_meaning.specs.Graphs.{GraphData, IsWired, Fits, nodes, level_of, place_at}
 use Rattle.path_meaning.specs.Path.{Stand, Joins, Hop, Leads, at_root, LivePath, IsBeaten, IsBlocked, Reaches}
 
 -- what a definite path beats, it beats all the more at a lower strength
-pub IsBeaten-lower : {g : Wiring} {state : List Tern} {node low high : ℕ} →
+pub IsBeaten-lower : {g : GraphData} {state : List Tern} {node low high : ℕ} →
     IsBeaten g state node high → low ≤ high → IsBeaten g state node low
 IsBeaten-lower beaten most = record {
   root = beaten.root;
@@ -52,7 +31,7 @@ pub same_stand : (x y : Stand) → x.node ≡ y.node → x.strength ≡ y.streng
 same_stand x y node strength definite = λ i. record { node = node i; strength = strength i; definite = definite i }
 
 -- over one place at most one hop leads from a stand
-pub Hop-unique : {g : Wiring} {state : List Tern} {here x y : Stand} {place : ℕ} →
+pub Hop-unique : {g : GraphData} {state : List Tern} {here x y : Stand} {place : ℕ} →
     Hop g state here place x → Hop g state here place y → x ≡ y
 Hop-unique {g} {state} {here} {x} {y} one two =
     let same : one.switch ≡ two.switch = cc in
@@ -66,7 +45,8 @@ Hop-unique {g} {state} {here} {x} {y} one two =
     same_stand x y node strength definite
 
 -- where a switch stands there is a place
-pub place_inside : (places : List (Option Switch)) (place : ℕ) (switch : Switch) → place_at places place ≡ Some switch → place < length places
+pub place_inside : (places : List (Option Switch)) (place : ℕ) (switch : Switch) →
+    place_at places place ≡ Some switch → place < length places
 place_inside places place switch stands =
     elim (cases_lt place (length places)) [
       | inl inside ↦ inside
@@ -74,13 +54,13 @@ place_inside places place switch stands =
     ]
 
 -- a switch of a graph fits it
-pub switch_fits : (g : Wiring) → IsWired g → (place : ℕ) (switch : Switch) →
+pub switch_fits : (g : GraphData) → IsWired g → (place : ℕ) (switch : Switch) →
     place_at g.places place ≡ Some switch → Fits (nodes g) switch
 switch_fits g wired place switch stands =
     rw stands at (wired.places place None (place_inside g.places place switch stands))
 
 -- a node's level is a level
-pub level_fits : (g : Wiring) → IsWired g → (node : ℕ) → node < nodes g → IsLevel (level_of g node)
+pub level_fits : (g : GraphData) → IsWired g → (node : ℕ) → node < nodes g → IsLevel (level_of g node)
 level_fits g wired node in_range = wired.levels node 0 in_range
 
 -- where a path stands that has gone over a switch
@@ -92,7 +72,7 @@ beyond state here switch node = record {
 }
 
 -- a path hops over each switch at its node that isn't open
-pub Hop-over : {g : Wiring} {state : List Tern} {here : Stand} {place node : ℕ} {switch : Switch} →
+pub Hop-over : {g : GraphData} {state : List Tern} {here : Stand} {place node : ℕ} {switch : Switch} →
     place_at g.places place ≡ Some switch → Joins switch here.node node → is_live (switch_state_at state switch) ≡ true →
     Hop g state here place (beyond state here switch node)
 Hop-over {g} {state} {here} {place} {node} {switch} stands joins live = record {
@@ -105,14 +85,14 @@ Hop-over {g} {state} {here} {place} {node} {switch} stands joins live = record {
 }
 
 -- a hop leads to a node of the graph
-pub Hop-in_range : {g : Wiring} {state : List Tern} {here there : Stand} {place : ℕ} →
+pub Hop-in_range : {g : GraphData} {state : List Tern} {here there : Stand} {place : ℕ} →
     IsWired g → Hop g state here place there → there.node < nodes g
 Hop-in_range {g} {state} {here} {there} {place} wired hop =
     let fits = switch_fits g wired place hop.switch hop.at_place in
     elim hop.joins [ inl p ↦ rw (← p.1) fits.b | inr p ↦ rw (← p.1) fits.a ]
 
 -- a hop leads to no stronger stand
-pub Hop-weaker : {g : Wiring} {state : List Tern} {here there : Stand} {place : ℕ} →
+pub Hop-weaker : {g : GraphData} {state : List Tern} {here there : Stand} {place : ℕ} →
     Hop g state here place there → there.strength ≤ here.strength
 Hop-weaker hop = omega arith
 
@@ -121,7 +101,7 @@ pub and-first : (a b : Bool) → (a && b) ≡ true → a ≡ true
 and-first true b both = refl
 and-first false b both = both
 
-module _ (g : Wiring) (state : List Tern) where
+module _ (g : GraphData) (state : List Tern) where
   -- one hop more at the far end
   pub Leads-more : (hops : List ℕ) (here mid there : Stand) (place : ℕ) →
       Leads g state here hops mid → Hop g state mid place there → Leads g state here (hops ++ place ∷ []) there
@@ -253,7 +233,8 @@ module _ (g : Wiring) (state : List Tern) where
 
   -- a path that isn't blocked is beaten after no front of it
   unbeaten_after : (root : ℕ) → root < nodes g → (front back : List ℕ) (here : Stand) →
-      Leads g state (at_root g root) front here → (¬ IsBlocked g state root (front ++ back)) → ¬ IsBeaten g state here.node here.strength
+      Leads g state (at_root g root) front here → (¬ IsBlocked g state root (front ++ back)) →
+      ¬ IsBeaten g state here.node here.strength
   unbeaten_after root in_range front back here passed unblocked beaten = unblocked (record {
     front = front;
     back = back;
@@ -282,7 +263,8 @@ module _ (g : Wiring) (state : List Tern) where
       from_front root path.in_range [] hops (at_root g root) there refl path.leads unblocked
 
   -- a path that goes isn't blocked
-  pub unblocked-from_Goes : (root : ℕ) (hops : List ℕ) (there : Stand) → Goes (at_root g root) hops there → ¬ IsBlocked g state root hops
+  pub unblocked-from_Goes : (root : ℕ) (hops : List ℕ) (there : Stand) → Goes (at_root g root) hops there →
+      ¬ IsBlocked g state root hops
   unblocked-from_Goes root hops there goes blocked =
       let whole = rw blocked.splits at goes in
       let start = at_root g root in
@@ -290,7 +272,8 @@ module _ (g : Wiring) (state : List Tern) where
       Goes-there blocked.front start blocked.there front blocked.beaten
 
   -- the unblocked path by which a root reaches a node
-  pub Goes-from_Reaches : (root node : ℕ) (reached : Reaches g state root node) → Goes (at_root g root) reached.hops reached.there
+  pub Goes-from_Reaches : (root node : ℕ) (reached : Reaches g state root node) →
+      Goes (at_root g root) reached.hops reached.there
   Goes-from_Reaches root node reached = Goes-from_unblocked root reached.hops reached.there reached.path reached.unblocked
 
   -- a root reaches where a path from it goes
@@ -304,12 +287,65 @@ module _ (g : Wiring) (state : List Tern) where
     unblocked = unblocked-from_Goes root hops there goes;
   }
 
+  -- an unblocked path of this strength leads to the node
+  pub record Arrives (node strength : ℕ) : Type 0 where
+    pub root : ℕ
+    pub in_range : root < nodes g
+    pub hops : List ℕ
+    pub there : Stand
+    pub goes : Goes (at_root g root) hops there
+    pub ends : there.node ≡ node
+    pub strong : there.strength ≡ strength
+
+  -- so its root reaches the node
+  abbrev pub Reaches-from_Arrives : {node strength : ℕ} (way : Arrives node strength) → Reaches g state way.root node
+  Reaches-from_Arrives {node} way = Reaches-from_Goes way.root node way.hops way.there way.in_range way.goes way.ends
+
+  -- with whatever equals that strength
+  abbrev pub Arrives-with : {node strength other : ℕ} (way : Arrives node strength) → strength ≡ other → Arrives node other
+  Arrives-with way same = record {
+    root = way.root;
+    in_range = way.in_range;
+    hops = way.hops;
+    there = way.there;
+    goes = way.goes;
+    ends = way.ends;
+    strong = way.strong ∙ same;
+  }
+
+  -- by its empty path, where nothing is stronger than its level
+  abbrev pub Arrives-at_root : (node : ℕ) → node < nodes g → (¬ IsBeaten g state node (level_of g node)) →
+      Arrives node (level_of g node)
+  Arrives-at_root node in_range unbeaten = record {
+    root = node;
+    in_range = in_range;
+    hops = [];
+    there = at_root g node;
+    goes = (unbeaten, refl);
+    ends = refl;
+    strong = refl;
+  }
+
+  -- and by one hop more, to where nothing beats it
+  abbrev pub Arrives-more : {node strength : ℕ} (way : Arrives node strength) (place : ℕ) (there : Stand) →
+      Hop g state way.there place there → (¬ IsBeaten g state there.node there.strength) → Arrives there.node there.strength
+  Arrives-more way place there hop unbeaten = record {
+    root = way.root;
+    in_range = way.in_range;
+    hops = way.hops ++ place ∷ [];
+    there = there;
+    goes = Goes-more way.hops (at_root g way.root) way.there there place way.goes hop unbeaten;
+    ends = refl;
+    strong = refl;
+  }
+
   -- a stronger stand at the same node isn't beaten either
   raised-unbeaten : (low high : Stand) → (¬ IsBeaten g state low.node low.strength) →
       low.node ≡ high.node → low.strength ≤ high.strength → ¬ IsBeaten g state high.node high.strength
   raised-unbeaten low high unbeaten same most beaten = unbeaten (IsBeaten-lower (rw (← same) at beaten) most)
 
-  -- what goes unblocked from a stand goes so from a stronger one at the same node, to the same node, and is at least as strong there
+  -- what goes unblocked from a stand goes so from a stronger one at the same node, to the same node, and is at
+  -- least as strong there
   pub Goes-raised : (hops : List ℕ) (low high there : Stand) →
       Goes low hops there → low.node ≡ high.node → low.strength ≤ high.strength →
       (end : Stand) × Goes high hops end × (end.node ≡ there.node) × (there.strength ≤ end.strength)

@@ -1,52 +1,41 @@
 -- Every node has an unblocked path, and even a definite one.
--- Take the table of the strongest definite paths, and go through the nodes from the strongest entry downwards. A strongest definite path
--- to a node is followed from its root: where it stands at a node with a greater entry, that node has its path by then; else the path so
--- far is as strong as any, and one hop more keeps it so. What ends as strong as the table says is beaten nowhere.
-use Rattle.std.proofs.Common.{◌≡◌, ℕ, zero, suc, ◌+◌, ◌<◌, ◌≤◌, true, inl, inr, List, [], ◌∷◌, ◌++◌, refl, sym, ap, arith}
+-- Take the table of the strongest definite paths, and go through the nodes from the strongest entry downwards.
+-- A strongest definite path to a node is followed from its root: where it stands at a node with a greater
+-- entry, that node has its path by then; else the path so far is as strong as any, and one hop more keeps it
+-- so. What ends as strong as the table says is beaten nowhere.
+use Rattle.std.proofs.Common.{◌≡◌, ℕ, zero, suc, ◌+◌, ◌<◌, ◌≤◌, true, inl, inr, List, [], ◌∷◌, refl, sym, ap, arith}
 use Rattle.std.proofs.lemmas.Bool.{cases_lt}
 use Rattle.ternary.specs.declared.tern.Tern.{Tern}
 use Rattle.strength_order.specs.declared.TheConstants.{INPUT_LEVEL}
 use Rattle.path_meaning.specs.Switching.{is_closed, switch_state_at}
-use Rattle.path_meaning.specs.Wiring.{Wiring, IsWired, nodes, level_of}
+use Rattle.path_meaning.specs.Graphs.{GraphData, IsWired, nodes, level_of}
 use Rattle.path_meaning.specs.Path.{Stand, Hop, Leads, at_root}
 use Rattle.path_meaning.specs.Laws.{EveryNodeIsReached, StrongestIsUnblocked}
-use Rattle.path_meaning.proofs.PathLemmas.{beyond, Hop-over, Leads-definite, Leads-weaker, Hop-in_range, Goes, Goes-more, Reaches-from_Goes}
+use Rattle.path_meaning.proofs.PathLemmas.{beyond, Hop-over, Leads-definite, Leads-weaker, Hop-in_range, Arrives, Arrives-with, Arrives-at_root, Arrives-more, Reaches-from_Arrives}
 use Rattle.path_meaning.proofs.StrongestPaths.{surely, IsBest, best_table, best-high, unbeaten-from_best, and-second}
 
 -- an unblocked path leads to the node that is definite and as strong as any definite path there
-record IsTop (g : Wiring) (state : List Tern) (best : ℕ → ℕ) (node : ℕ) : Type 0 where
-  root : ℕ
-  in_range : root < nodes g
-  hops : List ℕ
-  there : Stand
-  goes : Goes g state (at_root g root) hops there
-  ends : there.node ≡ node
-  strong : there.strength ≡ best node
-  definite : there.definite ≡ true
+record IsTop (g : GraphData) (state : List Tern) (best : ℕ → ℕ) (node : ℕ) : Type 0 where
+  way : Arrives g state node (best node)
+  definite : way.there.definite ≡ true
 
-module _ (g : Wiring) (wired : IsWired g) (state : List Tern) (best : ℕ → ℕ) (is_best : IsBest g state best) where
+module _ (g : GraphData) (wired : IsWired g) (state : List Tern) (best : ℕ → ℕ) (is_best : IsBest g state best) where
   -- one hop more along a strongest path
-  top_next : (here next : Stand) (place : ℕ) → Hop g state here place next → next.definite ≡ true → here.strength ≤ best here.node →
+  top_next : (here next : Stand) (place : ℕ) → Hop g state here place next → next.definite ≡ true →
+      here.strength ≤ best here.node →
       best next.node ≤ next.strength → IsTop g state best here.node → IsTop g state best next.node
   top_next here next place hop definite most strong top =
       let closed = and-second here.definite (is_closed (switch_state_at state hop.switch)) (rw hop.definite at definite) in
-      let after : Stand = beyond state top.there hop.switch next.node in
-      let over : Hop g state top.there place after = Hop-over hop.at_place (rw top.ends hop.joins) hop.live in
+      let way = top.way in
+      let after : Stand = beyond state way.there hop.switch next.node in
+      let over : Hop g state way.there place after = Hop-over hop.at_place (rw way.ends hop.joins) hop.live in
       let still_definite : after.definite ≡ true = rw top.definite closed in
-      let least : best next.node ≤ after.strength = omega (arith, hop.strength, top.strong) in
+      let least : best next.node ≤ after.strength = omega (arith, hop.strength, way.strong) in
       let greatest : after.strength ≤ best next.node =
-      is_best.spread top.there after place over still_definite (omega (arith, top.strong, ap best top.ends)) in
-      record {
-        root = top.root;
-        in_range = top.in_range;
-        hops = top.hops ++ place ∷ [];
-        there = after;
-        goes = Goes-more g state top.hops (at_root g top.root) top.there after place top.goes over
-            (unbeaten-from_best g state best is_best next.node after.strength least);
-        ends = refl;
-        strong = omega arith;
-        definite = still_definite;
-      }
+      is_best.spread way.there after place over still_definite (omega (arith, way.strong, ap best way.ends)) in
+      let longer = Arrives-more g state way place after over
+      (unbeaten-from_best g state best is_best next.node after.strength least) in
+      record { way = Arrives-with g state longer (omega arith); definite = still_definite }
 
   -- a strongest definite path, followed from where it stands
   top_along : (bound : ℕ) → ((m : ℕ) → m < nodes g → bound < best m → IsTop g state best m) →
@@ -68,16 +57,9 @@ module _ (g : Wiring) (wired : IsWired g) (state : List Tern) (best : ℕ → �
 
   -- the empty path, where no definite path is stronger than the node's level
   top_at_root : (root : ℕ) → root < nodes g → best root ≡ level_of g root → IsTop g state best root
-  top_at_root root in_range same = record {
-    root = root;
-    in_range = in_range;
-    hops = [];
-    there = at_root g root;
-    goes = (unbeaten-from_best g state best is_best root (level_of g root) (omega arith), refl);
-    ends = refl;
-    strong = sym same;
-    definite = refl;
-  }
+  top_at_root root in_range same =
+      let unbeaten = unbeaten-from_best g state best is_best root (level_of g root) (omega arith) in
+      record { way = Arrives-with g state (Arrives-at_root g state root in_range unbeaten) (sym same); definite = refl }
 
   -- a node has its path where each node with a greater entry has one
   top_below : (node : ℕ) → node < nodes g → ((m : ℕ) → m < nodes g → best node < best m → IsTop g state best m) →
@@ -111,8 +93,8 @@ module _ (g : Wiring) (wired : IsWired g) (state : List Tern) (best : ℕ → �
 pub reached : EveryNodeIsReached
 reached g wired state node in_range =
     let table = best_table g wired state in
-    let way = top g wired state table.0 table.1 node in_range in
-    (way.root, Reaches-from_Goes g state way.root node way.hops way.there way.in_range way.goes way.ends, way.definite)
+    let highest = top g wired state table.0 table.1 node in_range in
+    (highest.way.root, Reaches-from_Arrives g state highest.way, highest.definite)
 
 -- a path whose prefixes are all strongest for their ends is unblocked
 pub unblocked : StrongestIsUnblocked

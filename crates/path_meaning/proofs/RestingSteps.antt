@@ -1,18 +1,19 @@
 -- A step that leaves the switches as they were leads to a steady state.
--- The same paths are unblocked before and after it. A root that sets a rail at a node reaches itself, so it has the rail after the step
--- too; and what sets a rail after the step had it from a root that reaches on, so no rail is new.
+-- The same paths are unblocked before and after it. A root that sets a rail at a node reaches itself, so it has
+-- the rail after the step too; and what sets a rail after the step had it from a root that reaches on, so no
+-- rail is new.
 use Rattle.std.proofs.Common.{◌≡◌, ℕ, ◌<◌, ◌↔◌, Bool, true, List}
 use Rattle.ternary.specs.declared.tern.Tern.{Tern}
 use Rattle.ternary.specs.Tern.{may_one, may_zero}
 use Rattle.path_meaning.specs.Switching.{state_at}
-use Rattle.path_meaning.specs.Wiring.{Wiring, nodes}
+use Rattle.path_meaning.specs.Graphs.{GraphData, nodes}
 use Rattle.path_meaning.specs.Step.{Responds}
 use Rattle.path_meaning.specs.Laws.{SameSwitches, StepsRest}
 use Rattle.path_meaning.proofs.JoinedPaths.{reach_on, roots_reach}
 use Rattle.path_meaning.proofs.SameSwitchesLemmas.{SameSwitches-sym, Reaches-same}
 
 -- a state, its step under the same switches, and a rail that the step sets where the node responds with it
-module _ (g : Wiring) (state next : List Tern) (same : SameSwitches g state next) (rail : Tern → Bool)
+module _ (g : GraphData) (state next : List Tern) (same : SameSwitches g state next) (rail : Tern → Bool)
     (sets : (node : ℕ) → node < nodes g → (rail (state_at next node) ≡ true) ↔ Responds rail g state node) where
   -- a root that sets the rail before the step sets it after the step
   responds_again : (node : ℕ) → Responds rail g state node → Responds rail g next node

@@ -1,16 +1,17 @@
--- Paths depend on the states of the switches alone: under two states of the nodes that give each switch the same state, paths lead, beat,
+-- Paths depend on the states of the switches alone: under two states of the nodes that give each switch the
+-- same state, paths lead, beat,
 -- block and reach alike.
 use Rattle.std.proofs.Common.{ℕ, List, [], ◌∷◌, sym}
 use Rattle.ternary.specs.declared.tern.Tern.{Tern}
-use Rattle.path_meaning.specs.Wiring.{Wiring}
+use Rattle.path_meaning.specs.Graphs.{GraphData}
 use Rattle.path_meaning.specs.Path.{Stand, Hop, Leads, at_root, LivePath, IsBeaten, IsBlocked, Reaches}
 use Rattle.path_meaning.specs.Laws.{SameSwitches}
 
 -- it doesn't matter which state comes first
-pub SameSwitches-sym : (g : Wiring) (a b : List Tern) → SameSwitches g a b → SameSwitches g b a
+pub SameSwitches-sym : (g : GraphData) (a b : List Tern) → SameSwitches g a b → SameSwitches g b a
 SameSwitches-sym g a b same place switch stands = sym (same place switch stands)
 
-module _ (g : Wiring) (a b : List Tern) (same : SameSwitches g a b) where
+module _ (g : GraphData) (a b : List Tern) (same : SameSwitches g a b) where
   -- a hop under one state is a hop under the other
   Hop-same : (here there : Stand) (place : ℕ) → Hop g a here place there → Hop g b here place there
   Hop-same here there place hop =
@@ -27,11 +28,19 @@ module _ (g : Wiring) (a b : List Tern) (same : SameSwitches g a b) where
   -- so hops lead alike
   Leads-same : (hops : List ℕ) (here there : Stand) → Leads g a here hops there → Leads g b here hops there
   Leads-same [] here there leads = leads
-  Leads-same (place ∷ hops) here there leads = (leads.0, Hop-same here leads.0 place leads.1, Leads-same hops leads.0 there leads.2)
+  Leads-same (place ∷ hops) here there leads = (
+    leads.0,
+    Hop-same here leads.0 place leads.1,
+    Leads-same hops leads.0 there leads.2,
+  )
 
   -- live paths are the same
   LivePath-same : (root : ℕ) (hops : List ℕ) (there : Stand) → LivePath g a root hops there → LivePath g b root hops there
-  LivePath-same root hops there path = record { in_range = path.in_range; leads = Leads-same hops (at_root g root) there path.leads }
+  LivePath-same root hops there path = record {
+    in_range = path.in_range;
+    leads =
+        Leads-same hops (at_root g root) there path.leads;
+  }
 
   -- what is beaten under one state is beaten under the other
   IsBeaten-same : (node strength : ℕ) → IsBeaten g a node strength → IsBeaten g b node strength
@@ -57,7 +66,8 @@ module _ (g : Wiring) (a b : List Tern) (same : SameSwitches g a b) where
   }
 
 -- a root reaches the same nodes under both states
-pub Reaches-same : (g : Wiring) (a b : List Tern) → SameSwitches g a b → (root node : ℕ) → Reaches g a root node → Reaches g b root node
+pub Reaches-same : (g : GraphData) (a b : List Tern) → SameSwitches g a b → (root node : ℕ) → Reaches g a root node →
+    Reaches g b root node
 Reaches-same g a b same root node reached = record {
   hops = reached.hops;
   there = reached.there;

@@ -4,7 +4,7 @@ use Rattle.std.proofs.lemmas.Bool.{cases_eq}
 use Rattle.std.specs.Prelude.{slice_index, slice_set}
 use Rattle.std.specs.Bool.{OnTrue, OnFalse}
 use Rattle.path_meaning.specs.declared.switching.Switch.{Switch}
-use Rattle.path_meaning.specs.Wiring.{place_at}
+use Rattle.path_meaning.specs.Graphs.{place_at}
 use Rattle.path_meaning.specs.Path.{Joins}
 use Rattle.path_meaning.specs.Spread.{Comes, AllCome, Grows, IsSpreadAt, IsSpreadBelow, room_left}
 use Rattle.path_meaning.specs.Spread.Comes.{starts, crosses}
@@ -39,7 +39,8 @@ module _ (places : List (Option Switch)) (widths floor : List ℕ) where
             crosses m (slice_index table m) (starts m (omega arith)) place n switch stands joins (omega arith) (omega arith) in
             rw (same, at_n, is, ← wide) comes
         | inr other ↦
-            let stays : slice_index (slice_set table n strength) k ≡ slice_index table k = get_or-set_other table n k strength 0 other in
+            let stays : slice_index (slice_set table n strength) k ≡ slice_index table k =
+            get_or-set_other table n k strength 0 other in
             rw stays (starts k (rw stays at positive))
       ]
 

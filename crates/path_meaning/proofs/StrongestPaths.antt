@@ -1,6 +1,7 @@
--- For every graph and state there is the table of the greatest strengths with which definite paths lead to its nodes.
--- It is the closed table of going over closed switches, each node starting with its level: an entry comes from a definite path, and
--- along a definite path no stand is stronger than its node's entry.
+-- For every graph and state there is the table of the greatest strengths with which definite paths lead to its
+-- nodes.
+-- It is the closed table of going over closed switches, each node starting with its level: an entry comes from
+-- a definite path, and along a definite path no stand is stronger than its node's entry.
 use Rattle.std.proofs.Common.{◌≡◌, ℕ, ◌<◌, ◌≤◌, min, true, Bool, ◌&&◌, false, inl, inr, List, [], ◌∷◌, ◌++◌, Some, refl, sym, ap, arith}
 use Rattle.std.proofs.lemmas.Bool.{cases_lt}
 use Rattle.std.proofs.Math.ListN.{get_or-eq_default}
@@ -10,7 +11,7 @@ use Rattle.path_meaning.specs.declared.switching.Switch.{Switch}
 use Rattle.path_meaning.specs.Switching.{is_closed, is_live, switch_state_at}
 use Rattle.path_meaning.specs.declared.switching.SwitchState.{SwitchState}
 use Rattle.path_meaning.specs.declared.switching.SwitchState.TheVariants.{Open, Closed, Unknown}
-use Rattle.path_meaning.specs.Wiring.{Wiring, IsWired, nodes, level_of, place_at}
+use Rattle.path_meaning.specs.Graphs.{GraphData, IsWired, nodes, level_of, place_at}
 use Rattle.path_meaning.specs.Path.{Stand, Joins, Hop, Leads, at_root, LivePath, IsBeaten}
 use Rattle.path_meaning.proofs.PathLemmas.{Leads-more, Leads-definite, Leads-weaker, level_fits}
 use Rattle.path_meaning.proofs.TableClosure.{IsClosed, closed_table}
@@ -20,13 +21,14 @@ abbrev pub surely : ℕ → ℕ → Stand
 surely node strength = record { node = node; strength = strength; definite = true }
 
 -- a definite path of this strength leads to the node
-pub record Definite (g : Wiring) (state : List Tern) (node strength : ℕ) : Type 0 where
+pub record Definite (g : GraphData) (state : List Tern) (node strength : ℕ) : Type 0 where
   pub root : ℕ
   pub hops : List ℕ
   pub path : LivePath g state root hops (surely node strength)
 
--- each entry is the strength of a definite path to its node, and no definite path to the node is stronger, hop by hop and as a whole
-pub record IsBest (g : Wiring) (state : List Tern) (best : ℕ → ℕ) : Type 0 where
+-- each entry is the strength of a definite path to its node, and no definite path to the node is stronger, hop
+-- by hop and as a whole
+pub record IsBest (g : GraphData) (state : List Tern) (best : ℕ → ℕ) : Type 0 where
   pub found : (node : ℕ) → node < nodes g → Definite g state node (best node)
   pub spread : (here next : Stand) (place : ℕ) → Hop g state here place next → next.definite ≡ true →
       here.strength ≤ best here.node → next.strength ≤ best next.node
@@ -44,7 +46,7 @@ pub and-second : (a b : Bool) → (a && b) ≡ true → b ≡ true
 and-second true b both = both
 and-second false b both = absurd cc
 
-module _ (g : Wiring) (wired : IsWired g) (state : List Tern) where
+module _ (g : GraphData) (wired : IsWired g) (state : List Tern) where
   -- no node past the last has a level
   pub in_range-from_level : (node : ℕ) → 0 < level_of g node → node < nodes g
   in_range-from_level node positive =
@@ -55,12 +57,18 @@ module _ (g : Wiring) (wired : IsWired g) (state : List Tern) where
 
   -- the empty path is definite
   starts : (node : ℕ) → 0 < level_of g node → Definite g state node (level_of g node)
-  starts node positive = record { root = node; hops = []; path = record { in_range = in_range-from_level node positive; leads = refl } }
+  starts node positive = record {
+    root = node;
+    hops = [];
+    path =
+        record { in_range = in_range-from_level node positive; leads = refl };
+  }
 
   -- a definite path goes on over a closed switch
   pub onward : (m n strength place : ℕ) (switch : Switch) →
       Definite g state m strength → place_at g.places place ≡ Some switch → Joins switch m n →
-      is_closed (switch_state_at state switch) ≡ true → 0 ≤ min strength switch.level → Definite g state n (min strength switch.level)
+      is_closed (switch_state_at state switch) ≡ true → 0 ≤ min strength switch.level →
+      Definite g state n (min strength switch.level)
   onward m n strength place switch came stands joins closed floor =
       let here : Stand = surely m strength in
       let next : Stand = surely n (min strength switch.level) in
@@ -73,7 +81,12 @@ module _ (g : Wiring) (wired : IsWired g) (state : List Tern) where
         definite = sym closed;
       } in
       let leads = Leads-more g state came.hops (at_root g came.root) here next place came.path.leads over in
-      record { root = came.root; hops = came.hops ++ place ∷ []; path = record { in_range = came.path.in_range; leads = leads } }
+      record {
+        root = came.root;
+        hops = came.hops ++ place ∷ [];
+        path =
+            record { in_range = came.path.in_range; leads = leads };
+      }
 
   -- the closed table of definite paths
   abbrev Table : Type 0
@@ -100,9 +113,11 @@ module _ (g : Wiring) (wired : IsWired g) (state : List Tern) where
       let closed : Table = closed_table g state is_closed (λ node. 0) (level_of g) (Definite g state) wired starts onward in (
         closed.table,
         record {
-          found = λ node in_range. let fits = level_fits g wired node in_range in closed.come node (omega (arith, closed.low node, fits.low));
+          found = λ node in_range. let fits = level_fits g wired node in_range in
+              closed.come node (omega (arith, closed.low node, fits.low));
           spread = spread_over closed;
-          most = λ root hops there path definite. most_along closed hops (at_root g root) there path.leads definite (closed.low root);
+          most = λ root hops there path definite. most_along closed hops (at_root g root) there path.leads definite
+              (closed.low root);
         },
       )
 
@@ -111,17 +126,22 @@ module _ (g : Wiring) (wired : IsWired g) (state : List Tern) where
   best-high best is_best node in_range =
       let found = is_best.found node in_range in
       let fits = level_fits g wired found.root found.path.in_range in
-      omega (arith, fits.high, Leads-weaker g state found.hops (at_root g found.root) (surely node (best node)) found.path.leads)
+      omega (
+        arith,
+        fits.high,
+        Leads-weaker g state found.hops (at_root g found.root)
+            (surely node (best node)) found.path.leads,
+      )
 
 -- what is at least as strong as every definite path isn't beaten
-pub unbeaten-from_best : (g : Wiring) (state : List Tern) (best : ℕ → ℕ) → IsBest g state best →
+pub unbeaten-from_best : (g : GraphData) (state : List Tern) (best : ℕ → ℕ) → IsBest g state best →
     (node strength : ℕ) → best node ≤ strength → ¬ IsBeaten g state node strength
 unbeaten-from_best g state best is_best node strength most beaten =
     let least = is_best.most beaten.root beaten.hops beaten.there beaten.path beaten.definite in
     absurd (omega (arith, beaten.stronger, least, ap best beaten.ends))
 
 -- and what isn't beaten is at least as strong as every definite path
-pub best-from_unbeaten : (g : Wiring) (state : List Tern) (best : ℕ → ℕ) → IsBest g state best →
+pub best-from_unbeaten : (g : GraphData) (state : List Tern) (best : ℕ → ℕ) → IsBest g state best →
     (node strength : ℕ) → node < nodes g → (¬ IsBeaten g state node strength) → best node ≤ strength
 best-from_unbeaten g state best is_best node strength in_range unbeaten =
     elim (cases_lt strength (best node)) [

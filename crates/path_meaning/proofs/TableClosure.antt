@@ -1,7 +1,9 @@
--- For every graph there is a table of strengths, one for each node, that is closed under going on over its switches.
--- Each positive entry comes from somewhere: `Comes` says from what, and holds on where a switch that passes is crossed. While some
--- place can raise the entry at one of its ends, raise it; entries stay at most as great as a switch's level once they are raised, so
--- the room that is left shrinks, and this ends. Nothing is assumed to be decided but numbers and Booleans.
+-- For every graph there is a table of strengths, one for each node, that is closed under going on over its
+-- switches.
+-- Each positive entry comes from somewhere: `Comes` says from what, and holds on where a switch that passes is
+-- crossed. While some place can raise the entry at one of its ends, raise it; entries stay at most as great as
+-- a switch's level once they are raised, so the room that is left shrinks, and this ends. Nothing is assumed to
+-- be decided but numbers and Booleans.
 use Rattle.std.proofs.Common.{
   ◌≡◌,
   ℕ,
@@ -35,7 +37,7 @@ use Rattle.strength_order.specs.declared.TheConstants.{GREATEST_SWITCH_LEVEL}
 use Rattle.path_meaning.specs.declared.switching.Switch.{Switch}
 use Rattle.path_meaning.specs.declared.switching.SwitchState.{SwitchState}
 use Rattle.path_meaning.specs.Switching.{switch_state_at}
-use Rattle.path_meaning.specs.Wiring.{Wiring, IsWired, nodes, place_at}
+use Rattle.path_meaning.specs.Graphs.{GraphData, IsWired, nodes, place_at}
 use Rattle.path_meaning.specs.Path.{Joins}
 use Rattle.path_meaning.proofs.PathLemmas.{switch_fits}
 
@@ -78,7 +80,7 @@ empty_or_not : (place : Option Switch) → (place ≡ None) ⊎ ((switch : Switc
 empty_or_not None = inl refl
 empty_or_not (Some switch) = inr (switch, refl)
 
-module _ (g : Wiring) (state : List Tern) (passes : SwitchState → Bool) (floor start : ℕ → ℕ) (Comes : ℕ → ℕ → Type 0) where
+module _ (g : GraphData) (state : List Tern) (passes : SwitchState → Bool) (floor start : ℕ → ℕ) (Comes : ℕ → ℕ → Type 0) where
   -- each entry is no less than what its node starts with, and comes from somewhere if it is positive
   record IsFilled (table : ℕ → ℕ) : Type 0 where
     low : (node : ℕ) → start node ≤ table node
@@ -110,7 +112,8 @@ module _ (g : Wiring) (state : List Tern) (passes : SwitchState → Bool) (floor
   module _ (wired : IsWired g) (starts : (node : ℕ) → 0 < start node → Comes node (start node))
       (onward : (m n strength place : ℕ) (switch : Switch) →
       Comes m strength → place_at g.places place ≡ Some switch → Joins switch m n →
-      passes (switch_state_at state switch) ≡ true → floor n ≤ min strength switch.level → Comes n (min strength switch.level)) where
+      passes (switch_state_at state switch) ≡ true → floor n ≤ min strength switch.level →
+      Comes n (min strength switch.level)) where
     -- a raised entry comes from somewhere where its value does, and the others as before
     raised-comes : (table : ℕ → ℕ) (m node value : ℕ) (at_node : (m ≡ node) ⊎ (m ≡ node → ⊥)) → Comes node value →
         (0 < table m → Comes m (table m)) → 0 < pick at_node value (table m) → Comes m (pick at_node value (table m))

@@ -1,9 +1,10 @@
 -- What the tables of the plain step mean in paths.
--- A table that spread to its end is sound, since each entry came over switches and so has a path, and complete, since along a path no
--- stand is stronger than its node's entry. So the first table has the strengths of the strongest definite paths; with it as the floor,
--- what spreads from the roots is what unblocked paths carry. Some node's root always has a rail, so that every node gets a state.
-use Rattle.std.proofs.Common.{◌≡◌, ℕ, ◌+◌, ◌<◌, ◌≤◌, min, Bool, true, false, ◌&&◌, nat_le, if◌then◌else◌, ◌⊎◌, inl, inr, List, [], ◌∷◌, ◌++◌, length, Option, Some, None, refl, sym, ◌∙◌, ap, arith}
-use Rattle.std.proofs.lemmas.Bool.{cases_lt, leb-true, le-leb}
+-- A table that spread to its end is sound, since each entry came over switches and so has a path, and complete,
+-- since along a path no stand is stronger than its node's entry. So the first table has the strengths of the
+-- strongest definite paths; with it as the floor, what spreads from the roots is what unblocked paths carry.
+-- Some node's root always has a rail, so that every node gets a state.
+use Rattle.std.proofs.Common.{◌≡◌, ℕ, ◌+◌, ◌<◌, ◌≤◌, min, Bool, true, false, ◌&&◌, nat_le, if◌then◌else◌, ◌⊎◌, inl, inr, List, [], ◌∷◌, length, Some, refl, sym, ◌∙◌, ap, arith}
+use Rattle.std.proofs.lemmas.Bool.{cases_lt, and_parts, leb-true, le-leb}
 use Rattle.std.proofs.Math.ListN.{get_or-eq_default}
 use Rattle.std.specs.Prelude.{◌↔◌, slice_index}
 use Rattle.ternary.specs.declared.tern.Tern.{Tern}
@@ -11,12 +12,13 @@ use Rattle.ternary.specs.declared.tern.Tern.TheVariants.{Zero, One, Unk}
 use Rattle.ternary.specs.Tern.{may_one, may_zero}
 use Rattle.path_meaning.specs.declared.switching.Switch.{Switch}
 use Rattle.path_meaning.specs.Switching.{is_closed, state_at, switch_state_at}
-use Rattle.path_meaning.specs.Wiring.{Wiring, IsWired, nodes, level_of, place_at}
+use Rattle.path_meaning.specs.Graphs.{GraphData, IsWired, nodes, level_of, place_at}
 use Rattle.path_meaning.specs.Path.{Stand, Joins, Hop, Leads, at_root, IsBeaten}
 use Rattle.path_meaning.specs.Step.{IsStep}
-use Rattle.path_meaning.specs.Spread.{passes, width, AreWidths, Comes, AllCome, Grows, IsSpreadOver, IsSpread, AreStrongest, rail_of, root_entry, AreRoots, AreReached}
+use Rattle.path_meaning.specs.Spread.{passes, width, AreWidths, Comes, AllCome, Grows, IsSpreadOver, IsSpread, rail_of}
+use Rattle.path_meaning.specs.Plain.{AreStrongest, root_entry, AreRoots, AreReached}
 use Rattle.path_meaning.specs.Spread.Comes.{starts, crosses}
-use Rattle.path_meaning.proofs.PathLemmas.{and-first, switch_fits, level_fits, Hop-in_range, Leads-positive, Leads-definite, Goes, Goes-here, Goes-more, Goes-from_Reaches, Reaches-from_Goes}
+use Rattle.path_meaning.proofs.PathLemmas.{place_inside, switch_fits, level_fits, Hop-in_range, Leads-positive, Leads-definite, Goes, Goes-here, Goes-from_Reaches, Arrives, Arrives-with, Arrives-at_root, Arrives-more, Reaches-from_Arrives}
 use Rattle.path_meaning.proofs.StrongestPaths.{surely, Definite, onward, and-second}
 use Rattle.path_meaning.proofs.ReachedNodes.{reached}
 
@@ -25,22 +27,17 @@ some_if : (test : Bool) (n : ℕ) → 0 < (if test then n else 0) → (test ≡ 
 some_if true n positive = (refl, refl)
 some_if false n positive = absurd (omega arith)
 
--- a place with a switch is one of the places
-place_inside : (places : List (Option Switch)) (place : ℕ) (switch : Switch) → place_at places place ≡ Some switch → place < length places
-place_inside places place switch stands =
-    elim (cases_lt place (length places)) [
-      | inl inside ↦ inside
-      | inr outside ↦ let none : place_at places place ≡ None = get_or-eq_default places None outside in absurd cc
-    ]
-
-module _ (g : Wiring) (state : List Tern) (sure : Bool) (widths : List ℕ) (are_widths : AreWidths sure state g.places widths) where
+module _ (g : GraphData) (state : List Tern) (sure : Bool) (widths : List ℕ)
+    (are_widths : AreWidths sure state g.places widths) where
   -- the width of a place with a switch
-  width_at : (place : ℕ) (switch : Switch) → place_at g.places place ≡ Some switch → slice_index widths place ≡ width sure state (Some switch)
+  width_at : (place : ℕ) (switch : Switch) → place_at g.places place ≡ Some switch →
+      slice_index widths place ≡ width sure state (Some switch)
   width_at place switch stands =
       are_widths place (place_inside g.places place switch stands) ∙ ap (width sure state) stands
 
   -- a switch that passes lets its level through
-  wide : (place : ℕ) (switch : Switch) → place_at g.places place ≡ Some switch → passes sure (switch_state_at state switch) ≡ true →
+  wide : (place : ℕ) (switch : Switch) → place_at g.places place ≡ Some switch →
+      passes sure (switch_state_at state switch) ≡ true →
       slice_index widths place ≡ switch.level
   wide place switch stands pass = width_at place switch stands ∙ ap (λ (test : Bool). if test then switch.level else 0) pass
 
@@ -59,7 +56,8 @@ module _ (g : Wiring) (state : List Tern) (sure : Bool) (widths : List ℕ) (are
       let across = rw stands at (spread place (place_inside g.places place switch stands)) in
       elim joins [ inl ends ↦ rw (← ends.0, ← ends.1) across.0 | inr ends ↦ rw (← ends.0, ← ends.1) across.1 ]
 
-module _ (g : Wiring) (wired : IsWired g) (state : List Tern) (widths : List ℕ) (are_widths : AreWidths true state g.places widths) where
+module _ (g : GraphData) (wired : IsWired g) (state : List Tern) (widths : List ℕ)
+    (are_widths : AreWidths true state g.places widths) where
   -- over a switch that lets something through, a definite path goes on
   definite_next : (m strength place n : ℕ) (switch : Switch) → place_at g.places place ≡ Some switch → Joins switch m n →
       0 < slice_index widths place → Definite g state m strength → Definite g state n (min strength (slice_index widths place))
@@ -81,16 +79,20 @@ module _ (g : Wiring) (wired : IsWired g) (state : List Tern) (widths : List ℕ
         definite_next m t place k switch stands joins positive (comes_definite m t comes before)
 
   -- along a definite path no stand is stronger than its node's entry
-  definite_within : (best : List ℕ) → IsSpread g.places widths g.levels best → Grows g.levels best → (hops : List ℕ) (here there : Stand) →
-      Leads g state here hops there → there.definite ≡ true → here.strength ≤ slice_index best here.node → there.strength ≤ slice_index best there.node
+  definite_within : (best : List ℕ) → IsSpread g.places widths g.levels best → Grows g.levels best →
+      (hops : List ℕ) (here there : Stand) →
+      Leads g state here hops there → there.definite ≡ true → here.strength ≤ slice_index best here.node →
+      there.strength ≤ slice_index best there.node
   definite_within best spread grows [] here there leads definite within = rw (← leads) within
   definite_within best spread grows (place ∷ hops) here there leads definite within =
       let next = leads.0 in
       let hop = leads.1 in
       let next_definite = Leads-definite g state hops next there leads.2 definite in
       let closed = and-second here.definite (is_closed (switch_state_at state hop.switch)) (rw hop.definite at next_definite) in
-      let width : slice_index widths place ≡ hop.switch.level = wide g state true widths are_widths place hop.switch hop.at_place closed in
-      let over = rw width at (spread_between g state true widths are_widths g.levels best spread place here.node next.node hop.switch hop.at_place hop.joins) in
+      let width : slice_index widths place ≡ hop.switch.level =
+      wide g state true widths are_widths place hop.switch hop.at_place closed in
+      let over = rw width at (spread_between g state true widths are_widths g.levels best spread place here.node
+      next.node hop.switch hop.at_place hop.joins) in
       let most : min (slice_index best here.node) hop.switch.level ≤ slice_index best next.node =
       elim (cases_lt (min (slice_index best here.node) hop.switch.level) (level_of g next.node)) [
         | inl less ↦ omega (arith, grows next.node)
@@ -99,7 +101,8 @@ module _ (g : Wiring) (wired : IsWired g) (state : List Tern) (widths : List ℕ
       definite_within best spread grows hops next there leads.2 definite (omega (arith, hop.strength))
 
   -- a table that spread from the levels has the strengths of the strongest definite paths
-  pub strongest : (start best : List ℕ) → ((n : ℕ) → n < nodes g → slice_index start n ≡ level_of g n) → AllCome g.places widths g.levels start best →
+  pub strongest : (start best : List ℕ) → ((n : ℕ) → n < nodes g → slice_index start n ≡ level_of g n) →
+      AllCome g.places widths g.levels start best →
       Grows start best → IsSpread g.places widths g.levels best → AreStrongest g state best
   strongest start best from_levels come grows spread =
       let within : Grows g.levels best = λ n. elim (cases_lt n (nodes g)) [
@@ -109,17 +112,25 @@ module _ (g : Wiring) (wired : IsWired g) (state : List Tern) (widths : List ℕ
       record {
         found = λ n in_range.
             let level = level_fits g wired n in_range in
-            let way = comes_definite g.levels start from_levels n (slice_index best n) (come n (omega (arith, within n, level.low))) in_range in
+            let way = comes_definite g.levels start from_levels n (slice_index best n)
+            (come n (omega (arith, within n, level.low))) in_range in
             (way.root, way.hops, surely n (slice_index best n), way.path, refl, refl, refl);
-        most = λ root hops there path definite. definite_within best spread within hops (at_root g root) there path.leads definite (within root);
+        most = λ root hops there path definite. definite_within best spread within hops
+            (at_root g root) there path.leads definite (within root);
       }
 
 -- what the first table says of a strength: that it is at least as great as that of each definite path to the node
-module _ (g : Wiring) (state : List Tern) (best : List ℕ) (are_strongest : AreStrongest g state best) where
+module _ (g : GraphData) (state : List Tern) (best : List ℕ) (are_strongest : AreStrongest g state best) where
   -- then it isn't beaten there
   unbeaten : (node strength : ℕ) → slice_index best node ≤ strength → ¬ IsBeaten g state node strength
   unbeaten node strength most beaten =
-      absurd (omega (arith, beaten.stronger, are_strongest.most beaten.root beaten.hops beaten.there beaten.path beaten.definite, ap (slice_index best) beaten.ends))
+      absurd (omega (
+        arith,
+        beaten.stronger,
+        are_strongest.most beaten.root beaten.hops beaten.there beaten.path
+            beaten.definite,
+        ap (slice_index best) beaten.ends,
+      ))
 
   -- and what isn't beaten is as great
   most_unbeaten : (node strength : ℕ) → node < nodes g → (¬ IsBeaten g state node strength) → slice_index best node ≤ strength
@@ -140,34 +151,31 @@ module _ (g : Wiring) (state : List Tern) (best : List ℕ) (are_strongest : Are
       ]
 
 -- an unblocked path of this strength leads to the node, from a root whose state has the rail
-record IsCarried (rail : Tern → Bool) (g : Wiring) (state : List Tern) (node strength : ℕ) : Type 0 where
-  root : ℕ
-  in_range : root < nodes g
-  hops : List ℕ
-  there : Stand
-  goes : Goes g state (at_root g root) hops there
-  ends : there.node ≡ node
-  strong : there.strength ≡ strength
-  set : rail (state_at state root) ≡ true
+record IsCarried (rail : Tern → Bool) (g : GraphData) (state : List Tern) (node strength : ℕ) : Type 0 where
+  way : Arrives g state node strength
+  set : rail (state_at state way.root) ≡ true
 
 -- a root's entry that isn't 0 is the level of a node that has the rail and to which nothing stronger comes
 root_set : (one : Bool) (state : Tern) (level best : ℕ) → 0 < root_entry one state level best →
     (rail_of one state ≡ true) × (best ≤ level) × (root_entry one state level best ≡ level)
 root_set one state level best positive =
     let whole = some_if (rail_of one state && nat_le best level) level positive in
-    (and-first (rail_of one state) (nat_le best level) whole.0, leb-true best level (and-second (rail_of one state) (nat_le best level) whole.0), whole.1)
+    let both = and_parts (rail_of one state) (nat_le best level) whole.0 in
+    (both.0, leb-true best level both.1, whole.1)
 
 -- a node that has the rail and to which nothing stronger comes has its level as a root's entry
-root_level : (one : Bool) (state : Tern) (level best : ℕ) → rail_of one state ≡ true → best ≤ level → root_entry one state level best ≡ level
+root_level : (one : Bool) (state : Tern) (level best : ℕ) → rail_of one state ≡ true → best ≤ level →
+    root_entry one state level best ≡ level
 root_level one state level best rail most = rw (rail, le-leb best level most) refl
 
-module _ (g : Wiring) (wired : IsWired g) (state : List Tern) (widths best : List ℕ) (one : Bool)
+module _ (g : GraphData) (wired : IsWired g) (state : List Tern) (widths best : List ℕ) (one : Bool)
     (are_widths : AreWidths false state g.places widths) (are_strongest : AreStrongest g state best) where
   -- over a switch that lets something through, an unblocked path goes on to where no definite path is stronger
   carried_next : (m strength place n : ℕ) (switch : Switch) → place_at g.places place ≡ Some switch → Joins switch m n →
       0 < slice_index widths place → slice_index best n ≤ min strength (slice_index widths place) →
       IsCarried (rail_of one) g state m strength → IsCarried (rail_of one) g state n (min strength (slice_index widths place))
-  carried_next m strength place n switch stands joins positive most way =
+  carried_next m strength place n switch stands joins positive most carried =
+      let way = carried.way in
       let whole = wide_passes g state false widths are_widths place switch stands positive in
       let end : Stand = record {
         node = n;
@@ -183,32 +191,19 @@ module _ (g : Wiring) (wired : IsWired g) (state : List Tern) (widths best : Lis
         definite = refl;
       } in
       record {
-        root = way.root;
-        in_range = way.in_range;
-        hops = way.hops ++ place ∷ [];
-        there = end;
-        goes = Goes-more g state way.hops (at_root g way.root) way.there end place way.goes hop (unbeaten g state best are_strongest n end.strength most);
-        ends = refl;
-        strong = refl;
-        set = way.set;
+        way = Arrives-more g state way place end hop (unbeaten g state best are_strongest n end.strength most);
+        set = carried.set;
       }
 
   module _ (start : List ℕ) (from_roots : AreRoots one state g.levels best start) where
     -- what comes from the roots is carried by an unblocked path
-    comes_carried : (n strength : ℕ) → Comes g.places widths best start n strength → n < nodes g → IsCarried (rail_of one) g state n strength
+    comes_carried : (n strength : ℕ) → Comes g.places widths best start n strength → n < nodes g →
+        IsCarried (rail_of one) g state n strength
     comes_carried n strength (starts k positive) in_range =
         let entry = from_roots k in_range in
         let own = root_set one (state_at state k) (level_of g k) (slice_index best k) (rw entry at positive) in
-        record {
-          root = k;
-          in_range = in_range;
-          hops = [];
-          there = at_root g k;
-          goes = (unbeaten g state best are_strongest k (level_of g k) own.1, refl);
-          ends = refl;
-          strong = sym (entry ∙ own.2);
-          set = own.0;
-        }
+        let way = Arrives-at_root g state k in_range (unbeaten g state best are_strongest k (level_of g k) own.1) in
+        record { way = Arrives-with g state way (sym (entry ∙ own.2)); set = own.0 }
     comes_carried n strength (crosses m t comes place k switch stands joins positive above) in_range =
         let fits = switch_fits g wired place switch stands in
         let before : m < nodes g = elim joins [ inl ends ↦ rw (← ends.0) fits.a | inr ends ↦ rw (← ends.0) fits.b ] in
@@ -216,37 +211,46 @@ module _ (g : Wiring) (wired : IsWired g) (state : List Tern) (widths best : Lis
 
   -- along an unblocked path no stand is stronger than its node's entry
   carried_within : (table : List ℕ) → IsSpread g.places widths best table → (hops : List ℕ) (here there : Stand) →
-      here.node < nodes g → Goes g state here hops there → here.strength ≤ slice_index table here.node → there.strength ≤ slice_index table there.node
+      here.node < nodes g → Goes g state here hops there → here.strength ≤ slice_index table here.node →
+      there.strength ≤ slice_index table there.node
   carried_within table spread [] here there in_range goes within = rw (← goes.1) within
   carried_within table spread (place ∷ hops) here there in_range goes within =
       let next = goes.1.0 in
       let hop = goes.1.1 in
       let next_in_range = Hop-in_range wired hop in
-      let width : slice_index widths place ≡ hop.switch.level = wide g state false widths are_widths place hop.switch hop.at_place hop.live in
-      let over = rw width at (spread_between g state false widths are_widths best table spread place here.node next.node hop.switch hop.at_place hop.joins) in
+      let width : slice_index widths place ≡ hop.switch.level =
+      wide g state false widths are_widths place hop.switch hop.at_place hop.live in
+      let over = rw width at (spread_between g state false widths are_widths best table spread place here.node
+      next.node hop.switch hop.at_place hop.joins) in
       let most : slice_index best next.node ≤ next.strength =
-      most_unbeaten g state best are_strongest next.node next.strength next_in_range (Goes-here g state hops next there goes.1.2) in
-      carried_within table spread hops next there next_in_range goes.1.2 (omega (arith, hop.strength, over (omega (arith, hop.strength))))
+      most_unbeaten g state best are_strongest next.node next.strength next_in_range
+      (Goes-here g state hops next there goes.1.2) in
+      carried_within table spread hops next there next_in_range goes.1.2
+      (omega (arith, hop.strength, over (omega (arith, hop.strength))))
 
   -- a table that spread from the roots has an entry exactly for each node whose steady state has the rail
   pub are_reached : (start table : List ℕ) → AreRoots one state g.levels best start → AllCome g.places widths best start table →
       Grows start table → IsSpread g.places widths best table → AreReached one g state table
   are_reached start table from_roots come grows spread = λ n in_range. (
     (λ positive.
-        let way = comes_carried start from_roots n (slice_index table n) (come n positive) in_range in
-        (way.root, Reaches-from_Goes g state way.root n way.hops way.there way.in_range way.goes way.ends, way.set)),
+        let carried = comes_carried start from_roots n (slice_index table n) (come n positive) in_range in
+        (carried.way.root, Reaches-from_Arrives g state carried.way, carried.set)),
     (λ responds.
         let root = responds.0 in
         let reached = responds.1 in
         let goes = Goes-from_Reaches g state root n reached in
         let level = level_fits g wired root reached.path.in_range in
         let first : slice_index best root ≤ level_of g root =
-        most_unbeaten g state best are_strongest root (level_of g root) reached.path.in_range (Goes-here g state reached.hops (at_root g root) reached.there goes) in
+        most_unbeaten g state best are_strongest root (level_of g root) reached.path.in_range
+        (Goes-here g state reached.hops (at_root g root) reached.there goes) in
         let entry : slice_index start root ≡ level_of g root =
-        from_roots root reached.path.in_range ∙ root_level one (state_at state root) (level_of g root) (slice_index best root) responds.2 first in
+        from_roots root reached.path.in_range ∙ root_level one (state_at state root) (level_of g root)
+        (slice_index best root) responds.2 first in
         let within : reached.there.strength ≤ slice_index table reached.there.node =
-        carried_within table spread reached.hops (at_root g root) reached.there reached.path.in_range goes (omega (arith, grows root)) in
-        let low : 1 ≤ reached.there.strength = Leads-positive g state wired reached.hops (at_root g root) reached.there reached.path.leads level.low in
+        carried_within table spread reached.hops (at_root g root) reached.there reached.path.in_range goes
+        (omega (arith, grows root)) in
+        let low : 1 ≤ reached.there.strength = Leads-positive g state wired reached.hops
+        (at_root g root) reached.there reached.path.leads level.low in
         omega (arith, ap (slice_index table) reached.ends)),
   )
 
@@ -256,7 +260,7 @@ some_rail Zero = inr refl
 some_rail One = inl refl
 some_rail Unk = inl refl
 
-module _ (g : Wiring) (wired : IsWired g) (state : List Tern) (one zero : List ℕ)
+module _ (g : GraphData) (wired : IsWired g) (state : List Tern) (one zero : List ℕ)
     (ones : AreReached true g state one) (zeros : AreReached false g state zero) where
   -- each node has an entry in one table or the other, since some root reaches it
   pub some_entry : (n : ℕ) → n < nodes g → 0 < slice_index one n + slice_index zero n
@@ -276,7 +280,13 @@ module _ (g : Wiring) (wired : IsWired g) (state : List Tern) (one zero : List �
     each = λ n in_range.
         let inside : n < length out = omega arith in
         record {
-          one = ((λ set. (ones n in_range).0 ((is_one n inside).0 set)), (λ responds. (is_one n inside).1 ((ones n in_range).1 responds)));
-          zero = ((λ set. (zeros n in_range).0 ((is_zero n inside).0 set)), (λ responds. (is_zero n inside).1 ((zeros n in_range).1 responds)));
+          one = (
+            (λ set. (ones n in_range).0 ((is_one n inside).0 set)),
+            (λ responds. (is_one n inside).1 ((ones n in_range).1 responds)),
+          );
+          zero = (
+            (λ set. (zeros n in_range).0 ((is_zero n inside).0 set)),
+            (λ responds. (is_zero n inside).1 ((zeros n in_range).1 responds)),
+          );
         };
   }

@@ -1,6 +1,6 @@
 -- A state of a graph has at most one step.
--- Two steps have, at each node, states with the same rails, for each rail is set exactly where some root sets it; and states with the
--- same rails are equal.
+-- Two steps have, at each node, states with the same rails, for each rail is set exactly where some root sets
+-- it; and states with the same rails are equal.
 use Rattle.std.proofs.Common.{◌≡◌, ℕ, ◌<◌, ◌↔◌, Bool, true, false, List, refl, sym, ◌∙◌}
 use Rattle.std.proofs.lemmas.List.{ext_get_or}
 use Rattle.ternary.specs.declared.tern.Tern.{Tern}
@@ -8,7 +8,7 @@ use Rattle.ternary.specs.declared.tern.Tern.TheVariants.{Zero}
 use Rattle.ternary.specs.Tern.{may_one, may_zero}
 use Rattle.ternary.proofs.TernLemmas.{same_rails}
 use Rattle.path_meaning.specs.Switching.{state_at}
-use Rattle.path_meaning.specs.Wiring.{Wiring, nodes}
+use Rattle.path_meaning.specs.Graphs.{GraphData, nodes}
 use Rattle.path_meaning.specs.Step.{IsResponse}
 use Rattle.path_meaning.specs.Laws.{StepIsUnique}
 
@@ -20,7 +20,7 @@ same_tests false true one two = one.1 (two.0 refl)
 same_tests false false one two = refl
 
 -- a node has one steady state
-pub response_is_unique : (g : Wiring) (state : List Tern) (node : ℕ) (s t : Tern) →
+pub response_is_unique : (g : GraphData) (state : List Tern) (node : ℕ) (s t : Tern) →
     IsResponse g state node s → IsResponse g state node t → s ≡ t
 response_is_unique g state node s t one two =
     same_rails s t (same_tests (may_one s) (may_one t) one.one two.one) (same_tests (may_zero s) (may_zero t) one.zero two.zero)
@@ -30,4 +30,5 @@ pub unique : StepIsUnique
 unique g state next other one two =
     ext_get_or Zero next other (one.count ∙ sym two.count) (λ node inside.
     let in_range : node < nodes g = rw (← one.count) inside in
-    response_is_unique g state node (state_at next node) (state_at other node) (one.each node in_range) (two.each node in_range))
+    response_is_unique g state node (state_at next node) (state_at other node) (one.each node in_range)
+    (two.each node in_range))

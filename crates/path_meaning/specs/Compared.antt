@@ -12,7 +12,7 @@ use Rattle.path_meaning.specs.declared.switching.SwitchKind.{SwitchKind}
 use Rattle.path_meaning.specs.contracts.switching.SwitchPartialEq.TheImpl as switch
 use Rattle.path_meaning.specs.contracts.switching.SwitchKindPartialEq.TheImpl as kind
 use Rattle.path_meaning.specs.contracts.switching.SwitchHash.TheImpl as hash
-use Rattle.path_meaning.specs.Wiring.{Wiring}
+use Rattle.path_meaning.specs.Graphs.{GraphData}
 
 -- a test that decides equality is an equivalence
 pub equivalence_of : {K : Type 0} (E : K → K → Bool) → ((x y : K) → Decides (E x y) (x ≡ y)) → IsEquivalence E
@@ -37,7 +37,8 @@ kinds_decide a b = search rules
 -- two switches are equal where all five parts are
 switches_decide : (a b : Switch) → Decides (switch.eq-value.it a b) (a ≡ b)
 switches_decide a b =
-    let parts = Decides-and (kind.eq-value.it a.kind b.kind) (a.level == b.level && (a.gate == b.gate && (a.a == b.a && a.b == b.b))) (kinds_decide a.kind b.kind)
+    let parts = Decides-and (kind.eq-value.it a.kind b.kind)
+    (a.level == b.level && (a.gate == b.gate && (a.a == b.a && a.b == b.b))) (kinds_decide a.kind b.kind)
     (Decides-and (a.level == b.level) (a.gate == b.gate && (a.a == b.a && a.b == b.b)) (Decides-eqb a.level b.level)
     (Decides-and (a.gate == b.gate) (a.a == b.a && a.b == b.b) (Decides-eqb a.gate b.gate)
     (Decides-and (a.a == b.a) (a.b == b.b) (Decides-eqb a.a b.a) (Decides-eqb a.b b.b)))) in
@@ -51,26 +52,26 @@ abbrev pub same_place : Option Switch → Option Switch → Bool
 same_place = option_eq switch.eq-value.it
 
 -- two graphs have the same levels and the same places
-abbrev pub same_wiring : Wiring → Wiring → Bool
-same_wiring a b = pointwise ◌==◌ a.levels b.levels && pointwise same_place a.places b.places
+abbrev pub same_graph : GraphData → GraphData → Bool
+same_graph a b = pointwise ◌==◌ a.levels b.levels && pointwise same_place a.places b.places
 
 -- and that is so exactly where they are one graph
-pub same_wiring_decides : (a b : Wiring) → Decides (same_wiring a b) (a ≡ b)
-same_wiring_decides a b =
-    Decides-like (same_wiring a b)
+pub same_graph_decides : (a b : GraphData) → Decides (same_graph a b) (a ≡ b)
+same_graph_decides a b =
+    Decides-like (same_graph a b)
     (λ p i. record { levels = p.0 i; places = p.1 i })
     (λ e. (ap (λ g. g.levels) e, ap (λ g. g.places) e))
     (Decides-and (pointwise ◌==◌ a.levels b.levels) (pointwise same_place a.places b.places)
     (pointwise_decides Decides-eqb a.levels b.levels)
     (pointwise_decides (options_decide switch.eq-value.it switches_decide) a.places b.places))
 
-pub same_wiring_equivalence : IsEquivalence same_wiring
-same_wiring_equivalence = equivalence_of same_wiring same_wiring_decides
+pub same_graph_equivalence : IsEquivalence same_graph
+same_graph_equivalence = equivalence_of same_graph same_graph_decides
 
 -- what a graph feeds a hasher: its levels, and then its places
-abbrev pub wiring_writes : Wiring → fed.HashWrites
-wiring_writes g = fed.slice fed.u8 g.levels ++ fed.slice (fed.option hash.hash_input-value.it) g.places
+abbrev pub graph_writes : GraphData → fed.HashWrites
+graph_writes g = fed.slice fed.u8 g.levels ++ fed.slice (fed.option hash.hash_input-value.it) g.places
 
 -- equal graphs feed it the same
-pub wiring_writes-same : (a b : Wiring) → same_wiring a b ≡ true → wiring_writes a ≡ wiring_writes b
-wiring_writes-same a b same = ap wiring_writes ((same_wiring_decides a b).0 same)
+pub graph_writes-same : (a b : GraphData) → same_graph a b ≡ true → graph_writes a ≡ graph_writes b
+graph_writes-same a b same = ap graph_writes ((same_graph_decides a b).0 same)

@@ -1,9 +1,10 @@
 pub mod Switching
-pub mod Wiring
+pub mod Graphs
 pub mod Path
 pub mod Step
 pub mod Laws
-pub mod Room
 pub mod Spread
+pub mod Plain
 pub mod Walks
 pub mod Compared
+pub mod Rails

@@ -1,14 +1,13 @@
 -- Tables of strengths, one for each node, and what spreads in them over the switches of the places.
 -- After the relaxation in Bryant, "A Switch-Level Model and Simulator for MOS Digital Systems", 1984.
-use Rattle.std.specs.Prelude.{◌≡◌, ℕ, ◌-◌, ◌<◌, ◌≤◌, min, ◌↔◌, nat_le, Bool, true, false, ◌&&◌, if◌then◌else◌, List, length, sum_by, Option, Some, None, slice_index}
+use Rattle.std.specs.Prelude.{◌≡◌, ℕ, ◌-◌, ◌<◌, ◌≤◌, min, Bool, true, false, if◌then◌else◌, List, length, sum_by, Option, Some, None, slice_index}
 use Rattle.ternary.specs.declared.tern.Tern.{Tern}
 use Rattle.ternary.specs.Tern.{may_one, may_zero}
 use Rattle.path_meaning.specs.declared.switching.Switch.{Switch}
 use Rattle.path_meaning.specs.declared.switching.SwitchState.{SwitchState}
-use Rattle.path_meaning.specs.Switching.{is_closed, is_live, state_at, switch_state_at}
-use Rattle.path_meaning.specs.Wiring.{Wiring, nodes, place_at}
-use Rattle.path_meaning.specs.Path.{Joins, LivePath, Stand}
-use Rattle.path_meaning.specs.Step.{Responds}
+use Rattle.path_meaning.specs.Switching.{is_closed, is_live, switch_state_at}
+use Rattle.path_meaning.specs.Graphs.{place_at}
+use Rattle.path_meaning.specs.Path.{Joins}
 
 -- a sure path crosses closed switches alone, any other path each switch that isn't open
 abbrev pub passes : Bool → SwitchState → Bool
@@ -25,8 +24,8 @@ abbrev pub AreWidths : Bool → List Tern → List (Option Switch) → List ℕ 
 AreWidths sure state places widths =
     (place : ℕ) → place < length places → slice_index widths place ≡ width sure state (place_at places place)
 
--- a strength comes to a node where it stands there at the start, or where it is what a place lets through of a strength that
--- came to the switch's other end, and the floor of the node isn't above it
+-- a strength comes to a node where it stands there at the start, or where it is what a place lets through of a
+-- strength that came to the switch's other end, and the floor of the node isn't above it
 pub data Comes (places : List (Option Switch)) (widths floor start : List ℕ) : ℕ → ℕ → Type 0 where
   starts : (n : ℕ) → 0 < slice_index start n → Comes places widths floor start n (slice_index start n)
   crosses : (m strength : ℕ) → Comes places widths floor start m strength → (place n : ℕ) (switch : Switch) →
@@ -71,28 +70,7 @@ IsSpread places widths floor table = IsSpreadBelow places widths floor (length p
 abbrev pub room_left : List ℕ → ℕ
 room_left table = sum_by (λ strength. 255 - strength) table
 
--- the table has for each node the strength of its strongest definite path
-pub record AreStrongest (g : Wiring) (state : List Tern) (best : List ℕ) : Type 0 where
-  pub found : (n : ℕ) → n < nodes g →
-      (root : ℕ) × (hops : List ℕ) × (there : Stand) × LivePath g state root hops there × (there.node ≡ n) × (there.definite ≡ true) × (there.strength ≡ slice_index best n)
-  pub most : (root : ℕ) (hops : List ℕ) (there : Stand) → LivePath g state root hops there → there.definite ≡ true →
-      there.strength ≤ slice_index best there.node
-
 -- the rail "may be 1" or the rail "may be 0" of a state
 abbrev pub rail_of : Bool → Tern → Bool
 rail_of true = may_one
 rail_of false = may_zero
-
--- the strength with which a node starts a path of its own: its level, if its state has the rail and nothing stronger comes to it
-abbrev pub root_entry : Bool → Tern → ℕ → ℕ → ℕ
-root_entry one state level best = if rail_of one state && nat_le best level then level else 0
-
--- the table starts with the roots of unblocked empty paths, under this rail
-abbrev pub AreRoots : Bool → List Tern → List ℕ → List ℕ → List ℕ → Type 0
-AreRoots one state levels best table =
-    (n : ℕ) → n < length levels → slice_index table n ≡ root_entry one (state_at state n) (slice_index levels n) (slice_index best n)
-
--- the table has an entry exactly for each node whose steady state has the rail
-abbrev pub AreReached : Bool → Wiring → List Tern → List ℕ → Type 0
-AreReached one g state table =
-    (n : ℕ) → n < nodes g → (0 < slice_index table n) ↔ Responds (rail_of one) g state n

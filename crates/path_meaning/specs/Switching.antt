@@ -9,7 +9,8 @@ use Rattle.path_meaning.specs.declared.switching.SwitchState.{SwitchState}
 use Rattle.path_meaning.specs.declared.switching.SwitchState.TheVariants.{Open, Closed, Unknown}
 use Rattle.path_meaning.specs.declared.switching.Switch.{Switch}
 
--- the table: an n-channel switch is closed by 1, a p-channel one by 0, a depletion one always; X leaves the first two unknown
+-- the table: an n-channel switch is closed by 1, a p-channel one by 0, a depletion one always; X leaves the
+-- first two unknown
 abbrev pub state_by : SwitchKind → Tern → SwitchState
 state_by NChan Zero = Open
 state_by NChan One = Closed

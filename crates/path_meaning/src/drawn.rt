@@ -1,7 +1,7 @@
 //! Graphs for tests.
 
+use crate::graph::Graph;
 use crate::switching::{Switch, SwitchKind};
-use crate::wiring::Graph;
 use std::alloc::Global;
 use std::test::Fail;
 

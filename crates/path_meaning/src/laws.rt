@@ -3,10 +3,10 @@
 //! Each function here does nothing: its contract is the law, and its proof proves it. So a law can
 //! be cited like any other contract.
 
-ghost use Rattle.path_meaning.specs.Wiring.{IsWired};
-ghost use Rattle.path_meaning.specs.Laws.{EveryNodeIsReached, StrongestIsUnblocked, CyclesCanBeCut, ReachesOn, RootsReachThemselves, StepsJoin, StepsRest, StepExists, StepIsUnique};
+ghost use Rattle.path_meaning.specs.Graphs.{IsWired};
+ghost use Rattle.path_meaning.specs.Laws.{EveryNodeIsReached, StrongestIsUnblocked, CyclesCanBeCut, ReachesOn, RootsReachThemselves, InputNodesKeepTheirStates, StepsJoin, StepsRest, StepExists, StepIsUnique};
 
-use crate::wiring::Graph;
+use crate::graph::Graph;
 
 /// A graph is wired: each of its levels is a level, and each of its switches fits it.
 ///
@@ -56,6 +56,13 @@ pub fn reaches_on()
 /// After Bryant, "Boolean Analysis of MOS Circuits", 1987.
 pub fn roots_reach_themselves()
     ensures { RootsReachThemselves }
+{}
+
+/// An input node keeps its state: its steady state is its own state, whatever switches join it with.
+///
+/// After Bryant, "A Switch-Level Model and Simulator for MOS Digital Systems", 1984.
+pub fn input_nodes_keep_their_states()
+    ensures { InputNodesKeepTheirStates }
 {}
 
 /// The unit step is additive while the switches stay as they are.

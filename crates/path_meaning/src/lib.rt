@@ -11,6 +11,10 @@
 //! plain_step at 0 1 0 X gives 0 1 0 1
 //! ```
 //!
+//! For the proofs of crates above: `PathLemmas`, paths as walks that are cut, joined and raised;
+//! `StrongestPaths`, the strengths of the strongest definite paths; `ReachedNodes`, `ExistingSteps`,
+//! `UniqueSteps` and `InputNodes`, the laws of `laws` that other proofs start from.
+//!
 //! After Bryant, "A Switch-Level Model and Simulator for MOS Digital Systems", 1984, and "Boolean
 //! Analysis of MOS Circuits", 1987.
 #![tactic(auto)]
@@ -18,18 +22,29 @@
 mod compared;
 #[cfg(test)]
 mod drawn;
+mod graph;
 mod laws;
 mod plain;
 mod spread;
 mod switching;
+#[cfg(test)]
+mod tests;
 mod walks;
-mod wiring;
 
+pub use graph::Graph;
 pub use laws::{
-    cycles_can_be_cut, every_node_is_reached, graphs_are_wired, reaches_on, roots_reach_themselves,
-    step_exists, step_is_unique, steps_join, steps_rest,
+    cycles_can_be_cut, every_node_is_reached, graphs_are_wired, input_nodes_keep_their_states,
+    reaches_on, roots_reach_themselves, step_exists, step_is_unique, steps_join, steps_rest,
 };
 pub use plain::{PlainRoom, plain_step, plain_step_into};
 pub use switching::{Switch, SwitchKind, SwitchState, switch_state};
 pub use walks::{Walk, WalkFacts};
-pub use wiring::Graph;
+
+/// The node of the rail Gnd, whose state is 0.
+pub const GND: usize = 0;
+
+/// The node of the rail Vdd, whose state is 1.
+pub const VDD: usize = 1;
+
+/// How many rails there are; the other nodes are numbered after them.
+pub const RAILS: usize = 2;

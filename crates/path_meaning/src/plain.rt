@@ -1,14 +1,14 @@
 ghost use Rattle.std.specs.Prelude.{◌≡◌, ℕ, ◌+◌, ◌<◌, ◌≤◌, ◌↔◌, ◌||◌, true, false, length, All, IfOk, slice_index};
 ghost use Rattle.ternary.specs.Tern.{may_one, may_zero};
 ghost use Rattle.path_meaning.specs.Switching.{state_at};
-ghost use Rattle.path_meaning.specs.Wiring.{IsWired, FitsPlace, nodes};
+ghost use Rattle.path_meaning.specs.Graphs.{IsWired, FitsPlace, nodes};
 ghost use Rattle.path_meaning.specs.Step.{IsStep};
-ghost use Rattle.path_meaning.specs.Spread.{AreStrongest, AreReached, AreRoots, AreWidths, root_entry};
-ghost use Rattle.path_meaning.specs.Room.{RoomSize};
+ghost use Rattle.path_meaning.specs.Spread.{AreWidths};
+ghost use Rattle.path_meaning.specs.Plain.{PlainRoomData, AreStrongest, AreReached, AreRoots, root_entry};
 
+use crate::graph::Graph;
 use crate::spread::{put_widths, spread};
 use crate::switching::Switch;
-use crate::wiring::Graph;
 use std::alloc::Global;
 use std::marker::Model;
 use ternary::{NoMemory, Tern};
@@ -29,7 +29,7 @@ pub struct PlainRoom {
 }
 
 impl Model for PlainRoom {
-    ghost Value = { RoomSize };
+    ghost Value = { PlainRoomData };
 
     ghost view = { λ room. record { nodes = length room.best.items; places = length room.widths.items } };
 
@@ -94,10 +94,7 @@ pub fn plain_step_into(graph: &Graph, state: &[Tern], room: &mut PlainRoom, out:
     put_responses(&room.one, &room.zero, out);
 }
 
-/// Writes the strength of the strongest definite path to each node; what closed switches let
-/// through is written to `widths` on the way.
-///
-/// The floor of a node is its own level here, since what is weaker changes nothing.
+// Writes the strength of the strongest definite path to each node, and what closed switches let through.
 fn put_strongest(graph: &Graph, state: &[Tern], widths: &mut [u8], best: &mut [u8])
     requires state { length state.now ≡ nodes graph.now }
     requires widths { length graph.now.places ≤ length widths.old }
@@ -108,11 +105,11 @@ fn put_strongest(graph: &Graph, state: &[Tern], widths: &mut [u8], best: &mut [u
     let places = graph.switches();
     put_widths(true, state, places, widths);
     best[..levels.len()].copy_from_slice(levels);
+    // The floor of a node is its own level, since what is weaker changes nothing there.
     spread(places, widths, levels, best);
 }
 
-/// Writes to `table` the strength of the strongest unblocked path to each node from a root whose
-/// state may be 1, if `one`, else from one whose state may be 0; where there is none, 0.
+// Writes the strength of each node's strongest unblocked path from a root with the rail, or 0.
 fn put_reached(
     one: bool,
     graph: &Graph,
@@ -133,8 +130,7 @@ fn put_reached(
     spread(graph.switches(), widths, best, table);
 }
 
-/// Writes the level of each node whose state has the rail and to which nothing stronger comes, and
-/// 0 for the others.
+// Writes the level of each node that has the rail and to which nothing stronger comes, else 0.
 fn put_roots(one: bool, levels: &[u8], state: &[Tern], best: &[u8], table: &mut [u8])
     requires state { length levels.now ≤ length state.now }
     requires best { length levels.now ≤ length best.now }
@@ -146,7 +142,7 @@ fn put_roots(one: bool, levels: &[u8], state: &[Tern], best: &[u8], table: &mut 
     }
 }
 
-/// The strength with which a node starts a path of its own.
+// The strength with which a node starts a path of its own.
 fn first_strength(one: bool, state: Tern, level: u8, best: u8) -> u8
     ensures { result ≡ root_entry one state level best }
 {
@@ -158,7 +154,7 @@ fn first_strength(one: bool, state: Tern, level: u8, best: u8) -> u8
     if rail && best <= level { level } else { 0 }
 }
 
-/// Writes the state of each node whose rails are set where its entries aren't 0.
+// Writes for each node the state whose rails are set where its entries aren't 0.
 fn put_responses(one: &[u8], zero: &[u8], out: &mut [Tern])
     requires one { length out.old ≤ length one.now }
     requires zero { length out.old ≤ length zero.now }
@@ -171,7 +167,7 @@ fn put_responses(one: &[u8], zero: &[u8], out: &mut [Tern])
     }
 }
 
-/// The state with these rails, one of which is set.
+// The state with these rails, one of which is set.
 fn response(one: bool, zero: bool) -> Tern
     requires { (one || zero) ≡ true }
     ensures one { may_one result ≡ one }
@@ -180,104 +176,5 @@ fn response(one: bool, zero: bool) -> Tern
     match Tern::from_rails(one, zero) {
         Some(state) => state,
         None => unreachable!(),
-    }
-}
-
-#[cfg(test)]
-mod tests {
-    use super::*;
-    use crate::drawn::{Drawn, drawn};
-    use crate::switching::SwitchKind::{Always, NChan, PChan};
-    use std::test::Fail;
-
-    struct Row {
-        name: &'static str,
-        // the level of each node; Gnd and Vdd come first
-        levels: &'static [u8],
-        switches: &'static [Drawn],
-        before: &'static [u8],
-        after: &'static [u8],
-    }
-
-    const ROWS: [Row; 8] = [
-        Row {
-            name: "an inverter",
-            levels: &[16, 16, 16, 1],
-            switches: &[(PChan, 10, 2, 1, 3), (NChan, 10, 2, 0, 3)],
-            before: b"010X",
-            after: b"0101",
-        },
-        Row {
-            name: "a weak pull-up against a stronger path to ground",
-            levels: &[16, 16, 16, 1],
-            switches: &[(Always, 9, 3, 3, 1), (NChan, 10, 2, 0, 3)],
-            before: b"011X",
-            after: b"0110",
-        },
-        Row {
-            name: "a path that is blocked in its middle",
-            levels: &[16, 16, 1, 16, 1],
-            switches: &[
-                (NChan, 9, 1, 1, 2),
-                (NChan, 10, 1, 0, 2),
-                (NChan, 10, 3, 2, 4),
-            ],
-            before: b"01XX0",
-            after: b"010X0",
-        },
-        Row {
-            name: "a large node shares its charge with a small one",
-            levels: &[16, 16, 16, 2, 1],
-            switches: &[(NChan, 10, 2, 3, 4)],
-            before: b"01110",
-            after: b"01111",
-        },
-        Row {
-            name: "nodes of one size share their charges",
-            levels: &[16, 16, 16, 1, 1],
-            switches: &[(NChan, 10, 2, 3, 4)],
-            before: b"01110",
-            after: b"011XX",
-        },
-        Row {
-            name: "an unknown switch that matters",
-            levels: &[16, 16, 16, 2, 1],
-            switches: &[(NChan, 10, 2, 3, 4)],
-            before: b"01X10",
-            after: b"01X1X",
-        },
-        Row {
-            name: "an unknown switch that doesn't matter",
-            levels: &[16, 16, 16, 2, 1],
-            switches: &[(NChan, 10, 2, 3, 4)],
-            before: b"01X11",
-            after: b"01X11",
-        },
-        Row {
-            name: "an input node stops a path",
-            levels: &[16, 16, 16, 1, 16, 1],
-            switches: &[(NChan, 10, 2, 3, 4), (NChan, 10, 2, 4, 5)],
-            before: b"01X100",
-            after: b"01XX00",
-        },
-    ];
-
-    #[test]
-    fn a_step_gives_each_node_its_steady_state(rt: HostRuntime) -> Result<(), Fail> {
-        for row in &ROWS {
-            let graph = drawn(rt.alloc(), row.levels, row.switches)?.copy(rt.alloc())?;
-            let mut state = Vec::new(rt.alloc());
-            for letter in row.before {
-                state.push(Tern::from_letter(*letter).unwrap_or(Tern::Unk))?;
-            }
-            assert_eq!(rt; state.len(), graph.nodes());
-            let next = plain_step(rt.alloc(), &graph, &state)?;
-            let mut letters = Vec::new(rt.alloc());
-            for node in &next {
-                letters.push(node.letter())?;
-            }
-            assert_eq!(rt; letters.as_slice(), row.after, "{}", row.name);
-        }
-        Ok(())
     }
 }

@@ -7,7 +7,7 @@
 ghost use Rattle.std.specs.Prelude.{◌≡◌, ℕ, ◌+◌, ◌<◌, ◌≤◌, List, length, All, Option, Some, slice_index};
 ghost use Rattle.std.specs.Bool.{OnTrue, OnFalse};
 ghost use Rattle.path_meaning.specs.declared.switching.Switch.{Switch};
-ghost use Rattle.path_meaning.specs.Wiring.{Fits, FitsPlace, place_at};
+ghost use Rattle.path_meaning.specs.Graphs.{Fits, FitsPlace, place_at};
 ghost use Rattle.path_meaning.specs.Path.{Joins};
 ghost use Rattle.path_meaning.specs.Spread.{width, AreWidths, AllCome, Grows, IsSpread, IsSpreadOver, IsSpreadAcross, IsSpreadAt, room_left};
 
@@ -29,7 +29,7 @@ pub(crate) fn put_widths(sure: bool, state: &[Tern], places: &[Option<Switch>], 
     }
 }
 
-/// The most that a switch lets through.
+// The most that a switch lets through.
 fn switch_width(sure: bool, state: &[Tern], switch: &Switch) -> u8
     requires { Fits (length state.now) switch.now }
     ensures { result ≡ width sure state.now (Some switch.now) }
@@ -55,7 +55,7 @@ pub(crate) fn spread(places: &[Option<Switch>], widths: &[u8], floor: &[u8], tab
     while spread_once(places, widths, floor, table) {}
 }
 
-/// Spreads once over each place; true where an entry rose.
+// Spreads once over each place; true where an entry rose.
 fn spread_once(places: &[Option<Switch>], widths: &[u8], floor: &[u8], table: &mut [u8]) -> bool
     requires fits { All (FitsPlace (length floor.now)) places.now }
     requires widths { length places.now ≤ length widths.now }
@@ -73,7 +73,7 @@ fn spread_once(places: &[Option<Switch>], widths: &[u8], floor: &[u8], table: &m
     rose
 }
 
-/// Spreads over what stands at one place; true where an entry rose.
+// Spreads over what stands at one place; true where an entry rose.
 fn spread_at(place: &Option<Switch>, width: u8, floor: &[u8], table: &mut [u8]) -> bool
     requires fits { FitsPlace (length floor.now) place.now }
     requires table { length floor.now ≤ length table.old }
@@ -91,7 +91,7 @@ fn spread_at(place: &Option<Switch>, width: u8, floor: &[u8], table: &mut [u8]) 
     }
 }
 
-/// Spreads over one switch, both ways; true where an entry rose.
+// Spreads over one switch, both ways; true where an entry rose.
 fn spread_across(switch: &Switch, width: u8, floor: &[u8], table: &mut [u8]) -> bool
     requires fits { Fits (length floor.now) switch.now }
     requires table { length floor.now ≤ length table.old }
@@ -108,7 +108,7 @@ fn spread_across(switch: &Switch, width: u8, floor: &[u8], table: &mut [u8]) -> 
     there || back
 }
 
-/// Spreads from m to n over a switch of this width; true where the entry of n rose.
+// Spreads from m to n over a switch of this width; true where the entry of n rose.
 fn spread_over(floor: &[u8], table: &mut [u8], width: u8, m: usize, n: usize) -> bool
     requires from { m < length floor.now }
     requires to { n < length floor.now }

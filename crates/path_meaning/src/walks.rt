@@ -1,11 +1,11 @@
 //! What is known of a walk over the switches of a graph.
 
 ghost use Rattle.std.specs.Prelude.{◌≡◌, length};
-ghost use Rattle.path_meaning.specs.Wiring.{nodes};
+ghost use Rattle.path_meaning.specs.Graphs.{nodes};
 ghost use Rattle.path_meaning.specs.Walks.{AreFacts, AreFactsAfter, stand_of};
 
+use crate::graph::Graph;
 use crate::switching::{SwitchState, switch_state};
-use crate::wiring::Graph;
 use ternary::Tern;
 
 /// A walk that may be a live path: it starts at its root and goes over the switches at these
@@ -54,7 +54,7 @@ impl Graph {
         Some(facts)
     }
 
-    /// The facts of a path after one hop more, or `None` where no hop leads on over this place.
+    // The facts of a path after one hop more, or `None` where no hop leads on over this place.
     fn after_hop(&self, state: &[Tern], facts: WalkFacts, place: usize) -> Option<WalkFacts>
         requires { length state.now ≡ nodes self.now }
         ensures { AreFactsAfter self.now state.now (stand_of facts) place result }

@@ -1,9 +1,11 @@
 -- No joining step yet, one more, and the one that changes nothing.
 use Rattle.std.proofs.Common.{◌+◌, true, inl, ◌∙◌, refl, arith, ap, zero-add}
 use Rattle.std.proofs.lemmas.Bool.{OnTrue_at, OnFalse_at}
-use Rattle.oscillation_x.specs.Settling.{Joining, raised}
+use Rattle.oscillation_x.specs.Settling.{Joining}
+use Rattle.ternary.specs.Counts.{raised}
+use Rattle.ternary.proofs.CountsLemmas.{raised-more, raised-none}
 use Rattle.oscillation_x.proofs.KnownStates.{known-all}
-use Rattle.oscillation_x.proofs.SettlingLemmas.{raised-more, raised-none, counted, counted_none, Joining-more, Joining-rests, all-falls, storage-more, fades-more, rested_at}
+use Rattle.oscillation_x.proofs.SettlingLemmas.{counted, counted_none, Joining-more, Joining-rests, all-falls, storage-more, fades-more, rested_at}
 use Rattle.oscillation_x.proofs.settling.join_while_changing.Goals as goal
 
 pub loop-count-init : goal.loop-count-init
@@ -35,10 +37,21 @@ loop-count-preserved g c =
       nodes = c.join_step.ensures.nodes ∙ loop.invariant.nodes;
       storage = λ fits some. storage-more c.args.graph.now c.requires loop.count old new (loop.invariant.storage fits)
           (c.join_step.ensures.step (loop.invariant.fits fits)) changed;
-      fades = fades-more (g.M.Stepper.state c.args.m.now) old new loop.invariant.nodes loop.invariant.fades c.join_step.ensures.unknown;
+      fades = fades-more (g.M.Stepper.state c.args.m.now) old new loop.invariant.nodes loop.invariant.fades
+          c.join_step.ensures.unknown;
       unmoved = λ none. absurd (omega (arith, none));
-      fewer = omega (arith, loop.invariant.fewer, all-falls old new c.join_step.ensures.nodes c.join_step.ensures.unknown changed);
-      bound = omega (arith, loop.invariant.bound, all-falls old new c.join_step.ensures.nodes c.join_step.ensures.unknown changed);
+      fewer = omega (
+        arith,
+        loop.invariant.fewer,
+        all-falls old new c.join_step.ensures.nodes
+            c.join_step.ensures.unknown changed,
+      );
+      bound = omega (
+        arith,
+        loop.invariant.bound,
+        all-falls old new c.join_step.ensures.nodes
+            c.join_step.ensures.unknown changed,
+      );
       moves = OnTrue_at c.loop-count-test.true c.join_step.ensures.moved ∙
           (ap (λ moves. raised moves 1) loop.invariant.moves ∙ raised-more (g.M.Stepper.moves c.args.m.now) loop.count 1);
       placed = c.join_step.ensures.placed ∙ loop.invariant.placed;
@@ -46,7 +59,8 @@ loop-count-preserved g c =
 
 pub loop-count-smaller : goal.loop-count-smaller
 loop-count-smaller g c =
-    all-falls (g.M.Stepper.state c.loop-count.m) (g.M.Stepper.state c.join_step.new.self) c.join_step.ensures.nodes c.join_step.ensures.unknown
+    all-falls (g.M.Stepper.state c.loop-count.m) (g.M.Stepper.state c.join_step.new.self) c.join_step.ensures.nodes
+    c.join_step.ensures.unknown
     (OnTrue_at c.loop-count-test.true c.join_step.ensures.changed)
 
 pub returns-clause-fading : goal.returns-clause-fading
@@ -56,8 +70,10 @@ returns-clause-fading g c =
     let new = g.M.Stepper.state c.join_step.new.self in
     let same = OnFalse_at c.loop-count-test.false c.join_step.ensures.same in
     record {
-      fades = fades-more start (g.M.Stepper.state loop.m) new loop.invariant.nodes loop.invariant.fades c.join_step.ensures.unknown;
-      rested = rested_at loop.count start new (λ none. same ∙ loop.invariant.unmoved none) (rw (← same) at loop.invariant.fewer);
+      fades = fades-more start (g.M.Stepper.state loop.m) new loop.invariant.nodes loop.invariant.fades
+          c.join_step.ensures.unknown;
+      rested = rested_at loop.count start new (λ none. same ∙ loop.invariant.unmoved none)
+          (rw (← same) at loop.invariant.fewer);
     }
 
 pub returns-clause-joining : goal.returns-clause-joining

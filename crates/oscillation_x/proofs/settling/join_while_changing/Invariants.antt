@@ -1,8 +1,9 @@
 -- Each joining step so far changed something, and left fewer nodes known.
-use Rattle.std.proofs.Common.{◌≡◌, ℕ, ◌+◌, ◌<◌, ◌≤◌, true, List, length, slice_index}
+use Rattle.std.proofs.Common.{◌≡◌, ℕ, ◌+◌, ◌<◌, ◌≤◌, true, List, length}
 use Rattle.ternary.specs.declared.tern.Tern.{Tern}
-use Rattle.oscillation_x.specs.Settling.{Joining, StaysOrBecomesX, raised, is_storage, storage_nodes}
-use Rattle.oscillation_x.proofs.KnownStates.{known}
+use Rattle.oscillation_x.specs.Settling.{Joining, StaysOrBecomesX, storage_nodes}
+use Rattle.ternary.specs.Counts.{raised}
+use Rattle.oscillation_x.proofs.KnownStates.{known, known_storage}
 use Rattle.oscillation_x.proofs.settling.join_while_changing.Given as goal
 
 abbrev pub invariant-loop-count : goal.invariant-loop-count
@@ -13,7 +14,7 @@ invariant-loop-count g l = record {
   fits : g.M.Stepper.fits l.initial.m l.graph → g.M.Stepper.fits l.m l.graph;
   nodes : length (g.M.Stepper.state l.m) ≡ length (g.M.Stepper.state l.initial.m);
   storage : g.M.Stepper.fits l.initial.m l.graph → 0 < l.count →
-      l.count + known (λ node. is_storage (slice_index l.graph.levels node)) (g.M.Stepper.state l.m) ≤ storage_nodes l.graph;
+      l.count + known_storage l.graph (g.M.Stepper.state l.m) ≤ storage_nodes l.graph;
   fades : StaysOrBecomesX (g.M.Stepper.state l.initial.m) (g.M.Stepper.state l.m);
   unmoved : l.count ≡ 0 → g.M.Stepper.state l.m ≡ g.M.Stepper.state l.initial.m;
   fewer : l.count + known (λ _. true) (g.M.Stepper.state l.m) ≤ known (λ _. true) (g.M.Stepper.state l.initial.m);

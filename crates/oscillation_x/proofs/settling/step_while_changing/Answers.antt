@@ -1,8 +1,10 @@
 -- One step more, the step that changes nothing, and the limit.
 use Rattle.std.proofs.Common.{◌≡◌, ℕ, ◌+◌, ◌∙◌, arith, ap, subst}
 use Rattle.std.proofs.lemmas.Bool.{OnTrue_at, OnFalse_at}
-use Rattle.oscillation_x.specs.Settling.{Stepping, raised}
-use Rattle.oscillation_x.proofs.SettlingLemmas.{raised-more, Stepping-more, Stepping-rests, Stepping-ends, counted, counted_none}
+use Rattle.oscillation_x.specs.Settling.{Stepping}
+use Rattle.ternary.specs.Counts.{raised}
+use Rattle.ternary.proofs.CountsLemmas.{raised-more}
+use Rattle.oscillation_x.proofs.SettlingLemmas.{Stepping-more, Stepping-rests, Stepping-ends, counted, counted_none}
 use Rattle.oscillation_x.proofs.settling.step_while_changing.Goals as goal
 
 pub loop-count-preserved : goal.loop-count-preserved
@@ -13,7 +15,8 @@ loop-count-preserved g c =
       stepping = λ fits more new rest. counted loop.count more
           (λ count. Stepping c.args.graph.now c.args.limit (g.M.Stepper.state c.args.m.now) count new)
           (loop.invariant.stepping fits (more + 1) new
-          (Stepping-more c.args.graph.now c.args.limit loop.count (g.M.Stepper.state loop.m) (g.M.Stepper.state c.step.new.self) more new
+          (Stepping-more c.args.graph.now c.args.limit loop.count (g.M.Stepper.state loop.m)
+          (g.M.Stepper.state c.step.new.self) more new
           c.loop-count-test.true (c.step.ensures.step (loop.invariant.fits fits)) changed rest));
       fits = λ fits. c.step.ensures.fits (loop.invariant.fits fits);
       unmoved = λ none. absurd (omega (arith, none));

@@ -1,7 +1,8 @@
 -- Each step so far changed something: what steps are taken from here on go on from them.
 use Rattle.std.proofs.Common.{◌≡◌, ℕ, ◌+◌, ◌-◌, List, length}
 use Rattle.ternary.specs.declared.tern.Tern.{Tern}
-use Rattle.oscillation_x.specs.Settling.{Stepping, raised}
+use Rattle.oscillation_x.specs.Settling.{Stepping}
+use Rattle.ternary.specs.Counts.{raised}
 use Rattle.oscillation_x.proofs.settling.step_while_changing.Given as goal
 
 abbrev pub invariant-loop-count : goal.invariant-loop-count

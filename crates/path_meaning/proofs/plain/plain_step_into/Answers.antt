@@ -25,7 +25,8 @@ returns-clause-step c =
     let zero : c.deref-6.result.now ≡ c.put_reached-2.new.table =
     c.deref-6.ensures.value ∙ written _ c.put_reached-2.new.table _ (c.put_reached-2.auto.table ∙ c.deref_mut-5.ensures.len) in
     let count : length c.put_responses.new.out ≡ length c.args.out.now = c.put_responses.auto.out in
-    step_from_entries c.args.graph.now c.switches.ensures.wired c.args.state.now c.put_reached.new.table c.put_reached-2.new.table
+    step_from_entries c.args.graph.now c.switches.ensures.wired c.args.state.now c.put_reached.new.table
+    c.put_reached-2.new.table
     c.put_reached.ensures c.put_reached-2.ensures c.put_responses.new.out (count ∙ c.requires.out)
     (λ n inside. rw one at (c.put_responses.ensures.one n (omega (arith, count))))
     (λ n inside. rw zero at (c.put_responses.ensures.zero n (omega (arith, count))))

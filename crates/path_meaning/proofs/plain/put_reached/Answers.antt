@@ -1,12 +1,13 @@
 -- The table spread from the roots over switches that aren't open.
-use Rattle.path_meaning.specs.Wiring.{Wiring}
-use Rattle.path_meaning.specs.Spread.{AreRoots, AllCome, IsSpread}
+use Rattle.path_meaning.specs.Graphs.{GraphData}
+use Rattle.path_meaning.specs.Spread.{AllCome, IsSpread}
+use Rattle.path_meaning.specs.Plain.{AreRoots}
 use Rattle.path_meaning.proofs.TableMeaning.{are_reached}
 use Rattle.path_meaning.proofs.plain.put_reached.Goals as goal
 
 pub returns : goal.returns
 returns c =
-    let g : Wiring = c.args.graph.now in
+    let g : GraphData = c.args.graph.now in
     let state = c.args.state.now in
     let widths = c.args.widths.now in
     let best = c.args.best.now in
@@ -15,4 +16,5 @@ returns c =
     let roots : AreRoots c.args.one state g.levels best start = rw c.levels.ensures at c.put_roots.ensures in
     let come : AllCome g.places widths best start table = rw c.switches.ensures.value at c.spread.ensures.come in
     let spread : IsSpread g.places widths best table = rw c.switches.ensures.value at c.spread.ensures.spread in
-    are_reached g c.switches.ensures.wired state widths best c.args.one c.requires.widths c.requires.strongest start table roots come c.spread.ensures.grows spread
+    are_reached g c.switches.ensures.wired state widths best c.args.one c.requires.widths c.requires.strongest start
+    table roots come c.spread.ensures.grows spread

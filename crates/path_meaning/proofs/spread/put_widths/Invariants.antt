@@ -1,6 +1,6 @@
 -- The places so far have their widths.
 use Rattle.std.proofs.Common.{◌≡◌, ℕ, ◌<◌, slice_index}
-use Rattle.path_meaning.specs.Wiring.{place_at}
+use Rattle.path_meaning.specs.Graphs.{place_at}
 use Rattle.path_meaning.specs.Spread.{width}
 use Rattle.path_meaning.proofs.spread.put_widths.Given as goal
 

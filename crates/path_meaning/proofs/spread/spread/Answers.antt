@@ -14,6 +14,7 @@ loop-preserved c =
     let old = c.loop.table in
     let new = c.spread_once.new.table in
     record {
-      come = AllCome-trans c.args.places.now c.args.widths.now c.args.floor.now start old new c.loop.invariant.come c.spread_once.ensures.come;
+      come = AllCome-trans c.args.places.now c.args.widths.now c.args.floor.now start old new c.loop.invariant.come
+          c.spread_once.ensures.come;
       grows = Grows-trans start old new c.loop.invariant.grows c.spread_once.ensures.grows;
     }

@@ -27,5 +27,6 @@ loop-place-preserved c =
       grows = Grows-trans start old new so_far.grows now.grows;
       room = room-next c.loop-place.rose c.spread_at-rose.result start old new so_far.room so_far.same now.room now.same;
       same = same-next c.loop-place.rose c.spread_at-rose.result start old new so_far.same now.same;
-      below = spread-next places widths floor c.loop-place.rose c.spread_at-rose.result old new c.loop-place.place so_far.below now.same now.spread;
+      below = spread-next places widths floor c.loop-place.rose c.spread_at-rose.result old new c.loop-place.place
+          so_far.below now.same now.spread;
     }

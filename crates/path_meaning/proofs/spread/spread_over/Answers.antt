@@ -5,7 +5,8 @@ use Rattle.path_meaning.proofs.spread.spread_over.Goals as goal
 
 pub returns-clause-come : goal.returns-clause-come
 returns-clause-come c = λ places widths place switch stands joins wide.
-    AllCome-set places widths c.args.floor.now c.args.table.now c.args.m c.args.n place c.args.width c.min-strength.result switch
+    AllCome-set places widths c.args.floor.now c.args.table.now c.args.m c.args.n place c.args.width
+    c.min-strength.result switch
     (omega arith) stands joins wide c.min-strength.ensures (omega arith) (omega arith)
 
 pub returns-then-strength-floor-clause-come : goal.returns-then-strength-floor-clause-come

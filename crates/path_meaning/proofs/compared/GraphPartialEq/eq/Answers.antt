@@ -2,7 +2,7 @@
 use Rattle.std.proofs.Common.{◌≡◌, ◌==◌, true, rules}
 use Rattle.std.specs.Cmp.Lexicographic.{pointwise}
 use Rattle.std.proofs.lemmas.Bool.Decides.{Decides-at}
-use Rattle.path_meaning.specs.Compared.{same_wiring, same_wiring_decides}
+use Rattle.path_meaning.specs.Compared.{same_graph, same_graph_decides}
 use Rattle.path_meaning.proofs.compared.GraphPartialEq.eq.Goals as goal
 
 pub returns-then-eq-clause-same : goal.returns-then-eq-clause-same
@@ -10,5 +10,5 @@ returns-then-eq-clause-same c =
     let a = c.args.self.now in
     let b = c.args.other.now in
     let levels : pointwise ◌==◌ a.levels b.levels ≡ true = search rules in
-    let answer : c.eq-then-eq.result ≡ same_wiring a b = search rules in
-    Decides-at c.eq-then-eq.result (same_wiring a b) answer (same_wiring_decides a b)
+    let answer : c.eq-then-eq.result ≡ same_graph a b = search rules in
+    Decides-at c.eq-then-eq.result (same_graph a b) answer (same_graph_decides a b)

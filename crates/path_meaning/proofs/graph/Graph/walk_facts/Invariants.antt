@@ -4,7 +4,7 @@ use Rattle.path_meaning.specs.declared.walks.WalkFacts.{WalkFacts}
 use Rattle.path_meaning.specs.Path.{at_root}
 use Rattle.path_meaning.specs.Walks.{stand_of}
 use Rattle.path_meaning.proofs.WalkLemmas.{AreFactsFrom}
-use Rattle.path_meaning.proofs.wiring.Graph.walk_facts.Given as goal
+use Rattle.path_meaning.proofs.graph.Graph.walk_facts.Given as goal
 
 abbrev pub invariant-loop-place : goal.invariant-loop-place
 invariant-loop-place l =

@@ -1,6 +1,6 @@
 -- The nodes so far have the level, there is room for those that are left, and the places end with the switch.
 use Rattle.std.proofs.Common.{◌≡◌, ◌+◌, ◌≤◌, [], ◌∷◌, ◌++◌, replicate, Some, vec_len, vec_capacity}
-use Rattle.path_meaning.proofs.wiring.Graph.add_wired.Given as goal
+use Rattle.path_meaning.proofs.graph.Graph.add_wired.Given as goal
 
 abbrev pub invariant-loop : goal.invariant-loop
 invariant-loop l =

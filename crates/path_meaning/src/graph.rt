@@ -1,6 +1,6 @@
 ghost use Rattle.std.specs.Prelude.{◌≡◌, ◌+◌, ◌<◌, [], ◌∷◌, ◌++◌, length, replicate, Some, IfOk, OnErr, slice_set};
 ghost use Rattle.strength_order.specs.Levels.{IsLevel};
-ghost use Rattle.path_meaning.specs.Wiring.{nodes, level_of, place_at, Fits, FitsPlace, IsWired};
+ghost use Rattle.path_meaning.specs.Graphs.{nodes, level_of, place_at, Fits, FitsPlace, IsWired};
 
 use crate::switching::Switch;
 use std::alloc::{AllocError, Global};
@@ -22,9 +22,9 @@ pub struct Graph {
 }
 
 impl Model for Graph {
-    ghost use Rattle.path_meaning.specs.Wiring.{Wiring, IsWired};
+    ghost use Rattle.path_meaning.specs.Graphs.{GraphData, IsWired};
 
-    ghost Value = { Wiring };
+    ghost Value = { GraphData };
 
     ghost view = { λ graph. record { levels = graph.levels.items; places = graph.places.items } };
 
@@ -140,7 +140,10 @@ impl Graph {
         requires level { IsLevel level }
         requires fits { Fits (nodes self.old + count) switch }
         ensures number { IfOk result (λ place. place ≡ length self.old.places) }
-        ensures ok { IfOk result (λ _. self.new ≡ record { levels = self.old.levels ++ replicate count level; places = self.old.places ++ Some switch ∷ [] }) }
+        ensures ok { IfOk result (λ _. self.new ≡ record {
+          levels = self.old.levels ++ replicate count level;
+          places = self.old.places ++ Some switch ∷ [];
+        }) }
         ensures err { OnErr result (self.new ≡ self.old) }
     {
         let place = self.places.len();

@@ -2,7 +2,7 @@
 use Rattle.std.proofs.Common.{◌≡◌, ℕ, ◌<◌, ◌≤◌}
 use Rattle.ternary.specs.Tern.{join}
 use Rattle.path_meaning.specs.Switching.{state_at}
-use Rattle.oscillation_x.proofs.plain.join_with.Given as goal
+use Rattle.oscillation_x.proofs.plain_stepping.join_with.Given as goal
 
 abbrev pub invariant-loop-node : goal.invariant-loop-node
 invariant-loop-node l = record {

@@ -1,9 +1,9 @@
 //! The stepper by plain steps.
 ghost use Rattle.std.specs.Prelude.{◌≡◌, ◌≢◌, ◌<◌, ◌↔◌, length, IsTrue, IfOk, slice_set};
 ghost use Rattle.std.specs.Bool.{OnTrue, OnFalse};
-ghost use Rattle.path_meaning.specs.Wiring.{Wiring, nodes};
+ghost use Rattle.path_meaning.specs.Graphs.{GraphData, nodes};
 ghost use Rattle.path_meaning.specs.Laws.{IsJoin};
-ghost use Rattle.oscillation_x.specs.Settling.{raised};
+ghost use Rattle.ternary.specs.Counts.{raised};
 ghost use Rattle.oscillation_x.specs.PlainStepping.{HasRoom};
 
 use crate::stepping::Stepper;
@@ -30,9 +30,9 @@ pub struct PlainStepper {
 
 impl Model for PlainStepper {
     ghost use Rattle.std.specs.Prelude.{◌≡◌, length};
-    ghost use Rattle.oscillation_x.specs.PlainStepping.{PlainSeen};
+    ghost use Rattle.oscillation_x.specs.PlainStepping.{PlainStepperData};
 
-    ghost Value = { PlainSeen };
+    ghost Value = { PlainStepperData };
 
     ghost view = { λ stepper. record { state = stepper.state.items; places = stepper.places; moves = stepper.moves } };
 
@@ -71,12 +71,12 @@ impl PlainStepper {
     pub fn set_node(&mut self, node: usize, value: Tern)
         requires { node < length self.old.state }
         ensures state { self.new ≡ record self.old { state = slice_set self.old.state node value } }
-        ensures fits { (g : Wiring) → HasRoom self.old g → HasRoom self.new g }
+        ensures fits { (g : GraphData) → HasRoom self.old g → HasRoom self.new g }
     {
         self.state[node] = value;
     }
 
-    /// Whether the stepper fits a graph.
+    // Whether the stepper fits a graph.
     fn has_room(&self, graph: &Graph) -> bool
         ensures { IsTrue result ↔ HasRoom self.now graph.now }
     {
@@ -115,7 +115,7 @@ impl Stepper for PlainStepper {
     }
 }
 
-/// The number of moves after a call that changed the state, or didn't.
+// The number of moves after a call that changed the state, or didn't.
 fn moves_after(moves: u64, changed: bool) -> u64
     ensures moved { OnTrue changed (result ≡ raised moves 1) }
     ensures rested { OnFalse changed (result ≡ moves) }
@@ -123,7 +123,7 @@ fn moves_after(moves: u64, changed: bool) -> u64
     moves.saturating_add(u64::from(changed))
 }
 
-/// Makes the new states the state, and answers whether that changes it.
+// Makes the new states the state, and answers whether that changes it.
 fn take_over(state: &mut [Tern], next: &[Tern]) -> bool
     requires { length next.now ≡ length state.old }
     ensures state { state.new ≡ next.now }
@@ -135,7 +135,7 @@ fn take_over(state: &mut [Tern], next: &[Tern]) -> bool
     changed
 }
 
-/// Joins each new state with the old one.
+// Joins each new state with the old one.
 fn join_with(state: &[Tern], next: &mut [Tern])
     requires { length next.old ≡ length state.now }
     ensures { IsJoin state.now next.old next.new }

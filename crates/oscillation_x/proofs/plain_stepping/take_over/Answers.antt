@@ -6,7 +6,7 @@ use Rattle.std.proofs.lemmas.Bool.Decides.{not_from_Decides}
 use Rattle.std.proofs.lemmas.Slice.Eq.{slice_eq-Decides}
 use Rattle.ternary.specs.declared.tern.Tern.{Tern}
 use Rattle.ternary.proofs.TernLemmas.{tern_eq-Decides}
-use Rattle.oscillation_x.proofs.plain.take_over.Goals as goal
+use Rattle.oscillation_x.proofs.plain_stepping.take_over.Goals as goal
 
 differs : (old next new : List Tern) (same result : Bool) → Decides same (old ≡ next) → result ≡ not same → new ≡ next →
     (result ≡ true → new ≢ old) × (result ≡ false → new ≡ old)

@@ -1,17 +1,18 @@
--- An input node keeps its state, for each unblocked path to it is the empty one.
+-- An input node keeps its state, for the only unblocked path to it is its own empty one.
 -- A path that hops onto it has at most the strength of a switch there, and its own empty path is definite and stronger.
 use Rattle.std.proofs.Common.{◌≡◌, ℕ, ◌<◌, Bool, true, List, [], ◌∷◌, refl, arith}
 use Rattle.ternary.specs.declared.tern.Tern.{Tern}
 use Rattle.ternary.specs.Tern.{may_one, may_zero}
 use Rattle.strength_order.specs.declared.TheConstants.{INPUT_LEVEL}
 use Rattle.path_meaning.specs.Switching.{state_at}
-use Rattle.path_meaning.specs.Wiring.{Wiring, IsWired, nodes, level_of}
+use Rattle.path_meaning.specs.Graphs.{GraphData, IsWired, nodes, level_of}
 use Rattle.path_meaning.specs.Path.{Stand, at_root, IsBeaten, Reaches}
-use Rattle.path_meaning.specs.Step.{Responds, IsResponse}
+use Rattle.path_meaning.specs.Step.{Responds}
+use Rattle.path_meaning.specs.Laws.{InputNodesKeepTheirStates}
 use Rattle.path_meaning.proofs.PathLemmas.{switch_fits, level_fits, Leads-weaker, IsBeaten-by_level, Goes, Goes-there, Goes-leads, Goes-from_Reaches, Reaches-from_Goes}
-use Rattle.path_meaning.proofs.UniqueSteps.{response_is_unique}
 
-module _ (g : Wiring) (wired : IsWired g) (state : List Tern) (node : ℕ) (in_range : node < nodes g) (input : level_of g node ≡ INPUT_LEVEL) where
+module _ (g : GraphData) (wired : IsWired g) (state : List Tern) (node : ℕ) (in_range : node < nodes g)
+    (input : level_of g node ≡ INPUT_LEVEL) where
   -- nothing is stronger than an input node
   unbeaten : ¬ IsBeaten g state node (level_of g node)
   unbeaten beaten =
@@ -24,7 +25,8 @@ module _ (g : Wiring) (wired : IsWired g) (state : List Tern) (node : ℕ) (in_r
   reaches_itself = Reaches-from_Goes g state node node [] (at_root g node) in_range (unbeaten, refl) refl
 
   -- a path that has hopped is weaker than an input node
-  hopped : (root place : ℕ) (hops : List ℕ) (there : Stand) → Goes g state (at_root g root) (place ∷ hops) there → there.strength < INPUT_LEVEL
+  hopped : (root place : ℕ) (hops : List ℕ) (there : Stand) → Goes g state (at_root g root) (place ∷ hops) there →
+      there.strength < INPUT_LEVEL
   hopped root place hops there goes =
       let hop = goes.1.1 in
       let fits = switch_fits g wired place hop.switch hop.at_place in
@@ -32,7 +34,8 @@ module _ (g : Wiring) (wired : IsWired g) (state : List Tern) (node : ℕ) (in_r
       omega (arith, fits.high, hop.strength, weaker)
 
   -- no other root reaches it
-  reached_alone : (root : ℕ) (hops : List ℕ) (there : Stand) → Goes g state (at_root g root) hops there → there.node ≡ node → root ≡ node
+  reached_alone : (root : ℕ) (hops : List ℕ) (there : Stand) → Goes g state (at_root g root) hops there →
+      there.node ≡ node → root ≡ node
   reached_alone root [] there goes ends = cc (goes.1)
   reached_alone root (place ∷ hops) there goes ends =
       let weak = hopped root place hops there goes in
@@ -46,12 +49,13 @@ module _ (g : Wiring) (wired : IsWired g) (state : List Tern) (node : ℕ) (in_r
 
   gains_no_rail : (rail : Tern → Bool) → Responds rail g state node → rail (state_at state node) ≡ true
   gains_no_rail rail way =
-      let same : way.0 ≡ node = reached_alone way.0 way.1.hops way.1.there (Goes-from_Reaches g state way.0 node way.1) way.1.ends in
+      let same : way.0 ≡ node = reached_alone way.0 way.1.hops way.1.there
+      (Goes-from_Reaches g state way.0 node way.1) way.1.ends in
       rw same at way.2
 
-  -- the steady state of an input node is its state
-  pub input_keeps : (answer : Tern) → IsResponse g state node answer → answer ≡ state_at state node
-  input_keeps answer response = response_is_unique g state node answer (state_at state node) response (record {
-    one = (keeps_rail may_one, gains_no_rail may_one);
-    zero = (keeps_rail may_zero, gains_no_rail may_zero);
-  })
+-- the steady state of an input node is its own state
+pub input_response : InputNodesKeepTheirStates
+input_response g wired state node in_range input = record {
+  one = (keeps_rail g wired state node in_range input may_one, gains_no_rail g wired state node in_range input may_one);
+  zero = (keeps_rail g wired state node in_range input may_zero, gains_no_rail g wired state node in_range input may_zero);
+}
