@@ -5,3 +5,4 @@ pub mod FeedLemmas
 pub mod LineLemmas
 pub mod WordLemmas
 pub mod FileLemmas
+pub mod VisibleLemmas

@@ -13,14 +13,30 @@ carriage_return = 13
 abbrev pub bar : ℕ
 bar = 124
 
+-- a space
+abbrev pub space : ℕ
+space = 32
+
+-- a tab
+abbrev pub tab : ℕ
+tab = 9
+
+-- the first visible ASCII character, `!`
+abbrev pub first_visible : ℕ
+first_visible = 0x21
+
+-- the last one, `~`
+abbrev pub last_visible : ℕ
+last_visible = 0x7e
+
 -- the byte is LF
 abbrev pub is_line_feed : ℕ → Bool
 is_line_feed byte = byte == line_feed
 
 -- the byte is a space or a tab
 abbrev pub is_blank : ℕ → Bool
-is_blank byte = byte == 32 || byte == 9
+is_blank byte = byte == space || byte == tab
 
--- the byte may stand in a line: it is a blank, or a visible ASCII character, 0x21 to 0x7e
+-- the byte may stand in a line: it is a blank, or a visible ASCII character
 abbrev pub is_line_byte : ℕ → Bool
-is_line_byte byte = is_blank byte || (nat_le 0x21 byte && nat_le byte 0x7e)
+is_line_byte byte = is_blank byte || (nat_le first_visible byte && nat_le byte last_visible)

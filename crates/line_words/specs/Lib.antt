@@ -4,3 +4,4 @@ pub mod Decimals
 pub mod LineFaults
 pub mod Lines
 pub mod Words
+pub mod Visible

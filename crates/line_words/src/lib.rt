@@ -9,7 +9,9 @@
 //! read of a file, and [`cut_line`] is the number of the line at which a file is too long.
 //!
 //! The layer above rests on the contract of [`lines`]: it gives `lines_of` of the text, numbered
-//! from 1.
+//! from 1. For the proofs of crates above: `VisibleLemmas` says that the words of a line without a
+//! fault are visible names, `FileLemmas` that a file goes by its front alone, `CutLemmas` how a list
+//! is cut at the first byte that passes a test, and `WordLemmas` that words are those of the grammar.
 //!
 //! ```text
 //! for line in lines(b"set in=1\r\nphase 2\n") {

@@ -40,7 +40,7 @@ impl<'a> Model for Lines<'a> {
 }
 
 impl<'a> Lines<'a> {
-    // The lines of a text, numbered from 1.
+    /// The lines of a text, numbered from 1.
     pub(crate) fn of_text(text: &'a [u8]) -> Lines<'a>
         ensures { result ≡ enumerate_from 1 (spec.lines_of text.now) }
     {

@@ -26,7 +26,7 @@ impl<'a> Model for Words<'a> {
 }
 
 impl<'a> Words<'a> {
-    // The words of a line.
+    /// The words of a line.
     pub(crate) fn of_line(line: &'a [u8]) -> Words<'a>
         ensures { result ≡ words_of line.now }
     {

@@ -3,15 +3,15 @@ use Rattle.std.proofs.Common.{◌≡◌, ℕ, ◌+◌, ◌-◌, ◌<◌, Bool, t
 use Rattle.std.specs.List.{suffix_len, before_last, after_last}
 use Rattle.std.proofs.lemmas.List.Sums.{suffix_len_is}
 use Rattle.line_words.specs.Words.{is_word}
-use Rattle.script_lang.specs.Parts.{is_equals, parts_of, HasNoEquals, IsLastEquals}
+use Rattle.script_lang.specs.Parts.{equals, is_equals, parts_of, HasNoEquals, IsLastEquals}
 
 -- how many bytes stand after the last `=`
 letters_long : (word : List ℕ) (at : ℕ) → IsLastEquals word at → suffix_len (λ x. not (is_equals x)) word ≡ length word - (at + 1)
 letters_long word at last =
     let inside : at < length word = last.inside in
     suffix_len_is (λ x. not (is_equals x)) word (at + 1) 0 (omega arith)
-    (λ k from within. ap not (ne_eqb (get_or word k 0) 61 (last.after k (omega arith) within)))
-    (λ some. let same : at + 1 - 1 ≡ at = omega arith in ap not (eq-eqb (get_or word (at + 1 - 1) 0) 61 (ap (λ j. get_or word j 0) same ∙ last.here)))
+    (λ k from within. ap not (ne_eqb (get_or word k 0) equals (last.after k (omega arith) within)))
+    (λ some. let same : at + 1 - 1 ≡ at = omega arith in ap not (eq-eqb (get_or word (at + 1 - 1) 0) equals (ap (λ j. get_or word j 0) same ∙ last.here)))
 
 -- the name of a word with an `=`
 pub name_at : (word : List ℕ) (at : ℕ) → IsLastEquals word at → before_last is_equals word ≡ take at word
@@ -41,7 +41,7 @@ pub parts_none : (word : List ℕ) → HasNoEquals word → parts_of word ≡ No
 parts_none word absent =
     let long : suffix_len (λ x. not (is_equals x)) word ≡ length word - 0 =
     suffix_len_is (λ x. not (is_equals x)) word 0 0 (omega arith)
-    (λ k from within. ap not (ne_eqb (get_or word k 0) 61 (absent k within)))
+    (λ k from within. ap not (ne_eqb (get_or word k 0) equals (absent k within)))
     (λ some. absurd (omega arith)) in
     let same : length word - suffix_len (λ x. not (is_equals x)) word - 1 ≡ 0 = omega arith in
     ap (λ n. if is_word (take n word) && is_word (after_last is_equals word) then Some (take n word, after_last is_equals word) else None) same

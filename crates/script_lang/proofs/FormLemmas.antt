@@ -1,23 +1,18 @@
--- What a line without a fault asks for is well formed: its words are names, and the names of assignments are fronts of words.
-use Rattle.std.proofs.Common.{◌≡◌, ℕ, suc, ◌-◌, ◌<◌, ◌≤◌, Bool, true, false, not, ◌&&◌, ◌||◌, List, [], ◌∷◌, ◌++◌, length, All, Option, Some, None, IfSome, option_map, if◌then◌else◌, Result, Ok, Err, IfOk, nat_le, nat_lt, refl, sym, ap, ◌∙◌, subst, arith}
+-- What a line without a fault asks for is well formed: its words are visible names, and the names of assignments are fronts of words.
+use Rattle.std.proofs.Common.{◌≡◌, ℕ, suc, ◌-◌, ◌<◌, ◌≤◌, true, false, not, ◌&&◌, List, [], ◌∷◌, length, All, Option, Some, None, IfSome, option_map, Result, Ok, Err, IfOk, nat_le, refl, ap, ◌∙◌, subst, arith}
 use Rattle.std.specs.Prelude.{⊤}
-use Rattle.std.specs.List.{AllPass, before_last, after_last, list_all, suffix_len}
+use Rattle.std.specs.List.{before_last, after_last, suffix_len}
 use Rattle.std.specs.Option.{ok_or, option_and_then}
 use Rattle.std.proofs.lemmas.Option.{cond_some}
 use Rattle.std.proofs.lemmas.Bool.{and_parts, leb-true}
-use Rattle.std.proofs.Math.Seq.{take-append_seam, drop-append_seam}
-use Rattle.std.proofs.lemmas.List.Elements.{All-nil, All-cons, All-head, All-tail, All-same, All-take, All-drop}
-use Rattle.std.proofs.lemmas.List.Sums.{AllPass-from_list_all}
+use Rattle.std.proofs.lemmas.List.Elements.{All-nil, All-cons, All-head, All-tail, All-take}
 use Rattle.ternary.specs.declared.tern.Tern.{Tern}
 use Rattle.ternary.specs.Tern.{of_letter}
-use Rattle.line_words.specs.Bytes.{is_blank, is_line_byte}
+use Rattle.line_words.specs.Bytes.{first_visible, last_visible}
 use Rattle.line_words.specs.Decimals.{decimal_of}
 use Rattle.line_words.specs.LineFaults.{line_fault, is_comment}
-use Rattle.line_words.specs.declared.line_check.LineFault.TheVariants as of_line
-use Rattle.line_words.specs.declared.line_check.TheConstants.{LONGEST_LINE}
-use Rattle.line_words.specs.Words.{is_word, words_of, IsWord, IsLine}
-use Rattle.line_words.specs.Words.IsLine.{empty, blank, last, ended}
-use Rattle.line_words.proofs.WordLemmas.{IsLine-words_of}
+use Rattle.line_words.specs.Words.{is_word, words_of}
+use Rattle.line_words.proofs.VisibleLemmas.{words_of-visible}
 use Rattle.script_lang.specs.declared.TheConstants.{MOST_TIMES}
 use Rattle.script_lang.specs.declared.verb.Verb.{Verb}
 use Rattle.script_lang.specs.declared.verb.Verb.TheVariants as verb
@@ -27,60 +22,8 @@ use Rattle.script_lang.specs.declared.command.ScriptFault.{ScriptFault}
 use Rattle.script_lang.specs.declared.command.ScriptFault.TheVariants.{BadValue, BadNumber}
 use Rattle.script_lang.specs.Parts.{all_of, assignment_of, beats_of, is_equals, parts_of, state_of, states_of, times_of, times_within}
 use Rattle.script_lang.specs.Commands.{alone, assignments_given, clocks_given, command_by, commanded, names_given, reading_of_words, some_command, store_by, times_given, verb_of}
-use Rattle.script_lang.specs.Forms.{AreAssignments, AreBeats, AreNames, IsFormed, IsName, IsTimes}
-
--- ---- the words of a line are names
-
--- each byte may stand in a line
-abbrev IsPlain : List ℕ → Type 0
-IsPlain line = AllPass is_line_byte line
-
--- a byte of a line that isn't a blank is visible
-visible : (byte : ℕ) → is_line_byte byte ≡ true → is_blank byte ≡ false → (0x21 ≤ byte) × (byte ≤ 0x7e)
-visible byte plain solid =
-    let both = and_parts (nat_le 0x21 byte) (nat_le byte 0x7e) (sym (ap (λ blank. blank || (nat_le 0x21 byte && nat_le byte 0x7e)) solid) ∙ plain) in
-    (leb-true 0x21 byte both.0, leb-true byte 0x7e both.1)
-
--- a word of bytes that may stand in a line is a name
-IsName-word : (word : List ℕ) → IsWord word → IsPlain word → IsName word
-IsName-word word is plain = record {
-  some = is.has_byte;
-  visible = λ k d inside. visible _ (plain k d inside) (is.no_blank k d inside);
-}
-
--- what stands before a byte, and what stands after it, are plain in a plain line
-IsPlain-before : (word : List ℕ) (byte : ℕ) (rest : List ℕ) → IsPlain (word ++ byte ∷ rest) → IsPlain word
-IsPlain-before word byte rest plain =
-    All-same (λ b. is_line_byte b ≡ true) _ _ (sym (take-append_seam word (byte ∷ rest)))
-    (All-take (λ b. is_line_byte b ≡ true) (length word) (word ++ byte ∷ rest) plain)
-
-IsPlain-after : (word : List ℕ) (byte : ℕ) (rest : List ℕ) → IsPlain (word ++ byte ∷ rest) → IsPlain rest
-IsPlain-after word byte rest plain =
-    All-tail (λ b. is_line_byte b ≡ true) byte rest
-    (All-same (λ b. is_line_byte b ≡ true) _ _ (sym (drop-append_seam word (byte ∷ rest)))
-    (All-drop (λ b. is_line_byte b ≡ true) (length word) (word ++ byte ∷ rest) plain))
-
--- what the grammar cuts a plain line into are names
-names_in : {line : List ℕ} {words : List (List ℕ)} → IsLine line words → IsPlain line → All IsName words
-names_in empty plain = All-nil IsName
-names_in (blank byte rest words stops more) plain = names_in more (All-tail (λ b. is_line_byte b ≡ true) byte rest plain)
-names_in (last word is) plain = All-cons IsName word [] (IsName-word word is plain) (All-nil IsName)
-names_in (ended word byte rest words is stops more) plain =
-    All-cons IsName word words (IsName-word word is (IsPlain-before word byte rest plain)) (names_in more (IsPlain-after word byte rest plain))
-
--- a line that has no fault and is no comment is plain
-IsPlain-line : (line : List ℕ) → line_fault line ≡ None → is_comment line ≡ false → IsPlain line
-IsPlain-line line sound other = AllPass-from_list_all is_line_byte line (plain (nat_lt LONGEST_LINE (length line)) (is_comment line) (list_all is_line_byte line) sound other)
-  where
-    plain : (long comment all : Bool) → (if long then Some of_line.TooLong else (if comment || all then None else Some of_line.BadByte)) ≡ None → comment ≡ false → all ≡ true
-    plain true comment all sound other = cc
-    plain false true all sound other = cc
-    plain false false true sound other = refl
-    plain false false false sound other = cc
-
--- the words of a line that has no fault and is no comment are names
-names_of_line : (line : List ℕ) → line_fault line ≡ None → is_comment line ≡ false → All IsName (words_of line)
-names_of_line line sound other = names_in (IsLine-words_of line) (IsPlain-line line sound other)
+use Rattle.script_lang.specs.Forms.{AreAssignments, AreBeats, AreNames, IsFormed, IsTimes}
+use Rattle.line_words.specs.Visible.{IsVisibleName}
 
 -- ---- what words give
 
@@ -90,14 +33,14 @@ has_byte [] some = cc
 has_byte (byte ∷ part) some = omega arith
 
 -- a word that is cut gives a name, and letters
-IsName-part : (word name letters : List ℕ) → IsName word → parts_of word ≡ Some (name, letters) → IsName name × (0 < length letters)
-IsName-part word name letters is cut =
+IsVisibleName-part : (word name letters : List ℕ) → IsVisibleName word → parts_of word ≡ Some (name, letters) → IsVisibleName name × (0 < length letters)
+IsVisibleName-part word name letters is cut =
     let parts = cond_some (is_word (before_last is_equals word) && is_word (after_last is_equals word)) (before_last is_equals word, after_last is_equals word) (name, letters) cut in
     let words = and_parts (is_word (before_last is_equals word)) (is_word (after_last is_equals word)) parts.0 in
-    subst (λ (p : List ℕ × List ℕ). IsName p.0 × (0 < length p.1)) parts.1 (
+    subst (λ (p : List ℕ × List ℕ). IsVisibleName p.0 × (0 < length p.1)) parts.1 (
       record {
         some = has_byte (before_last is_equals word) words.0;
-        visible = All-take (λ byte. (0x21 ≤ byte) × (byte ≤ 0x7e)) (length word - suffix_len (λ x. not (is_equals x)) word - 1) word is.visible;
+        visible = All-take (λ byte. (first_visible ≤ byte) × (byte ≤ last_visible)) (length word - suffix_len (λ x. not (is_equals x)) word - 1) word is.visible;
       },
       has_byte (after_last is_equals word) words.1,
     )
@@ -137,15 +80,15 @@ all_given f P Q each (item ∷ items) given all is =
     (ap suc more.0, All-cons Q parts.0 parts.1 (each item parts.0 (All-head P item items all) parts.2) more.1)
 
 -- an assignment of a name has a name
-named_assignment : (word : List ℕ) (item : List ℕ × Tern) → IsName word → assignment_of word ≡ Some item → IsName item.0
+named_assignment : (word : List ℕ) (item : List ℕ × Tern) → IsVisibleName word → assignment_of word ≡ Some item → IsVisibleName item.0
 named_assignment word item is found =
-    let parts = given_parts state_of (parts_of word) item found in (IsName-part word item.0 parts.0 is parts.1).0
+    let parts = given_parts state_of (parts_of word) item found in (IsVisibleName-part word item.0 parts.0 is parts.1).0
 
 -- the letters of a clock have a name, and there is one at least
-named_beats : (word : List ℕ) (item : List ℕ × List Tern) → IsName word → beats_of word ≡ Some item → IsName item.0 × (0 < length item.1)
+named_beats : (word : List ℕ) (item : List ℕ × List Tern) → IsVisibleName word → beats_of word ≡ Some item → IsVisibleName item.0 × (0 < length item.1)
 named_beats word item is found =
     let parts = given_parts states_of (parts_of word) item found in
-    let named = IsName-part word item.0 parts.0 is parts.1 in
+    let named = IsVisibleName-part word item.0 parts.0 is parts.1 in
     let long = all_given of_letter (λ _. ⊤) (λ _. ⊤) (λ _ _ _ _. tt) parts.0 item.1 (λ _ _ _. tt) parts.2 in
     (named.0, omega (arith, named.1, long.0))
 
@@ -169,22 +112,22 @@ given_some None fault x is = cc
 given_some (Some y) fault x is = cc
 
 -- names that are given are one or more
-formed_names : (words names : List (List ℕ)) → All IsName words → names_given words ≡ Ok names → AreNames names
+formed_names : (words names : List (List ℕ)) → All IsVisibleName words → names_given words ≡ Ok names → AreNames names
 formed_names [] names are is = cc
 formed_names (word ∷ words) names are is = subst AreNames (let same : word ∷ words ≡ names = cc in same) (omega arith, are)
 
 -- assignments that are given are one or more, and have names
-formed_assignments : (words : List (List ℕ)) (list : List (List ℕ × Tern)) → All IsName words → assignments_given words ≡ Ok list → AreAssignments list
+formed_assignments : (words : List (List ℕ)) (list : List (List ℕ × Tern)) → All IsVisibleName words → assignments_given words ≡ Ok list → AreAssignments list
 formed_assignments [] list are is = cc
 formed_assignments (word ∷ words) list are is =
-    let all = all_given assignment_of IsName (λ item. IsName item.0) named_assignment (word ∷ words) list are (given_some (all_of assignment_of (word ∷ words)) BadValue list is) in
+    let all = all_given assignment_of IsVisibleName (λ item. IsVisibleName item.0) named_assignment (word ∷ words) list are (given_some (all_of assignment_of (word ∷ words)) BadValue list is) in
     (omega (arith, all.0), all.1)
 
 -- clocks that are given are one or more, and each has a name and a letter
-formed_clocks : (words : List (List ℕ)) (list : List (List ℕ × List Tern)) → All IsName words → clocks_given words ≡ Ok list → AreBeats list
+formed_clocks : (words : List (List ℕ)) (list : List (List ℕ × List Tern)) → All IsVisibleName words → clocks_given words ≡ Ok list → AreBeats list
 formed_clocks [] list are is = cc
 formed_clocks (word ∷ words) list are is =
-    let all = all_given beats_of IsName (λ item. IsName item.0 × (0 < length item.1)) named_beats (word ∷ words) list are (given_some (all_of beats_of (word ∷ words)) BadValue list is) in
+    let all = all_given beats_of IsVisibleName (λ item. IsVisibleName item.0 × (0 < length item.1)) named_beats (word ∷ words) list are (given_some (all_of beats_of (word ∷ words)) BadValue list is) in
     (omega (arith, all.0), all.1)
 
 -- a number that is given is in its range
@@ -206,16 +149,16 @@ formed_alone command [] made formed is = subst IsFormed (let same : command ≡ 
 formed_alone command (word ∷ words) made formed is = cc
 
 -- the name of `store` is a word
-formed_store : (words : List (List ℕ)) (made : Command) → All IsName words → store_by words ≡ Ok made → IsFormed made
+formed_store : (words : List (List ℕ)) (made : Command) → All IsVisibleName words → store_by words ≡ Ok made → IsFormed made
 formed_store [] made are is = cc
 formed_store (name ∷ []) made are is = cc
 formed_store (name ∷ size ∷ other ∷ words) made are is = cc
 formed_store (name ∷ size ∷ []) made are is =
     let stored = mapped (Store name) (decimal_of size) made (given_some (option_map (Store name) (decimal_of size)) BadNumber made is) in
-    subst IsFormed stored.2 (All-head IsName name (size ∷ []) are)
+    subst IsFormed stored.2 (All-head IsVisibleName name (size ∷ []) are)
 
 -- the command of a verb with names after it is well formed
-formed_by : (verb : Option Verb) (words : List (List ℕ)) (made : Command) → All IsName words → command_by verb words ≡ Ok made → IsFormed made
+formed_by : (verb : Option Verb) (words : List (List ℕ)) (made : Command) → All IsVisibleName words → command_by verb words ≡ Ok made → IsFormed made
 formed_by None words made are is = cc
 formed_by (Some verb.Input) words made are is = formed_of Input (names_given words) made (λ names given. formed_names words names are given) is
 formed_by (Some verb.Store) words made are is = formed_store words made are is
@@ -230,11 +173,11 @@ formed_by (Some verb.Cycle) words made are is = formed_of Cycle (times_given wor
 formed_by (Some verb.Expect) words made are is = formed_of Expect (assignments_given words) made (λ list given. formed_assignments words list are given) is
 
 -- what the words of a line ask for is well formed, where they are names
-formed_line : (words : List (List ℕ)) (found : Option Command) → All IsName words → reading_of_words words ≡ Ok found → IfSome found IsFormed
+formed_line : (words : List (List ℕ)) (found : Option Command) → All IsVisibleName words → reading_of_words words ≡ Ok found → IfSome found IsFormed
 formed_line words None are is = tt
 formed_line [] (Some command) are is = cc
 formed_line (word ∷ words) (Some command) are is =
-    formed_by (verb_of word) words command (All-tail IsName word words are) (asked (command_by (verb_of word) words) is)
+    formed_by (verb_of word) words command (All-tail IsVisibleName word words are) (asked (command_by (verb_of word) words) is)
   where
     asked : (answer : Result Command ScriptFault) → some_command answer ≡ Ok (Some command) → answer ≡ Ok command
     asked (Ok made) is = cc
@@ -243,5 +186,5 @@ formed_line (word ∷ words) (Some command) are is =
 -- what was read of the words of a line that has no fault and is no comment is well formed
 pub formed_words : (line : List ℕ) (result : Result (Option Command) ScriptFault) → line_fault line ≡ None → is_comment line ≡ false →
     IfOk result (λ found. reading_of_words (words_of line) ≡ Ok found) → IfOk result (λ found. IfSome found IsFormed)
-formed_words line (Ok found) sound other is = formed_line (words_of line) found (names_of_line line sound other) is
+formed_words line (Ok found) sound other is = formed_line (words_of line) found (words_of-visible line sound other) is
 formed_words line (Err fault) sound other is = tt

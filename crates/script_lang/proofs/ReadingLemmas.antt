@@ -1,8 +1,7 @@
 -- What the reading of a line is, whatever the line: a well-formed command, nothing to do, or a refusal that has a cause.
-use Rattle.std.proofs.Common.{◌≡◌, ◌≢◌, ℕ, Bool, true, false, List, [], ◌∷◌, Option, Some, None, Result, Ok, Err, refl, sym, ◌∙◌, ap}
+use Rattle.std.proofs.Common.{◌≡◌, ◌≢◌, ℕ, Bool, true, false, List, [], ◌∷◌, Option, Some, None, Result, Ok, Err, refl, ap}
 use Rattle.std.specs.Prelude.{option_map, if◌then◌else◌}
 use Rattle.std.specs.Option.{ok_or}
-use Rattle.ternary.specs.declared.tern.Tern.{Tern}
 use Rattle.line_words.specs.declared.line_check.LineFault.{LineFault}
 use Rattle.line_words.specs.declared.line_check.LineFault.TheVariants as of_line
 use Rattle.line_words.specs.LineFaults.{line_fault, is_comment}

@@ -46,7 +46,7 @@ abbrev pub clocks_given : List (List ℕ) → Result (List (List ℕ × List Ter
 clocks_given [] = Err FewWords
 clocks_given (word ∷ words) = ok_or (all_of beats_of (word ∷ words)) BadValue
 
--- a number from 1 to 1,000,000
+-- a number from 1 to `MOST_TIMES`
 abbrev pub times_given : List (List ℕ) → Result ℕ ScriptFault
 times_given [] = Err FewWords
 times_given (word ∷ []) = ok_or (times_of word) BadNumber

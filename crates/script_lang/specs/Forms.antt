@@ -4,32 +4,28 @@ use Rattle.ternary.specs.declared.tern.Tern.{Tern}
 use Rattle.script_lang.specs.declared.TheConstants.{MOST_TIMES}
 use Rattle.script_lang.specs.declared.command.Command.{Command}
 use Rattle.script_lang.specs.declared.command.Command.TheVariants.{Input, Store, Set, Charge, Watch, Limit, Step, Phase, Clock, Cycle, Expect}
-
--- a name has one byte or more, each from 0x21 to 0x7e
-pub record IsName (name : List ℕ) : Type 0 where
-  pub some : 0 < length name
-  pub visible : All (λ byte. (0x21 ≤ byte) × (byte ≤ 0x7e)) name
+use Rattle.line_words.specs.Visible.{IsVisibleName}
 
 -- one name or more
 abbrev pub AreNames : List (List ℕ) → Type 0
-AreNames names = (0 < length names) × All IsName names
+AreNames names = (0 < length names) × All IsVisibleName names
 
 -- one assignment or more
 abbrev pub AreAssignments : List (List ℕ × Tern) → Type 0
-AreAssignments list = (0 < length list) × All (λ item. IsName item.0) list
+AreAssignments list = (0 < length list) × All (λ item. IsVisibleName item.0) list
 
 -- one clock or more, each with one state or more
 abbrev pub AreBeats : List (List ℕ × List Tern) → Type 0
-AreBeats list = (0 < length list) × All (λ item. IsName item.0 × (0 < length item.1)) list
+AreBeats list = (0 < length list) × All (λ item. IsVisibleName item.0 × (0 < length item.1)) list
 
--- a number from 1 to 1,000,000
+-- a number from 1 to `MOST_TIMES`
 abbrev pub IsTimes : ℕ → Type 0
 IsTimes number = (1 ≤ number) × (number ≤ MOST_TIMES)
 
 -- a command is well formed: its lists have an item, its names are names, and its number of times is in range
 abbrev pub IsFormed : Command → Type 0
 IsFormed (Input names) = AreNames names
-IsFormed (Store name size) = IsName name
+IsFormed (Store name size) = IsVisibleName name
 IsFormed (Set list) = AreAssignments list
 IsFormed (Charge list) = AreAssignments list
 IsFormed (Watch names) = AreNames names

@@ -13,9 +13,13 @@ abbrev pub all_of : {X Y : Type 0} → (X → Option Y) → List X → Option (L
 all_of f [] = Some []
 all_of f (item ∷ items) = option_and_then (λ first. option_map (λ rest. first ∷ rest) (all_of f items)) (f item)
 
+-- the byte `=`, at which an assignment is cut
+abbrev pub equals : ℕ
+equals = 61
+
 -- the byte is `=`
 abbrev pub is_equals : ℕ → Bool
-is_equals byte = byte == 61
+is_equals byte = byte == equals
 
 -- the name and the letters of a word `name=letters`, cut at its last `=`, where both have a byte
 abbrev pub parts_of : List ℕ → Option (List ℕ × List ℕ)
@@ -42,20 +46,20 @@ states_of letters = all_of of_letter letters
 abbrev pub beats_of : List ℕ → Option (List ℕ × List Tern)
 beats_of word = option_and_then (λ parts. option_map (λ states. (parts.0, states)) (states_of parts.1)) (parts_of word)
 
--- the number, where it is from 1 to 1,000,000
+-- the number, where it is from 1 to `MOST_TIMES`
 abbrev pub times_within : ℕ → Option ℕ
 times_within number = if nat_le 1 number && nat_le number MOST_TIMES then Some number else None
 
--- a number from 1 to 1,000,000
+-- a number from 1 to `MOST_TIMES`
 abbrev pub times_of : List ℕ → Option ℕ
 times_of word = option_and_then times_within (decimal_of word)
 
 -- no byte of the word is `=`
 abbrev pub HasNoEquals : List ℕ → Type 0
-HasNoEquals word = (k : ℕ) → k < length word → slice_index word k ≢ 61
+HasNoEquals word = (k : ℕ) → k < length word → slice_index word k ≢ equals
 
 -- the byte at a place is the last `=` of the word
 pub record IsLastEquals (word : List ℕ) (at : ℕ) : Type 0 where
   pub inside : at < length word
-  pub here : slice_index word at ≡ 61
-  pub after : (k : ℕ) → at < k → k < length word → slice_index word k ≢ 61
+  pub here : slice_index word at ≡ equals
+  pub after : (k : ℕ) → at < k → k < length word → slice_index word k ≢ equals

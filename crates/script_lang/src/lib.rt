@@ -2,7 +2,8 @@
 //!
 //! The main type is `Command`, and the main call is `read_command`. The layer above uses its
 //! contract: it gives `reading_of` of the line, a command, nothing to do, or the refusal, and
-//! commands that are well formed alone.
+//! commands that are well formed alone. For the proofs of crates above: `ReadingLemmas` has the laws
+//! of `reading_of`.
 //!
 //! ```text
 //! read_command(alloc, b"set a=1 b=0")     is Ok(Some(Command::Set([a One, b Zero])))
