@@ -12,15 +12,16 @@ use Rattle.strength_order.specs.declared.Profile.TheVariants.{One}
 use Rattle.strength_order.specs.Levels.{IsLevel, level_of_size, level_of_strength}
 use Rattle.path_meaning.specs.declared.switching.Switch.{Switch}
 use Rattle.path_meaning.specs.declared.switching.SwitchKind.{SwitchKind}
-use Rattle.path_meaning.specs.Wiring.{Fits, FitsPlace, nodes}
-use Rattle.netlist.specs.declared.TheConstants.{GND, VDD, RAILS}
-use Rattle.netlist.specs.declared.fault.EditFault.{EditFault}
-use Rattle.netlist.specs.declared.fault.EditFault.TheVariants.{Rail, BadStrength, BadSize}
+use Rattle.path_meaning.specs.Graphs.{Fits, FitsPlace, nodes}
+use Rattle.path_meaning.specs.declared.TheConstants.{GND, VDD, RAILS}
+use Rattle.netlist.specs.declared.fault.EditFault.TheVariants.{Rail, BadSize}
+use Rattle.netlist.specs.Faults.{MakingFault}
+use Rattle.netlist.specs.Faults.MakingFault.{BadStrength}
 use Rattle.netlist.specs.Names.{first_name, held, name_at, node_of, rail_of, rail_or_held, spells}
-use Rattle.netlist.specs.Netlists.{Netlist, IsNetlist, rails_alone}
+use Rattle.netlist.specs.Circuits.{CircuitData, IsCircuit, rails_alone}
 use Rattle.netlist.specs.Edits.{add_fault, is_size, is_strength, node_named, rail_fault, store_fault, switch_between, with_alias, with_alias_by, with_input, with_level, with_name_of, with_new_node, with_node, with_nodes, with_store, with_switch, with_transistor}
 use Rattle.netlist.proofs.NameLemmas.{first_name-added, first_name-append, held-within}
-use Rattle.netlist.proofs.NamingLemmas.{found-added}
+use Rattle.netlist.proofs.NamingLemmas.{found-added, once-added}
 
 -- ---- levels
 
@@ -107,7 +108,7 @@ rail_of-within name =
     by false false three four = second three four
 
 -- a name in use stands for a node
-pub node_of-within : (c : Netlist) (name : List ℕ) → IsNetlist c → IfSome (node_of c.names name) (λ node. node < nodes c.graph)
+pub node_of-within : (c : CircuitData) (name : List ℕ) → IsCircuit c → IfSome (node_of c.names name) (λ node. node < nodes c.graph)
 node_of-within c name is = by (rail_of name) (held c.names name) (rail_of-within name) (held-within c.names name (nodes c.graph) is.within)
   where
     by : (rail named : Option ℕ) → IfSome rail (λ node. node < RAILS) → IfSome named (λ node. node < nodes c.graph) →
@@ -116,7 +117,7 @@ node_of-within c name is = by (rail_of name) (held c.names name) (rail_of-within
     by None named low within = within
 
 -- and the node of a name is one of the circuit's
-node_named-within : (c : Netlist) (name : List ℕ) → IsNetlist c → node_named c name < nodes c.graph
+node_named-within : (c : CircuitData) (name : List ℕ) → IsCircuit c → node_named c name < nodes c.graph
 node_named-within c name is = by (node_of c.names name) (node_of-within c name is)
   where
     by : (found : Option ℕ) → IfSome found (λ node. node < nodes c.graph) → unwrap_or found 0 < nodes c.graph
@@ -137,8 +138,8 @@ fits-larger count more (Some switch) larger fits = record {
 }
 
 -- the rails alone are a circuit
-pub IsNetlist-rails_alone : (profile : Profile) → IsNetlist (rails_alone profile)
-IsNetlist-rails_alone profile = record {
+pub IsCircuit-rails_alone : (profile : Profile) → IsCircuit (rails_alone profile)
+IsCircuit-rails_alone profile = record {
   wired = record {
     levels = All-push IsLevel (INPUT_LEVEL ∷ []) INPUT_LEVEL (All-push IsLevel [] INPUT_LEVEL (All-nil IsLevel) IsLevel-input) IsLevel-input;
     places = All-nil (FitsPlace 2);
@@ -148,12 +149,13 @@ IsNetlist-rails_alone profile = record {
   vdd = refl;
   within = All-nil (λ (entry : List ℕ × ℕ). entry.1 < 2);
   found = All-nil (λ (entry : List ℕ × ℕ). node_of [] entry.0 ≡ Some entry.1);
+  once = λ i j name one other at_i at_j. absurd (cc);
   names = λ node low. named-rail [] node low;
 }
 
 -- a circuit with a new node, for a name that isn't in use
-IsNetlist-with_new_node : (c : Netlist) (name : List ℕ) → IsNetlist c → node_of c.names name ≡ None → IsNetlist (with_new_node c name)
-IsNetlist-with_new_node c name is unused =
+IsCircuit-with_new_node : (c : CircuitData) (name : List ℕ) → IsCircuit c → node_of c.names name ≡ None → IsCircuit (with_new_node c name)
+IsCircuit-with_new_node c name is unused =
     let count = nodes c.graph in
     let more = length (c.graph.levels ++ LEAST_SIZE_LEVEL ∷ []) in
     let one_more : more ≡ count + 1 = length-append c.graph.levels (LEAST_SIZE_LEVEL ∷ []) in
@@ -172,6 +174,7 @@ IsNetlist-with_new_node c name is unused =
           (All-weaker (λ (e : List ℕ × ℕ). e.1 < count) (λ (e : List ℕ × ℕ). e.1 < more) (λ e low. omega (arith, low, one_more)) c.names is.within)
           (omega (arith, one_more));
       found = found-added c.names name count unused is.found;
+      once = once-added c.names name count unused is.found is.once;
       names = λ node low. elim (cases_lt node count) [
         | inl old ↦ named-append c.names ((name, count) ∷ []) node (is.names node old)
         | inr past ↦
@@ -181,21 +184,21 @@ IsNetlist-with_new_node c name is unused =
     }
 
 -- a circuit with a name in use
-pub IsNetlist-with_node : (c : Netlist) (name : List ℕ) → IsNetlist c → IsNetlist (with_node c name)
-IsNetlist-with_node c name is = by (node_of c.names name) refl
+pub IsCircuit-with_node : (c : CircuitData) (name : List ℕ) → IsCircuit c → IsCircuit (with_node c name)
+IsCircuit-with_node c name is = by (node_of c.names name) refl
   where
-    by : (found : Option ℕ) → node_of c.names name ≡ found → IsNetlist (if is_some found then c else with_new_node c name)
+    by : (found : Option ℕ) → node_of c.names name ≡ found → IsCircuit (if is_some found then c else with_new_node c name)
     by (Some node) used = is
-    by None unused = IsNetlist-with_new_node c name is unused
+    by None unused = IsCircuit-with_new_node c name is unused
 
 -- and with several
-pub IsNetlist-with_nodes : (names : List (List ℕ)) (c : Netlist) → IsNetlist c → IsNetlist (with_nodes c names)
-IsNetlist-with_nodes [] c is = is
-IsNetlist-with_nodes (name ∷ names) c is = IsNetlist-with_nodes names (with_node c name) (IsNetlist-with_node c name is)
+pub IsCircuit-with_nodes : (names : List (List ℕ)) (c : CircuitData) → IsCircuit c → IsCircuit (with_nodes c names)
+IsCircuit-with_nodes [] c is = is
+IsCircuit-with_nodes (name ∷ names) c is = IsCircuit-with_nodes names (with_node c name) (IsCircuit-with_node c name is)
 
 -- a circuit with one more switch, which fits it
-IsNetlist-with_switch : (c : Netlist) (switch : Switch) → IsNetlist c → Fits (nodes c.graph) switch → IsNetlist (with_switch c switch)
-IsNetlist-with_switch c switch is fits = record {
+IsCircuit-with_switch : (c : CircuitData) (switch : Switch) → IsCircuit c → Fits (nodes c.graph) switch → IsCircuit (with_switch c switch)
+IsCircuit-with_switch c switch is fits = record {
   wired = record {
     levels = is.wired.levels;
     places = All-push (FitsPlace (nodes c.graph)) c.graph.places (Some switch) is.wired.places fits;
@@ -205,23 +208,24 @@ IsNetlist-with_switch c switch is fits = record {
   vdd = is.vdd;
   within = is.within;
   found = is.found;
+  once = is.once;
   names = is.names;
 }
 
 -- the strength of a transistor that isn't refused is accepted
-accepted_strength : (accepted : Bool) (limits : Option EditFault) → (if accepted then limits else Some BadStrength) ≡ None → accepted ≡ true
+accepted_strength : (accepted : Bool) (limits : Option MakingFault) → (if accepted then limits else Some BadStrength) ≡ None → accepted ≡ true
 accepted_strength true limits none = refl
 accepted_strength false limits none = absurd (cc)
 
 -- a circuit with one more transistor, where it isn't refused
-pub IsNetlist-with_transistor : (c : Netlist) (kind : SwitchKind) (strength : ℕ) (gate source drain : List ℕ) → IsNetlist c →
-    add_fault c strength gate source drain ≡ None → IsNetlist (with_transistor c kind strength gate source drain)
-IsNetlist-with_transistor c kind strength gate source drain is none =
+pub IsCircuit-with_transistor : (c : CircuitData) (kind : SwitchKind) (strength : ℕ) (gate source drain : List ℕ) → IsCircuit c →
+    add_fault c strength gate source drain ≡ None → IsCircuit (with_transistor c kind strength gate source drain)
+IsCircuit-with_transistor c kind strength gate source drain is none =
     let accepted = accepted_strength (is_strength c.profile strength) _ none in
     let level = switch_level c.profile strength accepted in
     let named = with_nodes c (gate ∷ source ∷ drain ∷ []) in
-    let whole : IsNetlist named = IsNetlist-with_nodes (gate ∷ source ∷ drain ∷ []) c is in
-    IsNetlist-with_switch named (switch_between named kind strength gate source drain) whole (record {
+    let whole : IsCircuit named = IsCircuit-with_nodes (gate ∷ source ∷ drain ∷ []) c is in
+    IsCircuit-with_switch named (switch_between named kind strength gate source drain) whole (record {
       low = level.0;
       high = level.1;
       gate = node_named-within named gate whole;
@@ -230,11 +234,11 @@ IsNetlist-with_transistor c kind strength gate source drain is none =
     })
 
 -- a circuit with a name in use, as one more name of a node where it is new
-IsNetlist-with_name_of : (c : Netlist) (name : List ℕ) (node : ℕ) → IsNetlist c → node < nodes c.graph → IsNetlist (with_name_of c name node)
-IsNetlist-with_name_of c name node is low = by (node_of c.names name) refl
+IsCircuit-with_name_of : (c : CircuitData) (name : List ℕ) (node : ℕ) → IsCircuit c → node < nodes c.graph → IsCircuit (with_name_of c name node)
+IsCircuit-with_name_of c name node is low = by (node_of c.names name) refl
   where
     by : (found : Option ℕ) → node_of c.names name ≡ found →
-        IsNetlist (if is_some found then c else record c { names = c.names ++ (name, node) ∷ [] })
+        IsCircuit (if is_some found then c else record c { names = c.names ++ (name, node) ∷ [] })
     by (Some other) used = is
     by None unused = record {
       wired = is.wired;
@@ -243,25 +247,26 @@ IsNetlist-with_name_of c name node is low = by (node_of c.names name) refl
       vdd = is.vdd;
       within = All-push (λ (e : List ℕ × ℕ). e.1 < nodes c.graph) c.names (name, node) is.within low;
       found = found-added c.names name node unused is.found;
+      once = once-added c.names name node unused is.found is.once;
       names = λ other inside. named-append c.names ((name, node) ∷ []) other (is.names other inside);
     }
 
 -- a circuit after an alias
-pub IsNetlist-with_alias : (c : Netlist) (first second : List ℕ) → IsNetlist c → IsNetlist (with_alias c first second)
-IsNetlist-with_alias c first second is =
+pub IsCircuit-with_alias : (c : CircuitData) (first second : List ℕ) → IsCircuit c → IsCircuit (with_alias c first second)
+IsCircuit-with_alias c first second is =
     by (node_of c.names first) (node_of c.names second) refl (node_of-within c first is) (node_of-within c second is)
   where
     by : (one other : Option ℕ) → node_of c.names first ≡ one → IfSome one (λ node. node < nodes c.graph) →
-        IfSome other (λ node. node < nodes c.graph) → IsNetlist (with_alias_by c first second one other)
+        IfSome other (λ node. node < nodes c.graph) → IsCircuit (with_alias_by c first second one other)
     by None None unused low_one low_other =
-        IsNetlist-with_name_of (with_new_node c first) second (nodes c.graph) (IsNetlist-with_new_node c first is unused)
+        IsCircuit-with_name_of (with_new_node c first) second (nodes c.graph) (IsCircuit-with_new_node c first is unused)
         (omega (arith, length-append c.graph.levels (LEAST_SIZE_LEVEL ∷ [])))
-    by None (Some node) unused low_one low_other = IsNetlist-with_name_of c first node is low_other
-    by (Some node) other used low_one low_other = IsNetlist-with_name_of c second node is low_one
+    by None (Some node) unused low_one low_other = IsCircuit-with_name_of c first node is low_other
+    by (Some node) other used low_one low_other = IsCircuit-with_name_of c second node is low_one
 
 -- a circuit in which a node that is no rail gets another level
-pub IsNetlist-with_level : (c : Netlist) (node level : ℕ) → RAILS ≤ node → IsLevel level → IsNetlist c → IsNetlist (with_level c node level)
-IsNetlist-with_level c node level no_rail is_level is =
+pub IsCircuit-with_level : (c : CircuitData) (node level : ℕ) → RAILS ≤ node → IsLevel level → IsCircuit c → IsCircuit (with_level c node level)
+IsCircuit-with_level c node level no_rail is_level is =
     let count : length (slice_set c.graph.levels node level) ≡ nodes c.graph = length-set c.graph.levels node level in
     let not_gnd : GND ≢ node = omega arith in
     let not_vdd : VDD ≢ node = omega arith in
@@ -275,28 +280,29 @@ IsNetlist-with_level c node level no_rail is_level is =
       vdd = get_or-set_other c.graph.levels node VDD level 0 not_vdd ∙ is.vdd;
       within = subst (λ n. All (λ entry. entry.1 < n) c.names) (sym count) is.within;
       found = is.found;
+      once = is.once;
       names = λ other inside. is.names other (omega (arith, count, inside));
     }
 
 -- an input node, where it isn't refused
-pub IsNetlist-with_input : (c : Netlist) (node : ℕ) → rail_fault node ≡ None → IsNetlist c → IsNetlist (with_input c node)
-IsNetlist-with_input c node none is = by (nat_lt node RAILS) refl none
+pub IsCircuit-with_input : (c : CircuitData) (node : ℕ) → rail_fault node ≡ None → IsCircuit c → IsCircuit (with_input c node)
+IsCircuit-with_input c node none is = by (nat_lt node RAILS) refl none
   where
-    by : (rail : Bool) → nat_lt node RAILS ≡ rail → (if rail then Some Rail else None) ≡ None → IsNetlist (with_input c node)
+    by : (rail : Bool) → nat_lt node RAILS ≡ rail → (if rail then Some Rail else None) ≡ None → IsCircuit (with_input c node)
     by true is_rail none = absurd (cc)
     by false is_rail none =
         let no_rail : RAILS ≤ node = grind (arith, nat_tests) in
-        IsNetlist-with_level c node INPUT_LEVEL no_rail IsLevel-input is
+        IsCircuit-with_level c node INPUT_LEVEL no_rail IsLevel-input is
 
 -- a storage node of a size, where it isn't refused
-pub IsNetlist-with_store : (c : Netlist) (profile : Profile) (node size : ℕ) → store_fault profile node size ≡ None → IsNetlist c →
-    IsNetlist (with_store c node size)
-IsNetlist-with_store c profile node size none is = by (nat_lt node RAILS) (is_size profile size) refl refl none
+pub IsCircuit-with_store : (c : CircuitData) (profile : Profile) (node size : ℕ) → store_fault profile node size ≡ None → IsCircuit c →
+    IsCircuit (with_store c node size)
+IsCircuit-with_store c profile node size none is = by (nat_lt node RAILS) (is_size profile size) refl refl none
   where
     by : (rail fits : Bool) → nat_lt node RAILS ≡ rail → is_size profile size ≡ fits →
-        (if rail then Some Rail else (if fits then None else Some BadSize)) ≡ None → IsNetlist (with_store c node size)
+        (if rail then Some Rail else (if fits then None else Some BadSize)) ≡ None → IsCircuit (with_store c node size)
     by true fits is_rail is_fits none = absurd (cc)
     by false false is_rail is_fits none = absurd (cc)
     by false true is_rail is_fits none =
         let no_rail : RAILS ≤ node = grind (arith, nat_tests) in
-        IsNetlist-with_level c node (level_of_size size) no_rail (IsLevel-size profile size is_fits) is
+        IsCircuit-with_level c node (level_of_size size) no_rail (IsLevel-size profile size is_fits) is

@@ -9,43 +9,44 @@ use Rattle.strength_order.specs.declared.Profile.{Profile}
 use Rattle.strength_order.specs.Levels.{IsStrength, greatest_strength, level_of_strength}
 use Rattle.path_meaning.specs.declared.switching.Switch.{Switch}
 use Rattle.path_meaning.specs.declared.switching.SwitchKind.{SwitchKind}
-use Rattle.path_meaning.specs.Wiring.{Wiring, IsWired, nodes}
+use Rattle.path_meaning.specs.Graphs.{GraphData, IsWired, nodes}
 use Rattle.netlist.specs.declared.names.Terminals.{Terminals}
 use Rattle.netlist.specs.Names.{node_of}
-use Rattle.netlist.specs.Naming.{Naming, AreTerminals, Extends, IsNaming, IsNamedBy, node_count, with_first, with_name, with_names}
-use Rattle.netlist.specs.Netlists.{Netlist, IsNetlist}
+use Rattle.netlist.specs.Naming.{NamesData, AreTerminals, Extends, IsNaming, IsNamedBy, node_count, with_first, with_name, with_names}
+use Rattle.netlist.specs.Circuits.{CircuitData, IsCircuit}
 use Rattle.netlist.specs.Edits.{add_fault, is_strength, limit_fault, switch_between, with_new_node, with_node, with_nodes, with_switch, with_transistor}
 use Rattle.netlist.proofs.NamingLemmas.{is_some-name_at, node_count-Extends, Extends-with_name, Extends-with_names}
 
 -- the circuit of a graph and the names of its nodes
-abbrev pub circuit_of : Wiring → Naming → Profile → Netlist
+abbrev pub circuit_of : GraphData → NamesData → Profile → CircuitData
 circuit_of g naming profile = record { graph = g; names = naming.entries; profile = profile }
 
 -- it is well formed where both are
-pub IsNetlist-circuit_of : (g : Wiring) (naming : Naming) (profile : Profile) → IsWired g → IsNaming naming → IsNamedBy g naming →
-    IsNetlist (circuit_of g naming profile)
-IsNetlist-circuit_of g naming profile wired is by = record {
+pub IsCircuit-circuit_of : (g : GraphData) (naming : NamesData) (profile : Profile) → IsWired g → IsNaming naming → IsNamedBy g naming →
+    IsCircuit (circuit_of g naming profile)
+IsCircuit-circuit_of g naming profile wired is by = record {
   wired = wired;
   railed = omega (arith, by.counted);
   gnd = by.gnd;
   vdd = by.vdd;
   within = subst (λ count. All (λ entry. entry.1 < count) naming.entries) (sym by.counted) is.within;
   found = is.found;
+  once = is.once;
   names = λ node low. is_some-name_at naming node is (omega (arith, by.counted));
 }
 
 -- the levels with those of the nodes that the later names have and the earlier ones don't
-abbrev grown : List ℕ → Naming → Naming → List ℕ
+abbrev grown : List ℕ → NamesData → NamesData → List ℕ
 grown levels earlier later = levels ++ replicate (node_count later - node_count earlier) LEAST_SIZE_LEVEL
 
 -- levels that don't grow
-grown-same : (levels : List ℕ) (naming : Naming) → levels ≡ grown levels naming naming
+grown-same : (levels : List ℕ) (naming : NamesData) → levels ≡ grown levels naming naming
 grown-same levels naming =
     let none : 0 ≡ node_count naming - node_count naming = omega arith in
     sym (append-nil levels) ∙ ap (λ n. levels ++ replicate n LEAST_SIZE_LEVEL) none
 
 -- levels that grow twice grow by all nodes at once
-grown-grown : (levels : List ℕ) (one two three : Naming) → Extends one two → Extends two three →
+grown-grown : (levels : List ℕ) (one two three : NamesData) → Extends one two → Extends two three →
     grown (grown levels one two) two three ≡ grown levels one three
 grown-grown levels one two three first second =
     let more = node_count-Extends one two first in
@@ -57,7 +58,7 @@ grown-grown levels one two three first second =
     ∙ ap (λ n. replicate n LEAST_SIZE_LEVEL) sum)
 
 -- and are those of all nodes
-length-grown : (levels : List ℕ) (earlier later : Naming) → length levels ≡ node_count earlier → Extends earlier later →
+length-grown : (levels : List ℕ) (earlier later : NamesData) → length levels ≡ node_count earlier → Extends earlier later →
     length (grown levels earlier later) ≡ node_count later
 length-grown levels earlier later counted more =
     omega (
@@ -69,11 +70,11 @@ length-grown levels earlier later counted more =
 
 module _ (places : List (Option Switch)) (profile : Profile) where
   -- the circuit of these levels and names
-  abbrev circuit_with : List ℕ → Naming → Netlist
+  abbrev circuit_with : List ℕ → NamesData → CircuitData
   circuit_with levels naming = circuit_of (record { levels = levels; places = places }) naming profile
 
   -- a name that is made in use in the circuit is so among the names, and the graph grows by its node
-  with_node-circuit_with : (levels : List ℕ) (naming : Naming) (name : List ℕ) → length levels ≡ node_count naming →
+  with_node-circuit_with : (levels : List ℕ) (naming : NamesData) (name : List ℕ) → length levels ≡ node_count naming →
       with_node (circuit_with levels naming) name ≡ circuit_with (grown levels naming (with_name naming name)) (with_name naming name)
   with_node-circuit_with levels naming name counted = by (is_some (node_of naming.entries name))
     where
@@ -91,7 +92,7 @@ module _ (places : List (Option Switch)) (profile : Profile) where
           }
 
   -- so are several, and the graph grows by all their nodes
-  with_nodes-circuit_with : (levels : List ℕ) (naming : Naming) (names : List (List ℕ)) → length levels ≡ node_count naming →
+  with_nodes-circuit_with : (levels : List ℕ) (naming : NamesData) (names : List (List ℕ)) → length levels ≡ node_count naming →
       with_nodes (circuit_with levels naming) names ≡ circuit_with (grown levels naming (with_names naming names)) (with_names naming names)
   with_nodes-circuit_with levels naming [] counted = ap (λ ls. circuit_with ls naming) (grown-same levels naming)
   with_nodes-circuit_with levels naming (name ∷ names) counted =
@@ -103,7 +104,7 @@ module _ (places : List (Option Switch)) (profile : Profile) where
       (grown-grown levels naming next (with_names next names) more (Extends-with_names next names))
 
 -- the names at a transistor's terminals came into use among the names of a circuit, and these are their nodes
-pub record HasTerminals (c : Netlist) (g : Wiring) (earlier later : Naming) (profile : Profile) (gate source drain : List ℕ) (terminals : Terminals) :
+pub record HasTerminals (c : CircuitData) (g : GraphData) (earlier later : NamesData) (profile : Profile) (gate source drain : List ℕ) (terminals : Terminals) :
     Type 0 where
   pub whole : circuit_of g earlier profile ≡ c
   pub counted : nodes g ≡ node_count earlier
@@ -111,7 +112,7 @@ pub record HasTerminals (c : Netlist) (g : Wiring) (earlier later : Naming) (pro
   pub nodes : AreTerminals later gate source drain terminals
 
 -- the circuit with the names in use has the later names, and their nodes
-with_nodes-HasTerminals : {c : Netlist} {g : Wiring} {earlier later : Naming} {profile : Profile} {gate source drain : List ℕ} {terminals : Terminals} →
+with_nodes-HasTerminals : {c : CircuitData} {g : GraphData} {earlier later : NamesData} {profile : Profile} {gate source drain : List ℕ} {terminals : Terminals} →
     HasTerminals c g earlier later profile gate source drain terminals →
     with_nodes c (gate ∷ source ∷ drain ∷ []) ≡ circuit_with g.places profile (grown g.levels earlier later) later
 with_nodes-HasTerminals {c} {g} {earlier} {later} {profile} {gate} {source} {drain} {terminals} has =
@@ -120,8 +121,8 @@ with_nodes-HasTerminals {c} {g} {earlier} {later} {profile} {gate} {source} {dra
     ∙ ap (λ names. circuit_with g.places profile (grown g.levels earlier names) names) (sym has.made)
 
 -- the transistor whose switch is wired between them was added
-pub with_transistor-wired : {c : Netlist} {g : Wiring} {earlier later : Naming} {profile : Profile} {gate source drain : List ℕ} {terminals : Terminals}
-    (wired : Wiring) (kind : SwitchKind) (strength level count : ℕ) →
+pub with_transistor-wired : {c : CircuitData} {g : GraphData} {earlier later : NamesData} {profile : Profile} {gate source drain : List ℕ} {terminals : Terminals}
+    (wired : GraphData) (kind : SwitchKind) (strength level count : ℕ) →
     HasTerminals c g earlier later profile gate source drain terminals → level ≡ level_of_strength strength → count ≡ node_count later →
     wired ≡ record {
       levels = g.levels ++ replicate (count - nodes g) LEAST_SIZE_LEVEL;
@@ -150,17 +151,17 @@ with_transistor-wired {c} {g} {earlier} {later} {profile} {gate} {source} {drain
     ∙ ap (λ d. with_switch d (switch_between d kind strength gate source drain)) (sym (with_nodes-HasTerminals has))
 
 -- and it is refused by the limits alone where the profile accepts its strength
-pub add_fault-HasTerminals : {c : Netlist} {g : Wiring} {earlier later : Naming} {profile : Profile} {gate source drain : List ℕ} {terminals : Terminals}
+pub add_fault-HasTerminals : {c : CircuitData} {g : GraphData} {earlier later : NamesData} {profile : Profile} {gate source drain : List ℕ} {terminals : Terminals}
     (strength count : ℕ) → HasTerminals c g earlier later profile gate source drain terminals → IsStrength profile strength →
     count ≡ node_count later → add_fault c strength gate source drain ≡ limit_fault count (length g.places)
 add_fault-HasTerminals {c} {g} {earlier} {later} {profile} {gate} {source} {drain} {terminals} strength count has is counts =
     let more : Extends earlier later =
     subst (Extends earlier) (sym has.made) (Extends-with_names earlier (gate ∷ source ∷ drain ∷ [])) in
     let accepted : is_strength c.profile strength ≡ true =
-    ap (λ (d : Netlist). is_strength d.profile strength) (sym has.whole)
+    ap (λ (d : CircuitData). is_strength d.profile strength) (sym has.whole)
     ∙ and_from (nat_le 1 strength) (nat_le strength (greatest_strength profile)) (le-leb _ _ is.0) (le-leb _ _ is.1) in
     let all : nodes (with_nodes c (gate ∷ source ∷ drain ∷ [])).graph ≡ count =
-    ap (λ (d : Netlist). nodes d.graph) (with_nodes-HasTerminals has) ∙ length-grown g.levels earlier later has.counted more ∙ sym counts in
+    ap (λ (d : CircuitData). nodes d.graph) (with_nodes-HasTerminals has) ∙ length-grown g.levels earlier later has.counted more ∙ sym counts in
     cond-true (is_strength c.profile strength) _ _ accepted
     ∙ ap (λ n. limit_fault n (length c.graph.places)) all
-    ∙ ap (λ (d : Netlist). limit_fault count (length d.graph.places)) (sym has.whole)
+    ∙ ap (λ (d : CircuitData). limit_fault count (length d.graph.places)) (sym has.whole)

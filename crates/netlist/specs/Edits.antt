@@ -6,12 +6,15 @@ use Rattle.strength_order.specs.declared.Profile.{Profile}
 use Rattle.strength_order.specs.Levels.{greatest_size, greatest_strength, level_of_size, level_of_strength}
 use Rattle.path_meaning.specs.declared.switching.Switch.{Switch}
 use Rattle.path_meaning.specs.declared.switching.SwitchKind.{SwitchKind}
-use Rattle.path_meaning.specs.Wiring.{nodes}
-use Rattle.netlist.specs.declared.TheConstants.{RAILS, MOST_NODES, MOST_SWITCHES}
+use Rattle.path_meaning.specs.Graphs.{nodes}
+use Rattle.netlist.specs.declared.TheConstants.{MOST_NODES, MOST_SWITCHES}
+use Rattle.path_meaning.specs.declared.TheConstants.{RAILS}
 use Rattle.netlist.specs.declared.fault.EditFault.{EditFault}
-use Rattle.netlist.specs.declared.fault.EditFault.TheVariants.{Rail, BadStrength, BadSize, AliasTaken, TooManyNodes, TooManySwitches}
+use Rattle.netlist.specs.declared.fault.EditFault.TheVariants.{Rail, BadSize}
+use Rattle.netlist.specs.Faults.{MakingFault}
+use Rattle.netlist.specs.Faults.MakingFault.{BadStrength, AliasTaken, TooManyNodes, TooManySwitches}
 use Rattle.netlist.specs.Names.{node_of}
-use Rattle.netlist.specs.Netlists.{Netlist}
+use Rattle.netlist.specs.Circuits.{CircuitData}
 
 -- the profile accepts the strength
 abbrev pub is_strength : Profile → ℕ → Bool
@@ -22,31 +25,31 @@ abbrev pub is_size : Profile → ℕ → Bool
 is_size profile size = nat_le 1 size && nat_le size (greatest_size profile)
 
 -- the circuit with a new storage node of size 1, which gets this name
-abbrev pub with_new_node : Netlist → List ℕ → Netlist
+abbrev pub with_new_node : CircuitData → List ℕ → CircuitData
 with_new_node c name = record c {
   graph = record c.graph { levels = c.graph.levels ++ LEAST_SIZE_LEVEL ∷ [] };
   names = c.names ++ (name, nodes c.graph) ∷ [];
 }
 
 -- the circuit with this name in use: as it is where it is already, else with a new node
-abbrev pub with_node : Netlist → List ℕ → Netlist
+abbrev pub with_node : CircuitData → List ℕ → CircuitData
 with_node c name = if is_some (node_of c.names name) then c else with_new_node c name
 
 -- the circuit with these names in use, made in order
-abbrev pub with_nodes : Netlist → List (List ℕ) → Netlist
+abbrev pub with_nodes : CircuitData → List (List ℕ) → CircuitData
 with_nodes c [] = c
 with_nodes c (name ∷ names) = with_nodes (with_node c name) names
 
 -- the node of a name that is in use
-abbrev pub node_named : Netlist → List ℕ → ℕ
+abbrev pub node_named : CircuitData → List ℕ → ℕ
 node_named c name = unwrap_or (node_of c.names name) 0
 
 -- the circuit with one more switch, at a place of its own
-abbrev pub with_switch : Netlist → Switch → Netlist
+abbrev pub with_switch : CircuitData → Switch → CircuitData
 with_switch c switch = record c { graph = record c.graph { places = c.graph.places ++ Some switch ∷ [] } }
 
 -- the switch of a transistor between the nodes that the names have
-abbrev pub switch_between : Netlist → SwitchKind → ℕ → List ℕ → List ℕ → List ℕ → Switch
+abbrev pub switch_between : CircuitData → SwitchKind → ℕ → List ℕ → List ℕ → List ℕ → Switch
 switch_between c kind strength gate source drain = record {
   kind = kind;
   level = level_of_strength strength;
@@ -56,70 +59,70 @@ switch_between c kind strength gate source drain = record {
 }
 
 -- the circuit with one more transistor: first the names that are new, in the order gate, source, drain, then the switch
-abbrev pub with_transistor : Netlist → SwitchKind → ℕ → List ℕ → List ℕ → List ℕ → Netlist
+abbrev pub with_transistor : CircuitData → SwitchKind → ℕ → List ℕ → List ℕ → List ℕ → CircuitData
 with_transistor c kind strength gate source drain =
     let named = with_nodes c (gate ∷ source ∷ drain ∷ []) in
     with_switch named (switch_between named kind strength gate source drain)
 
--- the fault of a circuit that would have so many nodes, and had so many transistors made before one more
-abbrev pub limit_fault : ℕ → ℕ → Option EditFault
+-- the fault of a circuit that would have so many nodes, and has so many transistors before one more
+abbrev pub limit_fault : ℕ → ℕ → Option MakingFault
 limit_fault count made =
     if nat_lt MOST_NODES count then Some TooManyNodes
     else (if nat_le MOST_SWITCHES made then Some TooManySwitches else None)
 
--- when a transistor can't be added: its strength is none, else its new names make too many nodes, else too many were made
-abbrev pub add_fault : Netlist → ℕ → List ℕ → List ℕ → List ℕ → Option EditFault
+-- when a transistor can't be added: its strength is none, else its new names make too many nodes, else there are too many transistors
+abbrev pub add_fault : CircuitData → ℕ → List ℕ → List ℕ → List ℕ → Option MakingFault
 add_fault c strength gate source drain =
     if is_strength c.profile strength
     then limit_fault (nodes (with_nodes c (gate ∷ source ∷ drain ∷ [])).graph) (length c.graph.places)
     else Some BadStrength
 
 -- when no node can be made: there are as many as there may be
-abbrev pub full_fault : Netlist → Option EditFault
+abbrev pub full_fault : CircuitData → Option MakingFault
 full_fault c = if nat_le MOST_NODES (nodes c.graph) then Some TooManyNodes else None
 
 -- when a name can't come into use: it is new, and no node can be made
-abbrev pub node_fault : Netlist → List ℕ → Option EditFault
+abbrev pub node_fault : CircuitData → List ℕ → Option MakingFault
 node_fault c name = if is_some (node_of c.names name) then None else full_fault c
 
 -- the circuit with this name in use: as it is where it is already, else as one more name of the node
-abbrev pub with_name_of : Netlist → List ℕ → ℕ → Netlist
+abbrev pub with_name_of : CircuitData → List ℕ → ℕ → CircuitData
 with_name_of c name node =
     if is_some (node_of c.names name) then c else record c { names = c.names ++ (name, node) ∷ [] }
 
 -- the circuit after an alias, by the nodes of both names: a name that isn't in use becomes one of the other's node; where neither
 -- is, the first gets a new node, and the second is one more name of it
-abbrev pub with_alias_by : Netlist → List ℕ → List ℕ → Option ℕ → Option ℕ → Netlist
+abbrev pub with_alias_by : CircuitData → List ℕ → List ℕ → Option ℕ → Option ℕ → CircuitData
 with_alias_by c first second None None =
     with_name_of (with_new_node c first) second (nodes c.graph)
 with_alias_by c first second None (Some node) = with_name_of c first node
 with_alias_by c first second (Some node) other = with_name_of c second node
 
 -- the circuit after an alias
-abbrev pub with_alias : Netlist → List ℕ → List ℕ → Netlist
+abbrev pub with_alias : CircuitData → List ℕ → List ℕ → CircuitData
 with_alias c first second = with_alias_by c first second (node_of c.names first) (node_of c.names second)
 
 -- when two names can't be one node's, by their nodes: both have one already, and not the same; or a node is wanted and none can be made
-abbrev pub alias_fault_by : Netlist → Option ℕ → Option ℕ → Option EditFault
+abbrev pub alias_fault_by : CircuitData → Option ℕ → Option ℕ → Option MakingFault
 alias_fault_by c None None = full_fault c
 alias_fault_by c (Some first) (Some second) = if first == second then None else Some AliasTaken
 alias_fault_by c None (Some second) = None
 alias_fault_by c (Some first) None = None
 
 -- when an alias is refused
-abbrev pub alias_fault : Netlist → List ℕ → List ℕ → Option EditFault
+abbrev pub alias_fault : CircuitData → List ℕ → List ℕ → Option MakingFault
 alias_fault c first second = alias_fault_by c (node_of c.names first) (node_of c.names second)
 
 -- the circuit with the node at this level
-abbrev pub with_level : Netlist → ℕ → ℕ → Netlist
+abbrev pub with_level : CircuitData → ℕ → ℕ → CircuitData
 with_level c node level = record c { graph = record c.graph { levels = slice_set c.graph.levels node level } }
 
 -- the circuit with the node as an input node
-abbrev pub with_input : Netlist → ℕ → Netlist
+abbrev pub with_input : CircuitData → ℕ → CircuitData
 with_input c node = with_level c node INPUT_LEVEL
 
 -- the circuit with the node as a storage node of this size
-abbrev pub with_store : Netlist → ℕ → ℕ → Netlist
+abbrev pub with_store : CircuitData → ℕ → ℕ → CircuitData
 with_store c node size = with_level c node (level_of_size size)
 
 -- when a node can't be made an input node: it is a rail

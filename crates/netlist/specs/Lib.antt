@@ -1,4 +1,5 @@
 pub mod Names
 pub mod Naming
-pub mod Netlists
+pub mod Circuits
+pub mod Faults
 pub mod Edits

@@ -1,7 +1,7 @@
 -- The names of a circuit: the node that each stands for, and the first name of each node.
-use Rattle.std.specs.Prelude.{ℕ, Bool, ◌||◌, ◌==◌, List, [], ◌∷◌, map, codes, bytes_eq, Option, Some, None, if◌then◌else◌}
+use Rattle.std.specs.Prelude.{◌≡◌, ℕ, Bool, ◌||◌, ◌==◌, List, [], ◌∷◌, map, codes, bytes_eq, slice_get, Option, Some, None, if◌then◌else◌}
 use Rattle.std.specs.Char.{to_ascii_lowercase}
-use Rattle.netlist.specs.declared.TheConstants.{GND, VDD}
+use Rattle.path_meaning.specs.declared.TheConstants.{GND, VDD}
 
 -- the name is this word, given in small letters, in any ASCII case
 abbrev pub spells : List ℕ → List ℕ → Bool
@@ -26,6 +26,11 @@ rail_or_held None named = named
 -- the node of a name, where the name is in use
 abbrev pub node_of : List (List ℕ × ℕ) → List ℕ → Option ℕ
 node_of names name = rail_or_held (rail_of name) (held names name)
+
+-- no name stands at two places, whatever its nodes
+abbrev pub StandOnce : List (List ℕ × ℕ) → Type 0
+StandOnce names =
+    (i j : ℕ) (name : List ℕ) (one other : ℕ) → slice_get names i ≡ Some (name, one) → slice_get names j ≡ Some (name, other) → i ≡ j
 
 -- the first name that a node got, where it has one
 abbrev pub first_name : List (List ℕ × ℕ) → ℕ → Option (List ℕ)

@@ -1,9 +1,10 @@
 //! The circuit, and its edits.
 ghost use Rattle.std.specs.Prelude.{◌≡◌, ◌-◌, ◌<◌, ◌≤◌, ◌⊎◌, [], ◌∷◌, ◌++◌, length, replicate, IfOk, IfErr, IfSome, OnOk, OnErr, None, Some};
-ghost use Rattle.path_meaning.specs.Wiring.{nodes, Fits};
+ghost use Rattle.path_meaning.specs.Graphs.{nodes, Fits};
 ghost use Rattle.netlist.specs.Names.{name_at, node_of};
 ghost use Rattle.netlist.specs.Naming.{node_count, with_first, with_name_of, Extends};
-ghost use Rattle.netlist.specs.Netlists.{IsNetlist, rails_alone};
+ghost use Rattle.netlist.specs.Circuits.{IsCircuit, rails_alone};
+ghost use Rattle.netlist.specs.Faults.{IsAnswered};
 ghost use Rattle.netlist.specs.Edits.{add_fault, alias_fault, answer_of, full_fault, limit_fault, node_fault, rail_fault, store_fault, with_alias, with_alias_by, with_input, with_node, with_store, with_transistor};
 
 use crate::fault::EditFault;
@@ -13,6 +14,7 @@ use path_meaning::{Graph, Switch, SwitchKind, graphs_are_wired};
 use std::alloc::Global;
 use std::marker::Model;
 use strength_order::{INPUT_LEVEL, LEAST_SIZE_LEVEL, Profile, size_level, switch_level};
+use table_keys::TableKeys;
 use ternary::NoMemory;
 
 /// A switch graph whose nodes have names.
@@ -29,9 +31,9 @@ pub struct Circuit {
 
 impl Model for Circuit {
     ghost use Rattle.netlist.specs.Naming.{IsNamedBy};
-    ghost use Rattle.netlist.specs.Netlists.{Netlist};
+    ghost use Rattle.netlist.specs.Circuits.{CircuitData};
 
-    ghost Value = { Netlist };
+    ghost Value = { CircuitData };
 
     ghost view = { λ circuit. record { graph = circuit.graph; names = circuit.names.entries; profile = circuit.profile } };
 
@@ -39,8 +41,17 @@ impl Model for Circuit {
 }
 
 impl Circuit {
-    /// The circuit of the two rails alone.
+    /// The circuit of the two rails alone, for names that the caller makes himself.
     pub fn new(alloc: Global, profile: Profile) -> Result<Circuit, NoMemory>
+        ensures { IfOk result (λ circuit. circuit ≡ rails_alone profile) }
+    {
+        Circuit::with_keys(alloc, profile, TableKeys::fixed())
+    }
+
+    /// The circuit of the two rails alone, whose names are hashed from these keys. Where the names
+    /// come from a text, the text's author must not know the keys: else he can choose names that
+    /// all fall into one place of a table.
+    pub fn with_keys(alloc: Global, profile: Profile, keys: TableKeys) -> Result<Circuit, NoMemory>
         ensures { IfOk result (λ circuit. circuit ≡ rails_alone profile) }
     {
         let mut graph = Graph::new(alloc);
@@ -48,15 +59,20 @@ impl Circuit {
         graph.add_node(INPUT_LEVEL)?;
         Ok(Circuit {
             graph,
-            names: Names::new(alloc),
+            names: Names::new(alloc, keys),
             profile,
         })
+    }
+
+    /// The keys from which names are hashed, for further tables of what the same text holds.
+    pub fn keys(&self) -> TableKeys {
+        self.names.keys()
     }
 
     /// The graph.
     pub fn graph(&self) -> &Graph
         ensures value { result.now ≡ self.now.graph }
-        ensures netlist { IsNetlist self.now }
+        ensures netlist { IsCircuit self.now }
     {
         // Two calls for the proof alone: a graph and names keep themselves well formed.
         graphs_are_wired(&self.graph);
@@ -106,10 +122,12 @@ impl Circuit {
         ensures ok { OnOk result (self.new ≡ with_node self.old name.now) }
         ensures node { IfOk result (λ node. node_of self.new.names name.now ≡ Some node) }
         ensures within { IfOk result (λ node. node < nodes self.new.graph) }
+
+        // A new node is no rail.
+        ensures rail { IfOk result (λ node. node < RAILS → node_of self.old.names name.now ≡ Some node) }
         ensures profile { self.new.profile ≡ self.old.profile }
         ensures allowed { OnOk result (node_fault self.old name.now ≡ None) }
-        ensures refused { IfErr result (λ fault. (fault ≡ EditFault.NoMemory)
-            ⊎ (node_fault self.old name.now ≡ Some fault)) }
+        ensures refused { IfErr result (IsAnswered (node_fault self.old name.now)) }
         ensures err { OnErr result (self.new ≡ self.old) }
     {
         if let Some(node) = self.names.find(name) {
@@ -134,7 +152,7 @@ impl Circuit {
     ///
     /// In this order: `BadStrength` exactly where the profile doesn't accept the strength;
     /// `TooManyNodes` exactly where the new names would make more than `MOST_NODES` nodes;
-    /// `TooManySwitches` exactly where `MOST_SWITCHES` transistors were made. A refusal changes
+    /// `TooManySwitches` exactly where there are `MOST_SWITCHES` transistors. A refusal changes
     /// nothing.
     pub fn add_switch(
         &mut self,
@@ -149,8 +167,8 @@ impl Circuit {
         ensures number { IfOk result (λ number. number ≡ length self.new.graph.places) }
         ensures allowed { OnOk result
             (add_fault self.old strength gate.now source.now drain.now ≡ None) }
-        ensures refused { IfErr result (λ fault. (fault ≡ EditFault.NoMemory)
-            ⊎ (add_fault self.old strength gate.now source.now drain.now ≡ Some fault)) }
+        ensures refused { IfErr result
+            (IsAnswered (add_fault self.old strength gate.now source.now drain.now)) }
         ensures err { OnErr result (self.new ≡ self.old) }
     {
         let Some(level) = switch_level(self.profile, strength) else {
@@ -183,8 +201,7 @@ impl Circuit {
     pub fn alias(&mut self, first: &[u8], second: &[u8]) -> Result<(), EditFault>
         ensures ok { OnOk result (self.new ≡ with_alias self.old first.now second.now) }
         ensures allowed { OnOk result (alias_fault self.old first.now second.now ≡ None) }
-        ensures refused { IfErr result (λ fault. (fault ≡ EditFault.NoMemory)
-            ⊎ (alias_fault self.old first.now second.now ≡ Some fault)) }
+        ensures refused { IfErr result (IsAnswered (alias_fault self.old first.now second.now)) }
         ensures err { OnErr result (self.new ≡ self.old) }
     {
         match (self.names.find(first), self.names.find(second)) {
@@ -206,8 +223,7 @@ impl Circuit {
         requires first { node_of self.old.names first.now ≡ None }
         ensures ok { OnOk result (self.new ≡ with_alias_by self.old first.now second.now None None) }
         ensures allowed { OnOk result (full_fault self.old ≡ None) }
-        ensures refused { IfErr result (λ fault. (fault ≡ EditFault.NoMemory)
-            ⊎ (full_fault self.old ≡ Some fault)) }
+        ensures refused { IfErr result (IsAnswered (full_fault self.old)) }
         ensures err { OnErr result (self.new ≡ self.old) }
     {
         if self.graph.nodes() >= MOST_NODES {
@@ -267,8 +283,7 @@ fn wire(graph: &mut Graph, count: usize, switch: Switch) -> Result<u64, EditFaul
     }) }
     ensures number { IfOk result (λ number. number ≡ length graph.new.places) }
     ensures allowed { OnOk result (limit_fault count (length graph.old.places) ≡ None) }
-    ensures refused { IfErr result (λ fault. (fault ≡ EditFault.NoMemory)
-        ⊎ (limit_fault count (length graph.old.places) ≡ Some fault)) }
+    ensures refused { IfErr result (IsAnswered (limit_fault count (length graph.old.places))) }
     ensures err { OnErr result (graph.new ≡ graph.old) }
 {
     if count > MOST_NODES {

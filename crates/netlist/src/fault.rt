@@ -4,10 +4,10 @@ use thiserror::Error;
 /// Why an edit of a circuit is refused.
 #[derive(Clone, Copy, Debug, Drop, Error, PartialEq, Eq)]
 pub enum EditFault {
-    /// No transistor has this number: it was never made, or is removed.
+    /// No transistor has this number. The edits here name none by its number, and don't answer this.
     #[error("no such transistor")]
     NoSuchSwitch,
-    /// The node is Gnd or Vdd, which stay as they are.
+    /// The node is Gnd or Vdd, which stay input nodes.
     #[error("the node is a rail")]
     Rail,
     /// The profile doesn't accept the strength.
@@ -22,7 +22,7 @@ pub enum EditFault {
     /// There would be more nodes than `MOST_NODES`.
     #[error("too many nodes")]
     TooManyNodes,
-    /// `MOST_SWITCHES` transistors were made already.
+    /// There are `MOST_SWITCHES` transistors already.
     #[error("too many transistors")]
     TooManySwitches,
     /// There was want of memory.

@@ -1,9 +1,10 @@
 //! A circuit: a switch graph whose nodes have names, and its edits.
 //!
-//! The main type is `Circuit`. Contracts see it as a `Netlist`: the graph, the names in use with
+//! The main type is `Circuit`. Contracts see it as a `CircuitData`: the graph, the names in use with
 //! their nodes, and the profile. Each edit has a function of `specs/Edits.antt` that gives the
 //! circuit after it, and one that gives its refusal; the layers above use the edit's contract, that
 //! it makes exactly that circuit, that it is refused exactly so, and that a refusal changes nothing.
+//! Each circuit is well formed (`IsCircuit` of `specs/Circuits.antt`): so no name stands twice.
 //!
 //! ```text
 //! let mut circuit = Circuit::new(alloc, Profile::One)?;
@@ -11,6 +12,12 @@
 //! circuit.find(b"GND!")                                               is Some(0)
 //! circuit.alias(b"out", b"y")?                                        y is one more name of out
 //! ```
+//!
+//! A circuit whose names come from a text is made by `Circuit::with_keys`, so that the text's author
+//! can't choose names that all fall into one place of the table of names.
+//!
+//! For the proofs of crates above: `KeptLemmas` says that each edit keeps a circuit well formed, and
+//! `NameLemmas` which node a name stands for as names are added.
 //!
 //! After Bryant, "A Switch-Level Model and Simulator for MOS Digital Systems", 1984.
 #![tactic(auto)]
@@ -23,18 +30,10 @@ mod tests;
 
 pub use circuit::Circuit;
 pub use fault::EditFault;
-
-/// The node of the rail Gnd.
-pub const GND: usize = 0;
-
-/// The node of the rail Vdd.
-pub const VDD: usize = 1;
-
-/// How many rails there are; the other nodes are numbered after them.
-pub const RAILS: usize = 2;
+pub use path_meaning::{GND, RAILS, VDD};
 
 /// The most nodes of a circuit, the rails included.
 pub const MOST_NODES: usize = 1_000_000;
 
-/// The most transistors that are ever made in a circuit, those that are removed later included.
+/// The most transistors of a circuit.
 pub const MOST_SWITCHES: usize = 2_000_000;

@@ -7,6 +7,7 @@ use crate::{GND, RAILS, VDD};
 use indexmap::IndexMap;
 use std::alloc::{AllocError, Global};
 use std::marker::Model;
+use table_keys::TableKeys;
 use ternary::NoMemory;
 
 /// How many names are in use and how many nodes but the rails there are, to cut back to.
@@ -30,15 +31,15 @@ pub(crate) struct Terminals {
 /// by node never goes through all names. A spelling of a rail is never among the names.
 #[derive(Drop)]
 pub(crate) struct Names {
-    table: IndexMap<Vec<u8>, usize>,
+    table: IndexMap<Vec<u8>, usize, TableKeys>,
     // of node k + 2 the place of its first name in the table
     firsts: Vec<usize>,
 }
 
 impl Model for Names {
-    ghost use Rattle.netlist.specs.Naming.{Naming, IsNaming, entries_of};
+    ghost use Rattle.netlist.specs.Naming.{NamesData, IsNaming, entries_of};
 
-    ghost Value = { Naming };
+    ghost Value = { NamesData };
 
     ghost view = { λ names. record { entries = entries_of names.table.entries; firsts = names.firsts.items } };
 
@@ -46,14 +47,19 @@ impl Model for Names {
 }
 
 impl Names {
-    /// The rails alone: no names.
-    pub(crate) fn new(alloc: Global) -> Names
+    /// The rails alone: no names. Those to come are hashed from these keys.
+    pub(crate) fn new(alloc: Global, keys: TableKeys) -> Names
         ensures { result ≡ record { entries = []; firsts = [] } }
     {
         Names {
-            table: IndexMap::new(alloc),
+            table: IndexMap::with_hasher(alloc, keys),
             firsts: Vec::new(alloc),
         }
+    }
+
+    /// The keys from which names are hashed.
+    pub(crate) fn keys(&self) -> TableKeys {
+        *self.table.hasher()
     }
 
     /// The names are well formed. The call is for proofs alone.
@@ -238,7 +244,11 @@ impl Names {
 }
 
 // Puts a name that isn't held behind the others.
-fn put_new(table: &mut IndexMap<Vec<u8>, usize>, name: Vec<u8>, node: usize) -> Result<(), NoMemory>
+fn put_new(
+    table: &mut IndexMap<Vec<u8>, usize, TableKeys>,
+    name: Vec<u8>,
+    node: usize,
+) -> Result<(), NoMemory>
     requires { held (entries_of table.old.entries) name.items ≡ None }
     ensures ok { OnOk result
         (entries_of table.new.entries ≡ entries_of table.old.entries ++ (name.items, node) ∷ []) }

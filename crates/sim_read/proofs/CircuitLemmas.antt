@@ -1,31 +1,33 @@
--- What a netlist gives is a circuit: the rails alone are one, and each line leaves one. A line's settings are of nodes that are no
--- rails, and its strengths and sizes are accepted by the profile.
-use Rattle.std.proofs.Common.{◌≡◌, ℕ, ◌≤◌, Bool, true, false, cond, ◌&&◌, ◌==◌, not, List, [], ◌∷◌, codes, bytes_eq, nat_lt, Option, Some, None, Result, Ok, Err, IfOk, IfSome, is_some, unwrap_or, refl, sym, subst, arith}
+-- What a netlist gives is a circuit with visible names: the rails alone are one, and each line leaves one. A line's settings are of nodes
+-- that are no rails, its strengths and sizes are accepted by the profile, and its names are words.
+use Rattle.std.proofs.Common.{◌≡◌, ℕ, ◌≤◌, All, Bool, true, false, cond, ◌&&◌, ◌==◌, not, List, [], ◌∷◌, codes, bytes_eq, nat_lt, Option, Some, None, Result, Ok, Err, IfOk, IfSome, is_some, unwrap_or, refl, sym, subst, arith}
 use Rattle.std.specs.Prelude.{if◌then◌else◌}
 use Rattle.std.specs.List.{flat_map}
 use Rattle.std.specs.Option.{option_and_then, option_map_or}
 use Rattle.std.proofs.lemmas.Bool.Decides.{nat_tests}
+use Rattle.std.proofs.lemmas.List.Elements.{All-nil, All-head, All-tail, All-take}
 use Rattle.strength_order.specs.declared.TheConstants.{INPUT_LEVEL}
 use Rattle.strength_order.specs.declared.Profile.{Profile}
 use Rattle.strength_order.specs.declared.Profile.TheVariants.{One}
 use Rattle.strength_order.specs.Levels.{level_of_size}
 use Rattle.path_meaning.specs.declared.switching.SwitchKind.{SwitchKind}
-use Rattle.path_meaning.specs.Wiring.{nodes}
+use Rattle.path_meaning.specs.Graphs.{nodes}
 use Rattle.line_words.specs.declared.line_check.LineFault.{LineFault}
 use Rattle.line_words.specs.declared.line_check.LineFault.TheVariants as of_line
 use Rattle.line_words.specs.Decimals.{decimal_of}
 use Rattle.line_words.specs.Files.{lines_in, cut_line, is_cut}
 use Rattle.line_words.specs.LineFaults.{line_fault, is_comment}
 use Rattle.line_words.specs.Words.{words_of}
-use Rattle.netlist.specs.declared.TheConstants.{RAILS}
-use Rattle.netlist.specs.declared.fault.EditFault.{EditFault}
+use Rattle.path_meaning.specs.declared.TheConstants.{RAILS}
+use Rattle.netlist.specs.Faults.{MakingFault}
 use Rattle.netlist.specs.Names.{node_of}
-use Rattle.netlist.specs.Netlists.{Netlist, IsNetlist, rails_alone}
+use Rattle.netlist.specs.Circuits.{CircuitData, HasVisibleNames, IsCircuit, rails_alone}
 use Rattle.netlist.specs.Edits.{add_fault, alias_fault, is_size, node_fault, node_named, with_alias, with_new_node, with_node, with_transistor}
 use Rattle.netlist.proofs.NameLemmas.{node_of-added}
-use Rattle.netlist.proofs.KeptLemmas.{IsLevel-input, IsLevel-size, IsNetlist-rails_alone, IsNetlist-with_alias, IsNetlist-with_level, IsNetlist-with_node, IsNetlist-with_transistor}
-use Rattle.sim_read.specs.declared.fault.NetFault.{NetFault}
-use Rattle.sim_read.specs.declared.fault.NetFault.TheVariants.{At}
+use Rattle.netlist.proofs.KeptLemmas.{IsLevel-input, IsLevel-size, IsCircuit-rails_alone, IsCircuit-with_alias, IsCircuit-with_level, IsCircuit-with_node, IsCircuit-with_transistor}
+use Rattle.sim_read.specs.declared.fault.NetRefusal.{NetRefusal}
+use Rattle.sim_read.specs.declared.fault.NetWhat.{NetWhat}
+use Rattle.sim_read.specs.declared.header.TheConstants.{HEADER_LINE}
 use Rattle.sim_read.specs.declared.fault.NetWhat.TheVariants.{Format, TooLong}
 use Rattle.sim_read.specs.declared.records.Record.{Record}
 use Rattle.sim_read.specs.declared.records.Record.TheVariants.{Transistor, Alias, Attributes, Passed}
@@ -33,8 +35,11 @@ use Rattle.sim_read.specs.declared.items.Setting.{Setting}
 use Rattle.sim_read.specs.declared.items.Setting.TheVariants.{Unset, Input, Size}
 use Rattle.sim_read.specs.Header.{is_header}
 use Rattle.sim_read.specs.Items.{IsAccepted, after_prefix, items_of, setting_after, setting_after_item, setting_by, setting_of, size_setting, strength_of}
-use Rattle.sim_read.specs.Meaning.{attributes_meaning, checked_meaning, comment_meaning, edited, is_rail, known_meaning, line_meaning, lines_meaning, netlist_of, record_meaning, transistor_meaning, with_setting, words_meaning}
+use Rattle.sim_read.specs.Meaning.{alias_meaning, attributes_meaning, checked_meaning, comment_meaning, edited, is_rail, known_meaning, line_meaning, lines_meaning, netlist_of, record_meaning, transistor_meaning, with_setting, words_meaning}
 use Rattle.sim_read.specs.Records.{record_of, usual_strength}
+use Rattle.line_words.specs.Visible.{IsVisibleName}
+use Rattle.line_words.proofs.VisibleLemmas.{words_of-visible}
+use Rattle.sim_read.proofs.VisibleLemmas.{HasVisibleEntries, nodes-visible, with_alias-visible, with_node-visible, with_nodes-visible, with_setting-visible}
 
 -- ---- settings
 
@@ -73,27 +78,44 @@ setting_after-accepted profile setting (item ∷ items) accepted =
       onward None is more = tt
       onward (Some next) is more = more next is
 
--- ---- circuits
+-- ---- lines
 
--- a circuit, or a refusal
-abbrev IsCircuit : Result Netlist NetFault → Type 0
-IsCircuit meaning = IfOk meaning IsNetlist
+-- a circuit in which each name in use is a visible name
+record IsNamed (c : CircuitData) : Type 0 where
+  circuit : IsCircuit c
+  visible : HasVisibleEntries c
 
--- an edit that isn't refused makes a circuit
-edited-circuit : (number : ℕ) (fault : Option EditFault) (made : Netlist) → (fault ≡ None → IsNetlist made) → IsCircuit (edited number fault made)
-edited-circuit number None made makes = makes refl
-edited-circuit number (Some fault) made makes = tt
+-- such a circuit, or a refusal
+abbrev Gives : {E : Type 0} → Result CircuitData E → Type 0
+Gives meaning = IfOk meaning IsNamed
+
+-- an edit that isn't refused
+edited-named : (fault : Option MakingFault) (made : CircuitData) → (fault ≡ None → IsNamed made) → Gives (edited fault made)
+edited-named None made makes = makes refl
+edited-named (Some fault) made makes = tt
 
 -- a transistor
-transistor-circuit : (number : ℕ) (c : Netlist) (kind : SwitchKind) (gate source drain : List ℕ) (strength : Option ℕ) → IsNetlist c
-    → IsCircuit (transistor_meaning number c kind gate source drain strength)
-transistor-circuit number c kind gate source drain None is = tt
-transistor-circuit number c kind gate source drain (Some strength) is =
-    edited-circuit number (add_fault c strength gate source drain) (with_transistor c kind strength gate source drain)
-    (IsNetlist-with_transistor c kind strength gate source drain is)
+transistor-named : (c : CircuitData) (kind : SwitchKind) (gate source drain : List ℕ) (strength : Option ℕ) → IsNamed c
+    → All IsVisibleName (gate ∷ source ∷ drain ∷ []) → Gives (transistor_meaning c kind gate source drain strength)
+transistor-named c kind gate source drain None is visible = tt
+transistor-named c kind gate source drain (Some strength) is visible =
+    edited-named (add_fault c strength gate source drain) (with_transistor c kind strength gate source drain)
+    (λ none. record {
+      circuit = IsCircuit-with_transistor c kind strength gate source drain is.circuit none;
+      visible = with_nodes-visible (gate ∷ source ∷ drain ∷ []) c is.visible visible;
+    })
+
+-- an alias
+alias-named : (c : CircuitData) (first second : List ℕ) → IsNamed c → IsVisibleName first → IsVisibleName second → Gives (alias_meaning c first second)
+alias-named c first second is visible_first visible_second =
+    edited-named (alias_fault c first second) (with_alias c first second)
+    (λ _. record {
+      circuit = IsCircuit-with_alias c first second is.circuit;
+      visible = with_alias-visible c first second is.visible visible_first visible_second;
+    })
 
 -- the node of a name that is in use, or comes so, is no rail, where the name is no rail's
-node_named-no_rail : (c : Netlist) (name : List ℕ) → IsNetlist c → is_rail c name ≡ false → RAILS ≤ node_named (with_node c name) name
+node_named-no_rail : (c : CircuitData) (name : List ℕ) → IsCircuit c → is_rail c name ≡ false → RAILS ≤ node_named (with_node c name) name
 node_named-no_rail c name is other = by (node_of c.names name) refl other where
   by : (found : Option ℕ) → node_of c.names name ≡ found → option_map_or (λ node. nat_lt node RAILS) found false ≡ false
       → RAILS ≤ node_named (if is_some found then c else with_new_node c name) name
@@ -104,82 +126,106 @@ node_named-no_rail c name is other = by (node_of c.names name) refl other where
       subst (λ place. RAILS ≤ unwrap_or place 0) (sym (node_of-added c.names name (nodes c.graph) unused)) is.railed
 
 -- what is set at a node that is no rail
-setting-circuit : (c : Netlist) (profile : Profile) (node : ℕ) (setting : Setting) → IsNetlist c → RAILS ≤ node → IsAccepted profile setting
-    → IsNetlist (with_setting c node setting)
+setting-circuit : (c : CircuitData) (profile : Profile) (node : ℕ) (setting : Setting) → IsCircuit c → RAILS ≤ node → IsAccepted profile setting
+    → IsCircuit (with_setting c node setting)
 setting-circuit c profile node Unset is no_rail accepted = is
-setting-circuit c profile node Input is no_rail accepted = IsNetlist-with_level c node INPUT_LEVEL no_rail IsLevel-input is
+setting-circuit c profile node Input is no_rail accepted = IsCircuit-with_level c node INPUT_LEVEL no_rail IsLevel-input is
 setting-circuit c profile node (Size size) is no_rail accepted =
-    IsNetlist-with_level c node (level_of_size size) no_rail (IsLevel-size profile size accepted) is
+    IsCircuit-with_level c node (level_of_size size) no_rail (IsLevel-size profile size accepted) is
 
 -- attributes, of a name that isn't a rail's
-attributes-circuit : (number : ℕ) (c : Netlist) (name : List ℕ) (setting : Option Setting) → IsNetlist c → is_rail c name ≡ false
-    → IfSome setting (IsAccepted c.profile) → IsCircuit (attributes_meaning number c name setting)
-attributes-circuit number c name None is other accepted = tt
-attributes-circuit number c name (Some setting) is other accepted =
+attributes-named : (c : CircuitData) (name : List ℕ) (setting : Option Setting) → IsNamed c → IsVisibleName name → is_rail c name ≡ false
+    → IfSome setting (IsAccepted c.profile) → Gives (attributes_meaning c name setting)
+attributes-named c name None is visible other accepted = tt
+attributes-named c name (Some setting) is visible other accepted =
     let named = with_node c name in
-    edited-circuit number (node_fault c name) (with_setting named (node_named named name) setting)
-    (λ _. setting-circuit named c.profile (node_named named name) setting (IsNetlist-with_node c name is) (node_named-no_rail c name is other) accepted)
+    let node = node_named named name in
+    edited-named (node_fault c name) (with_setting named node setting)
+    (λ _. record {
+      circuit = setting-circuit named c.profile node setting (IsCircuit-with_node c name is.circuit) (node_named-no_rail c name is.circuit other) accepted;
+      visible = with_setting-visible named node setting (with_node-visible c name is.visible visible);
+    })
 
 -- a record
-record-circuit : (number : ℕ) (c : Netlist) (begun : Record) (words : List (List ℕ)) → IsNetlist c → IsCircuit (record_meaning number c begun words)
-record-circuit number c (Transistor kind) (gate ∷ source ∷ drain ∷ words) is =
-    transistor-circuit number c kind gate source drain (strength_of c.profile (usual_strength kind) words) is
-record-circuit number c (Transistor kind) (gate ∷ source ∷ []) is = tt
-record-circuit number c (Transistor kind) (gate ∷ []) is = tt
-record-circuit number c (Transistor kind) [] is = tt
-record-circuit number c Alias (first ∷ second ∷ words) is =
-    edited-circuit number (alias_fault c first second) (with_alias c first second) (λ _. IsNetlist-with_alias c first second is)
-record-circuit number c Alias (first ∷ []) is = tt
-record-circuit number c Alias [] is = tt
-record-circuit number c Attributes (name ∷ words) is = of_rail (is_rail c name) refl where
-  of_rail : (rail : Bool) → is_rail c name ≡ rail → IsCircuit (cond rail (Ok c) (attributes_meaning number c name (setting_of c.profile words)))
+record-named : (c : CircuitData) (begun : Record) (words : List (List ℕ)) → IsNamed c → All IsVisibleName words → Gives (record_meaning c begun words)
+record-named c (Transistor kind) (gate ∷ source ∷ drain ∷ words) is visible =
+    transistor-named c kind gate source drain (strength_of c.profile (usual_strength kind) words) is
+    (All-take IsVisibleName 3 (gate ∷ source ∷ drain ∷ words) visible)
+record-named c (Transistor kind) (gate ∷ source ∷ []) is visible = tt
+record-named c (Transistor kind) (gate ∷ []) is visible = tt
+record-named c (Transistor kind) [] is visible = tt
+record-named c Alias (first ∷ second ∷ words) is visible =
+    alias-named c first second is (All-head IsVisibleName first (second ∷ words) visible)
+    (All-head IsVisibleName second words (All-tail IsVisibleName first (second ∷ words) visible))
+record-named c Alias (first ∷ []) is visible = tt
+record-named c Alias [] is visible = tt
+record-named c Attributes (name ∷ words) is visible = of_rail (is_rail c name) refl where
+  of_rail : (rail : Bool) → is_rail c name ≡ rail → Gives (cond rail (Ok c) (attributes_meaning c name (setting_of c.profile words)))
   of_rail true spelled = is
   of_rail false other =
-      attributes-circuit number c name (setting_of c.profile words) is other (setting_after-accepted c.profile Unset (flat_map items_of words) tt)
-record-circuit number c Attributes [] is = tt
-record-circuit number c Passed words is = is
+      attributes-named c name (setting_of c.profile words) is (All-head IsVisibleName name words visible) other
+      (setting_after-accepted c.profile Unset (flat_map items_of words) tt)
+record-named c Attributes [] is visible = tt
+record-named c Passed words is visible = is
 
 -- the words of a line
-words-circuit : (number : ℕ) (c : Netlist) (words : List (List ℕ)) → IsNetlist c → IsCircuit (words_meaning number c words)
-words-circuit number c [] is = is
-words-circuit number c (word ∷ words) is = of_record (record_of word) where
-  of_record : (begun : Option Record) → IsCircuit (known_meaning number c begun words)
+words-named : (c : CircuitData) (words : List (List ℕ)) → IsNamed c → All IsVisibleName words → Gives (words_meaning c words)
+words-named c [] is visible = is
+words-named c (word ∷ words) is visible = of_record (record_of word) where
+  of_record : (begun : Option Record) → Gives (known_meaning c begun words)
   of_record None = tt
-  of_record (Some begun) = record-circuit number c begun words is
+  of_record (Some begun) = record-named c begun words is (All-tail IsVisibleName word words visible)
 
 -- a comment
-comment-circuit : (number : ℕ) (c : Netlist) (line : List ℕ) → IsNetlist c → IsCircuit (comment_meaning number c line)
-comment-circuit number c line is = by_format ((number == 1) && not (is_header line)) where
-  by_format : (unknown : Bool) → IsCircuit (cond unknown (Err (At number Format)) (Ok c))
+comment-named : (c : CircuitData) (line : ℕ × List ℕ) → IsNamed c → Gives (comment_meaning c line)
+comment-named c line is = by_format ((line.0 == HEADER_LINE) && not (is_header line.1)) where
+  by_format : (unknown : Bool) → Gives (cond unknown (Err Format) (Ok c))
   by_format true = tt
   by_format false = is
 
--- a line
-checked-circuit : (number : ℕ) (c : Netlist) (line : List ℕ) (fault : Option LineFault) → IsNetlist c → IsCircuit (checked_meaning number c line fault)
-checked-circuit number c line (Some of_line.TooLong) is = tt
-checked-circuit number c line (Some of_line.BadByte) is = tt
-checked-circuit number c line None is = of_comment (is_comment line) where
-  of_comment : (comment : Bool) → IsCircuit (cond comment (comment_meaning number c line) (words_meaning number c (words_of line)))
-  of_comment true = comment-circuit number c line is
-  of_comment false = words-circuit number c (words_of line) is
+-- a line, by its fault as a line of any text
+checked-named : (c : CircuitData) (line : ℕ × List ℕ) (fault : Option LineFault) → line_fault line.1 ≡ fault → IsNamed c
+    → Gives (checked_meaning c line fault)
+checked-named c line (Some of_line.TooLong) same is = tt
+checked-named c line (Some of_line.BadByte) same is = tt
+checked-named c line None same is = of_comment (is_comment line.1) refl where
+  of_comment : (comment : Bool) → is_comment line.1 ≡ comment → Gives (cond comment (comment_meaning c line) (words_meaning c (words_of line.1)))
+  of_comment true begins = comment-named c line is
+  of_comment false other = words-named c (words_of line.1) is (words_of-visible line.1 same other)
 
-line-circuit : (cut : Option ℕ) (c : Netlist) (line : ℕ × List ℕ) → IsNetlist c → IsCircuit (line_meaning cut c line)
-line-circuit cut c line is = of_cut (is_cut cut line.0) where
-  of_cut : (last : Bool) → IsCircuit (cond last (Err (At line.0 TooLong)) (checked_meaning line.0 c line.1 (line_fault line.1)))
+-- a line of a text, which may hold the first byte too many
+line-named : (cut : Option ℕ) (c : CircuitData) (line : ℕ × List ℕ) → IsNamed c → Gives (line_meaning cut c line)
+line-named cut c line is = of_cut (is_cut cut line.0) where
+  of_cut : (last : Bool) → Gives (cond last (Err TooLong) (checked_meaning c line (line_fault line.1)))
   of_cut true = tt
-  of_cut false = checked-circuit line.0 c line.1 (line_fault line.1) is
+  of_cut false = checked-named c line (line_fault line.1) refl is
 
 -- lines
-lines-circuit : (cut : Option ℕ) (c : Netlist) (lines : List (ℕ × List ℕ)) → IsNetlist c → IsCircuit (lines_meaning cut c lines)
-lines-circuit cut c [] is = is
-lines-circuit cut c (line ∷ lines) is =
-    onward (line_meaning cut c line) (line-circuit cut c line is) (λ next made. lines-circuit cut next lines made) where
-      onward : (meaning : Result Netlist NetFault) → IsCircuit meaning → ((next : Netlist) → IsNetlist next → IsCircuit (lines_meaning cut next lines))
-          → IsCircuit (elim meaning as (λ _. Result Netlist NetFault) [ Err fault ↦ Err fault | Ok next ↦ lines_meaning cut next lines ])
+lines-named : (cut : Option ℕ) (c : CircuitData) (lines : List (ℕ × List ℕ)) → IsNamed c → Gives (lines_meaning cut c lines)
+lines-named cut c [] is = is
+lines-named cut c (line ∷ lines) is =
+    onward (line_meaning cut c line) (line-named cut c line is) (λ next made. lines-named cut next lines made) where
+      onward : (meaning : Result CircuitData NetWhat) → Gives meaning → ((next : CircuitData) → IsNamed next → Gives (lines_meaning cut next lines))
+          → Gives (elim meaning as (λ _. Result CircuitData NetRefusal) [ Err what ↦ Err (record { line = line.0; what = what }) | Ok next ↦ lines_meaning cut next lines ])
       onward (Ok next) made more = more next made
-      onward (Err fault) made more = tt
+      onward (Err what) made more = tt
 
--- what a text means is a circuit, where it isn't refused
-pub netlist_of-netlist : (text : List ℕ) (circuit : Netlist) → netlist_of text ≡ Ok circuit → IsNetlist circuit
-netlist_of-netlist text circuit same =
-    subst IsCircuit same (lines-circuit (cut_line text) (rails_alone One) (lines_in text) (IsNetlist-rails_alone One))
+-- ---- texts
+
+-- what a text means is such a circuit, where it isn't refused
+netlist_of-named : (text : List ℕ) (circuit : CircuitData) → netlist_of text ≡ Ok circuit → IsNamed circuit
+netlist_of-named text circuit same =
+    subst Gives same (lines-named (cut_line text) (rails_alone One) (lines_in text) (record {
+      circuit = IsCircuit-rails_alone One;
+      visible = All-nil (λ (e : List ℕ × ℕ). IsVisibleName e.0);
+    }))
+
+-- so it is a circuit
+pub netlist_of-netlist : (text : List ℕ) (circuit : CircuitData) → netlist_of text ≡ Ok circuit → IsCircuit circuit
+netlist_of-netlist text circuit same = (netlist_of-named text circuit same).circuit
+
+-- and its nodes are called by visible names
+pub netlist_of-visible : (text : List ℕ) (circuit : CircuitData) → netlist_of text ≡ Ok circuit → HasVisibleNames circuit
+netlist_of-visible text circuit same =
+    let is = netlist_of-named text circuit same in
+    nodes-visible circuit is.circuit is.visible

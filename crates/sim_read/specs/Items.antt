@@ -8,9 +8,13 @@ use Rattle.netlist.specs.Edits.{is_size, is_strength}
 use Rattle.sim_read.specs.declared.items.Setting.{Setting}
 use Rattle.sim_read.specs.declared.items.Setting.TheVariants.{Unset, Input, Size}
 
+-- a comma, between two items
+abbrev pub comma : ℕ
+comma = 44
+
 -- the byte is a comma
 abbrev pub is_comma : ℕ → Bool
-is_comma byte = byte == 44
+is_comma byte = byte == comma
 
 -- the items of a word: its parts between commas
 abbrev pub items_of : List ℕ → List (List ℕ)

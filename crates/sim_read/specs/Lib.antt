@@ -1,5 +1,6 @@
 pub mod Header
 pub mod Items
 pub mod Meaning
+pub mod Reading
+pub mod FirstRefused
 pub mod Records
-pub mod Visible

@@ -1,15 +1,34 @@
+//! What a netlist is refused for.
+
+ghost use Rattle.std.specs.Prelude.{Option};
+ghost use Rattle.netlist.specs.Circuits.{CircuitData};
+ghost use Rattle.netlist.specs.Faults.{IsAnswered, MakingFault};
+ghost use Rattle.sim_read.specs.Meaning.{edited};
+ghost use Rattle.sim_read.specs.Reading.{IsStop};
+
+use netlist::EditFault;
 use ternary::NoMemory;
 use thiserror::Error;
 
 /// Why a netlist gives no circuit.
 #[derive(Clone, Copy, Debug, Drop, Error, PartialEq, Eq)]
 pub enum NetFault {
-    /// The line with this number, from 1, is the first that is refused.
-    #[error("line {line}: {what}")]
-    At { line: u64, what: NetWhat },
+    /// A line is refused.
+    #[error("{0}")]
+    Refused(NetRefusal),
     /// There was want of memory.
     #[error("want of memory")]
     NoMemory,
+}
+
+/// The refusal of a netlist: the first line that is refused, and its cause.
+#[derive(Clone, Copy, Debug, Drop, Error, PartialEq, Eq)]
+#[error("line {line}: {what}")]
+pub struct NetRefusal {
+    /// The number of the line, from 1.
+    pub line: u64,
+    /// Why it is refused.
+    pub what: NetWhat,
 }
 
 /// Why a line of a netlist is refused. Where several causes stand together, `TooLong` wins, then
@@ -59,5 +78,30 @@ impl From<NoMemory> for NetFault {
 
     fn from(_want: NoMemory) -> NetFault {
         NetFault::NoMemory
+    }
+}
+
+/// Why the reading stops at a line.
+#[derive(Clone, Copy, Debug, PartialEq, Eq)]
+pub(crate) enum LineStop {
+    /// The line is refused for this cause.
+    Refused(NetWhat),
+    /// There was want of memory.
+    NoMemory,
+}
+
+/// Why the reading stops at a line whose edit answers this fault.
+pub(crate) fn edit_stop(fault: EditFault) -> LineStop
+    requires { (refusal : Option MakingFault) × IsAnswered refusal fault }
+    ensures { (refusal : Option MakingFault) (made : CircuitData)
+        → IsAnswered refusal fault → IsStop (edited refusal made) result }
+{
+    match fault {
+        EditFault::BadStrength => LineStop::Refused(NetWhat::BadStrength),
+        EditFault::AliasTaken => LineStop::Refused(NetWhat::AliasTaken),
+        EditFault::TooManyNodes => LineStop::Refused(NetWhat::TooManyNodes),
+        EditFault::TooManySwitches => LineStop::Refused(NetWhat::TooManySwitches),
+        EditFault::NoMemory => LineStop::NoMemory,
+        EditFault::NoSuchSwitch | EditFault::Rail | EditFault::BadSize => unreachable!(),
     }
 }

@@ -9,6 +9,9 @@ ghost use Rattle.sim_read.specs.Header as spec;
 
 use line_words::{Words, words};
 
+/// The number of the line that is the header where it is a comment.
+pub(crate) const HEADER_LINE: u64 = 1;
+
 // The word before the format.
 const KEY: &[u8] = b"format:";
 

@@ -1,25 +1,30 @@
 //! Laws of the meaning of a netlist.
 
-ghost use Rattle.std.specs.Prelude.{◌≡◌, ◌≢◌, [], ◌∷◌, ◌++◌, ℕ, List, Some, None, Ok, IsSome, IfErr};
+ghost use Rattle.std.specs.Prelude.{◌≡◌, ◌↔◌, [], ◌∷◌, ◌++◌, ℕ, List, Some, None, Ok, Err, IsSome};
 ghost use Rattle.line_words.specs.Files.{front_of};
 ghost use Rattle.netlist.specs.Edits.{is_strength};
-ghost use Rattle.netlist.specs.Netlists.{Netlist, IsNetlist};
+ghost use Rattle.netlist.specs.Circuits.{CircuitData, IsCircuit};
 ghost use Rattle.sim_read.specs.Items.{number_that, strength_after};
 ghost use Rattle.sim_read.specs.Meaning.{netlist_of};
-ghost use Rattle.sim_read.specs.declared.fault.NetFault.TheVariants as fault;
+ghost use Rattle.sim_read.specs.FirstRefused.{IsFirstRefused, MakesAll};
+ghost use Rattle.sim_read.specs.declared.fault.NetRefusal.{NetRefusal};
 
 use strength_order::Profile;
 
-/// A law: a text means a circuit or the refusal of a line, by its front alone.
+/// A law: a text means a circuit or the refusal of its first refused line, by its front alone.
 pub fn netlists_are_circuits_or_refused_lines()
     // What stands behind the first byte too many has no meaning.
     ensures front { (text : List ℕ) → netlist_of (front_of text) ≡ netlist_of text }
 
-    // Want of memory is no meaning of a text.
-    ensures meant { (text : List ℕ) → IfErr (netlist_of text) (λ refusal. refusal ≢ fault.NoMemory) }
+    // It is refused at the line that is refused in the circuit that the lines before it make.
+    ensures refused { (text : List ℕ) (refusal : NetRefusal)
+        → (netlist_of text ≡ Err refusal) ↔ IsFirstRefused text refusal }
+
+    // It means the circuit that all its lines make, one after the other.
+    ensures made { (text : List ℕ) (c : CircuitData) → (netlist_of text ≡ Ok c) ↔ MakesAll text c }
 
     // What isn't refused is a circuit.
-    ensures circuit { (text : List ℕ) (c : Netlist) → netlist_of text ≡ Ok c → IsNetlist c }
+    ensures circuit { (text : List ℕ) (c : CircuitData) → netlist_of text ≡ Ok c → IsCircuit c }
 {}
 
 /// A law: of a transistor's strengths the last one counts, where all are accepted.

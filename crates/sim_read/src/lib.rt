@@ -2,15 +2,20 @@
 //!
 //! The main call is `read_netlist`. The layer above uses its contract: it gives `netlist_of` of the
 //! text, the circuit that the lines' entries give in order from the two rails alone, or the refusal
-//! of the first line that has one, with its number and its cause.
+//! of the first line that has one, with its number and its cause. That the refused line is the first
+//! one, and that each line before it has its effect, is a law, stated line by line beside the
+//! definition: `netlists_are_circuits_or_refused_lines`.
 //!
 //! ```text
-//! read_netlist(alloc, b"p a Vdd out\nn a Gnd out\n")      is a circuit with nodes Gnd, Vdd, a, out
-//! read_netlist(alloc, b"n a Gnd out\nq a b c\n")          is refused at line 2: BadRecord
+//! read_netlist(alloc, keys, b"p a Vdd out\nn a Gnd out\n")      is a circuit with nodes Gnd, Vdd, a, out
+//! read_netlist(alloc, keys, b"n a Gnd out\nq a b c\n")          is refused at line 2: BadRecord
 //! ```
 //!
 //! The format is the .sim format of the MIT and Berkeley circuit extractors, in this project's
 //! profile: docs/FORMATS.md has it whole.
+//!
+//! For the proofs of crates above: `CircuitLemmas` says that a netlist that isn't refused is a circuit
+//! with visible names, and `MeaningLemmas` that it goes by the front of the text alone.
 #![tactic(auto)]
 
 mod fault;
@@ -22,6 +27,6 @@ mod records;
 #[cfg(test)]
 mod tests;
 
-pub use fault::{NetFault, NetWhat};
+pub use fault::{NetFault, NetRefusal, NetWhat};
 pub use laws::{netlists_are_circuits_or_refused_lines, the_last_strength_counts};
 pub use reader::read_netlist;

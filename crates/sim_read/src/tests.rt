@@ -3,6 +3,7 @@
 use super::*;
 use netlist::Circuit;
 use std::test::Fail;
+use table_keys::TableKeys;
 
 // The nodes, transistors and names of a circuit.
 fn sizes_of(circuit: &Circuit) -> (usize, usize, usize) {
@@ -45,7 +46,9 @@ R out 120
         (b" |format: mIt | format: LBL", (2, 0, 0)),
     ];
     for (text, wanted) in ROWS {
-        let sizes = read_netlist(rt.alloc(), text).map(|circuit| sizes_of(&circuit));
+        let sizes = read_netlist(rt.alloc(), TableKeys::fixed(), text).map(|circuit| sizes_of(
+            &circuit,
+        ));
         assert_eq!(rt; sizes, Ok(wanted));
     }
 }
@@ -77,8 +80,8 @@ fn the_first_bad_line_is_refused(rt: HostRuntime) {
         (&[b'\x80'; 65_537], 1, NetWhat::LineTooLong),
     ];
     for (text, line, what) in ROWS {
-        let refusal = read_netlist(rt.alloc(), text).err();
-        assert_eq!(rt; refusal, Some(NetFault::At { line, what }));
+        let refusal = read_netlist(rt.alloc(), TableKeys::fixed(), text).err();
+        assert_eq!(rt; refusal, Some(NetFault::Refused(NetRefusal { line, what })));
     }
 }
 
@@ -96,7 +99,7 @@ fn the_last_strength_and_the_last_size_count(rt: HostRuntime) -> Result<(), Fail
         (b"A a size:2\nA a\nd a b c g=strength:2\n", 10, 2),
     ];
     for (text, switch, node) in ROWS {
-        let circuit = read_netlist(rt.alloc(), text)?;
+        let circuit = read_netlist(rt.alloc(), TableKeys::fixed(), text)?;
         let graph = circuit.graph();
         assert_eq!(rt; graph.places(), 1);
         assert_eq!(rt; graph.switch_at(0).map(|switch| switch.level), Some(switch));

@@ -1,6 +1,6 @@
 use Rattle.std.proofs.Common.{sym, ap, ◌∙◌}
 use Rattle.sim_read.specs.Meaning.{lines_meaning}
-use Rattle.sim_read.proofs.VisibleLemmas.{netlist_of-visible}
+use Rattle.sim_read.proofs.CircuitLemmas.{netlist_of-visible}
 use Rattle.sim_read.proofs.reader.read_netlist.Goals as goal
 
 pub returns-clause-visible : goal.returns-clause-visible

@@ -1,4 +1,5 @@
-use Rattle.std.proofs.Common.{inl, inr, ◌∙◌}
+use Rattle.std.proofs.Common.{◌∙◌, subst, sym}
+use Rattle.netlist.specs.Faults.{IsAnswered}
 use Rattle.netlist.proofs.NetlistLemmas.{HasTerminals, add_fault-HasTerminals, with_transistor-wired}
 use Rattle.netlist.proofs.circuit.Circuit.add_switch.Goals as goal
 
@@ -33,5 +34,6 @@ returns-in-Ok-clause-allowed c =
 
 pub returns-in-Err-clause-refused : goal.returns-in-Err-clause-refused
 returns-in-Err-clause-refused c =
-    let same = add_fault-HasTerminals c.args.strength c.nodes.result (refused c) c.in-Some.ensures.value.0 c.nodes.ensures in
-    elim c.in-Err.ensures.refused [ inl want ↦ inl want | inr limit ↦ inr (same ∙ limit) ]
+    subst (λ refusal. IsAnswered refusal c.in-Err.fault)
+    (sym (add_fault-HasTerminals c.args.strength c.nodes.result (refused c) c.in-Some.ensures.value.0 c.nodes.ensures))
+    c.in-Err.ensures.refused

@@ -1,7 +1,7 @@
 use Rattle.std.proofs.Common.{◌≡◌, ◌++◌, ◌∷◌, [], None, ap, sym, ◌∙◌}
 use Rattle.std.proofs.lemmas.List.{length-map}
 use Rattle.netlist.specs.Names.{node_of}
-use Rattle.netlist.specs.Naming.{Naming, node_count, entries_of}
+use Rattle.netlist.specs.Naming.{NamesData, node_count, entries_of}
 use Rattle.netlist.proofs.NamingLemmas.{IsNaming-added_first}
 use Rattle.netlist.proofs.names.Names.add_first.Goals as goal
 
@@ -9,7 +9,7 @@ use Rattle.netlist.proofs.names.Names.add_first.Goals as goal
 unused : (c : goal.After-push_reserved) → node_of (entries_of c.self.inside.table.entries) c.in_ok-word.word.items ≡ None
 unused c =
     ap (node_of (entries_of c.self.inside.table.entries)) (c.in_ok-word.ensures.items_if_clones_equal (λ _ _ same. same))
-    ∙ ap (λ (naming : Naming). node_of naming.entries c.args.name.now) c.self.view_is
+    ∙ ap (λ (naming : NamesData). node_of naming.entries c.args.name.now) c.self.view_is
     ∙ c.requires
 
 pub invariant_of-self-2 : goal.invariant_of-self-2
