@@ -5,7 +5,7 @@ use Rattle.std.specs.List.{position_or_len}
 use Rattle.std.proofs.lemmas.Bool.Decides.{nat_tests}
 use Rattle.std.proofs.lemmas.List.Folds.{find_at}
 use Rattle.std.proofs.lemmas.Option.{slice_get_past}
-use Rattle.port_edge.specs.HonestPorts.{Table, FilesSeen, has_name, held, bytes_of, bytes_at}
+use Rattle.port_edge.specs.HonestPorts.{Table, HonestFilesData, has_name, held, bytes_of, bytes_at}
 
 -- a place that is dropped unless it is inside the table has the bytes that lie there
 bytes_at-tested : (table : Table) (place : ℕ) (inside : Bool) → nat_lt place (length table) ≡ inside → bytes_at table (cond inside (Some place) None) ≡ bytes_of (slice_get table place)
@@ -25,5 +25,5 @@ held_at_place table searched seen name place found same_searched same_seen =
     ap (bytes_at table) (found ∙ ap (position (has_name name)) same_searched) ∙ bytes_at-position table name ∙ ap (λ entries. held entries name) same_seen
 
 -- files of which only what is left changed
-pub with_rest : (before seen : FilesSeen) (rest wanted : List ℕ) → before ≡ seen → rest ≡ wanted → record before { rest = rest } ≡ record seen { rest = wanted }
-with_rest before seen rest wanted same is = ap (λ (bytes : List ℕ). record before { rest = bytes }) is ∙ ap (λ (files : FilesSeen). record files { rest = wanted }) same
+pub with_rest : (before seen : HonestFilesData) (rest wanted : List ℕ) → before ≡ seen → rest ≡ wanted → record before { rest = rest } ≡ record seen { rest = wanted }
+with_rest before seen rest wanted same is = ap (λ (bytes : List ℕ). record before { rest = bytes }) is ∙ ap (λ (files : HonestFilesData). record files { rest = wanted }) same

@@ -1,5 +1,5 @@
 pub mod SendingLemmas
 pub mod CountLemmas
 pub mod HonestLemmas
-pub mod RealLemmas
+pub mod TakenLemmas
 pub mod ResultLemmas

@@ -7,13 +7,13 @@ abbrev pub Table : Type 0
 Table = List (String Global × Vec ℕ Global)
 
 -- a table, what is left of the started entry, and the names started so far
-pub record FilesSeen : Type 0 where
+pub record HonestFilesData : Type 0 where
   pub table : Table
   pub rest : List ℕ
   pub started : List (List ℕ)
 
 -- the bytes written so far, and how often memory was refused
-pub record SinkSeen : Type 0 where
+pub record HonestSinkData : Type 0 where
   pub written : List ℕ
   pub refusals : ℕ
 
@@ -36,9 +36,9 @@ bytes_at table None = []
 bytes_at table (Some place) = bytes_of (slice_get table place)
 
 -- files of this table, none of them started
-abbrev pub unread : Table → FilesSeen
+abbrev pub unread : Table → HonestFilesData
 unread table = record { table = table; rest = []; started = [] }
 
 -- a sink to which nothing was written
-abbrev pub unwritten : SinkSeen
+abbrev pub unwritten : HonestSinkData
 unwritten = record { written = []; refusals = 0 }

@@ -1,6 +1,7 @@
 pub mod Ports
+pub mod Taken
 pub mod HonestPorts
 pub mod Sending
 pub mod Reading
-pub mod RealPorts
+pub mod OuterPorts
 pub mod MemPorts

@@ -1,27 +1,37 @@
 -- What a call on a port may do: to the counts of faults, to the files started, to the bytes that are left
 -- and to the bytes written.
-use Rattle.std.specs.Prelude.{◌≡◌, ℕ, ◌+◌, ◌-◌, ◌^◌, ◌<◌, ◌≤◌, min, max, List, [], ◌∷◌, ◌++◌, length, take, Option, Some, option_map, Result, Ok, Err, MatchResult, IfErr, IfSome}
+use Rattle.std.specs.Prelude.{◌≡◌, ℕ, ◌<◌, List, [], ◌∷◌, ◌++◌, length, take, Option, Some, option_map, Result, Ok, Err, MatchResult, IfSome, ◌⊎◌}
 use Rattle.std.specs.Io.KnownBytes.{append_known, prepend_known, IsAtEnd}
+use Rattle.ternary.specs.Counts.{raised}
 use Rattle.port_edge.specs.declared.ports.PortFault.{PortFault}
 use Rattle.port_edge.specs.declared.ports.PortFault.TheVariants.{Failed, NoMemory}
 
--- a count has risen, or stands at the last value of its type
-abbrev pub Rose : ℕ → ℕ → Type 0
-Rose before now = min (before + 1) (2 ^ 64 - 1) ≤ now
+-- the count of faults after a fault: one more where the call failed
+abbrev pub faults_at : ℕ → PortFault → ℕ
+faults_at faults Failed = raised faults 1
+faults_at faults NoMemory = faults
 
--- one more, up to the last value that a count has
-abbrev pub raised : ℕ → ℕ
-raised count = max count (min (count + 1) (2 ^ 64 - 1))
+-- the count of refused memory after a fault: one more where memory was lacking
+abbrev pub refusals_at : ℕ → PortFault → ℕ
+refusals_at refusals Failed = refusals
+refusals_at refusals NoMemory = raised refusals 1
 
--- the count of faults has not fallen, and has risen where the call failed
-pub record FailedRaised {T : Type 0} (before now : ℕ) (result : Result T PortFault) : Type 0 where
-  pub later : before ≤ now
-  pub failed : IfErr result (λ fault. fault ≡ Failed → Rose before now)
+-- the count of faults after a call: as before where it answered, else as after its fault
+abbrev pub faults_after : {T : Type 0} → ℕ → Result T PortFault → ℕ
+faults_after faults (Ok _) = faults
+faults_after faults (Err fault) = faults_at faults fault
 
--- the count of refused memory has not fallen, and has risen where the call lacked memory
-pub record RefusalRaised {T : Type 0} (before now : ℕ) (result : Result T PortFault) : Type 0 where
-  pub later : before ≤ now
-  pub refused : IfErr result (λ fault. fault ≡ NoMemory → Rose before now)
+-- the count of refused memory after a call: as before where it answered, else as after its fault
+abbrev pub refusals_after : {T : Type 0} → ℕ → Result T PortFault → ℕ
+refusals_after refusals (Ok _) = refusals
+refusals_after refusals (Err fault) = refusals_at refusals fault
+
+-- the count of a sink's refused memory after a call that takes memory of its own too: as before unless memory
+-- was lacking, and then as before or one more
+abbrev pub RefusedOnce : {T : Type 0} → ℕ → ℕ → Result T PortFault → Type 0
+RefusedOnce before now (Ok _) = now ≡ before
+RefusedOnce before now (Err Failed) = now ≡ before
+RefusedOnce before now (Err NoMemory) = (now ≡ before) ⊎ (now ≡ raised before 1)
 
 -- the started names, and then this one
 abbrev pub with_name : Option (List (List ℕ)) → List ℕ → Option (List (List ℕ))

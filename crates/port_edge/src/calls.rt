@@ -13,9 +13,9 @@ pub(crate) struct Calls {
 }
 
 impl Model for Calls {
-    ghost use Rattle.port_edge.specs.MemPorts.{CallsSeen};
+    ghost use Rattle.port_edge.specs.MemPorts.{CallsData};
 
-    ghost Value = { CallsSeen };
+    ghost Value = { CallsData };
 
     ghost view = { λ calls. record { fails = calls.fails.items; calls = calls.calls; faults = calls.faults } };
 }

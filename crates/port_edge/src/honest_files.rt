@@ -1,12 +1,14 @@
 //! Files in memory that never fail: what they lack can only be memory.
-ghost use Rattle.std.specs.Prelude.{◌≡◌, ◌≤◌, [], ◌∷◌, ◌++◌, Some, length, drop, map, take, string_bytes, position, min, IfOk, IsOk, OnErr, OnOk};
-ghost use Rattle.port_edge.specs.Ports.{FailedRaised, Reads};
-ghost use Rattle.port_edge.specs.HonestPorts.{FilesSeen, has_name, held, bytes_at, unread};
+ghost use Rattle.std.specs.Prelude.{◌≡◌, ◌≤◌, [], ◌∷◌, ◌++◌, None, Some, length, drop, map, take, string_bytes, position, min, IfOk, IsOk, OnErr, OnOk};
+ghost use Rattle.port_edge.specs.Ports.{faults_after, Reads};
+ghost use Rattle.port_edge.specs.Taken.{taken_after};
+ghost use Rattle.port_edge.specs.HonestPorts.{HonestFilesData, has_name, held, bytes_at, unread};
 ghost use Rattle.port_edge.specs.MemPorts.{is_there};
 
 use crate::ports::{Files, PortFault};
 use std::alloc::{AllocError, Global};
 use std::marker::Model;
+use table_keys::TableKeys;
 
 /// Files in memory: a table of names and bytes. They never fail, and tell all their meanings.
 ///
@@ -21,7 +23,7 @@ pub struct HonestFiles {
 }
 
 impl Model for HonestFiles {
-    ghost Value = { FilesSeen };
+    ghost Value = { HonestFilesData };
 
     ghost view = { λ files. record {
       table = files.table.items;
@@ -100,7 +102,13 @@ impl Files for HonestFiles {
 
     ghost started = { λ files. Some files.started };
 
+    ghost taken = { λ _. None };
+
     ghost faults = { λ _. 0 };
+
+    fn keys(&self) -> TableKeys {
+        TableKeys::fixed()
+    }
 
     fn start(&mut self, name: &str) -> Result<(), PortFault> {
         self.note(name)?;
@@ -114,7 +122,8 @@ impl Files for HonestFiles {
         ensures empty { length buf.old ≡ 0 → (result ≡ Ok 0) × (self.new ≡ self.old) }
         ensures bound { IfOk result (λ n. n ≤ length buf.new) }
         ensures bytes { Reads (Some self.old.rest) (Some self.new.rest) result buf.new }
-        ensures cause { FailedRaised 0 0 result }
+        ensures taken { None ≡ taken_after None result }
+        ensures cause { 0 ≡ faults_after 0 result }
 
         // A read takes no memory, and no file fails.
         ensures always { IsOk result }

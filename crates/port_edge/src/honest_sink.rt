@@ -1,7 +1,7 @@
 //! A sink in memory that never fails: what it lacks can only be memory.
 ghost use Rattle.std.specs.Prelude.{◌≡◌, ◌++◌, Some, IfErr, OnErr, OnOk};
-ghost use Rattle.port_edge.specs.Ports.{raised};
-ghost use Rattle.port_edge.specs.HonestPorts.{SinkSeen, unwritten};
+ghost use Rattle.ternary.specs.Counts.{raised};
+ghost use Rattle.port_edge.specs.HonestPorts.{HonestSinkData, unwritten};
 
 use crate::ports::{PortFault, Sink};
 use std::alloc::Global;
@@ -15,7 +15,7 @@ pub struct HonestSink {
 }
 
 impl Model for HonestSink {
-    ghost Value = { SinkSeen };
+    ghost Value = { HonestSinkData };
 
     ghost view = { λ sink. record { written = sink.written.items; refusals = sink.refusals } };
 }
@@ -41,7 +41,7 @@ impl HonestSink {
     // Puts a whole piece after what was written. Where memory is lacking, that is counted.
     pub(crate) fn append(&mut self, piece: &[u8]) -> Result<(), PortFault>
         ensures ok { OnOk result (self.new ≡ record self.old { written = self.old.written ++ piece.now }) }
-        ensures err { OnErr result (self.new ≡ record self.old { refusals = raised self.old.refusals }) }
+        ensures err { OnErr result (self.new ≡ record self.old { refusals = raised self.old.refusals 1 }) }
         ensures cause { IfErr result (λ fault. fault ≡ PortFault.NoMemory) }
     {
         if self.written.extend_from_slice(piece).is_err() {

@@ -1,11 +1,13 @@
 //! The edge of the program: every byte that it reads or writes goes through here.
 //!
 //! `Files` and `Sink` are traits whose contracts say what a call does to the bytes that are left or written,
-//! where an implementation tells them, and to its counts of faults: a call fails only where a count rose.
+//! where an implementation tells them, and to its counts of faults: a count rises by one at a call that fails,
+//! and at no other.
 //! `HonestFiles` and `HonestSink` are ports in memory that tell everything and never fail. `MemFiles` and
 //! `MemSink` tell everything too; their calls are numbered, those of some numbers fail, and each moves a few
-//! bytes at most. `RealFiles` and `RealSink` are the files of the system and standard output: they tell their
-//! counts alone, and are trusted for the rest.
+//! bytes at most. `SinkOver` and `FilesOver` are ports over any writer, and over anything that opens readers:
+//! what they do to the writer and the readers is proved. `real_sink` and `real_files` make them of standard
+//! output and of the system's files: only the opening of a file, and what the system does, is trusted.
 //!
 //! The layers above use two calls. `send` writes a whole text: on `Ok` the sink grew by it, and after a
 //! fault by a front of it. `read_front` gives the first `most` bytes of what a name holds.
@@ -19,25 +21,27 @@
 #![tactic(auto)]
 
 mod calls;
+mod files_over;
 mod honest_files;
 mod honest_sink;
 mod mem_files;
 mod mem_sink;
 mod ports;
 mod reading;
-mod real_files;
-mod real_sink;
+mod real_ports;
 mod sending;
+mod sink_over;
 
+pub use files_over::{FilesOver, Open};
 pub use honest_files::HonestFiles;
 pub use honest_sink::HonestSink;
 pub use mem_files::MemFiles;
 pub use mem_sink::MemSink;
 pub use ports::{Files, PortFault, Sink};
 pub use reading::read_front;
-pub use real_files::RealFiles;
-pub use real_sink::RealSink;
+pub use real_ports::{HostFiles, RealFiles, RealSink, real_files, real_sink};
 pub use sending::send;
+pub use sink_over::SinkOver;
 
 #[cfg(test)]
 mod tests;

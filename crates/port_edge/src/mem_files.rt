@@ -1,14 +1,16 @@
 //! Files in memory that give a few bytes at a time, and fail when they are told to.
-ghost use Rattle.std.specs.Prelude.{◌≡◌, ◌≢◌, ◌↔◌, ◌⊎◌, ◌<◌, ◌≤◌, Some, length, min, IfOk, IsErrOf, IsTrue, OnErr, OnOk};
-ghost use Rattle.port_edge.specs.Ports.{FailedRaised, Opens, Reads, started_after};
+ghost use Rattle.std.specs.Prelude.{◌≡◌, ◌≢◌, ◌↔◌, ◌⊎◌, ◌<◌, ◌≤◌, None, Some, length, min, IfOk, IsErrOf, IsTrue, OnErr, OnOk};
+ghost use Rattle.port_edge.specs.Ports.{faults_after, Opens, Reads, started_after};
+ghost use Rattle.port_edge.specs.Taken.{opened_after, taken_after};
 ghost use Rattle.port_edge.specs.HonestPorts.{held};
-ghost use Rattle.port_edge.specs.MemPorts.{MemFilesSeen, after_call, fails_next, start_fails, uncalled_files};
+ghost use Rattle.port_edge.specs.MemPorts.{MemFilesData, after_call, fails_next, start_fails, uncalled_files};
 
 use crate::calls::Calls;
 use crate::honest_files::HonestFiles;
 use crate::ports::{Files, PortFault};
 use std::alloc::Global;
 use std::marker::Model;
+use table_keys::TableKeys;
 
 /// Files in memory: a table of names and bytes. Calls of `start` and `read` are numbered together
 /// from 1, and those of some numbers fail; a read gives at most so many bytes. They tell all their
@@ -24,7 +26,7 @@ pub struct MemFiles {
 }
 
 impl Model for MemFiles {
-    ghost Value = { MemFilesSeen };
+    ghost Value = { MemFilesData };
 
     ghost view = { λ files. record { files = files.files; calls = files.calls; most = files.most } };
 
@@ -58,7 +60,13 @@ impl Files for MemFiles {
 
     ghost started = { λ files. Some files.files.started };
 
+    ghost taken = { λ _. None };
+
     ghost faults = { λ files. files.calls.faults };
+
+    fn keys(&self) -> TableKeys {
+        TableKeys::fixed()
+    }
 
     fn start(&mut self, name: &str) -> Result<(), PortFault>
         ensures holds { Some (held self.new.files.table) ≡ Some (held self.old.files.table) }
@@ -67,9 +75,8 @@ impl Files for MemFiles {
         ensures err { OnErr result (Some self.new.files.rest ≡ Some self.old.files.rest) }
         ensures started { Some self.new.files.started
             ≡ started_after (Some self.old.files.started) name.now result }
-        ensures no_memory { IsErrOf result PortFault.NoMemory
-            → self.new.calls.faults ≡ self.old.calls.faults }
-        ensures cause { FailedRaised self.old.calls.faults self.new.calls.faults result }
+        ensures taken { None ≡ opened_after None result }
+        ensures cause { self.new.calls.faults ≡ faults_after self.old.calls.faults result }
 
         // Where memory is lacking, nothing changes. Any other start is counted, and fails exactly
         // where its number says so or the name isn't there.
@@ -96,7 +103,8 @@ impl Files for MemFiles {
         ensures empty { length buf.old ≡ 0 → (result ≡ Ok 0) × (self.new ≡ self.old) }
         ensures bound { IfOk result (λ n. n ≤ length buf.new) }
         ensures bytes { Reads (Some self.old.files.rest) (Some self.new.files.rest) result buf.new }
-        ensures cause { FailedRaised self.old.calls.faults self.new.calls.faults result }
+        ensures taken { None ≡ taken_after None result }
+        ensures cause { self.new.calls.faults ≡ faults_after self.old.calls.faults result }
 
         // A read takes no memory. It fails exactly where its number says so, and each is counted.
         ensures memory { result ≢ Err PortFault.NoMemory }

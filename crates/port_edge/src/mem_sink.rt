@@ -1,7 +1,7 @@
 //! A sink in memory that takes a few bytes at a time, and fails when it is told to.
 ghost use Rattle.std.specs.Prelude.{◌≡◌, ◌↔◌, ◌<◌, ◌≤◌, Some, length, min, IfOk, IsTrue};
-ghost use Rattle.port_edge.specs.Ports.{FailedRaised, RefusalRaised, Writes};
-ghost use Rattle.port_edge.specs.MemPorts.{MemSinkSeen, after_call, fails_next, uncalled_sink};
+ghost use Rattle.port_edge.specs.Ports.{faults_after, refusals_after, Writes};
+ghost use Rattle.port_edge.specs.MemPorts.{MemSinkData, after_call, fails_next, uncalled_sink};
 
 use crate::calls::Calls;
 use crate::honest_sink::HonestSink;
@@ -21,7 +21,7 @@ pub struct MemSink {
 }
 
 impl Model for MemSink {
-    ghost Value = { MemSinkSeen };
+    ghost Value = { MemSinkData };
 
     ghost view = { λ sink. record { sink = sink.sink; calls = sink.calls; most = sink.most } };
 
@@ -62,8 +62,8 @@ impl Sink for MemSink {
         ensures bound { IfOk result (λ n. n ≤ length piece.now) }
         ensures progress { IfOk result (λ n. 0 < length piece.now → 0 < n) }
         ensures bytes { Writes (Some self.old.sink.written) (Some self.new.sink.written) result piece.now }
-        ensures cause { FailedRaised self.old.calls.faults self.new.calls.faults result }
-        ensures memory { RefusalRaised self.old.sink.refusals self.new.sink.refusals result }
+        ensures cause { self.new.calls.faults ≡ faults_after self.old.calls.faults result }
+        ensures memory { self.new.sink.refusals ≡ refusals_after self.old.sink.refusals result }
 
         // A write fails exactly where its number says so, and each is counted.
         ensures fails { 0 < length piece.now

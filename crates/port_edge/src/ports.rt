@@ -1,14 +1,16 @@
 //! The two traits through which the program reads and writes, and the faults that they answer.
-ghost use Rattle.std.specs.Prelude.{◌≡◌, ℕ, ◌<◌, ◌≤◌, List, Option, length, IfOk, OnOk, OnErr, IsErrOf};
-ghost use Rattle.port_edge.specs.Ports.{FailedRaised, RefusalRaised, started_after, Opens, Reads, Writes};
+ghost use Rattle.std.specs.Prelude.{◌≡◌, ℕ, ◌<◌, ◌≤◌, List, Option, length, IfOk, OnOk, OnErr};
+ghost use Rattle.port_edge.specs.Ports.{faults_after, refusals_after, started_after, Opens, Reads, Writes};
+ghost use Rattle.port_edge.specs.Taken.{opened_after, taken_after};
 ghost use Rattle.port_edge.specs.declared.ports.PortFault.TheVariants.{NoMemory};
 
 use std::alloc::{AllocError, AllocFailed};
+use table_keys::TableKeys;
 
 /// Why a call on a port gave no answer.
 #[derive(Clone, Copy, Debug, PartialEq, Eq)]
 pub enum PortFault {
-    /// The file or the output failed. It comes only where the port's count of faults rose.
+    /// The file or the output failed. The port's count of faults rose by one.
     Failed,
 
     /// Memory was lacking.
@@ -34,8 +36,9 @@ impl<T: Drop> From<AllocFailed<T>> for PortFault {
 /// Files that are read by name, one at a time.
 ///
 /// Contracts see what each name holds, which no call changes; what is left of the started file; the list of
-/// the names that were started; and a count of faults. The first three are there where an implementation
-/// tells them. A name that isn't there holds no bytes.
+/// the names that were started; how many bytes were taken of each started file, the last one first; and a
+/// count of faults, which rises by one where a call fails and at no other call. The first four are there
+/// where an implementation tells them. A name that isn't there holds no bytes.
 pub trait Files {
     ghost holds: { Self → Option (List ℕ → List ℕ) };
 
@@ -43,7 +46,14 @@ pub trait Files {
 
     ghost started: { Self → Option (List (List ℕ)) };
 
+    ghost taken: { Self → Option (List ℕ) };
+
     ghost faults: { Self → ℕ };
+
+    /// The keys of the tables whose entries come from these files.
+    ///
+    /// No contract speaks of them, and nothing that is written depends on them.
+    fn keys(&self) -> TableKeys;
 
     /// Starts the file of this name: from here on `read` gives its bytes.
     ///
@@ -53,8 +63,8 @@ pub trait Files {
         ensures opens { OnOk result (Opens (holds self.old) name.now (rest self.new)) }
         ensures err { OnErr result (rest self.new ≡ rest self.old) }
         ensures started { started self.new ≡ started_after (started self.old) name.now result }
-        ensures no_memory { IsErrOf result PortFault.NoMemory → faults self.new ≡ faults self.old }
-        ensures cause { FailedRaised (faults self.old) (faults self.new) result };
+        ensures taken { taken self.new ≡ opened_after (taken self.old) result }
+        ensures cause { faults self.new ≡ faults_after (faults self.old) result };
 
     /// Puts the next bytes of the started file at the front of the buffer, and answers how many they are.
     ///
@@ -66,13 +76,14 @@ pub trait Files {
         ensures empty { length buf.old ≡ 0 → (result ≡ Ok 0) × (self.new ≡ self.old) }
         ensures bound { IfOk result (λ n. n ≤ length buf.new) }
         ensures bytes { Reads (rest self.old) (rest self.new) result buf.new }
-        ensures cause { FailedRaised (faults self.old) (faults self.new) result };
+        ensures taken { taken self.new ≡ taken_after (taken self.old) result }
+        ensures cause { faults self.new ≡ faults_after (faults self.old) result };
 }
 
 /// A sink that takes bytes in order.
 ///
 /// Contracts see the bytes written so far, where an implementation tells them, a count of faults and a count
-/// of refused memory.
+/// of refused memory. A count rises by one where a call fails, or lacks memory, and at no other call.
 pub trait Sink {
     ghost written: { Self → Option (List ℕ) };
 
@@ -89,6 +100,6 @@ pub trait Sink {
         ensures bound { IfOk result (λ n. n ≤ length piece.now) }
         ensures progress { IfOk result (λ n. 0 < length piece.now → 0 < n) }
         ensures bytes { Writes (written self.old) (written self.new) result piece.now }
-        ensures cause { FailedRaised (faults self.old) (faults self.new) result }
-        ensures memory { RefusalRaised (refusals self.old) (refusals self.new) result };
+        ensures cause { faults self.new ≡ faults_after (faults self.old) result }
+        ensures memory { refusals self.new ≡ refusals_after (refusals self.old) result };
 }

@@ -1,6 +1,7 @@
 //! Reading the front of a named file.
-ghost use Rattle.std.specs.Prelude.{◌≡◌, ◌<◌, ◌≤◌, length, vec_len, IfOk};
-ghost use Rattle.port_edge.specs.Ports.{FailedRaised};
+ghost use Rattle.std.specs.Prelude.{◌≡◌, ◌-◌, ◌<◌, ◌≤◌, [], ◌∷◌, length, vec_len, IfOk};
+ghost use Rattle.port_edge.specs.Ports.{faults_after};
+ghost use Rattle.port_edge.specs.Taken.{with_more, with_files, TakesAtMost, TakesFiles};
 ghost use Rattle.port_edge.specs.Reading.{ReadsFront, StartsOnce, TakesPiece, TakesFront};
 
 use crate::ports::{Files, PortFault};
@@ -13,8 +14,9 @@ const PIECE: usize = 65_536;
 ///
 /// On `Ok` the bytes are the front of what the name holds, of at most `most` bytes, and all after them is
 /// left, where that is told. What the names hold stays. The name was started once; where memory was lacking,
-/// once or not at all. `NoMemory` may come at any point, and how much of the file is left after a fault is
-/// open: the next start begins anew.
+/// once or not at all. Of the file at most `most` bytes are taken, and none but the answered ones where there
+/// is an answer. `NoMemory` may come at any point, and how much of the file is left after a fault is open: the
+/// next start begins anew. After a call that failed none follows: the count of faults rose by one.
 pub fn read_front<F: Files>(
     alloc: Global,
     files: &mut F,
@@ -26,7 +28,10 @@ pub fn read_front<F: Files>(
     ensures bound { IfOk result (λ bytes. vec_len bytes ≤ most) }
     ensures holds { F.holds files.new ≡ F.holds files.old }
     ensures started { StartsOnce (F.started files.old) (F.started files.new) name.now result }
-    ensures cause { FailedRaised (F.faults files.old) (F.faults files.new) result }
+    ensures taken { IfOk result (λ bytes.
+        F.taken files.new ≡ with_files (F.taken files.old) (vec_len bytes ∷ [])) }
+    ensures most { TakesFiles (F.taken files.old) (F.taken files.new) most }
+    ensures cause { F.faults files.new ≡ faults_after (F.faults files.old) result }
 {
     let mut buffer = zeros(alloc, PIECE)?;
     files.start(name)?;
@@ -52,7 +57,10 @@ fn read_rest<F: Files>(
         TakesFront (F.rest files.old) (F.rest files.new) most bytes.items) }
     ensures holds { F.holds files.new ≡ F.holds files.old }
     ensures started { F.started files.new ≡ F.started files.old }
-    ensures cause { FailedRaised (F.faults files.old) (F.faults files.new) result }
+    ensures taken { IfOk result (λ bytes.
+        F.taken files.new ≡ with_more (F.taken files.old) (vec_len bytes)) }
+    ensures most { TakesAtMost (F.taken files.old) (F.taken files.new) most }
+    ensures cause { F.faults files.new ≡ faults_after (F.faults files.old) result }
 {
     let mut bytes = Vec::new(alloc);
     let mut more = true;
@@ -76,7 +84,11 @@ fn read_piece<F: Files>(
     ensures bound { IfOk result (λ _. vec_len bytes.new ≤ most) }
     ensures holds { F.holds files.new ≡ F.holds files.old }
     ensures started { F.started files.new ≡ F.started files.old }
-    ensures cause { FailedRaised (F.faults files.old) (F.faults files.new) result }
+    ensures longer { IfOk result (λ _. vec_len bytes.old ≤ vec_len bytes.new) }
+    ensures taken { IfOk result (λ _.
+        F.taken files.new ≡ with_more (F.taken files.old) (vec_len bytes.new - vec_len bytes.old)) }
+    ensures most { TakesAtMost (F.taken files.old) (F.taken files.new) (most - vec_len bytes.old) }
+    ensures cause { F.faults files.new ≡ faults_after (F.faults files.old) result }
 {
     let room = buffer.len().min(most - bytes.len());
     let piece = &mut buffer[..room];

@@ -1,9 +1,11 @@
 use crate::{
-    Files, HonestFiles, HonestSink, MemFiles, MemSink, PortFault, RealFiles, RealSink, Sink,
-    read_front, send,
+    Files, HonestFiles, HonestSink, MemFiles, MemSink, PortFault, Sink, read_front, real_files,
+    real_sink, send,
 };
 use std::alloc::{AllocError, Global};
+use std::io::ErrorKind;
 use std::test::Fail;
+use table_keys::TableKeys;
 
 // Two entries of one name, of which the first counts, and an empty one.
 fn small_table(alloc: Global) -> Result<Vec<(String, Vec<u8>)>, AllocError> {
@@ -108,16 +110,23 @@ fn writes_fail_by_their_number(rt: HostRuntime) -> Result<(), Fail> {
 
 #[test]
 fn real_ports_answer(rt: HostRuntime) -> Result<(), Fail> {
-    let mut files = RealFiles::new(&rt);
+    let mut files = real_files(&rt, TableKeys::fixed());
     assert_eq!(rt; files.read(&mut [0; 4]), Ok(0));
+    assert!(rt; files.reason().is_none());
     assert_eq!(rt; files.start("no file of this name"), Err(PortFault::Failed));
+    assert!(rt;
+        files
+            .reason()
+            .is_some_and(|reason| reason.kind() == ErrorKind::NotFound)
+    );
     let zeros = read_front(rt.alloc(), &mut files, "/dev/zero", 100_000)?;
     assert_eq!(rt; zeros.len(), 100_000);
     let nothing = read_front(rt.alloc(), &mut files, "/dev/null", 100_000)?;
     assert_eq!(rt; nothing.len(), 0);
 
-    let mut out = RealSink::new(&rt);
+    let mut out = real_sink(&rt);
     assert_eq!(rt; out.write(b""), Ok(0));
     assert_eq!(rt; send(&mut out, b"sent\n"), Ok(()));
+    assert!(rt; out.reason().is_none());
     Ok(())
 }

@@ -1,5 +1,6 @@
 use Rattle.std.proofs.Common.{◌+◌, ◌-◌, ◌≡◌, ◌≤◌, false, cond, vec_len}
 use Rattle.std.specs.Io.KnownBytes.{prepend_known, IsAtEnd}
+use Rattle.port_edge.specs.Taken.{with_more}
 use Rattle.port_edge.proofs.reading.read_rest.Given as goal
 
 abbrev pub invariant-loop-more : goal.invariant-loop-more
@@ -9,7 +10,8 @@ invariant-loop-more g l = record {
   at_end : l.more ≡ false → IsAtEnd (g.F.Files.rest l.files);
   holds : g.F.Files.holds l.files ≡ g.F.Files.holds l.initial.files;
   started : g.F.Files.started l.files ≡ g.F.Files.started l.initial.files;
-  faults : g.F.Files.faults l.initial.files ≤ g.F.Files.faults l.files;
+  counted : g.F.Files.taken l.files ≡ with_more (g.F.Files.taken l.initial.files) (vec_len l.bytes);
+  faults : g.F.Files.faults l.files ≡ g.F.Files.faults l.initial.files;
 }
 
 abbrev pub decreases-loop-more : goal.decreases-loop-more

@@ -1,4 +1,4 @@
-use Rattle.std.proofs.Common.{ℕ, ◌∙◌, arith, length-take, length-drop}
+use Rattle.std.proofs.Common.{◌∙◌, arith}
 use Rattle.port_edge.proofs.SendingLemmas.{front_more, part_front}
 use Rattle.port_edge.proofs.ResultLemmas.{at_err}
 use Rattle.port_edge.proofs.sending.send.Goals as goal
@@ -9,9 +9,9 @@ returns-in_err-at-clause-part g c = at_err c.from_residual.result
 
 pub loop-at-preserved : goal.loop-at-preserved
 loop-at-preserved g c = record {
-  within = omega (arith, c.in_ok-at.ensures.bound, length-take {A = ℕ}, length-drop {A = ℕ});
+  within = omega (arith, c.in_ok-at.ensures.bound);
   grew = front_more _ _ _ c.args.text.now c.loop-at.at c.in_ok-at.field-0 c.loop-at.invariant.grew c.in_ok-at.ensures.bytes;
-  faults = omega (arith, c.loop-at.invariant.faults, c.write.ensures.cause.later);
-  refusals = omega (arith, c.loop-at.invariant.refusals, c.write.ensures.memory.later);
+  faults = c.in_ok-at.ensures.cause ∙ c.loop-at.invariant.faults;
+  refusals = c.in_ok-at.ensures.memory ∙ c.loop-at.invariant.refusals;
   untouched = grind arith;
 }

@@ -6,8 +6,8 @@ abbrev pub invariant-loop-at : goal.invariant-loop-at
 invariant-loop-at g l = record {
   within : l.at ≤ length l.text;
   grew : g.S.Sink.written l.out ≡ append_known (g.S.Sink.written l.initial.out) (take l.at l.text);
-  faults : g.S.Sink.faults l.initial.out ≤ g.S.Sink.faults l.out;
-  refusals : g.S.Sink.refusals l.initial.out ≤ g.S.Sink.refusals l.out;
+  faults : g.S.Sink.faults l.out ≡ g.S.Sink.faults l.initial.out;
+  refusals : g.S.Sink.refusals l.out ≡ g.S.Sink.refusals l.initial.out;
   untouched : l.at ≡ 0 → l.out ≡ l.initial.out;
 }
 
