@@ -8,7 +8,8 @@ unfolding number_after
 number_after-zero seed = refl
 
 -- a draw gives the next number
-pub number_after-more : (seed drawn number : ℕ) → number ≡ number_after seed drawn → next_number number ≡ number_after seed (drawn + 1)
+pub number_after-more : (seed drawn number : ℕ) → number ≡ number_after seed drawn →
+    next_number number ≡ number_after seed (drawn + 1)
 unfolding number_after
 number_after-more seed drawn number reached = rw add-one (ap next_number reached)
 

@@ -1,10 +1,10 @@
 -- Seeds that are equal modulo 2 ^ 31 give the same texts.
 use Rattle.std.proofs.Common.{◌≡◌, ℕ, ◌+◌, ◌%◌, ◌^◌, List, refl}
 use Rattle.net_gen.specs.Lines.{each, turns}
-use Rattle.net_gen.specs.Inverters.{inverters_turn, inverters_script}
-use Rattle.net_gen.specs.Passes.{control, passes_turn, passes_script}
-use Rattle.net_gen.specs.Columns.{columns_turn, columns_script}
-use Rattle.net_gen.specs.Families.{generated}
+use Rattle.net_gen.specs.Inverters.{inverters_turn}
+use Rattle.net_gen.specs.Passes.{control, passes_turn}
+use Rattle.net_gen.specs.Columns.{columns_turn}
+use Rattle.net_gen.specs.Families.{turn_count, draws_in_turn, turn, generated}
 use Rattle.net_gen.specs.declared.families.GenKind.{GenKind}
 use Rattle.net_gen.specs.declared.families.GenKind.TheVariants.{Inverters, Passes, Columns}
 use Rattle.net_gen.specs.declared.families.GenPart.{GenPart}
@@ -37,21 +37,16 @@ columns_turn-mod : (seed drawn : ℕ) → columns_turn (seed % 2 ^ 31) drawn ≡
 unfolding columns_turn
 columns_turn-mod seed drawn = simp draw-mod
 
-inverters_script-mod : (seed n : ℕ) → inverters_script (seed % 2 ^ 31) n ≡ inverters_script seed n
-unfolding inverters_script
-inverters_script-mod seed n = rw (turns-equal 4 1 (inverters_turn (seed % 2 ^ 31)) (inverters_turn seed) (inverters_turn-mod seed)) refl
-
-passes_script-mod : (seed n : ℕ) → passes_script (seed % 2 ^ 31) n ≡ passes_script seed n
-unfolding passes_script
-passes_script-mod seed n = rw (turns-equal 16 10 (passes_turn (seed % 2 ^ 31)) (passes_turn seed) (passes_turn-mod seed)) refl
-
-columns_script-mod : (seed n : ℕ) → columns_script (seed % 2 ^ 31) n ≡ columns_script seed n
-unfolding columns_script
-columns_script-mod seed n = rw (turns-equal 16 3 (columns_turn (seed % 2 ^ 31)) (columns_turn seed) (columns_turn-mod seed)) refl
+-- a turn of any family
+turn-mod : (kind : GenKind) (seed drawn : ℕ) → turn kind (seed % 2 ^ 31) drawn ≡ turn kind seed drawn
+turn-mod Inverters seed drawn = inverters_turn-mod seed drawn
+turn-mod Passes seed drawn = passes_turn-mod seed drawn
+turn-mod Columns seed drawn = columns_turn-mod seed drawn
 
 -- a seed counts modulo 2 ^ 31: the remainder gives the same text
-pub generated-mod : (kind : GenKind) (part : GenPart) (seed n : ℕ) → generated kind part (seed % 2 ^ 31) n ≡ generated kind part seed n
+pub generated-mod : (kind : GenKind) (part : GenPart) (seed n : ℕ) →
+    generated kind part (seed % 2 ^ 31) n ≡ generated kind part seed n
 generated-mod kind Net seed n = refl
-generated-mod Inverters Script seed n = inverters_script-mod seed n
-generated-mod Passes Script seed n = passes_script-mod seed n
-generated-mod Columns Script seed n = columns_script-mod seed n
+generated-mod kind Script seed n =
+    rw (turns-equal (turn_count kind) (draws_in_turn kind) (turn kind (seed % 2 ^ 31)) (turn kind seed)
+    (turn-mod kind seed)) refl

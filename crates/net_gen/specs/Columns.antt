@@ -1,7 +1,7 @@
 -- The texts of the family `columns`: columns of four storage cells between two bit lines.
 use Rattle.std.specs.Prelude.{ℕ, ◌+◌, ◌-◌, ◌%◌, ◌==◌, List, ◌++◌, codes, decimal, if◌then◌else◌}
 use Rattle.net_gen.specs.Draws.{draw}
-use Rattle.net_gen.specs.Lines.{each, turns}
+use Rattle.net_gen.specs.Lines.{each}
 
 -- the lines of the bit lines b and m of column c: their sizes, and the transistors that drive them
 unfoldable pub bit_lines : ℕ → List ℕ
@@ -54,12 +54,7 @@ columns_turn seed drawn =
     column_settings
     (draw seed (drawn + 1) % 4) (draw seed (drawn + 2) % 2) (draw seed (drawn + 3) % 2)
 
--- the netlist below its header
-unfoldable pub columns_net : ℕ → List ℕ
-columns_net n = each 1 n column
-
--- the script: inputs, watched nodes, and sixteen turns of three draws each
-unfoldable pub columns_script : ℕ → ℕ → List ℕ
-columns_script seed n =
+-- the start of the script: inputs and watched nodes
+unfoldable pub columns_start : ℕ → List ℕ
+columns_start n =
     codes "input we d k w0 w1 w2 w3\nwatch b1 m1 b" ++ decimal n ++ codes " m" ++ decimal n ++ codes "\n"
-    ++ turns 16 3 (columns_turn seed)

@@ -1,7 +1,6 @@
 -- The texts of the family `inverters`: a chain of inverters from w0 on.
 use Rattle.std.specs.Prelude.{ℕ, ◌+◌, ◌-◌, ◌%◌, List, ◌++◌, codes, decimal}
 use Rattle.net_gen.specs.Draws.{draw}
-use Rattle.net_gen.specs.Lines.{each, turns}
 
 -- the lines of the i-th inverter, counted from 1
 unfoldable pub inverter : ℕ → List ℕ
@@ -14,12 +13,6 @@ unfoldable pub inverters_turn : ℕ → ℕ → List ℕ
 inverters_turn seed drawn =
     codes "set w0=" ++ decimal (draw seed (drawn + 1) % 2) ++ codes "\nphase\n"
 
--- the netlist below its header
-unfoldable pub inverters_net : ℕ → List ℕ
-inverters_net n = each 1 n inverter
-
--- the script: inputs, watched nodes, the limit of steps, and four turns of one draw each
-unfoldable pub inverters_script : ℕ → ℕ → List ℕ
-inverters_script seed n =
-    codes "input w0\nwatch w0 w" ++ decimal n ++ codes "\nlimit 1000000\n"
-    ++ turns 4 1 (inverters_turn seed)
+-- the start of the script: inputs, watched nodes, and the limit of steps
+unfoldable pub inverters_start : ℕ → List ℕ
+inverters_start n = codes "input w0\nwatch w0 w" ++ decimal n ++ codes "\nlimit 1000000\n"

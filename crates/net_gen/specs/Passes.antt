@@ -1,7 +1,7 @@
 -- The texts of the family `passes`: rows of nine pass transistors in series.
 use Rattle.std.specs.Prelude.{ℕ, ◌+◌, ◌-◌, ◌%◌, ◌==◌, List, ◌++◌, codes, decimal, if◌then◌else◌}
 use Rattle.net_gen.specs.Draws.{draw}
-use Rattle.net_gen.specs.Lines.{each, turns}
+use Rattle.net_gen.specs.Lines.{each}
 
 -- the j-th transistor of row r below its first, both counted from 1
 unfoldable pub pass : ℕ → ℕ → List ℕ
@@ -30,12 +30,6 @@ passes_turn seed drawn =
     ++ each 1 8 (control seed (drawn + 2))
     ++ codes "\nphase\n"
 
--- the netlist below its header
-unfoldable pub passes_net : ℕ → List ℕ
-passes_net n = each 1 n pass_row
-
--- the script: inputs, watched nodes, and sixteen turns of ten draws each
-unfoldable pub passes_script : ℕ → ℕ → List ℕ
-passes_script seed n =
-    codes "input d en c1 c2 c3 c4 c5 c6 c7 c8\nwatch r1_8 r" ++ decimal n ++ codes "_8\n"
-    ++ turns 16 10 (passes_turn seed)
+-- the start of the script: inputs and watched nodes
+unfoldable pub passes_start : ℕ → List ℕ
+passes_start n = codes "input d en c1 c2 c3 c4 c5 c6 c7 c8\nwatch r1_8 r" ++ decimal n ++ codes "_8\n"

@@ -1,41 +1,17 @@
-ghost use Rattle.std.specs.Prelude.{◌≡◌, ℕ, ◌+◌, ◌++◌, ◌^◌, ◌<◌, ◌≤◌, OnOk};
-ghost use Rattle.net_gen.specs.Columns.{
-  bit_lines,
-  weak,
-  access,
-  cell,
-  column,
-  chosen,
-  column_settings,
-  columns_turn,
-  columns_net,
-  columns_script,
-};
+ghost use Rattle.std.specs.Prelude.{◌≡◌, ℕ, ◌+◌, ◌++◌, ◌^◌, ◌<◌, OnOk};
+ghost use Rattle.net_gen.specs.Columns.{bit_lines, weak, access, cell, column, chosen, column_settings, columns_start, columns_turn};
 
 use crate::draws::Draws;
 use crate::lines::Piece::{Number, Word};
 use crate::lines::put;
 use ternary::NoMemory;
 
-/// How many cells a column has, each on a word line of its own.
+// How many cells a column has, each on a word line of its own.
 const CELLS: u64 = 4;
 
-/// How many turns the script has.
-const TURNS: u64 = 16;
-
-/// Appends n columns: column c has the bit lines b{c} and m{c}, and cells 0 to 3, where cell j
-/// keeps its value at q{c}_{j} and the opposite at z{c}_{j}.
-pub fn put_net(text: &mut Vec<u8>, n: u64) -> Result<(), NoMemory>
-    requires { n < 2 ^ 32 }
-    ensures { OnOk result (text.new.items ≡ text.old.items ++ columns_net n) }
-{
-    for c in 1..n + 1 {
-        put_column(text, c)?;
-    }
-    Ok(())
-}
-
-fn put_column(text: &mut Vec<u8>, c: u64) -> Result<(), NoMemory>
+/// Appends column c: the bit lines b{c} and m{c}, and cells 0 to 3, where cell j keeps its value at
+/// q{c}_{j} and the opposite at z{c}_{j}.
+pub fn put_column(text: &mut Vec<u8>, c: u64) -> Result<(), NoMemory>
     ensures { OnOk result (text.new.items ≡ text.old.items ++ column c) }
 {
     put_bit_lines(text, c)?;
@@ -45,6 +21,7 @@ fn put_column(text: &mut Vec<u8>, c: u64) -> Result<(), NoMemory>
     Ok(())
 }
 
+// Appends the bit lines of a column, their sizes, and the transistors that drive them.
 fn put_bit_lines(text: &mut Vec<u8>, c: u64) -> Result<(), NoMemory>
     ensures { OnOk result (text.new.items ≡ text.old.items ++ bit_lines c) }
 {
@@ -60,6 +37,7 @@ fn put_bit_lines(text: &mut Vec<u8>, c: u64) -> Result<(), NoMemory>
     )
 }
 
+// Appends a cell of a column: two inverters, and a transistor to each bit line.
 fn put_cell(text: &mut Vec<u8>, c: u64, j: u64) -> Result<(), NoMemory>
     ensures { OnOk result (text.new.items ≡ text.old.items ++ cell c j) }
 {
@@ -71,7 +49,7 @@ fn put_cell(text: &mut Vec<u8>, c: u64, j: u64) -> Result<(), NoMemory>
     put_access(text, " m", " z", c, j)
 }
 
-/// Appends a weak transistor of a cell: its kind and gate, then its rail and drain.
+// Appends a weak transistor of a cell: its kind and gate, then its rail and drain.
 fn put_weak(
     text: &mut Vec<u8>,
     gate: &'static str,
@@ -97,7 +75,7 @@ fn put_weak(
     )
 }
 
-/// Appends the transistor by which a word line joins a bit line to a node of a cell.
+// Appends the transistor by which a word line joins a bit line to a node of a cell.
 fn put_access(
     text: &mut Vec<u8>,
     bit_line: &'static str,
@@ -114,30 +92,17 @@ fn put_access(
     )
 }
 
-/// Appends the script, in which a random word line is chosen sixteen times, and its cells are
-/// written or read.
-pub fn put_script(text: &mut Vec<u8>, seed: u64, n: u64) -> Result<(), NoMemory>
-    ensures { OnOk result (text.new.items ≡ text.old.items ++ columns_script seed n) }
+/// Appends the start of the script.
+pub fn put_start(text: &mut Vec<u8>, n: u64) -> Result<(), NoMemory>
+    ensures { OnOk result (text.new.items ≡ text.old.items ++ columns_start n) }
 {
     put(text, &[Word("input we d k w0 w1 w2 w3\n")])?;
-    put(
-        text,
-        &[
-            Word("watch b1 m1 b"),
-            Number(n),
-            Word(" m"),
-            Number(n),
-            Word("\n"),
-        ],
-    )?;
-    let mut draws = Draws::new(seed);
-    for _turn in 0..TURNS {
-        put_turn(text, &mut draws)?;
-    }
-    Ok(())
+    put(text, &[Word("watch b1 m1 b"), Number(n)])?;
+    put(text, &[Word(" m"), Number(n), Word("\n")])
 }
 
-fn put_turn(text: &mut Vec<u8>, draws: &mut Draws) -> Result<(), NoMemory>
+/// Appends a turn of the script: a random word line is chosen, and its cells are written or read.
+pub fn put_turn(text: &mut Vec<u8>, draws: &mut Draws) -> Result<(), NoMemory>
     requires { draws.old.drawn < 2 ^ 16 }
     ensures text { OnOk result
         (text.new.items ≡ text.old.items ++ columns_turn draws.old.seed draws.old.drawn) }
@@ -150,7 +115,7 @@ fn put_turn(text: &mut Vec<u8>, draws: &mut Draws) -> Result<(), NoMemory>
     put_settings(text, word_line, write_enable, value)
 }
 
-/// Appends the settings of a turn: word line j is chosen, and then let go.
+// Appends the settings of a turn: word line j is chosen, and then let go.
 fn put_settings(text: &mut Vec<u8>, j: u64, write_enable: u64, value: u64) -> Result<(), NoMemory>
     requires { value < 2 }
     ensures { OnOk result
@@ -190,7 +155,7 @@ fn put_settings(text: &mut Vec<u8>, j: u64, write_enable: u64, value: u64) -> Re
     )
 }
 
-/// The value of word line i where line j is chosen.
+// The value of word line i where line j is chosen.
 #[tactic(auto, unfolding(crate::specs::Columns::chosen))]
 fn chosen(j: u64, i: u64) -> u64
     ensures { result ≡ chosen j i }

@@ -7,7 +7,7 @@ const INCREMENT: u64 = 12345;
 
 const MODULUS: u64 = 1 << 31;
 
-/// A draw is the generator's number without its lowest sixteen bits.
+// A draw is the generator's number without its lowest sixteen bits.
 const DROPPED: u64 = 1 << 16;
 
 /// The numbers that are drawn from a seed, one after another.
@@ -20,7 +20,7 @@ pub struct Draws {
     pub seed: u64,
     /// How many were drawn.
     pub drawn: u64,
-    /// The generator's number after them.
+    // The generator's number after them.
     number: u64,
     ghost reached: { number ≡ number_after seed drawn },
     ghost reduced: { number < 2 ^ 31 },

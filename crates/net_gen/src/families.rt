@@ -1,6 +1,7 @@
-ghost use Rattle.std.specs.Prelude.{◌≡◌, ℕ, ◌≤◌, ◌++◌, IfOk, OnOk};
-ghost use Rattle.net_gen.specs.Families.{header, netlist, script, generated};
+ghost use Rattle.std.specs.Prelude.{◌≡◌, ℕ, ◌+◌, ◌≤◌, ◌<◌, ◌^◌, ◌++◌, IfOk, OnOk};
+ghost use Rattle.net_gen.specs.Families.{header, row, script_start, turn_count, turn, draws_in_turn, netlist, script, generated};
 
+use crate::draws::Draws;
 use crate::lines::Piece::Word;
 use crate::lines::put;
 use crate::{columns, inverters, passes};
@@ -68,6 +69,7 @@ pub fn generate(
     Ok(text)
 }
 
+// Appends a whole netlist.
 fn put_netlist(text: &mut Vec<u8>, kind: GenKind, n: u64) -> Result<(), NoMemory>
     requires { n ≤ MOST_ROWS }
     ensures { OnOk result (text.new.items ≡ text.old.items ++ (header ++ netlist kind n)) }
@@ -76,24 +78,74 @@ fn put_netlist(text: &mut Vec<u8>, kind: GenKind, n: u64) -> Result<(), NoMemory
     put_rows(text, kind, n)
 }
 
+// Appends the rows of a netlist.
 fn put_rows(text: &mut Vec<u8>, kind: GenKind, n: u64) -> Result<(), NoMemory>
     requires { n ≤ MOST_ROWS }
     ensures { OnOk result (text.new.items ≡ text.old.items ++ netlist kind n) }
 {
+    for r in 1..n + 1 {
+        put_row(text, kind, r)?;
+    }
+    Ok(())
+}
+
+// Appends row r of a netlist, counted from 1.
+fn put_row(text: &mut Vec<u8>, kind: GenKind, r: u64) -> Result<(), NoMemory>
+    requires { 1 ≤ r }
+    ensures { OnOk result (text.new.items ≡ text.old.items ++ row kind r) }
+{
     match kind {
-        GenKind::Inverters => inverters::put_net(text, n),
-        GenKind::Passes => passes::put_net(text, n),
-        GenKind::Columns => columns::put_net(text, n),
+        GenKind::Inverters => inverters::put_inverter(text, r),
+        GenKind::Passes => passes::put_row(text, r),
+        GenKind::Columns => columns::put_column(text, r),
     }
 }
 
+// Appends a whole script.
 fn put_script(text: &mut Vec<u8>, kind: GenKind, seed: u64, n: u64) -> Result<(), NoMemory>
     ensures { OnOk result (text.new.items ≡ text.old.items ++ script kind seed n) }
 {
+    put_start(text, kind, n)?;
+    let mut draws = Draws::new(seed);
+    for _turn in 0..turn_count(kind) {
+        put_turn(text, kind, &mut draws)?;
+    }
+    Ok(())
+}
+
+// Appends what stands in a script before its turns.
+fn put_start(text: &mut Vec<u8>, kind: GenKind, n: u64) -> Result<(), NoMemory>
+    ensures { OnOk result (text.new.items ≡ text.old.items ++ script_start kind n) }
+{
     match kind {
-        GenKind::Inverters => inverters::put_script(text, seed, n),
-        GenKind::Passes => passes::put_script(text, seed, n),
-        GenKind::Columns => columns::put_script(text, seed, n),
+        GenKind::Inverters => inverters::put_start(text, n),
+        GenKind::Passes => passes::put_start(text, n),
+        GenKind::Columns => columns::put_start(text, n),
+    }
+}
+
+// How many turns a script has.
+fn turn_count(kind: GenKind) -> u64
+    ensures { result ≡ turn_count kind }
+{
+    match kind {
+        GenKind::Inverters => 4,
+        GenKind::Passes | GenKind::Columns => 16,
+    }
+}
+
+// Appends a turn of a script, and takes its draws.
+fn put_turn(text: &mut Vec<u8>, kind: GenKind, draws: &mut Draws) -> Result<(), NoMemory>
+    requires { draws.old.drawn < 2 ^ 16 }
+    ensures text { OnOk result
+        (text.new.items ≡ text.old.items ++ turn kind draws.old.seed draws.old.drawn) }
+    ensures seed { draws.new.seed ≡ draws.old.seed }
+    ensures drawn { OnOk result (draws.new.drawn ≡ draws.old.drawn + draws_in_turn kind) }
+{
+    match kind {
+        GenKind::Inverters => inverters::put_turn(text, draws),
+        GenKind::Passes => passes::put_turn(text, draws),
+        GenKind::Columns => columns::put_turn(text, draws),
     }
 }
 
@@ -102,7 +154,7 @@ mod tests {
     use super::*;
     use std::test::Fail;
 
-    /// How the texts with one row begin, from seed 1; those of the inverters are whole.
+    // How the texts with one row begin, from seed 1; those of the inverters are whole.
     const BEGINNINGS: [(GenKind, GenPart, &str); 6] = [
         (
             GenKind::Inverters,

@@ -1,31 +1,13 @@
 ghost use Rattle.std.specs.Prelude.{◌≡◌, ℕ, ◌+◌, ◌++◌, ◌^◌, ◌<◌, ◌≤◌, OnOk};
-ghost use Rattle.net_gen.specs.Inverters.{
-  inverter,
-  inverters_turn,
-  inverters_net,
-  inverters_script,
-};
+ghost use Rattle.net_gen.specs.Inverters.{inverter, inverters_start, inverters_turn};
 
 use crate::draws::Draws;
 use crate::lines::Piece::{Number, Word};
 use crate::lines::put;
 use ternary::NoMemory;
 
-/// How many turns the script has.
-const TURNS: u64 = 4;
-
-/// Appends the chain of n inverters: inverter i has its input at w{i-1} and its output at w{i}.
-pub fn put_net(text: &mut Vec<u8>, n: u64) -> Result<(), NoMemory>
-    requires { n < 2 ^ 32 }
-    ensures { OnOk result (text.new.items ≡ text.old.items ++ inverters_net n) }
-{
-    for i in 1..n + 1 {
-        put_inverter(text, i)?;
-    }
-    Ok(())
-}
-
-fn put_inverter(text: &mut Vec<u8>, i: u64) -> Result<(), NoMemory>
+/// Appends inverter i, counted from 1, with its input at w{i-1} and its output at w{i}.
+pub fn put_inverter(text: &mut Vec<u8>, i: u64) -> Result<(), NoMemory>
     requires { 1 ≤ i }
     ensures { OnOk result (text.new.items ≡ text.old.items ++ inverter i) }
 {
@@ -51,9 +33,9 @@ fn put_inverter(text: &mut Vec<u8>, i: u64) -> Result<(), NoMemory>
     )
 }
 
-/// Appends the script, in which w0 gets four random values.
-pub fn put_script(text: &mut Vec<u8>, seed: u64, n: u64) -> Result<(), NoMemory>
-    ensures { OnOk result (text.new.items ≡ text.old.items ++ inverters_script seed n) }
+/// Appends the start of the script.
+pub fn put_start(text: &mut Vec<u8>, n: u64) -> Result<(), NoMemory>
+    ensures { OnOk result (text.new.items ≡ text.old.items ++ inverters_start n) }
 {
     put(
         text,
@@ -62,15 +44,11 @@ pub fn put_script(text: &mut Vec<u8>, seed: u64, n: u64) -> Result<(), NoMemory>
             Number(n),
             Word("\nlimit 1000000\n"),
         ],
-    )?;
-    let mut draws = Draws::new(seed);
-    for _turn in 0..TURNS {
-        put_turn(text, &mut draws)?;
-    }
-    Ok(())
+    )
 }
 
-fn put_turn(text: &mut Vec<u8>, draws: &mut Draws) -> Result<(), NoMemory>
+/// Appends a turn of the script: w0 gets a random value.
+pub fn put_turn(text: &mut Vec<u8>, draws: &mut Draws) -> Result<(), NoMemory>
     requires { draws.old.drawn < 2 ^ 32 }
     ensures text { OnOk result
         (text.new.items ≡ text.old.items ++ inverters_turn draws.old.seed draws.old.drawn) }

@@ -22,6 +22,7 @@ pub fn put(text: &mut Vec<u8>, pieces: &[Piece]) -> Result<(), NoMemory>
     Ok(())
 }
 
+// Appends one piece.
 fn put_piece(text: &mut Vec<u8>, piece: Piece) -> Result<(), NoMemory>
     ensures { OnOk result (text.new.items ≡ text.old.items ++ text_of piece) }
 {

@@ -1,39 +1,18 @@
 ghost use Rattle.std.specs.Prelude.{◌≡◌, ℕ, ◌+◌, ◌++◌, ◌^◌, ◌<◌, ◌≤◌, OnOk};
 ghost use Rattle.net_gen.specs.Lines.{each};
-ghost use Rattle.net_gen.specs.Passes.{
-  pass,
-  pass_row,
-  letter_of,
-  control,
-  passes_turn,
-  passes_net,
-  passes_script,
-};
+ghost use Rattle.net_gen.specs.Passes.{pass, pass_row, letter_of, control, passes_start, passes_turn};
 
 use crate::draws::Draws;
 use crate::lines::Piece::{Number, Word};
 use crate::lines::put;
 use ternary::NoMemory;
 
-/// How many transistors stand in a row below its first, each with a control wire of its own.
+// How many transistors stand in a row below its first, each with a control wire of its own.
 const CONTROLS: u64 = 8;
 
-/// How many turns the script has.
-const TURNS: u64 = 16;
-
-/// Appends n rows: row r goes from d through r{r}_0 to r{r}_8, by transistors that en and then c1
-/// to c8 control.
-pub fn put_net(text: &mut Vec<u8>, n: u64) -> Result<(), NoMemory>
-    requires { n < 2 ^ 32 }
-    ensures { OnOk result (text.new.items ≡ text.old.items ++ passes_net n) }
-{
-    for r in 1..n + 1 {
-        put_row(text, r)?;
-    }
-    Ok(())
-}
-
-fn put_row(text: &mut Vec<u8>, r: u64) -> Result<(), NoMemory>
+/// Appends row r, which goes from d through r{r}_0 to r{r}_8, by transistors that en and then c1 to
+/// c8 control.
+pub fn put_row(text: &mut Vec<u8>, r: u64) -> Result<(), NoMemory>
     ensures { OnOk result (text.new.items ≡ text.old.items ++ pass_row r) }
 {
     put(text, &[Word("n en d r"), Number(r), Word("_0\n")])?;
@@ -43,6 +22,7 @@ fn put_row(text: &mut Vec<u8>, r: u64) -> Result<(), NoMemory>
     Ok(())
 }
 
+// Appends the j-th transistor of row r below its first.
 fn put_pass(text: &mut Vec<u8>, r: u64, j: u64) -> Result<(), NoMemory>
     requires { 1 ≤ j }
     ensures { OnOk result (text.new.items ≡ text.old.items ++ pass r j) }
@@ -64,20 +44,16 @@ fn put_pass(text: &mut Vec<u8>, r: u64, j: u64) -> Result<(), NoMemory>
     )
 }
 
-/// Appends the script, in which d, en and c1 to c8 get sixteen random states.
-pub fn put_script(text: &mut Vec<u8>, seed: u64, n: u64) -> Result<(), NoMemory>
-    ensures { OnOk result (text.new.items ≡ text.old.items ++ passes_script seed n) }
+/// Appends the start of the script.
+pub fn put_start(text: &mut Vec<u8>, n: u64) -> Result<(), NoMemory>
+    ensures { OnOk result (text.new.items ≡ text.old.items ++ passes_start n) }
 {
     put(text, &[Word("input d en c1 c2 c3 c4 c5 c6 c7 c8\n")])?;
-    put(text, &[Word("watch r1_8 r"), Number(n), Word("_8\n")])?;
-    let mut draws = Draws::new(seed);
-    for _turn in 0..TURNS {
-        put_turn(text, &mut draws)?;
-    }
-    Ok(())
+    put(text, &[Word("watch r1_8 r"), Number(n), Word("_8\n")])
 }
 
-fn put_turn(text: &mut Vec<u8>, draws: &mut Draws) -> Result<(), NoMemory>
+/// Appends a turn of the script: d, en and c1 to c8 get random states.
+pub fn put_turn(text: &mut Vec<u8>, draws: &mut Draws) -> Result<(), NoMemory>
     requires { draws.old.drawn < 2 ^ 16 }
     ensures text { OnOk result
         (text.new.items ≡ text.old.items ++ passes_turn draws.old.seed draws.old.drawn) }
@@ -94,6 +70,7 @@ fn put_turn(text: &mut Vec<u8>, draws: &mut Draws) -> Result<(), NoMemory>
     put(text, &[Word("\nphase\n")])
 }
 
+// Appends the settings of the control wires c1 to c8.
 fn put_controls(text: &mut Vec<u8>, draws: &mut Draws) -> Result<(), NoMemory>
     requires { draws.old.drawn < 2 ^ 31 }
     ensures text { OnOk result
@@ -108,7 +85,7 @@ fn put_controls(text: &mut Vec<u8>, draws: &mut Draws) -> Result<(), NoMemory>
     Ok(())
 }
 
-/// The letter of a state, which the draw gives modulo 3.
+// The letter of a state, which the draw gives modulo 3.
 #[tactic(auto, unfolding(crate::specs::Passes::letter_of))]
 fn letter(draw: u64) -> &'static str
     ensures { result.now ≡ letter_of draw }

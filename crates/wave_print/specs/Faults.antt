@@ -4,35 +4,7 @@ use Rattle.std.specs.Prelude.{ℕ, List, [], ◌++◌, codes, decimal}
 use Rattle.wave_print.specs.declared.faults.FaultPlace.{FaultPlace}
 use Rattle.wave_print.specs.declared.faults.FaultPlace.TheVariants.{Net, NetWhole, Script}
 use Rattle.wave_print.specs.declared.faults.FaultCode.{FaultCode}
-use Rattle.wave_print.specs.declared.faults.FaultCode.TheVariants.{
-  L1LineTooLong,
-  L2BadByte,
-  N1BadRecord,
-  N2FewWords,
-  N3Format,
-  N4TooLong,
-  G1GroupNodes,
-  G2GroupSwitches,
-  E1UnknownNode,
-  E2NoSuchSwitch,
-  E3Rail,
-  E4BadStrength,
-  E5BadSize,
-  E6AliasTaken,
-  E7TooManyNodes,
-  E8TooManySwitches,
-  S1BadCommand,
-  S2FewWords,
-  S3ManyWords,
-  S4BadValue,
-  S5BadNumber,
-  S6NotInput,
-  S7NotStore,
-  S8ClockLength,
-  S9NoClock,
-  S10TooManyWatched,
-  S11TooLong,
-}
+use Rattle.wave_print.specs.declared.faults.FaultCode.TheVariants.{L1LineTooLong, L2BadByte, N1BadRecord, N2FewWords, N3Format, N4TooLong, G1GroupNodes, G2GroupSwitches, E1UnknownNode, E2NoSuchSwitch, E3Rail, E4BadStrength, E5BadSize, E6AliasTaken, E7TooManyNodes, E8TooManySwitches, S1BadCommand, S2FewWords, S3ManyWords, S4BadValue, S5BadNumber, S6NotInput, S7NotStore, S8ClockLength, S9NoClock, S10TooManyWatched, S11TooLong}
 
 -- words with the number of a line: `<words><line>: `
 abbrev pub numbered_of : List ℕ → ℕ → List ℕ

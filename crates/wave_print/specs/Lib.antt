@@ -1,3 +1,3 @@
 pub mod Faults
-pub mod LineBytes
+pub mod LineBuf
 pub mod Lines

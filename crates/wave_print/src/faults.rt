@@ -124,7 +124,7 @@ impl FaultCode {
 /// Appends the line of a fault, as `net line 3: E4 BadStrength` and LF.
 ///
 /// `name` and `count` say which group is too large and how large it is. They are printed for
-/// `G1GroupNodes` and `G2GroupSwitches` alone, as `script line 5: G1 GroupNodes s1 201` and LF.
+/// `G1GroupNodes` and `G2GroupSwitches` alone, as `net: G1 GroupNodes s1 201` and LF.
 pub fn fault_line(out: &mut LineBuf, place: FaultPlace, code: FaultCode, name: &[u8], count: u64)
     requires room { FAULT_LINE_ROOM + length name.now ≤ out.old.spare }
     ensures bytes { out.new.bytes ≡ out.old.bytes ++ fault_line_of place code name.now count }
@@ -137,6 +137,7 @@ pub fn fault_line(out: &mut LineBuf, place: FaultPlace, code: FaultCode, name: &
     out.append(b"\n");
 }
 
+// Appends the place of a fault.
 fn append_place(out: &mut LineBuf, place: FaultPlace)
     requires room { PLACE_ROOM ≤ out.old.spare }
     ensures bytes { out.new.bytes ≡ out.old.bytes ++ place_of place }
@@ -150,6 +151,7 @@ fn append_place(out: &mut LineBuf, place: FaultPlace)
     }
 }
 
+// Appends words and the number of a line.
 fn append_line_number(out: &mut LineBuf, words: &[u8], line: u64)
     requires room { length words.now + NUMBER_ROOM + 2 ≤ out.old.spare }
     ensures bytes { out.new.bytes ≡ out.old.bytes ++ numbered_of words.now line }
@@ -161,6 +163,7 @@ fn append_line_number(out: &mut LineBuf, words: &[u8], line: u64)
     out.append(b": ");
 }
 
+// Appends which group is too large and how large it is, after a code that says so.
 fn append_detail(out: &mut LineBuf, code: FaultCode, name: &[u8], count: u64)
     requires room { length name.now + NUMBER_ROOM + 2 ≤ out.old.spare }
     ensures bytes { out.new.bytes ≡ out.old.bytes ++ detail_of code name.now count }
@@ -173,6 +176,7 @@ fn append_detail(out: &mut LineBuf, code: FaultCode, name: &[u8], count: u64)
     }
 }
 
+// Appends the name and the size of a group.
 fn append_group(out: &mut LineBuf, name: &[u8], count: u64)
     requires room { length name.now + NUMBER_ROOM + 2 ≤ out.old.spare }
     ensures bytes { out.new.bytes ≡ out.old.bytes ++ group_of name.now count }

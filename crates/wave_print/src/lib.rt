@@ -8,8 +8,8 @@
 //! ```text
 //! wave_line(&mut out, 7, 2, true, &[Tern::One, Tern::Unk])
 //!     appends `7 2* 1X` and LF
-//! fault_line(&mut out, FaultPlace::Script(5), FaultCode::G1GroupNodes, b"s1", 201)
-//!     appends `script line 5: G1 GroupNodes s1 201` and LF
+//! fault_line(&mut out, FaultPlace::NetWhole, FaultCode::G1GroupNodes, b"s1", 201)
+//!     appends `net: G1 GroupNodes s1 201` and LF
 //! ```
 #![tactic(auto)]
 

@@ -14,9 +14,9 @@ pub struct LineBuf {
 
 impl Model for LineBuf {
     ghost use Rattle.std.specs.Prelude.{◌-◌, ◌≤◌, vec_len, vec_capacity};
-    ghost use Rattle.wave_print.specs.LineBytes.{LineBytes};
+    ghost use Rattle.wave_print.specs.LineBuf.{LineBufData};
 
-    ghost Value = { LineBytes };
+    ghost Value = { LineBufData };
 
     ghost view = { λ a. record { bytes = a.bytes.items; spare = vec_capacity a.bytes - vec_len a.bytes } };
 

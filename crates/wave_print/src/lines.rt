@@ -141,6 +141,7 @@ pub fn line_end(out: &mut LineBuf)
     out.append(b"\n");
 }
 
+// Appends the number of a group's text, or `-`.
 fn append_text_number(out: &mut LineBuf, text: Option<u64>)
     requires room { NUMBER_ROOM ≤ out.old.spare }
     ensures bytes { out.new.bytes ≡ out.old.bytes ++ text_number_of text }
@@ -164,6 +165,7 @@ pub(crate) fn append_number(out: &mut LineBuf, n: u64)
     out.append(buffer.format(n).as_bytes());
 }
 
+// Appends the mark of a phase, or nothing.
 fn append_mark(out: &mut LineBuf, mark: bool)
     requires room { 1 ≤ out.old.spare }
     ensures bytes { out.new.bytes ≡ out.old.bytes ++ mark_of mark }
@@ -175,6 +177,7 @@ fn append_mark(out: &mut LineBuf, mark: bool)
     }
 }
 
+// Appends one letter for each state, or `-`.
 fn append_values(out: &mut LineBuf, values: &[Tern])
     requires room { 1 + length values.now ≤ out.old.spare }
     ensures bytes { out.new.bytes ≡ out.old.bytes ++ values_of values.now }
@@ -188,6 +191,7 @@ fn append_values(out: &mut LineBuf, values: &[Tern])
     }
 }
 
+// Appends one letter for each state.
 fn append_letters(out: &mut LineBuf, values: &[Tern])
     requires room { length values.now ≤ out.old.spare }
     ensures bytes { out.new.bytes ≡ out.old.bytes ++ map letter values.now }

@@ -5,4 +5,5 @@ use Rattle.net_gen.proofs.columns.put_bit_lines.Goals as goal
 
 pub returns : goal.returns
 unfolding bit_lines
-returns c = IfOk-equal _ _ _ _ c.put-4.ensures (rw (c.in_ok-put-3.ensures, c.in_ok-put-2.ensures, c.in_ok-put.ensures) (simp append_assoc))
+returns c = IfOk-equal _ _ _ _ c.put-4.ensures (rw (c.in_ok-put-3.ensures, c.in_ok-put-2.ensures, c.in_ok-put.ensures)
+    (simp append_assoc))

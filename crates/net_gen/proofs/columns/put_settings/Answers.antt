@@ -5,4 +5,13 @@ use Rattle.net_gen.proofs.columns.put_settings.Goals as goal
 
 pub returns : goal.returns
 unfolding column_settings
-returns c = IfOk-equal _ _ _ _ c.put-5.ensures (rw (c.in_ok-put-4.ensures, c.in_ok-put-3.ensures, c.in_ok-put-2.ensures, c.in_ok-put.ensures, c.chosen.ensures, c.chosen-2.ensures, c.chosen-3.ensures, c.chosen-4.ensures) (simp append_assoc))
+returns c = IfOk-equal _ _ _ _ c.put-5.ensures (rw (
+  c.in_ok-put-4.ensures,
+  c.in_ok-put-3.ensures,
+  c.in_ok-put-2.ensures,
+  c.in_ok-put.ensures,
+  c.chosen.ensures,
+  c.chosen-2.ensures,
+  c.chosen-3.ensures,
+  c.chosen-4.ensures,
+) (simp append_assoc))

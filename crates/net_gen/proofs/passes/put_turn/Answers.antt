@@ -13,7 +13,9 @@ returns-clause-text c =
     let after : c.next-2.new.self.drawn ≡ drawn + 2 = omega (arith, c.next.ensures.drawn, c.next-2.ensures.drawn) in
     let same : c.next-2.new.self.seed ≡ seed = c.next-2.ensures.seed ∙ c.next.ensures.seed in
     let given : c.next-2.result ≡ draw seed (drawn + 2) = rw (count, c.next.ensures.seed) at c.next-2.ensures.value in
-    let first : c.letter-data.result.now ≡ letter_of (draw seed (drawn + 1)) = c.letter-data.ensures ∙ ap letter_of c.next.ensures.value in
-    let second : c.letter-enable.result.now ≡ letter_of (draw seed (drawn + 2)) = c.letter-enable.ensures ∙ ap letter_of given in
+    let first : c.letter-data.result.now ≡ letter_of (draw seed (drawn + 1)) =
+    c.letter-data.ensures ∙ ap letter_of c.next.ensures.value in
+    let second : c.letter-enable.result.now ≡ letter_of (draw seed (drawn + 2)) =
+    c.letter-enable.ensures ∙ ap letter_of given in
     IfOk-equal _ _ _ _ c.put-2.ensures
     (rw (c.in_ok-put_controls.ensures.text, c.in_ok-put.ensures, first, second, after, same) (simp append_assoc))

@@ -2,6 +2,6 @@
 use Rattle.std.specs.Prelude.{ℕ, List}
 
 -- the bytes that are there, and how many more can be added without memory
-pub record LineBytes : Type 0 where
+pub record LineBufData : Type 0 where
   pub bytes : List ℕ
   pub spare : ℕ
