@@ -7,7 +7,7 @@ use Rattle.std.proofs.lemmas.Bool.{cases_eq, and_left, and_right, and_from, eq-e
 use Rattle.std.proofs.lemmas.List.{append-nil, map-id, same_lists, length-set, get_or-set_same, get_or-set_other}
 use Rattle.std.proofs.lemmas.List.FromFn.{length-map-range_with_len, get_or-map-range_with_len, map-range_with_len_more, filter_of_map_range_with_len_more}
 use Rattle.path_meaning.specs.declared.switching.Switch.{Switch}
-use Rattle.path_meaning.specs.Wiring.{Wiring, place_at}
+use Rattle.path_meaning.specs.Graphs.{GraphData, place_at}
 use Rattle.group_meaning.specs.Groups.{Group}
 use Rattle.channel_groups.specs.Numbers.{number_at, AreNumbers}
 use Rattle.channel_groups.specs.Collecting.{is_number, number_of, members_of, switches_of, group_of, groups_of}
@@ -62,7 +62,7 @@ is_number-other number j k is other = rw is (ne_eqb j k (λ same. other (sym sam
 is_number-own : (number : Option ℕ) (k : ℕ) → number ≡ Some k → is_number number k ≡ true
 is_number-own number k is = rw is (eq-eqb k k refl)
 
-module _ (g : Wiring) (numbers : List (Option ℕ)) (least : List ℕ) where
+module _ (g : GraphData) (numbers : List (Option ℕ)) (least : List ℕ) where
   -- what a new node has to be
   abbrev is_member : ℕ → ℕ → Bool
   is_member k node = is_number (number_at numbers node) k && nat_lt (slice_index least k) node

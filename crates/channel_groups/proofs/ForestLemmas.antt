@@ -3,7 +3,7 @@ use Rattle.std.proofs.Common.{◌≡◌, ◌≢◌, ℕ, zero, suc, ◌<◌, ◌
 use Rattle.std.specs.Prelude.{slice_index}
 use Rattle.std.proofs.lemmas.Bool.{cases_eq}
 use Rattle.std.proofs.lemmas.List.{get_or-set_same, get_or-set_other, length-set}
-use Rattle.path_meaning.specs.Wiring.{Wiring}
+use Rattle.path_meaning.specs.Graphs.{GraphData}
 use Rattle.group_meaning.specs.Groups.{AreLinked}
 use Rattle.group_meaning.proofs.LinkLemmas.{AreLinked-sym, AreLinked-trans}
 use Rattle.channel_groups.specs.Forest.{Climbs, Share, AreFalling, IsOneWith, AreLinkedUp, KeepsShares, KeepsTops}
@@ -95,13 +95,13 @@ module _ (old : List ℕ) (at : ℕ) (inside : at < length old) where
       ]
 
 -- being one with another goes on
-pub IsOneWith-trans : (g : Wiring) (a b c : ℕ) → IsOneWith g a b → IsOneWith g b c → IsOneWith g a c
+pub IsOneWith-trans : (g : GraphData) (a b c : ℕ) → IsOneWith g a b → IsOneWith g b c → IsOneWith g a c
 IsOneWith-trans g a b c (inl same) two = rw same two
 IsOneWith-trans g a b c (inr linked) (inl same) = inr (rw (← same) linked)
 IsOneWith-trans g a b c (inr linked) (inr on) = inr (AreLinked-trans g a b c linked on)
 
 -- what is hung from its parent's parent is linked with it where each is linked with its parent
-pub hung_linked : (g : Wiring) (old : List ℕ) (at : ℕ) (inside : at < length old) → AreFalling old →
+pub hung_linked : (g : GraphData) (old : List ℕ) (at : ℕ) (inside : at < length old) → AreFalling old →
     AreLinkedUp g old → AreLinkedUp g (hung old at inside)
 hung_linked g old at inside falling linked node within =
     let here : node < length old = omega (arith, length-set old at (slice_index old (slice_index old at))) in
@@ -174,7 +174,7 @@ module _ (old : List ℕ) (high low : ℕ) (inside : high < length old) (high_to
       ]
 
   -- where the two tops are linked, each node is linked with its parent
-  pub put_linked : (g : Wiring) → AreLinkedUp g old → IsOneWith g high low → AreLinkedUp g put
+  pub put_linked : (g : GraphData) → AreLinkedUp g old → IsOneWith g high low → AreLinkedUp g put
   put_linked g linked one node within =
       elim (cases_eq node high) [
         | inl same ↦ rw (same, put_high) one
@@ -182,12 +182,12 @@ module _ (old : List ℕ) (high low : ℕ) (inside : high < length old) (high_to
       ]
 
 -- being one with another goes both ways
-pub IsOneWith-sym : (g : Wiring) (a b : ℕ) → IsOneWith g a b → IsOneWith g b a
+pub IsOneWith-sym : (g : GraphData) (a b : ℕ) → IsOneWith g a b → IsOneWith g b a
 IsOneWith-sym g a b (inl same) = inl (sym same)
 IsOneWith-sym g a b (inr linked) = inr (AreLinked-sym g a b linked)
 
 -- the tops of two linked nodes are linked
-pub tops_linked : (g : Wiring) (a b one two : ℕ) → AreLinked g a b → IsOneWith g a one → IsOneWith g b two → IsOneWith g one two
+pub tops_linked : (g : GraphData) (a b one two : ℕ) → AreLinked g a b → IsOneWith g a one → IsOneWith g b two → IsOneWith g one two
 tops_linked g a b one two linked up_a up_b =
     IsOneWith-trans g one a two (IsOneWith-sym g a one up_a) (IsOneWith-trans g a b two (inr linked) up_b)
 

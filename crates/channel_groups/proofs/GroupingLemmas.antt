@@ -12,7 +12,7 @@ use Rattle.std.proofs.lemmas.List.FromFn.{length-range_with_len, get_or-range_wi
 use Rattle.std.proofs.lemmas.List.Kept.{IsStrictlyIncreasing-filter}
 use Rattle.std.proofs.lemmas.Simd.{map-map}
 use Rattle.path_meaning.specs.declared.switching.Switch.{Switch}
-use Rattle.path_meaning.specs.Wiring.{Wiring, nodes, place_at}
+use Rattle.path_meaning.specs.Graphs.{GraphData, nodes, place_at}
 use Rattle.path_meaning.proofs.PathLemmas.{place_inside}
 use Rattle.group_meaning.specs.Groups.{Group, AreJoined, LinksOver, TouchesAny, IsGroup, AreGroups, id_of}
 use Rattle.group_meaning.proofs.LinkLemmas.{LinksOver-from}
@@ -78,7 +78,7 @@ ascending_front x xs above ascending (suc k) below =
     let next : suc k + 1 ≡ suc (k + 1) = omega arith in
     rw next (ascending k (omega arith))
 
-module _ (g : Wiring) (numbers : List (Option ℕ)) (least : List ℕ) (known : AreNumbers g numbers least) where
+module _ (g : GraphData) (numbers : List (Option ℕ)) (least : List ℕ) (known : AreNumbers g numbers least) where
   -- linked nodes have one number
   number_links : (places : List ℕ) (a b : ℕ) → LinksOver g places a b → number_at numbers a ≡ number_at numbers b
   number_links [] a b links = ap (number_at numbers) links.1

@@ -4,7 +4,7 @@ use Rattle.std.specs.Prelude.{find, nat_le, is_some}
 use Rattle.std.proofs.lemmas.Bool.{cases_Bool, cases_lt, eqb-true, eq-eqb, ne_eqb, le-leb, lt-leb}
 use Rattle.std.proofs.lemmas.List.{length-map, get_or-map}
 use Rattle.std.proofs.lemmas.List.Kept.{AllPairs-from_increasing}
-use Rattle.path_meaning.specs.Wiring.{Wiring}
+use Rattle.path_meaning.specs.Graphs.{GraphData}
 use Rattle.group_meaning.specs.Groups.{Group, IsGroup, AreGroups, id_of}
 use Rattle.channel_groups.specs.Numbers.{number_at}
 use Rattle.channel_groups.specs.Grouping.{has_member, group_with, IsId, IsHeld}
@@ -136,7 +136,7 @@ module _ (numbers : List (Option ℕ)) (groups : List Group) (held : IsHeld numb
   id_inside k d inside = number_inside numbers (id_of (get_or groups k d)) k (id_number k d inside)
 
 -- the group with an id is a group of the graph
-pub IsGroup-with_id : (g : Wiring) (groups : List Group) (id : ℕ) (group : Group) → AreGroups g groups →
+pub IsGroup-with_id : (g : GraphData) (groups : List Group) (id : ℕ) (group : Group) → AreGroups g groups →
     group_with groups id ≡ Some group → IsGroup g group
 IsGroup-with_id g groups id group are found =
     let place = found_place (λ group. id_of group == id) groups group found in

@@ -4,9 +4,9 @@ use Rattle.std.specs.Prelude.{slice_index}
 use Rattle.std.specs.List.Sorted.{IsStrictlyIncreasing}
 use Rattle.std.proofs.lemmas.Bool.{cases_lt, cases_eq}
 use Rattle.std.proofs.lemmas.List.{get_or_append_left, get_or_push, get_or_past, length_push}
-use Rattle.path_meaning.specs.Wiring.{Wiring}
+use Rattle.path_meaning.specs.Graphs.{GraphData, IsStorage}
 use Rattle.path_meaning.proofs.PathLemmas.{place_inside}
-use Rattle.group_meaning.specs.Groups.{IsStorage, AreLinked}
+use Rattle.group_meaning.specs.Groups.{AreLinked}
 use Rattle.group_meaning.proofs.LinkLemmas.{AreLinked-self, AreLinked-sym, AreLinked-trans, AreLinked-to}
 use Rattle.channel_groups.specs.Forest.{Climbs, IsForest}
 use Rattle.channel_groups.specs.Forest.Climbs.{stands, climbs}
@@ -44,7 +44,7 @@ module _ (numbers : List (Option ℕ)) (value : Option ℕ) where
             ]
       ]
 
-module _ (g : Wiring) (parents : List ℕ) (forest : IsForest g parents) (count : ℕ) (inside : count < length parents)
+module _ (g : GraphData) (parents : List ℕ) (forest : IsForest g parents) (count : ℕ) (inside : count < length parents)
     (numbers : List (Option ℕ)) (least : List ℕ) (so_far : AreNumberedBelow g parents count numbers least) where
   -- what is asked of the next number and of the least nodes with it
   step : (value : Option ℕ) (more : List ℕ) →
@@ -174,7 +174,7 @@ module _ (g : Wiring) (parents : List ℕ) (forest : IsForest g parents) (count 
       ])
 
 -- with all nodes numbered
-module _ (g : Wiring) (parents : List ℕ) (forest : IsForest g parents) (numbers : List (Option ℕ)) (least : List ℕ)
+module _ (g : GraphData) (parents : List ℕ) (forest : IsForest g parents) (numbers : List (Option ℕ)) (least : List ℕ)
     (all : AreNumberedBelow g parents (length parents) numbers least) where
   -- a parent of a storage node is one
   parent_storage : (node : ℕ) → IsStorage g node → IsStorage g (slice_index parents node)

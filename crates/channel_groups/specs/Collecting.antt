@@ -3,7 +3,7 @@ use Rattle.std.specs.Prelude.{ℕ, ◌==◌, nat_lt, Bool, false, ◌&&◌, List
 use Rattle.std.specs.Option.{option_or}
 use Rattle.std.specs.List.{range_with_len}
 use Rattle.path_meaning.specs.declared.switching.Switch.{Switch}
-use Rattle.path_meaning.specs.Wiring.{Wiring, place_at}
+use Rattle.path_meaning.specs.Graphs.{GraphData, place_at}
 use Rattle.group_meaning.specs.Groups.{Group}
 use Rattle.channel_groups.specs.Numbers.{number_at}
 
@@ -24,16 +24,16 @@ members_of numbers least count k =
     ∷ filter (λ node. is_number (number_at numbers node) k && nat_lt (slice_index least k) node) (range_with_len 0 count)
 
 -- the group's switches among so many places
-abbrev pub switches_of : Wiring → List (Option ℕ) → ℕ → ℕ → List ℕ
+abbrev pub switches_of : GraphData → List (Option ℕ) → ℕ → ℕ → List ℕ
 switches_of g numbers count k = filter (λ place. is_number (number_of numbers (place_at g.places place)) k) (range_with_len 0 count)
 
 -- the group with this number, with so many nodes and places passed
-abbrev pub group_of : Wiring → List (Option ℕ) → List ℕ → ℕ → ℕ → ℕ → Group
+abbrev pub group_of : GraphData → List (Option ℕ) → List ℕ → ℕ → ℕ → ℕ → Group
 group_of g numbers least node_count place_count k = record {
   members = members_of numbers least node_count k;
   switches = switches_of g numbers place_count k;
 }
 
 -- all groups, in the order of their numbers
-abbrev pub groups_of : Wiring → List (Option ℕ) → List ℕ → ℕ → ℕ → List Group
+abbrev pub groups_of : GraphData → List (Option ℕ) → List ℕ → ℕ → ℕ → List Group
 groups_of g numbers least node_count place_count = map (group_of g numbers least node_count place_count) (range_with_len 0 (length least))

@@ -6,7 +6,7 @@ use Rattle.group_meaning.specs.Groups.{Group, id_of}
 use Rattle.channel_groups.specs.Numbers.{number_at}
 
 -- the groups of a graph with so many nodes
-pub record Grouping : Type 0 where
+pub record GroupsData : Type 0 where
   pub nodes : ℕ
   pub groups : List Group
 

@@ -1,7 +1,7 @@
 //! The groups collected by their numbers.
 
 ghost use Rattle.std.specs.Prelude.{◌≡◌, ◌+◌, ◌<◌, length, IfOk, OnOk};
-ghost use Rattle.path_meaning.specs.Wiring.{nodes, place_at};
+ghost use Rattle.path_meaning.specs.Graphs.{nodes, place_at};
 ghost use Rattle.channel_groups.specs.Numbers.{AreNumbers};
 ghost use Rattle.channel_groups.specs.Collecting.{groups_of, number_of};
 

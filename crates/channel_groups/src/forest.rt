@@ -1,8 +1,8 @@
 //! A forest of linked nodes: each tree is a class, with its least node on top.
 
 ghost use Rattle.std.specs.Prelude.{◌≡◌, ℕ, ◌<◌, ◌↔◌, length, slice_index, IfOk, IsTrue};
-ghost use Rattle.path_meaning.specs.Wiring.{Wiring, nodes};
-ghost use Rattle.group_meaning.specs.Groups.{IsStorage, AreLinked};
+ghost use Rattle.path_meaning.specs.Graphs.{GraphData, nodes, IsStorage};
+ghost use Rattle.group_meaning.specs.Groups.{AreLinked};
 ghost use Rattle.channel_groups.specs.Forest.{AreFalling, AreLinkedUp, AreOwn, Climbs, IsForest, IsOneWith, KeepsShares, KeepsTops, Share, ShareEnds};
 
 use path_meaning::Graph;
@@ -76,7 +76,7 @@ fn join(parents: &mut [usize], a: usize, b: usize)
     ensures falling { AreFalling parents.new }
     ensures joined { Share parents.new a b }
     ensures keeps { KeepsShares parents.old parents.new }
-    ensures linked { (g : Wiring) → AreLinkedUp g parents.old → AreLinked g a b → AreLinkedUp g parents.new }
+    ensures linked { (g : GraphData) → AreLinkedUp g parents.old → AreLinked g a b → AreLinkedUp g parents.new }
 {
     let one = top_of(parents, a);
     let two = top_of(parents, b);
@@ -98,8 +98,8 @@ fn top_of(parents: &mut [usize], node: usize) -> usize
     ensures falling { AreFalling parents.new }
     ensures keeps { KeepsTops parents.old parents.new }
     ensures tops { (top : ℕ) → slice_index parents.old top ≡ top → slice_index parents.new top ≡ top }
-    ensures linked { (g : Wiring) → AreLinkedUp g parents.old → AreLinkedUp g parents.new }
-    ensures one { (g : Wiring) → AreLinkedUp g parents.old → IsOneWith g node result }
+    ensures linked { (g : GraphData) → AreLinkedUp g parents.old → AreLinkedUp g parents.new }
+    ensures one { (g : GraphData) → AreLinkedUp g parents.old → IsOneWith g node result }
 {
     let mut at = node;
     while parents[at] != at {

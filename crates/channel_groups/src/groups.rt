@@ -1,7 +1,7 @@
 //! The groups of a graph, and how they are looked up.
 
 ghost use Rattle.std.specs.Prelude.{◌≡◌, ◌<◌, Some, find, length, nat_le, option_map, IfOk, IfSome};
-ghost use Rattle.path_meaning.specs.Wiring.{nodes};
+ghost use Rattle.path_meaning.specs.Graphs.{nodes};
 ghost use Rattle.group_meaning.specs.Groups.{AreGroups, id_of};
 ghost use Rattle.channel_groups.specs.Grouping.{has_member, group_with, IsId};
 
@@ -25,9 +25,9 @@ pub struct Groups {
 
 impl Model for Groups {
     ghost use Rattle.std.specs.Prelude.{length};
-    ghost use Rattle.channel_groups.specs.Grouping.{Grouping, IsHeld};
+    ghost use Rattle.channel_groups.specs.Grouping.{GroupsData, IsHeld};
 
-    ghost Value = { Grouping };
+    ghost Value = { GroupsData };
 
     ghost view = { λ held. record { nodes = length held.numbers.items; groups = held.groups.items } };
 

@@ -1,7 +1,7 @@
 //! The groups numbered in the order of their least nodes.
 
 ghost use Rattle.std.specs.Prelude.{◌≡◌, ◌+◌, ◌<◌, length, IfOk, OnOk};
-ghost use Rattle.path_meaning.specs.Wiring.{nodes};
+ghost use Rattle.path_meaning.specs.Graphs.{nodes};
 ghost use Rattle.channel_groups.specs.Forest.{IsForest};
 ghost use Rattle.channel_groups.specs.Numbers.{AreNumbers, AreNumberedBelow};
 

@@ -1,20 +1,22 @@
 -- Every graph has groups.
--- Labels tell which storage nodes are linked, and each label is the least node that its node is linked with. So the nodes that are their
--- own labels are the ids of the groups, in order, and the nodes with one label are the members of one group.
+-- Labels tell which storage nodes are linked, and each label is the least node that its node is linked with. So
+-- the nodes that are their own labels are the ids of the groups, in order, and the nodes with one label are the
+-- members of one group.
 use Rattle.std.proofs.Common.{◌≡◌, ℕ, ◌↔◌, ◌⊎◌, inl, inr, Bool, true, false, ◌&&◌, ◌||◌, eqb, List, length, get_or, map, Contains, Option, Some, None, refl, sym, subst, ◌∙◌, arith}
 use Rattle.std.specs.List.Sorted.{IsStrictlyIncreasing}
 use Rattle.std.proofs.lemmas.Bool.{and_parts, and_from, or_cases, or_left, or_right, eqb-true, eq-eqb}
 use Rattle.std.proofs.lemmas.List.Elements.{All-map, Contains-get_or}
 use Rattle.path_meaning.specs.declared.switching.Switch.{Switch}
-use Rattle.path_meaning.specs.Wiring.{Wiring, nodes, place_at}
-use Rattle.group_meaning.specs.Groups.{IsStorage, AreLinked, TouchesAny, Group, id_of, IsGroup, AreGroups}
+use Rattle.path_meaning.specs.Graphs.{GraphData, nodes, place_at, IsStorage}
+use Rattle.group_meaning.specs.Groups.{AreLinked, TouchesAny, Group, id_of, IsGroup, AreGroups}
 use Rattle.group_meaning.specs.Laws.{GroupsExist}
 use Rattle.group_meaning.proofs.LinkLemmas.{AreLinked-to}
 use Rattle.group_meaning.proofs.AscendingLists.{first_is_least, picked, contains-picked, picked-passes, picked-ascends}
 use Rattle.group_meaning.proofs.MappedLists.{contains-map, map-back}
-use Rattle.group_meaning.proofs.Labels.{is_storage, IsStorage-from_test, test-from_IsStorage, AreLabels, IsSound-from_rooted, one_label-iff_linked, root_is_own, labels_exist, place_inside}
+use Rattle.path_meaning.proofs.PathLemmas.{place_inside}
+use Rattle.group_meaning.proofs.Labels.{is_storage, IsStorage-from_test, test-from_IsStorage, AreLabels, IsSound-from_rooted, one_label-iff_linked, root_is_own, labels_exist}
 
-module _ (g : Wiring) (all : AreLabels g) where
+module _ (g : GraphData) (all : AreLabels g) where
   abbrev labels : ℕ → ℕ
   labels = all.labels
 
@@ -49,7 +51,8 @@ module _ (g : Wiring) (all : AreLabels g) where
   -- a storage node with a label passes the label's test
   has_label-from : (label node : ℕ) → IsStorage g node → labels node ≡ label → has_label label node ≡ true
   has_label-from label node storage same =
-      and_from (is_storage g node) (eqb (labels node) label) (test-from_IsStorage g node storage) (eq-eqb (labels node) label same)
+      and_from (is_storage g node) (eqb (labels node) label) (test-from_IsStorage g node storage)
+      (eq-eqb (labels node) label same)
 
   -- and what passes it is one
   label-from_test : (label node : ℕ) → has_label label node ≡ true → IsStorage g node × (labels node ≡ label)
@@ -101,8 +104,10 @@ module _ (g : Wiring) (all : AreLabels g) where
   are_switches : (label place : ℕ) → Contains (group_at label).switches place ↔ TouchesAny g (group_at label).members place
   are_switches label place =
       let count = length g.places in (
-        λ within. touching-from_test label place (place_at g.places place) refl (picked-passes (touches_at label) count place within),
-        λ touching. contains-picked (touches_at label) count place (place_inside g place touching.switch touching.at_place) (touches-from label place touching),
+        λ within. touching-from_test label place (place_at g.places place) refl
+            (picked-passes (touches_at label) count place within),
+        λ touching. contains-picked (touches_at label) count place
+            (place_inside g.places place touching.switch touching.at_place) (touches-from label place touching),
       )
 
   module _ (label : ℕ) (storage : IsStorage g label) (own : labels label ≡ label) where
@@ -115,14 +120,16 @@ module _ (g : Wiring) (all : AreLabels g) where
     id_is_label =
         let members = (group_at label).members in
         let low = first_is_least members label (picked-ascends (has_label label) (nodes g)) id_is_member in
-        let first = label-from_member label (id_of (group_at label)) (Contains-get_or members 0 0 (omega (arith, id_is_member.1))) in
+        let first = label-from_member label (id_of (group_at label))
+        (Contains-get_or members 0 0 (omega (arith, id_is_member.1))) in
         omega (arith, low, first.1, (all.rooted (id_of (group_at label)) first.0).low)
 
     -- the members are the nodes that are linked with it
     are_class : (node : ℕ) → Contains (group_at label).members node ↔ AreLinked g label node
     are_class node =
         let sound = IsSound-from_rooted g labels all.rooted in
-        let one_label = λ (other : IsStorage g node). one_label-iff_linked g labels sound all.closed label node storage other in (
+        let one_label = λ (other : IsStorage g node). one_label-iff_linked g labels sound all.closed label node
+        storage other in (
           λ member.
               let found = label-from_member label node member in
               (one_label found.0).0 (own ∙ sym found.1),
@@ -135,7 +142,8 @@ module _ (g : Wiring) (all : AreLabels g) where
     is_group : IsGroup g (group_at label)
     is_group = record {
       some = omega (arith, id_is_member.1);
-      class = λ node. subst (λ id. Contains (group_at label).members node ↔ AreLinked g id node) (sym id_is_label) (are_class node);
+      class = λ node. subst (λ id. Contains (group_at label).members node ↔ AreLinked g id node) (sym id_is_label)
+          (are_class node);
       ascending = picked-ascends (has_label label) (nodes g);
       switches = are_switches label;
       switches_ascending = picked-ascends (touches_at label) (length g.places);

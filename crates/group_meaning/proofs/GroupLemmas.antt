@@ -1,17 +1,19 @@
--- A group and its switches: what is linked with a member is a member, and at the ends of the group's switches are members and input nodes.
+-- A group and its switches: what is linked with a member is a member, and at the ends of the group's switches
+-- are members and input nodes.
 use Rattle.std.proofs.Common.{◌≡◌, ℕ, ◌<◌, ◌⊎◌, inl, inr, Some, arith}
 use Rattle.std.specs.Prelude.{Contains}
 use Rattle.std.proofs.lemmas.Bool.{cases_lt}
 use Rattle.strength_order.specs.declared.TheConstants.{INPUT_LEVEL}
 use Rattle.path_meaning.specs.declared.switching.Switch.{Switch}
-use Rattle.path_meaning.specs.Wiring.{Wiring, IsWired, nodes, level_of, place_at}
+use Rattle.path_meaning.specs.Graphs.{GraphData, IsWired, nodes, level_of, place_at, IsStorage}
 use Rattle.path_meaning.specs.Path.{Joins}
 use Rattle.path_meaning.proofs.PathLemmas.{switch_fits, level_fits}
-use Rattle.group_meaning.specs.Groups.{IsStorage, AreJoined, AreLinked, Group, id_of, IsGroup}
+use Rattle.group_meaning.specs.Groups.{AreJoined, AreLinked, Group, id_of, IsGroup}
 use Rattle.group_meaning.proofs.LinkLemmas.{Joins-sym, AreLinked-to, AreLinked-trans, AreLinked-joined}
 
 -- a node of a graph is a storage node or an input node
-pub storage_or_input : (g : Wiring) → IsWired g → (node : ℕ) → node < nodes g → IsStorage g node ⊎ (level_of g node ≡ INPUT_LEVEL)
+pub storage_or_input : (g : GraphData) → IsWired g → (node : ℕ) → node < nodes g →
+    IsStorage g node ⊎ (level_of g node ≡ INPUT_LEVEL)
 storage_or_input g wired node in_range =
     let fits = level_fits g wired node in_range in
     elim (cases_lt (level_of g node) INPUT_LEVEL) [
@@ -20,13 +22,13 @@ storage_or_input g wired node in_range =
     ]
 
 -- at each end of a switch of a graph is a node of it
-pub end_in_range : (g : Wiring) → IsWired g → (place m n : ℕ) (switch : Switch) →
+pub end_in_range : (g : GraphData) → IsWired g → (place m n : ℕ) (switch : Switch) →
     place_at g.places place ≡ Some switch → Joins switch m n → m < nodes g
 end_in_range g wired place m n switch stands joins =
     let fits = switch_fits g wired place switch stands in
     elim joins [ inl ends ↦ rw (← ends.0) fits.a | inr ends ↦ rw (← ends.0) fits.b ]
 
-module _ (g : Wiring) (group : Group) (is_group : IsGroup g group) where
+module _ (g : GraphData) (group : Group) (is_group : IsGroup g group) where
   -- a member is a storage node
   pub member_storage : (node : ℕ) → Contains group.members node → IsStorage g node
   member_storage node member = AreLinked-to g (id_of group) node ((is_group.class node).0 member)
@@ -63,7 +65,8 @@ module _ (g : Wiring) (group : Group) (is_group : IsGroup g group) where
       ]
 
   -- at each end of a switch of the group is a member or an input node
-  pub member_or_input : IsWired g → (place m n : ℕ) (switch : Switch) → place_at g.places place ≡ Some switch → Joins switch m n →
+  pub member_or_input : IsWired g → (place m n : ℕ) (switch : Switch) → place_at g.places place ≡ Some switch →
+      Joins switch m n →
       Contains group.switches place → Contains group.members m ⊎ (level_of g m ≡ INPUT_LEVEL)
   member_or_input wired place m n switch stands joins inside =
       elim (touched_end place m n switch stands joins inside) [

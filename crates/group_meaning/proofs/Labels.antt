@@ -1,31 +1,31 @@
 -- Labels of nodes that tell which storage nodes are linked.
--- Every node begins with itself as its label. Place after place, where a switch joins two storage nodes, the lesser of their labels takes
--- the place of the greater one. So a node's label is always a storage node that it is linked with, and after the last place linked nodes
--- have one label, which is the least of them.
+-- Every node begins with itself as its label. Place after place, where a switch joins two storage nodes, the
+-- lesser of their labels takes the place of the greater one. So a node's label is always a storage node that it
+-- is linked with, and after the last place linked nodes have one label, which is the least of them.
 use Rattle.std.proofs.Common.{◌≡◌, ℕ, zero, suc, ◌<◌, ◌≤◌, ◌⊎◌, ◌↔◌, inl, inr, Bool, true, ◌&&◌, cond, eqb, ltb, List, [], ◌∷◌, length, Option, Some, None, refl, sym, ap, subst, ◌∙◌, arith}
 use Rattle.std.proofs.lemmas.Bool.{cases_lt, cases_Bool, ltb-true, lt-ltb, eqb-true, eq-eqb, and_parts, and_from, cond-true, cond-false}
-use Rattle.std.proofs.Math.ListN.{get_or-eq_default}
 use Rattle.strength_order.specs.declared.TheConstants.{INPUT_LEVEL}
 use Rattle.path_meaning.specs.declared.switching.Switch.{Switch}
-use Rattle.path_meaning.specs.Wiring.{Wiring, nodes, level_of, place_at}
+use Rattle.path_meaning.specs.Graphs.{GraphData, nodes, level_of, place_at, is_storage_level, IsStorage}
 use Rattle.path_meaning.specs.Path.{Joins}
-use Rattle.group_meaning.specs.Groups.{IsStorage, AreJoined, LinksOver, AreLinked}
+use Rattle.path_meaning.proofs.PathLemmas.{place_inside}
+use Rattle.group_meaning.specs.Groups.{AreJoined, LinksOver, AreLinked}
 use Rattle.group_meaning.proofs.LinkLemmas.{LinksOver-from, AreLinked-self, AreLinked-joined, AreLinked-trans, AreLinked-sym, AreLinked-from, AreLinked-to}
 
 -- the test for a storage node
-abbrev pub is_storage : Wiring → ℕ → Bool
-is_storage g node = ltb node (nodes g) && ltb (level_of g node) INPUT_LEVEL
+abbrev pub is_storage : GraphData → ℕ → Bool
+is_storage g node = ltb node (nodes g) && is_storage_level (level_of g node)
 
 -- what passes it is one
-pub IsStorage-from_test : (g : Wiring) (node : ℕ) → is_storage g node ≡ true → IsStorage g node
+pub IsStorage-from_test : (g : GraphData) (node : ℕ) → is_storage g node ≡ true → IsStorage g node
 IsStorage-from_test g node passes =
-    let both = and_parts (ltb node (nodes g)) (ltb (level_of g node) INPUT_LEVEL) passes in
+    let both = and_parts (ltb node (nodes g)) (is_storage_level (level_of g node)) passes in
     record { inside = ltb-true node (nodes g) both.0; below = ltb-true (level_of g node) INPUT_LEVEL both.1 }
 
 -- and each one passes it
-pub test-from_IsStorage : (g : Wiring) (node : ℕ) → IsStorage g node → is_storage g node ≡ true
+pub test-from_IsStorage : (g : GraphData) (node : ℕ) → IsStorage g node → is_storage g node ≡ true
 test-from_IsStorage g node storage =
-    and_from (ltb node (nodes g)) (ltb (level_of g node) INPUT_LEVEL)
+    and_from (ltb node (nodes g)) (is_storage_level (level_of g node))
     (lt-ltb node (nodes g) storage.inside) (lt-ltb (level_of g node) INPUT_LEVEL storage.below)
 
 -- a label takes another's place
@@ -37,15 +37,7 @@ empty_or_not : (place : Option Switch) → (place ≡ None) ⊎ ((switch : Switc
 empty_or_not None = inl refl
 empty_or_not (Some switch) = inr (switch, refl)
 
--- a place with a switch is one of the graph's places
-pub place_inside : (g : Wiring) (place : ℕ) (switch : Switch) → place_at g.places place ≡ Some switch → place < length g.places
-place_inside g place switch stands =
-    elim (cases_lt place (length g.places)) [
-      | inl inside ↦ inside
-      | inr outside ↦ let empty : place_at g.places place ≡ None = get_or-eq_default g.places None outside in absurd cc
-    ]
-
-module _ (g : Wiring) where
+module _ (g : GraphData) where
   -- storage nodes with one label are linked
   abbrev pub IsSound : (ℕ → ℕ) → Type 0
   IsSound labels = (m n : ℕ) → IsStorage g m → IsStorage g n → labels m ≡ labels n → AreLinked g m n
@@ -78,7 +70,8 @@ module _ (g : Wiring) where
       AreLinked-trans g m (labels n) n there (AreLinked-sym g n (labels n) (rooted n other).linked)
 
   -- nodes that switches lead between have one label
-  one_label-along : (labels : ℕ → ℕ) → IsClosed labels → (places : List ℕ) (m n : ℕ) → LinksOver g places m n → labels m ≡ labels n
+  one_label-along : (labels : ℕ → ℕ) → IsClosed labels → (places : List ℕ) (m n : ℕ) → LinksOver g places m n →
+      labels m ≡ labels n
   one_label-along labels closed [] m n links = ap labels links.1
   one_label-along labels closed (place ∷ places) m n links =
       let next = links.1.0 in
@@ -96,7 +89,8 @@ module _ (g : Wiring) where
       (sound m n storage other, one_label-from_linked labels closed m n)
 
   -- so a node that is a label is its own label
-  pub root_is_own : (labels : ℕ → ℕ) → AreRooted labels → IsClosed labels → (node : ℕ) → IsStorage g node → labels (labels node) ≡ labels node
+  pub root_is_own : (labels : ℕ → ℕ) → AreRooted labels → IsClosed labels → (node : ℕ) → IsStorage g node →
+      labels (labels node) ≡ labels node
   root_is_own labels rooted closed node storage =
       sym (one_label-from_linked labels closed node (labels node) (rooted node storage).linked)
 
@@ -106,7 +100,8 @@ module _ (g : Wiring) where
     relabelled-keeps m n same = ap (λ label. cond (eqb label from) to label) same
 
     -- a node's label is changed where it was the one, and otherwise as it was
-    pub relabelled-cases : (node : ℕ) → ((labels node ≡ from) × (relabelled labels from to node ≡ to)) ⊎ (relabelled labels from to node ≡ labels node)
+    pub relabelled-cases : (node : ℕ) → ((labels node ≡ from) × (relabelled labels from to node ≡ to)) ⊎
+        (relabelled labels from to node ≡ labels node)
     relabelled-cases node =
         elim (cases_Bool (eqb (labels node) from)) [
           | inl is_from ↦ inl (eqb-true (labels node) from is_from, cond-true (eqb (labels node) from) to (labels node) is_from)
@@ -114,9 +109,11 @@ module _ (g : Wiring) where
         ]
 
     -- nodes with the one label and the other have one label now
-    pub relabelled-joins : (m n : ℕ) → labels m ≡ from → labels n ≡ to → relabelled labels from to m ≡ relabelled labels from to n
+    pub relabelled-joins : (m n : ℕ) → labels m ≡ from → labels n ≡ to →
+        relabelled labels from to m ≡ relabelled labels from to n
     relabelled-joins m n one two =
-        let changed : relabelled labels from to m ≡ to = cond-true (eqb (labels m) from) to (labels m) (eq-eqb (labels m) from one) in
+        let changed : relabelled labels from to m ≡ to =
+        cond-true (eqb (labels m) from) to (labels m) (eq-eqb (labels m) from one) in
         elim (relabelled-cases n) [ inl same ↦ changed ∙ sym same.1 | inr same ↦ changed ∙ (sym two ∙ sym same) ]
 
     -- labels still name linked nodes where a linked and lesser one takes another's place
@@ -126,7 +123,11 @@ module _ (g : Wiring) where
         elim (relabelled-cases node) [
           | inl changed ↦
               let there : AreLinked g node from = rw changed.0 at before.linked in
-              let root : IsRootOf node to = record { linked = AreLinked-trans g node from to there linked; low = omega (arith, before.low, changed.0) } in
+              let root : IsRootOf node to = record {
+                linked = AreLinked-trans g node from to there linked;
+                low =
+                    omega (arith, before.low, changed.0);
+              } in
               subst (IsRootOf node) (sym changed.1) root
           | inr same ↦ subst (IsRootOf node) (sym same) before
         ]
@@ -146,7 +147,8 @@ module _ (g : Wiring) where
   }
 
   -- labels that keep nodes together and are closed at one place more are closed at more places
-  pub IsClosedBelow-more : (count : ℕ) (old new : ℕ → ℕ) → IsClosedBelow old count → ((m n : ℕ) → old m ≡ old n → new m ≡ new n) →
+  pub IsClosedBelow-more : (count : ℕ) (old new : ℕ → ℕ) → IsClosedBelow old count →
+      ((m n : ℕ) → old m ≡ old n → new m ≡ new n) →
       IsClosedAt new count → IsClosedBelow new (suc count)
   IsClosedBelow-more count old new closed keeps here place inside =
       elim (cases_lt place count) [
@@ -187,7 +189,8 @@ module _ (g : Wiring) where
   }
 
   -- what a place joins are the ends of its switch
-  ends_of : (place : ℕ) (switch : Switch) → place_at g.places place ≡ Some switch → (m n : ℕ) → AreJoined g place m n → Joins switch m n
+  ends_of : (place : ℕ) (switch : Switch) → place_at g.places place ≡ Some switch → (m n : ℕ) →
+      AreJoined g place m n → Joins switch m n
   ends_of place switch stands m n joined = let same : joined.switch ≡ switch = cc in rw same at joined.joins
 
   -- both ends of the switch are storage nodes, or it joins no two of them
@@ -212,7 +215,8 @@ module _ (g : Wiring) where
       ]
 
   -- one place more, with a switch between storage nodes
-  over_link : (count : ℕ) (switch : Switch) → place_at g.places count ≡ Some switch → IsStorage g switch.a → IsStorage g switch.b →
+  over_link : (count : ℕ) (switch : Switch) → place_at g.places count ≡ Some switch → IsStorage g switch.a →
+      IsStorage g switch.b →
       IsLabelledBelow count → IsLabelledBelow (suc count)
   over_link count switch stands from to before =
       let a = switch.a in
@@ -255,5 +259,5 @@ module _ (g : Wiring) where
   labels_exist =
       let all = labelled_below (length g.places) in
       let closed : IsClosed all.labels = λ place m n storage other joined.
-      all.closed place (place_inside g place joined.switch joined.at_place) m n storage other joined in
+      all.closed place (place_inside g.places place joined.switch joined.at_place) m n storage other joined in
       record { labels = all.labels; rooted = all.rooted; closed = closed }

@@ -1,9 +1,9 @@
 -- Linked storage nodes: a list of switches can be followed back, and another one after it.
 use Rattle.std.proofs.Common.{ℕ, inl, inr, List, [], ◌∷◌, ◌++◌, refl}
-use Rattle.path_meaning.specs.Wiring.{Wiring}
+use Rattle.path_meaning.specs.Graphs.{GraphData, IsStorage}
 use Rattle.path_meaning.specs.Path.{Joins}
 use Rattle.path_meaning.specs.declared.switching.Switch.{Switch}
-use Rattle.group_meaning.specs.Groups.{IsStorage, AreJoined, LinksOver, AreLinked}
+use Rattle.group_meaning.specs.Groups.{AreJoined, LinksOver, AreLinked}
 use Rattle.group_meaning.specs.Laws.{LinkedIsAnEquivalence}
 
 -- a switch joins its ends either way round
@@ -11,11 +11,11 @@ pub Joins-sym : (switch : Switch) (m n : ℕ) → Joins switch m n → Joins swi
 Joins-sym switch m n joins = elim joins [ inl ends ↦ inr (ends.1, ends.0) | inr ends ↦ inl (ends.1, ends.0) ]
 
 -- so do the switches of a graph
-pub AreJoined-sym : {g : Wiring} {place m n : ℕ} → AreJoined g place m n → AreJoined g place n m
+pub AreJoined-sym : {g : GraphData} {place m n : ℕ} → AreJoined g place m n → AreJoined g place n m
 AreJoined-sym {g} {place} {m} {n} joined =
     record { switch = joined.switch; at_place = joined.at_place; joins = Joins-sym joined.switch m n joined.joins }
 
-module _ (g : Wiring) where
+module _ (g : GraphData) where
   -- what switches lead away from is a storage node
   pub LinksOver-from : (places : List ℕ) (m n : ℕ) → LinksOver g places m n → IsStorage g m
   LinksOver-from [] m n links = links.0

@@ -4,11 +4,13 @@ use Rattle.std.proofs.lemmas.List.{get_or-map, length-map, ext_get_or}
 use Rattle.std.proofs.lemmas.List.Elements.{Contains-get_or}
 
 -- the image of each element
-pub contains-map : {X Y : Type 0} (f : X → Y) (xs : List X) (k : ℕ) (x : X) → k < length xs → get_or xs k x ≡ x → Contains (map f xs) (f x)
+pub contains-map : {X Y : Type 0} (f : X → Y) (xs : List X) (k : ℕ) (x : X) → k < length xs → get_or xs k x ≡ x →
+    Contains (map f xs) (f x)
 contains-map f xs k x inside here = (k, omega (arith, length-map xs f), get_or-map f xs k x (f x) inside ∙ ap f here)
 
 -- an image at a place is that of an element
-from_map_at : {X : Type 0} (f : X → ℕ) (xs : List X) (n k : ℕ) → k < length (map f xs) → get_or (map f xs) k n ≡ n → Any (λ x. f x ≡ n) xs
+from_map_at : {X : Type 0} (f : X → ℕ) (xs : List X) (n k : ℕ) → k < length (map f xs) → get_or (map f xs) k n ≡ n →
+    Any (λ x. f x ≡ n) xs
 from_map_at f [] n k inside here = absurd (omega arith)
 from_map_at f (x ∷ xs) n zero inside here = (0, x, omega arith, refl, here)
 from_map_at f (x ∷ xs) n (suc k) inside here =

@@ -1,25 +1,27 @@
 -- Unblocked paths run over storage nodes alone, but for their roots.
--- A path that has gone over a switch is at most as strong as a switch can be, and an input node beats that with its own empty path. So
--- where an unblocked path goes on, it stands at storage nodes, and the switches between any two of its stands link them.
+-- A path that has gone over a switch is at most as strong as a switch can be, and an input node beats that with
+-- its own empty path. So where an unblocked path goes on, it stands at storage nodes, and the switches between
+-- any two of its stands link them.
 use Rattle.std.proofs.Common.{◌≡◌, ℕ, ◌<◌, ◌≤◌, inl, inr, List, [], ◌∷◌, ◌++◌, length, take, drop, refl, sym, ap, ◌∙◌, arith, append_assoc}
 use Rattle.std.proofs.lemmas.Bool.{cases_lt}
 use Rattle.std.proofs.lemmas.List.{take_at, take-take, take-append-drop}
 use Rattle.ternary.specs.declared.tern.Tern.{Tern}
 use Rattle.strength_order.specs.declared.TheConstants.{INPUT_LEVEL}
-use Rattle.path_meaning.specs.Wiring.{Wiring, IsWired, nodes, level_of}
+use Rattle.path_meaning.specs.Graphs.{GraphData, IsWired, nodes, level_of, IsStorage}
 use Rattle.path_meaning.specs.Path.{Stand, Hop, at_root, IsBeaten, IsBlocked}
 use Rattle.path_meaning.proofs.PathLemmas.{switch_fits, level_fits, Hop-in_range, IsBeaten-by_level, Goes, Goes-here, Goes-back, Goes-from_unblocked}
-use Rattle.group_meaning.specs.Groups.{IsStorage, LinksOver, AreLinked}
+use Rattle.group_meaning.specs.Groups.{LinksOver, AreLinked}
 use Rattle.group_meaning.specs.Laws.{StandsAt, UnblockedPathsRunOverStorage, UnblockedPathsStayInOneGroup, InputNodesAreReachedFromThemselves}
 use Rattle.group_meaning.proofs.LinkLemmas.{AreLinked-sym}
 
 -- a node whose level isn't that of an input node is a storage node
-pub IsStorage-from_level : (g : Wiring) → IsWired g → (node : ℕ) → node < nodes g → (¬ (level_of g node ≡ INPUT_LEVEL)) → IsStorage g node
+pub IsStorage-from_level : (g : GraphData) → IsWired g → (node : ℕ) → node < nodes g →
+    (¬ (level_of g node ≡ INPUT_LEVEL)) → IsStorage g node
 IsStorage-from_level g wired node in_range other =
     let fits = level_fits g wired node in_range in
     record { inside = in_range; below = omega (arith, fits.high) }
 
-module _ (g : Wiring) (wired : IsWired g) (state : List Tern) where
+module _ (g : GraphData) (wired : IsWired g) (state : List Tern) where
   -- a hop that nothing beats where it leads to leads to a storage node
   pub hop_to_storage : (here there : Stand) (place : ℕ) → Hop g state here place there →
       (¬ IsBeaten g state there.node there.strength) → IsStorage g there.node
@@ -37,11 +39,18 @@ module _ (g : Wiring) (wired : IsWired g) (state : List Tern) where
   links_along (place ∷ hops) here there goes storage =
       let next = goes.1.0 in
       let hop = goes.1.1 in
-      let after = hop_to_storage here next place hop (Goes-here g state hops next there goes.1.2) in
-      (storage, (next.node, record { switch = hop.switch; at_place = hop.at_place; joins = hop.joins }, links_along hops next there goes.1.2 after))
+      let after = hop_to_storage here next place hop (Goes-here g state hops next there goes.1.2) in (
+        storage,
+        (
+          next.node,
+          record { switch = hop.switch; at_place = hop.at_place; joins = hop.joins },
+          links_along hops next there goes.1.2 after,
+        ),
+      )
 
   -- an unblocked path that has gone over a switch stands at a storage node
-  pub last_storage : (hops : List ℕ) (here there : Stand) → Goes g state here hops there → 0 < length hops → IsStorage g there.node
+  pub last_storage : (hops : List ℕ) (here there : Stand) → Goes g state here hops there → 0 < length hops →
+      IsStorage g there.node
   last_storage [] here there goes more = absurd (omega arith)
   last_storage (place ∷ []) here there goes more =
       let next = goes.1.0 in
@@ -50,7 +59,8 @@ module _ (g : Wiring) (wired : IsWired g) (state : List Tern) where
       last_storage (other ∷ hops) goes.1.0 there goes.1.2 (omega arith)
 
   -- each front of an unblocked path is unblocked
-  front_unblocked : (root : ℕ) (front back : List ℕ) → (¬ IsBlocked g state root (front ++ back)) → ¬ IsBlocked g state root front
+  front_unblocked : (root : ℕ) (front back : List ℕ) → (¬ IsBlocked g state root (front ++ back)) →
+      ¬ IsBlocked g state root front
   front_unblocked root front back unblocked blocked = unblocked (record {
     front = blocked.front;
     back = blocked.back ++ back;
@@ -73,7 +83,8 @@ front_of_front : (hops one rest two last : List ℕ) → hops ≡ one ++ rest �
 front_of_front hops one rest two last first second most =
     let whole : take (length two) hops ≡ two = rw second (take_at two last (length two) refl) in
     let part : take (length one) hops ≡ one = rw first (take_at one rest (length one) refl) in
-    let shorter : take (length one) two ≡ one = ap (take (length one)) (sym whole) ∙ (take-take (length one) (length two) hops most ∙ part) in
+    let shorter : take (length one) two ≡ one = ap (take (length one)) (sym whole) ∙
+    (take-take (length one) (length two) hops most ∙ part) in
     (drop (length one) two, sym (take-append-drop (length one) two) ∙ ap (λ front. front ++ drop (length one) two) shorter)
 
 -- on an unblocked path every node after the root is a storage node
@@ -83,13 +94,16 @@ over_storage g wired state root hops unblocked count there more stands =
     last_storage g wired state stands.front (at_root g root) there goes (omega (arith, stands.counted))
 
 -- what stands earlier on an unblocked path, at a storage node, is linked with what stands later
-linked_onwards : (g : Wiring) → IsWired g → (state : List Tern) (root : ℕ) (hops : List ℕ) → (¬ IsBlocked g state root hops) →
-    (first second : ℕ) (m n : Stand) → StandsAt g state root hops first m → StandsAt g state root hops second n → first ≤ second →
+linked_onwards : (g : GraphData) → IsWired g → (state : List Tern) (root : ℕ) (hops : List ℕ) →
+    (¬ IsBlocked g state root hops) →
+    (first second : ℕ) (m n : Stand) → StandsAt g state root hops first m → StandsAt g state root hops second n →
+    first ≤ second →
     IsStorage g m.node → AreLinked g m.node n.node
 linked_onwards g wired state root hops unblocked first second m n one two order storage =
     let start = at_root g root in
     let goes = Goes-to_stand g wired state root hops unblocked second n two in
-    let split = front_of_front hops one.front one.back two.front two.back one.splits two.splits (omega (arith, one.counted, two.counted)) in
+    let split = front_of_front hops one.front one.back two.front two.back one.splits two.splits
+    (omega (arith, one.counted, two.counted)) in
     let whole : Goes g state start (one.front ++ split.0) n = rw split.1 at goes in
     let rest = Goes-back g state one.front split.0 start m n whole one.prefix.leads in
     record { places = split.0; links = links_along g wired state split.0 m n rest storage }

@@ -3,12 +3,12 @@
 use Rattle.std.specs.Prelude.{◌≡◌, ℕ, ◌<◌, List, [], ◌++◌, length}
 use Rattle.ternary.specs.declared.tern.Tern.{Tern}
 use Rattle.strength_order.specs.declared.TheConstants.{INPUT_LEVEL}
-use Rattle.path_meaning.specs.Wiring.{Wiring, IsWired, level_of}
+use Rattle.path_meaning.specs.Graphs.{GraphData, IsWired, level_of, IsStorage}
 use Rattle.path_meaning.specs.Path.{Stand, LivePath, IsBlocked}
-use Rattle.group_meaning.specs.Groups.{IsStorage, AreLinked, Group, AreGroups}
+use Rattle.group_meaning.specs.Groups.{AreLinked, Group, AreGroups}
 
 -- the path with these hops stands there at some time, after so many hops
-pub record StandsAt (g : Wiring) (state : List Tern) (root : ℕ) (hops : List ℕ) (count : ℕ) (there : Stand) : Type 0 where
+pub record StandsAt (g : GraphData) (state : List Tern) (root : ℕ) (hops : List ℕ) (count : ℕ) (there : Stand) : Type 0 where
   pub front : List ℕ
   pub back : List ℕ
   pub splits : hops ≡ front ++ back
@@ -18,32 +18,32 @@ pub record StandsAt (g : Wiring) (state : List Tern) (root : ℕ) (hops : List �
 -- on an unblocked path every node after the root is a storage node
 abbrev pub UnblockedPathsRunOverStorage : Type 0
 UnblockedPathsRunOverStorage =
-    (g : Wiring) → IsWired g → (state : List Tern) (root : ℕ) (hops : List ℕ) → (¬ IsBlocked g state root hops) →
+    (g : GraphData) → IsWired g → (state : List Tern) (root : ℕ) (hops : List ℕ) → (¬ IsBlocked g state root hops) →
     (count : ℕ) (there : Stand) → 0 < count → StandsAt g state root hops count there → IsStorage g there.node
 
 -- all storage nodes on an unblocked path are linked with each other, so they are in one group
 abbrev pub UnblockedPathsStayInOneGroup : Type 0
 UnblockedPathsStayInOneGroup =
-    (g : Wiring) → IsWired g → (state : List Tern) (root : ℕ) (hops : List ℕ) → (¬ IsBlocked g state root hops) →
+    (g : GraphData) → IsWired g → (state : List Tern) (root : ℕ) (hops : List ℕ) → (¬ IsBlocked g state root hops) →
     (first second : ℕ) (m n : Stand) → StandsAt g state root hops first m → StandsAt g state root hops second n →
     IsStorage g m.node → IsStorage g n.node → AreLinked g m.node n.node
 
 -- the only unblocked path to an input node is its own empty one
 abbrev pub InputNodesAreReachedFromThemselves : Type 0
 InputNodesAreReachedFromThemselves =
-    (g : Wiring) → IsWired g → (state : List Tern) (root : ℕ) (hops : List ℕ) (there : Stand) →
+    (g : GraphData) → IsWired g → (state : List Tern) (root : ℕ) (hops : List ℕ) (there : Stand) →
     LivePath g state root hops there → (¬ IsBlocked g state root hops) → level_of g there.node ≡ INPUT_LEVEL → hops ≡ []
 
 -- linked is an equivalence on storage nodes
 abbrev pub LinkedIsAnEquivalence : Type 0
 LinkedIsAnEquivalence =
-    (g : Wiring) (a b c : ℕ) → (IsStorage g a → AreLinked g a a)
+    (g : GraphData) (a b c : ℕ) → (IsStorage g a → AreLinked g a a)
     × (AreLinked g a b → AreLinked g b a) × (AreLinked g a b → AreLinked g b c → AreLinked g a c)
 
 -- every graph has groups
 abbrev pub GroupsExist : Type 0
-GroupsExist = (g : Wiring) → IsWired g → (groups : List Group) × AreGroups g groups
+GroupsExist = (g : GraphData) → IsWired g → (groups : List Group) × AreGroups g groups
 
 -- and no two lists of them
 abbrev pub GroupsAreUnique : Type 0
-GroupsAreUnique = (g : Wiring) (groups others : List Group) → AreGroups g groups → AreGroups g others → groups ≡ others
+GroupsAreUnique = (g : GraphData) (groups others : List Group) → AreGroups g groups → AreGroups g others → groups ≡ others

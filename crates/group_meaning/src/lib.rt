@@ -11,6 +11,10 @@
 //! a and b are linked, Gnd and Vdd are linked with nothing
 //! ```
 //!
+//! For the proofs of crates above: `LinkLemmas`, linked nodes; `GroupLemmas`, members and switches of
+//! a group; `StoragePaths`, unblocked paths over storage nodes; `UniqueGroups` and `ExistingGroups`,
+//! that a graph has one list of groups.
+//!
 //! After Bryant, Beatty, Brace, Cho and Sheffler, "COSMOS: A Compiled Simulator for MOS Circuits",
 //! 1987.
 #![tactic(auto)]

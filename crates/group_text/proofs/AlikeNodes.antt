@@ -1,13 +1,15 @@
--- Local nodes that have the level of the node that they stand for: the members, and the input nodes at the ends of the group's switches.
--- A storage node outside the group can only be a gate. It is an input node of the local graph, and no switch there ends at it.
+-- Local nodes that have the level of the node that they stand for: the members, and the input nodes at the ends
+-- of the group's switches.
+-- A storage node outside the group can only be a gate. It is an input node of the local graph, and no switch
+-- there ends at it.
 use Rattle.std.proofs.Common.{◌≡◌, ℕ, ◌<◌, inl, inr, length, Some, sym, ap, ◌∙◌, arith}
 use Rattle.std.specs.Prelude.{slice_index, Contains}
 use Rattle.std.proofs.lemmas.Bool.{cases_lt}
 use Rattle.strength_order.specs.declared.TheConstants.{INPUT_LEVEL}
 use Rattle.path_meaning.specs.declared.switching.Switch.{Switch}
-use Rattle.path_meaning.specs.Wiring.{Wiring, IsWired, nodes, level_of, place_at}
+use Rattle.path_meaning.specs.Graphs.{GraphData, IsWired, nodes, level_of, place_at, IsStorage}
 use Rattle.path_meaning.specs.Path.{Joins}
-use Rattle.group_meaning.specs.Groups.{IsStorage, Group, IsGroup}
+use Rattle.group_meaning.specs.Groups.{Group, IsGroup}
 use Rattle.group_meaning.proofs.GroupLemmas.{end_in_range, member_storage, member_or_input}
 use Rattle.group_text.specs.Texts.{local_nodes, local_of, local_switch, local_graph}
 use Rattle.group_text.proofs.LocalNodes.{local_of-stands, a_local, b_local, members_within, first-member, member-first}
@@ -15,12 +17,12 @@ use Rattle.group_text.proofs.WellFormedTexts.{local_wired}
 use Rattle.group_text.proofs.LocalEdges.{copy_of, nodes_local, level_member, level_outside}
 
 -- the local node stands for a node with the level that it has
-pub record IsAlike (g : Wiring) (group : Group) (local : ℕ) : Type 0 where
+pub record IsAlike (g : GraphData) (group : Group) (local : ℕ) : Type 0 where
   pub inside : local < length (local_nodes g group)
   pub in_range : slice_index (local_nodes g group) local < nodes g
   pub level : level_of (local_graph g group) local ≡ level_of g (slice_index (local_nodes g group) local)
 
-module _ (g : Wiring) (group : Group) where
+module _ (g : GraphData) (group : Group) where
   -- the ends of the copy of a switch are the local nodes of its ends
   pub Joins-local : (m n : ℕ) (switch : Switch) → Joins switch m n →
       Joins (local_switch (local_nodes g group) switch) (local_of (local_nodes g group) m) (local_of (local_nodes g group) n)
@@ -42,13 +44,14 @@ module _ (g : Wiring) (group : Group) where
         | inr ends ↦ inr (sym b ∙ ap whole ends.0, sym a ∙ ap whole ends.1)
       ]
 
-module _ (g : Wiring) (wired : IsWired g) (group : Group) (is_group : IsGroup g group) where
+module _ (g : GraphData) (wired : IsWired g) (group : Group) (is_group : IsGroup g group) where
   -- a local node that stands for a member has its level
   pub alike_member : (local : ℕ) → local < length group.members → IsAlike g group local
   alike_member local first =
       record {
         inside = omega (arith, members_within g group is_group);
-        in_range = (member_storage g group is_group (slice_index (local_nodes g group) local) (first-member g group is_group local first)).inside;
+        in_range = (member_storage g group is_group (slice_index (local_nodes g group) local)
+            (first-member g group is_group local first)).inside;
         level = level_member g group is_group local first;
       }
 
@@ -58,11 +61,17 @@ module _ (g : Wiring) (wired : IsWired g) (group : Group) (is_group : IsGroup g 
   alike_input local inside in_range input =
       elim (cases_lt local (length group.members)) [
         | inl first ↦ alike_member local first
-        | inr past ↦ record { inside = inside; in_range = in_range; level = level_outside g group is_group local past inside ∙ sym input }
+        | inr past ↦ record {
+          inside = inside;
+          in_range = in_range;
+          level =
+              level_outside g group is_group local past inside ∙ sym input;
+        }
       ]
 
   -- so one that stands for an end of a switch of the group has its level
-  pub alike_end : (place n local : ℕ) (switch : Switch) → Contains group.switches place → place_at g.places place ≡ Some switch →
+  pub alike_end : (place n local : ℕ) (switch : Switch) → Contains group.switches place →
+      place_at g.places place ≡ Some switch →
       Joins switch (slice_index (local_nodes g group) local) n → local < length (local_nodes g group) → IsAlike g group local
   alike_end place n local switch inside stands joins local_inside =
       let node = slice_index (local_nodes g group) local in
@@ -78,7 +87,8 @@ module _ (g : Wiring) (wired : IsWired g) (group : Group) (is_group : IsGroup g 
       let place = slice_index group.switches local_place in
       let of = copy_of g group is_group local_place copy stands in
       let whole = Joins-whole g group place m n of.switch of.inside of.at_place (rw of.same at joins) in
-      let in_range = end_in_range (local_graph g group) (local_wired g wired group is_group) local_place m n copy stands joins in
+      let in_range = end_in_range (local_graph g group)
+      (local_wired g wired group is_group) local_place m n copy stands joins in
       let inside : m < length (local_nodes g group) = rw (nodes_local g group is_group) at in_range in
       alike_end place (slice_index (local_nodes g group) n) m of.switch of.inside of.at_place whole inside
 
@@ -88,5 +98,6 @@ module _ (g : Wiring) (wired : IsWired g) (group : Group) (is_group : IsGroup g 
   alike_storage local alike storage =
       elim (cases_lt local (length group.members)) [
         | inl first ↦ first-member g group is_group local first
-        | inr past ↦ let outside = level_outside g group is_group local past alike.inside in absurd (omega (arith, outside, alike.level, storage.below))
+        | inr past ↦ let outside = level_outside g group is_group local past alike.inside in
+            absurd (omega (arith, outside, alike.level, storage.below))
       ]

@@ -1,5 +1,7 @@
--- The local graph of a group: its levels are those of the nodes that the local nodes stand for, but that outside nodes are input nodes,
--- and its places hold the group's switches, one to one, between the local nodes. Under the local state each has the state that it has.
+-- The local graph of a group: its levels are those of the nodes that the local nodes stand for, but that
+-- outside nodes are input nodes,
+-- and its places hold the group's switches, one to one, between the local nodes. Under the local state each has
+-- the state that it has.
 use Rattle.std.proofs.Common.{◌≡◌, ℕ, ◌-◌, ◌<◌, ◌≤◌, inl, inr, List, length, map, Option, Some, None, sym, ap, ◌∙◌, arith, length-append}
 use Rattle.std.specs.Prelude.{slice_index, Contains, replicate, option_map}
 use Rattle.std.proofs.lemmas.Bool.{cases_lt}
@@ -10,13 +12,13 @@ use Rattle.ternary.specs.declared.tern.Tern.TheVariants.{Zero}
 use Rattle.strength_order.specs.declared.TheConstants.{INPUT_LEVEL}
 use Rattle.path_meaning.specs.declared.switching.Switch.{Switch}
 use Rattle.path_meaning.specs.Switching.{state_at, state_by, switch_state_at}
-use Rattle.path_meaning.specs.Wiring.{Wiring, nodes, level_of, place_at}
+use Rattle.path_meaning.specs.Graphs.{GraphData, nodes, level_of, place_at}
 use Rattle.group_meaning.specs.Groups.{Group, IsGroup}
 use Rattle.group_text.specs.Texts.{local_nodes, local_of, local_switch, local_graph, local_state}
 use Rattle.group_text.proofs.LocalNodes.{local_of-inside, local_of-stands, members_within, member_at}
 
 -- the switch that a place of the local graph holds is a switch of the group, between the local nodes
-pub record IsCopy (g : Wiring) (group : Group) (local_place : ℕ) (copy : Switch) : Type 0 where
+pub record IsCopy (g : GraphData) (group : Group) (local_place : ℕ) (copy : Switch) : Type 0 where
   pub switch : Switch
   pub inside : Contains group.switches (slice_index group.switches local_place)
   pub at_place : place_at g.places (slice_index group.switches local_place) ≡ Some switch
@@ -36,13 +38,14 @@ switch_state_local locals state switch gate =
     ∙ ap (state_at state) (local_of-stands locals switch.gate gate) in
     ap (state_by switch.kind) at_gate
 
-module _ (g : Wiring) (group : Group) where
+module _ (g : GraphData) (group : Group) where
   -- the local graph has a place for each switch of the group
   place_local : (local_place : ℕ) → local_place < length group.switches →
       place_at (local_graph g group).places local_place
       ≡ option_map (local_switch (local_nodes g group)) (place_at g.places (slice_index group.switches local_place))
   place_local local_place inside =
-      get_or-map (λ place. option_map (local_switch (local_nodes g group)) (place_at g.places place)) group.switches local_place 0 None inside
+      get_or-map (λ place. option_map (local_switch (local_nodes g group)) (place_at g.places place)) group.switches
+      local_place 0 None inside
 
   -- and no other
   no_place : (local_place : ℕ) → length group.switches ≤ local_place → place_at (local_graph g group).places local_place ≡ None
@@ -55,19 +58,22 @@ module _ (g : Wiring) (group : Group) where
       (local_place : ℕ) × (place_at (local_graph g group).places local_place ≡ Some (local_switch (local_nodes g group) switch))
   switch_local place switch inside stands =
       let copied : Option Switch → Option Switch = option_map (local_switch (local_nodes g group)) in
-      let same : slice_index group.switches inside.0 ≡ place = get_or_default group.switches inside.0 0 place inside.1 ∙ inside.2 in
+      let same : slice_index group.switches inside.0 ≡ place =
+      get_or_default group.switches inside.0 0 place inside.1 ∙ inside.2 in
       (inside.0, place_local inside.0 inside.1 ∙ ap copied (ap (place_at g.places) same ∙ stands))
 
-module _ (g : Wiring) (group : Group) (is_group : IsGroup g group) where
+module _ (g : GraphData) (group : Group) (is_group : IsGroup g group) where
   -- what a place of the local graph holds is a switch of the group
-  pub copy_of : (local_place : ℕ) (copy : Switch) → place_at (local_graph g group).places local_place ≡ Some copy → IsCopy g group local_place copy
+  pub copy_of : (local_place : ℕ) (copy : Switch) → place_at (local_graph g group).places local_place ≡ Some copy →
+      IsCopy g group local_place copy
   copy_of local_place copy stands =
       elim (cases_lt local_place (length group.switches)) [
         | inl below ↦
             let place = slice_index group.switches local_place in
             let inside = Contains-get_or group.switches local_place 0 below in
             let touching = (is_group.switches place).0 inside in
-            let copied : place_at (local_graph g group).places local_place ≡ Some (local_switch (local_nodes g group) touching.switch) =
+            let copied : place_at (local_graph g group).places local_place ≡ Some
+            (local_switch (local_nodes g group) touching.switch) =
             place_local g group local_place below ∙ ap (option_map (local_switch (local_nodes g group))) touching.at_place in
             record { switch = touching.switch; inside = inside; at_place = touching.at_place; same = cc }
         | inr past ↦ let none = no_place g group local_place past in absurd cc
@@ -93,7 +99,8 @@ module _ (g : Wiring) (group : Group) (is_group : IsGroup g group) where
       let members = map (level_of g) group.members in
       let outside = length (local_nodes g group) - length group.members in
       get_or_append_left members (replicate outside INPUT_LEVEL) 0 local (omega (arith, length-map group.members (level_of g)))
-      ∙ (get_or-map (level_of g) group.members local 0 0 inside ∙ ap (level_of g) (sym (member_at g group is_group local inside)))
+      ∙ (get_or-map (level_of g) group.members local 0 0 inside ∙ ap (level_of g)
+      (sym (member_at g group is_group local inside)))
 
   -- an outside node is an input node
   pub level_outside : (local : ℕ) → length group.members ≤ local → local < length (local_nodes g group) →
@@ -101,5 +108,6 @@ module _ (g : Wiring) (group : Group) (is_group : IsGroup g group) where
   level_outside local past inside =
       let members = map (level_of g) group.members in
       let outside = length (local_nodes g group) - length group.members in
-      get_or-append_right members (replicate outside INPUT_LEVEL) (length group.members) local 0 (length-map group.members (level_of g)) past
+      get_or-append_right members (replicate outside INPUT_LEVEL) (length group.members) local 0
+      (length-map group.members (level_of g)) past
       ∙ get_or-replicate outside (local - length group.members) INPUT_LEVEL 0 (omega arith)

@@ -5,7 +5,7 @@ use Rattle.ternary.specs.declared.tern.Tern.{Tern}
 use Rattle.path_meaning.specs.declared.switching.Switch.{Switch}
 use Rattle.path_meaning.specs.declared.switching.SwitchState.{SwitchState}
 use Rattle.path_meaning.specs.Switching.{is_closed, is_live, switch_state_at}
-use Rattle.path_meaning.specs.Wiring.{Wiring, IsWired}
+use Rattle.path_meaning.specs.Graphs.{GraphData, IsWired}
 use Rattle.path_meaning.specs.Path.{Stand, Joins, Hop, at_root}
 use Rattle.path_meaning.proofs.PathLemmas.{same_stand}
 use Rattle.group_meaning.specs.Groups.{Group, IsGroup}
@@ -24,13 +24,14 @@ abbrev pub local_stand : List ℕ → Stand → Stand
 local_stand locals here = record { node = local_of locals here.node; strength = here.strength; definite = here.definite }
 
 -- a path that starts at a node with the level of its local node starts so in the local graph too
-pub whole_root : (g : Wiring) (group : Group) (root : ℕ) → IsAlike g group root →
+pub whole_root : (g : GraphData) (group : Group) (root : ℕ) → IsAlike g group root →
     whole_stand (local_nodes g group) (at_root (local_graph g group) root) ≡ at_root g (slice_index (local_nodes g group) root)
 whole_root g group root alike =
     let locals = local_nodes g group in
-    same_stand (whole_stand locals (at_root (local_graph g group) root)) (at_root g (slice_index locals root)) refl alike.level refl
+    same_stand (whole_stand locals (at_root (local_graph g group) root))
+    (at_root g (slice_index locals root)) refl alike.level refl
 
-module _ (g : Wiring) (wired : IsWired g) (group : Group) (is_group : IsGroup g group) (state : List Tern) where
+module _ (g : GraphData) (wired : IsWired g) (group : Group) (is_group : IsGroup g group) (state : List Tern) where
   -- a hop over a switch of the group is one over its copy
   pub hop_local : (here there : Stand) (place : ℕ) → Contains group.switches place → Hop g state here place there →
       (local_place : ℕ)
@@ -54,7 +55,8 @@ module _ (g : Wiring) (wired : IsWired g) (group : Group) (is_group : IsGroup g 
   -- a hop over the local graph is one over a switch of the group
   pub hop_whole : (here there : Stand) (local_place : ℕ) →
       Hop (local_graph g group) (local_state (local_nodes g group) state) here local_place there →
-      Hop g state (whole_stand (local_nodes g group) here) (slice_index group.switches local_place) (whole_stand (local_nodes g group) there)
+      Hop g state (whole_stand (local_nodes g group) here) (slice_index group.switches local_place)
+      (whole_stand (local_nodes g group) there)
   hop_whole here there local_place hop =
       let locals = local_nodes g group in
       let place = slice_index group.switches local_place in

@@ -1,14 +1,16 @@
--- The local nodes of a group: no node stands for two of them, the members come first, and each terminal of a group's switch has one.
-use Rattle.std.proofs.Common.{◌≡◌, ◌≢◌, ◌==◌, ℕ, zero, suc, ◌<◌, ◌≤◌, Bool, true, not, ◌⊎◌, inl, inr, List, [], ◌∷◌, ◌++◌, length, filter, get_or, Some, refl, sym, ap, ◌∙◌, arith, eqb-true, length-append}
+-- The local nodes of a group: no node stands for two of them, the members come first, and each terminal of a
+-- group's switch has one.
+use Rattle.std.proofs.Common.{◌≡◌, ◌≢◌, ◌==◌, ℕ, suc, ◌<◌, ◌≤◌, Bool, true, not, inl, inr, List, [], ◌∷◌, ◌++◌, length, filter, get_or, Some, refl, sym, ap, ◌∙◌, arith, eqb-true, length-append}
 use Rattle.std.specs.Prelude.{slice_index, Contains, All}
 use Rattle.std.specs.List.{AllPairs, flat_map, position_or_len}
-use Rattle.std.proofs.lemmas.Bool.{cases_lt, cases_order, cases_eq, cases_Bool, ne_eqb, lt-ltb, not_from_false, not-true, eqb-false}
+use Rattle.std.proofs.lemmas.Bool.{cases_lt, cases_order, cases_eq, ne_eqb, lt-ltb, not_from_false, not-true, eqb-false}
 use Rattle.std.proofs.lemmas.List.{get_or_append_left, get_or_default}
-use Rattle.std.proofs.lemmas.List.Elements.{All-weaker, All-contains, All-contains_itself, All-filter, All-head, All-tail, Contains-get_or, Contains-append_left, Contains-append_right, filter-append, filter_passes}
+use Rattle.std.proofs.lemmas.List.Elements.{All-weaker, All-head, All-tail, Contains-get_or, Contains-append_left, Contains-append_right, filter-append, filter_passes}
 use Rattle.std.proofs.lemmas.List.Kept.{AllPairs-cons, AllPairs-filter, AllPairs-from_increasing}
 use Rattle.std.proofs.lemmas.List.Sums.{fails_before_first, passes_at_first}
+use Rattle.list_facts.proofs.ContainsLemmas.{Contains-cons_cases, Contains-cons_first, Contains-cons_later, Contains-filter, Contains-from_filter}
 use Rattle.path_meaning.specs.declared.switching.Switch.{Switch}
-use Rattle.path_meaning.specs.Wiring.{Wiring, place_at}
+use Rattle.path_meaning.specs.Graphs.{GraphData, place_at}
 use Rattle.path_meaning.specs.Path.{Joins}
 use Rattle.group_meaning.specs.Groups.{Group, IsGroup}
 use Rattle.group_text.specs.Texts.{firsts, terminals_of, local_nodes, local_of}
@@ -28,34 +30,6 @@ differs-apart x y passes same = absurd (eqb-false y x (not-true (y == x) passes)
 -- and another number passes
 differs-from_apart : (x y : ℕ) → x ≢ y → differs x y ≡ true
 differs-from_apart x y apart = not_from_false (y == x) (ne_eqb y x (λ same. apart (sym same)))
-
--- an element of a list with one more in front is that one or an element of the list
-Contains-cons_cases : (y : ℕ) (xs : List ℕ) (x : ℕ) → Contains (y ∷ xs) x → (y ≡ x) ⊎ Contains xs x
-Contains-cons_cases y xs x (zero, inside, is) = inl is
-Contains-cons_cases y xs x (suc k, inside, is) = inr (k, omega arith, is)
-
--- the one in front is an element
-Contains-cons_first : (y : ℕ) (xs : List ℕ) (x : ℕ) → y ≡ x → Contains (y ∷ xs) x
-Contains-cons_first y xs x same = (0, omega arith, same)
-
--- what a filter keeps was there
-Contains-from_filter : (p : ℕ → Bool) (xs : List ℕ) (x : ℕ) → Contains (filter p xs) x → Contains xs x
-Contains-from_filter p xs x kept =
-    All-contains (Contains xs) (filter p xs) x (All-filter p (Contains xs) xs (All-contains_itself xs)) kept
-
--- and what was there and passes is kept
-Contains-filter : (p : ℕ → Bool) (xs : List ℕ) (x : ℕ) → Contains xs x → p x ≡ true → Contains (filter p xs) x
-Contains-filter p [] x there passes = absurd (omega (arith, there.1))
-Contains-filter p (y ∷ xs) x there passes =
-    elim (Contains-cons_cases y xs x there) [
-      | inl same ↦ let here : p y ≡ true = ap p same ∙ passes in rw here (Contains-cons_first y (filter p xs) x same)
-      | inr later ↦
-          let rest = Contains-filter p xs x later passes in
-          elim (cases_Bool (p y)) [
-            | inl passed ↦ rw passed (Contains-append_right (y ∷ []) (filter p xs) x rest)
-            | inr failed ↦ rw failed rest
-          ]
-    ]
 
 -- what all elements pass keeps the whole list
 filter_all : (p : ℕ → Bool) (xs : List ℕ) → All (λ x. p x ≡ true) xs → filter p xs ≡ xs
@@ -82,8 +56,9 @@ Contains-firsts (y ∷ xs) x there =
           elim (Contains-cons_cases y xs x there) [
             | inl same ↦ absurd (apart same)
             | inr later ↦
-                let kept = Contains-filter (differs y) (firsts xs) x (Contains-firsts xs x later) (differs-from_apart y x apart) in
-                Contains-append_right (y ∷ []) (filter (differs y) (firsts xs)) x kept
+                let kept = Contains-filter (differs y) (firsts xs) x (Contains-firsts xs x later)
+                (differs-from_apart y x apart) in
+                Contains-cons_later y (filter (differs y) (firsts xs)) x kept
           ]
     ]
 
@@ -94,14 +69,15 @@ Contains-from_firsts (y ∷ xs) x there =
     elim (Contains-cons_cases y (filter (differs y) (firsts xs)) x there) [
       | inl same ↦ Contains-cons_first y xs x same
       | inr later ↦
-          Contains-append_right (y ∷ []) xs x (Contains-from_firsts xs x (Contains-from_filter (differs y) (firsts xs) x later))
+          Contains-cons_later y xs x (Contains-from_firsts xs x (Contains-from_filter (differs y) (firsts xs) x later))
     ]
 
 -- no number stands twice among the firsts
 pub firsts-apart : (xs : List ℕ) → AreApart (firsts xs)
 firsts-apart [] = λ i j d before inside. absurd (omega arith)
 firsts-apart (x ∷ xs) =
-    let others = All-weaker (λ y. differs x y ≡ true) (λ y. x ≢ y) (λ y passes. differs-apart x y passes) (filter (differs x) (firsts xs))
+    let others = All-weaker (λ y. differs x y ≡ true) (λ y. x ≢ y) (λ y passes. differs-apart x y passes)
+    (filter (differs x) (firsts xs))
     (filter_passes (differs x) (firsts xs)) in
     AllPairs-cons (λ y z. y ≢ z) x (filter (differs x) (firsts xs)) others
     (AllPairs-filter (λ y z. y ≢ z) (differs x) (firsts xs) (firsts-apart xs))
@@ -119,9 +95,11 @@ pub firsts_begin : (xs ys : List ℕ) → AreApart xs → (rest : List ℕ) × (
 firsts_begin [] ys apart = (firsts ys, refl)
 firsts_begin (x ∷ xs) ys apart =
     let later = firsts_begin xs ys (apart-tail x xs apart) in
-    let others = All-weaker (λ y. x ≢ y) (λ y. differs x y ≡ true) (λ y other. differs-from_apart x y other) xs (apart-head x xs apart) in
+    let others = All-weaker (λ y. x ≢ y) (λ y. differs x y ≡ true) (λ y other. differs-from_apart x y other) xs
+    (apart-head x xs apart) in
     let split : filter (differs x) (xs ++ later.0) ≡ xs ++ filter (differs x) later.0 =
-    filter-append (differs x) xs later.0 ∙ ap (λ front. front ++ filter (differs x) later.0) (filter_all (differs x) xs others) in
+    filter-append (differs x) xs later.0 ∙ ap (λ front. front ++ filter (differs x) later.0)
+    (filter_all (differs x) xs others) in
     (filter (differs x) later.0, ap (λ rest. x ∷ filter (differs x) rest) later.1 ∙ ap (λ rest. x ∷ rest) split)
 
 -- where no number stands twice, a number has one place
@@ -130,7 +108,11 @@ pub same_place : (xs : List ℕ) → AreApart xs → (i j : ℕ) → i < length 
 same_place xs apart i j i_inside j_inside same =
     elim (cases_order i j) [
       | inl equal ↦ equal
-      | inr other ↦ elim other [ inl before ↦ absurd (apart i j 0 before j_inside same) | inr after ↦ absurd (apart j i 0 after i_inside (sym same)) ]
+      | inr other ↦ elim other [
+        | inl before ↦ absurd (apart i j 0 before j_inside same)
+        | inr after ↦
+            absurd (apart j i 0 after i_inside (sym same))
+      ]
     ]
 
 -- the test by which the place of a node is looked up
@@ -148,7 +130,8 @@ found locals node there =
     ]
 
 -- so its local node is the first place where it stands
-local_of-found : (locals : List ℕ) (node : ℕ) → Contains locals node → local_of locals node ≡ position_or_len (is_node node) locals
+local_of-found : (locals : List ℕ) (node : ℕ) → Contains locals node →
+    local_of locals node ≡ position_or_len (is_node node) locals
 local_of-found locals node there = rw (lt-ltb (position_or_len (is_node node) locals) (length locals) (found locals node there))
 
 -- the local node of a node is a local node
@@ -162,13 +145,15 @@ local_of-stands locals node there =
     (passes_at_first (is_node node) locals 0 (found locals node there)))
 
 -- a local node is that of the node that it stands for
-pub local_of-at : (locals : List ℕ) → AreApart locals → (local : ℕ) → local < length locals → local_of locals (slice_index locals local) ≡ local
+pub local_of-at : (locals : List ℕ) → AreApart locals → (local : ℕ) → local < length locals →
+    local_of locals (slice_index locals local) ≡ local
 local_of-at locals apart local inside =
     let there = Contains-get_or locals local 0 inside in
     let node = slice_index locals local in
-    same_place locals apart (local_of locals node) local (local_of-inside locals node there) inside (local_of-stands locals node there)
+    same_place locals apart (local_of locals node) local (local_of-inside locals node there) inside
+    (local_of-stands locals node there)
 
-module _ (g : Wiring) (group : Group) where
+module _ (g : GraphData) (group : Group) where
   -- no node has two local nodes
   pub locals_apart : AreApart (local_nodes g group)
   locals_apart = firsts-apart (group.members ++ flat_map (λ place. terminals_of (place_at g.places place)) group.switches)
@@ -180,7 +165,8 @@ module _ (g : Wiring) (group : Group) where
       Contains-firsts (group.members ++ terminals) node (Contains-append_left group.members terminals node member)
 
   -- each terminal of a switch of the group has one
-  pub terminal_local : (place node : ℕ) (switch : Switch) → Contains group.switches place → place_at g.places place ≡ Some switch →
+  pub terminal_local : (place node : ℕ) (switch : Switch) → Contains group.switches place →
+      place_at g.places place ≡ Some switch →
       Contains (terminals_of (Some switch)) node → Contains (local_nodes g group) node
   terminal_local place node switch inside stands terminal =
       let pieces : ℕ → List ℕ = λ place. terminals_of (place_at g.places place) in
@@ -213,7 +199,7 @@ module _ (g : Wiring) (group : Group) where
         | inr ends ↦ rw (← ends.0) (b_local place switch inside stands)
       ]
 
-module _ (g : Wiring) (group : Group) (is_group : IsGroup g group) where
+module _ (g : GraphData) (group : Group) (is_group : IsGroup g group) where
   -- a group's members ascend, so none stands twice
   members_apart : AreApart group.members
   members_apart = λ i j d before inside same.
@@ -230,20 +216,25 @@ module _ (g : Wiring) (group : Group) (is_group : IsGroup g group) where
   members_within = rw members_begin.1 (omega (arith, length-append group.members members_begin.0))
 
   -- the first local nodes stand for the members, in their order
-  pub member_at : (local : ℕ) → local < length group.members → slice_index (local_nodes g group) local ≡ slice_index group.members local
+  pub member_at : (local : ℕ) → local < length group.members →
+      slice_index (local_nodes g group) local ≡ slice_index group.members local
   member_at local inside = rw members_begin.1 (get_or_append_left group.members members_begin.0 0 local inside)
 
   -- so what one of those stands for is a member
-  pub first-member : (local : ℕ) → local < length group.members → Contains group.members (slice_index (local_nodes g group) local)
+  pub first-member : (local : ℕ) → local < length group.members →
+      Contains group.members (slice_index (local_nodes g group) local)
   first-member local first = rw (member_at local first) (Contains-get_or group.members local 0 first)
 
   -- and a local node that stands for a member is one of those
-  pub member-first : (local : ℕ) → local < length (local_nodes g group) → Contains group.members (slice_index (local_nodes g group) local) →
+  pub member-first : (local : ℕ) → local < length (local_nodes g group) →
+      Contains group.members (slice_index (local_nodes g group) local) →
       local < length group.members
   member-first local inside member =
       let locals = local_nodes g group in
       let node = slice_index locals local in
       let k = member.0 in
-      let stands : slice_index locals k ≡ node = member_at k member.1 ∙ (get_or_default group.members k 0 node member.1 ∙ member.2) in
-      let same : k ≡ local = same_place locals (locals_apart g group) k local (omega (arith, member.1, members_within)) inside stands in
+      let stands : slice_index locals k ≡ node = member_at k member.1 ∙
+      (get_or_default group.members k 0 node member.1 ∙ member.2) in
+      let same : k ≡ local = same_place locals (locals_apart g group) k local
+      (omega (arith, member.1, members_within)) inside stands in
       omega (arith, member.1, same)

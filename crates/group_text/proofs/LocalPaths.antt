@@ -1,12 +1,13 @@
 -- Definite paths are as strong in the local graph of a group as in the whole graph.
--- A path over the local graph is one over the group's switches. The other way round, a definite path from elsewhere enters the group over
--- one of its switches from an input node, whose own empty path is stronger than all that came before. So nothing but the last part of the
--- path counts, and that runs over the group's switches alone.
+-- A path over the local graph is one over the group's switches. The other way round, a definite path from
+-- elsewhere enters the group over one of its switches from an input node, whose own empty path is stronger than
+-- all that came before. So nothing but the last part of the path counts, and that runs over the group's
+-- switches alone.
 use Rattle.std.proofs.Common.{◌≡◌, ℕ, ◌<◌, ◌≤◌, true, inl, inr, List, [], ◌∷◌, length, map, refl, ap, arith}
 use Rattle.std.specs.Prelude.{slice_index, Contains}
 use Rattle.std.proofs.lemmas.Bool.{cases_lt}
 use Rattle.ternary.specs.declared.tern.Tern.{Tern}
-use Rattle.path_meaning.specs.Wiring.{Wiring, IsWired, level_of}
+use Rattle.path_meaning.specs.Graphs.{GraphData, IsWired, level_of}
 use Rattle.path_meaning.specs.Path.{Stand, Joins, Hop, Leads, at_root, LivePath}
 use Rattle.path_meaning.proofs.PathLemmas.{switch_fits, Leads-definite}
 use Rattle.path_meaning.proofs.StrongestPaths.{surely, IsBest}
@@ -19,24 +20,25 @@ use Rattle.group_text.proofs.LocalEdges.{nodes_local, level_outside}
 use Rattle.group_text.proofs.AlikeNodes.{IsAlike, alike_end}
 use Rattle.group_text.proofs.LocalHops.{whole_stand, local_stand, whole_root, hop_local, hop_whole, alike_before}
 
--- a stand of a path over the whole graph is no stronger than this table of the local graph has it for the local node of its node
-abbrev IsWithin : Wiring → Group → (ℕ → ℕ) → Stand → Type 0
+-- a stand of a path over the whole graph is no stronger than this table of the local graph has it for the local
+-- node of its node
+abbrev IsWithin : GraphData → Group → (ℕ → ℕ) → Stand → Type 0
 IsWithin g group local_best here =
     (local : ℕ) → IsAlike g group local → slice_index (local_nodes g group) local ≡ here.node → here.strength ≤ local_best local
 
-module _ (g : Wiring) (wired : IsWired g) (group : Group) (is_group : IsGroup g group) (state : List Tern) where
+module _ (g : GraphData) (wired : IsWired g) (group : Group) (is_group : IsGroup g group) (state : List Tern) where
   -- the local nodes, the local graph, and the states of its nodes
   abbrev locals : List ℕ
   locals = local_nodes g group
 
-  abbrev local_wiring : Wiring
-  local_wiring = local_graph g group
+  abbrev text_graph : GraphData
+  text_graph = local_graph g group
 
   abbrev local_states : List Tern
   local_states = local_state (local_nodes g group) state
 
   -- hops over the local graph, one after the other, are hops over switches of the group
-  leads_whole : (hops : List ℕ) (here there : Stand) → Leads local_wiring local_states here hops there →
+  leads_whole : (hops : List ℕ) (here there : Stand) → Leads text_graph local_states here hops there →
       Leads g state (whole_stand locals here) (map (slice_index group.switches) hops) (whole_stand locals there)
   leads_whole [] here there leads = ap (whole_stand locals) leads
   leads_whole (place ∷ hops) here there leads =
@@ -44,40 +46,43 @@ module _ (g : Wiring) (wired : IsWired g) (group : Group) (is_group : IsGroup g 
       (whole_stand locals leads.0, over, leads_whole hops leads.0 there leads.2)
 
   -- a path over the local graph that leads to a node with the level of what it stands for starts at one
-  alike_root : (hops : List ℕ) (root : ℕ) (there : Stand) → Leads local_wiring local_states (at_root local_wiring root) hops there →
+  alike_root : (hops : List ℕ) (root : ℕ) (there : Stand) → Leads text_graph local_states (at_root text_graph root) hops there →
       IsAlike g group there.node → IsAlike g group root
   alike_root [] root there leads alike = rw (ap (λ (here : Stand). here.node) leads) alike
   alike_root (place ∷ hops) root there leads alike =
-      alike_before g wired group is_group state (at_root local_wiring root) leads.0 place leads.1
+      alike_before g wired group is_group state (at_root text_graph root) leads.0 place leads.1
 
   -- so it is a live path of the whole graph
-  path_whole : (root : ℕ) (hops : List ℕ) (there : Stand) → LivePath local_wiring local_states root hops there →
+  path_whole : (root : ℕ) (hops : List ℕ) (there : Stand) → LivePath text_graph local_states root hops there →
       IsAlike g group there.node →
       LivePath g state (slice_index locals root) (map (slice_index group.switches) hops) (whole_stand locals there)
   path_whole root hops there path alike =
       let start = alike_root hops root there path.leads alike in
-      let leads = leads_whole hops (at_root local_wiring root) there path.leads in
+      let leads = leads_whole hops (at_root text_graph root) there path.leads in
       record { in_range = start.in_range; leads = rw (whole_root g group root start) at leads }
 
-  module _ (best local_best : ℕ → ℕ) (is_best : IsBest g state best) (is_local_best : IsBest local_wiring local_states local_best) where
+  module _ (best local_best : ℕ → ℕ) (is_best : IsBest g state best)
+      (is_local_best : IsBest text_graph local_states local_best) where
     -- the strongest definite path to a local node is no stronger than that to the node that it stands for
     pub local_best-most : (local : ℕ) → IsAlike g group local → local_best local ≤ best (slice_index locals local)
     local_best-most local alike =
         let found = is_local_best.found local (rw (nodes_local g group is_group) alike.inside) in
         let there : Stand = surely local (local_best local) in
         let path = path_whole found.root found.hops there found.path alike in
-        is_best.most (slice_index locals found.root) (map (slice_index group.switches) found.hops) (whole_stand locals there) path refl
+        is_best.most (slice_index locals found.root) (map (slice_index group.switches) found.hops)
+        (whole_stand locals there) path refl
 
     -- it is no weaker than the empty path of the local node
-    local_best-level : (local : ℕ) → local < length locals → level_of local_wiring local ≤ local_best local
+    local_best-level : (local : ℕ) → local < length locals → level_of text_graph local ≤ local_best local
     local_best-level local inside =
-        let empty : LivePath local_wiring local_states local [] (at_root local_wiring local) =
+        let empty : LivePath text_graph local_states local [] (at_root text_graph local) =
         record { in_range = rw (nodes_local g group is_group) inside; leads = refl } in
-        is_local_best.most local [] (at_root local_wiring local) empty refl
+        is_local_best.most local [] (at_root text_graph local) empty refl
 
     -- a hop onto a member comes over a switch of the group
     within_member : (here next : Stand) (place local : ℕ) → Hop g state here place next → next.definite ≡ true →
-        IsWithin g group local_best here → local < length group.members → IsAlike g group local → slice_index locals local ≡ next.node →
+        IsWithin g group local_best here → local < length group.members → IsAlike g group local →
+        slice_index locals local ≡ next.node →
         next.strength ≤ local_best local
     within_member here next place local hop definite within first alike is =
         let member : Contains group.members next.node = rw is at (first-member g group is_group local first) in
@@ -90,8 +95,10 @@ module _ (g : Wiring) (wired : IsWired g) (group : Group) (is_group : IsGroup g 
         let near = alike_end g wired group is_group place next.node before hop.switch inside hop.at_place joins
         (local_of-inside locals here.node there) in
         let over = hop_local g wired group is_group state here next place inside hop in
-        let after = is_local_best.spread (local_stand locals here) (local_stand locals next) over.0 over.1 definite (within before near stands) in
-        let same : local_of locals next.node ≡ local = rw is at (local_of-at locals (locals_apart g group) local alike.inside) in
+        let after = is_local_best.spread (local_stand locals here) (local_stand locals next) over.0 over.1 definite
+        (within before near stands) in
+        let same : local_of locals next.node ≡ local =
+        rw is at (local_of-at locals (locals_apart g group) local alike.inside) in
         rw same at after
 
     -- and a hop onto an input node is weaker than that node's own empty path

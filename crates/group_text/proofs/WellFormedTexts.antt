@@ -6,7 +6,7 @@ use Rattle.std.proofs.lemmas.List.Elements.{All-weaker, All-contains_itself, All
 use Rattle.strength_order.specs.declared.TheConstants.{INPUT_LEVEL}
 use Rattle.strength_order.specs.Levels.{IsLevel}
 use Rattle.path_meaning.specs.declared.switching.Switch.{Switch}
-use Rattle.path_meaning.specs.Wiring.{Wiring, IsWired, Fits, FitsPlace, level_of, place_at}
+use Rattle.path_meaning.specs.Graphs.{GraphData, IsWired, Fits, FitsPlace, level_of, place_at, IsStorage}
 use Rattle.path_meaning.proofs.PathLemmas.{switch_fits, level_fits}
 use Rattle.group_meaning.specs.Groups.{Group, IsGroup}
 use Rattle.group_meaning.proofs.GroupLemmas.{member_storage}
@@ -15,7 +15,7 @@ use Rattle.group_text.specs.Laws.{TextsAreWellFormed}
 use Rattle.group_text.proofs.LocalNodes.{local_of-inside, gate_local, a_local, b_local, members_within, member_at}
 use Rattle.group_text.proofs.LocalEdges.{nodes_local, level_member, level_outside}
 
-module _ (g : Wiring) (wired : IsWired g) (group : Group) (is_group : IsGroup g group) where
+module _ (g : GraphData) (wired : IsWired g) (group : Group) (is_group : IsGroup g group) where
   -- the level of a local node is a level
   levels_fit : All IsLevel (local_graph g group).levels
   levels_fit =
@@ -57,12 +57,15 @@ module _ (g : Wiring) (wired : IsWired g) (group : Group) (is_group : IsGroup g 
   pub local_wired : IsWired (local_graph g group)
   local_wired = record { levels = levels_fit; places = places_fit }
 
-  -- the node that a first local node stands for is a member
-  first_storage : (local : ℕ) → local < length group.members → level_of (local_graph g group) local < INPUT_LEVEL
+  -- the node that a first local node stands for is a member, so it is a storage node too
+  first_storage : (local : ℕ) → local < length group.members → IsStorage (local_graph g group) local
   first_storage local first =
       let member = Contains-get_or group.members local 0 first in
       let storage = member_storage g group is_group (slice_index group.members local) member in
-      rw (level_member g group is_group local first, member_at g group is_group local first) storage.below
+      record {
+        inside = rw (nodes_local g group is_group) (omega (arith, members_within g group is_group));
+        below = rw (level_member g group is_group local first, member_at g group is_group local first) storage.below;
+      }
 
 -- the text of a group is well formed
 pub well_formed : TextsAreWellFormed

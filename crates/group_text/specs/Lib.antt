@@ -2,3 +2,4 @@ pub mod Texts
 pub mod Laws
 pub mod Local
 pub mod Compared
+pub mod FirstTexts

@@ -7,15 +7,17 @@ use Rattle.ternary.specs.declared.tern.Tern.TheVariants.{Zero, One}
 use Rattle.strength_order.specs.declared.TheConstants.{INPUT_LEVEL}
 use Rattle.path_meaning.specs.declared.switching.Switch.{Switch}
 use Rattle.path_meaning.specs.Switching.{state_at}
-use Rattle.path_meaning.specs.Wiring.{Wiring, IsWired, nodes, level_of, place_at}
+use Rattle.path_meaning.specs.Graphs.{GraphData, IsWired, nodes, level_of, place_at, IsStorage}
 use Rattle.group_meaning.specs.Groups.{Group}
 use Rattle.group_text.specs.declared.text.TheConstants.{MOST_MEMBERS, MOST_SWITCHES}
 use Rattle.group_text.specs.declared.text.TextFault.{TextFault}
 use Rattle.group_text.specs.declared.text.TextFault.TheVariants.{GroupNodes, GroupSwitches}
+use Rattle.path_meaning.specs.declared.TheConstants.{GND, VDD}
 
--- a text as contracts see it: the local graph, how many of its nodes are members, and the constant of each local node that is a rail
-pub record Text : Type 0 where
-  pub graph : Wiring
+-- a text as contracts see it: the local graph, how many of its nodes are members, and the constant of each
+-- local node that is a rail
+pub record GroupTextData : Type 0 where
+  pub graph : GraphData
   pub members : ℕ
   pub constants : List (Option Tern)
 
@@ -29,9 +31,9 @@ abbrev pub terminals_of : Option Switch → List ℕ
 terminals_of None = []
 terminals_of (Some switch) = switch.gate ∷ switch.a ∷ switch.b ∷ []
 
--- the nodes that a group's local nodes stand for, in order: the members, then the outside nodes as they appear at the terminals
--- of the switches, each once. A gate that is a member stays that member
-abbrev pub local_nodes : Wiring → Group → List ℕ
+-- the nodes that a group's local nodes stand for, in order: the members, then the outside nodes as they appear
+-- at the terminals of the switches, each once. A gate that is a member stays that member
+abbrev pub local_nodes : GraphData → Group → List ℕ
 local_nodes g group = firsts (group.members ++ flat_map (λ place. terminals_of (place_at g.places place)) group.switches)
 
 -- the local node that stands for a node
@@ -48,10 +50,11 @@ local_switch locals switch = record switch {
 
 -- the constant of a node: 0 for Gnd, 1 for Vdd, none for the others
 abbrev pub constant_of : ℕ → Option Tern
-constant_of node = if node == 0 then Some Zero else (if node == 1 then Some One else None)
+constant_of node = if node == GND then Some Zero else (if node == VDD then Some One else None)
 
--- the local graph: the members keep their levels, the outside nodes are input nodes; the group's switches stand in order, with no empty place
-abbrev pub local_graph : Wiring → Group → Wiring
+-- the local graph: the members keep their levels, the outside nodes are input nodes; the group's switches stand
+-- in order, with no empty place
+abbrev pub local_graph : GraphData → Group → GraphData
 local_graph g group =
     let locals = local_nodes g group in
     record {
@@ -60,7 +63,7 @@ local_graph g group =
     }
 
 -- the text of a group
-abbrev pub text_of_group : Wiring → Group → Text
+abbrev pub text_of_group : GraphData → Group → GroupTextData
 text_of_group g group = record {
   graph = local_graph g group;
   members = length group.members;
@@ -71,12 +74,12 @@ text_of_group g group = record {
 abbrev pub local_state : List ℕ → List Tern → List Tern
 local_state locals state = map (state_at state) locals
 
--- a text is well formed: its graph is, its members are its first nodes and are storage nodes, its other nodes are input nodes, and
--- each node has a constant or none
-pub record IsText (text : Text) : Type 0 where
+-- a text is well formed: its graph is, its members are its first nodes and are storage nodes, its other nodes
+-- are input nodes, and each node has a constant or none
+pub record IsText (text : GroupTextData) : Type 0 where
   pub wired : IsWired text.graph
   pub members : text.members ≤ nodes text.graph
-  pub storage : (node : ℕ) → node < text.members → level_of text.graph node < INPUT_LEVEL
+  pub storage : (node : ℕ) → node < text.members → IsStorage text.graph node
   pub outside : (node : ℕ) → text.members ≤ node → node < nodes text.graph → level_of text.graph node ≡ INPUT_LEVEL
   pub constants : length text.constants ≡ nodes text.graph
 

@@ -11,6 +11,10 @@
 //! text_of(alloc, &graph, &[3], &[0, 1])     gives that text, and the nodes 3, 2, 1, 0
 //! ```
 //!
+//! For the proofs of crates above: `LocalNodes` and `LocalEdges`, the nodes and switches of a local
+//! graph beside those that they stand for; `GroupLemmas`, that a group's members and switches are of
+//! its graph; `Locality`, the law of local responses.
+//!
 //! After Beatty and Bryant, "Fast Incremental Circuit Analysis Using Extracted Hierarchy", 1988.
 #![tactic(auto)]
 

@@ -2,7 +2,7 @@
 
 ghost use Rattle.std.specs.Prelude.{◌≡◌, ℕ, ◌<◌, ◌≤◌, ◌++◌, ◌-◌, [], All, Contains, IfOk, OnOk, nat_eq, length, map, replicate, option_map};
 ghost use Rattle.indexmap.specs.IndexSet.{insert_all};
-ghost use Rattle.path_meaning.specs.Wiring.{nodes, level_of, place_at, Fits};
+ghost use Rattle.path_meaning.specs.Graphs.{nodes, level_of, place_at, Fits};
 ghost use Rattle.group_text.specs.Texts.{local_nodes, local_of, local_switch, terminals_of};
 ghost use Rattle.group_text.specs.Local.{AreAmong, StandsAmong};
 
@@ -21,7 +21,8 @@ pub(crate) fn collect_nodes(
     switches: &[usize],
 ) -> Result<IndexSet<usize>, AllocError>
     requires { All (λ place. place < length graph.now.places) switches.now }
-    ensures { IfOk result (λ locals. locals.keys ≡ local_nodes graph.now (record { members = members.now; switches = switches.now })) }
+    ensures { IfOk result (λ locals.
+        locals.keys ≡ local_nodes graph.now (record { members = members.now; switches = switches.now })) }
 {
     let mut locals = IndexSet::new(alloc);
     for &member in members {
@@ -33,7 +34,7 @@ pub(crate) fn collect_nodes(
     Ok(locals)
 }
 
-/// Inserts the nodes at the terminals of what stands at a place.
+// Inserts the nodes at the terminals of what stands at a place.
 fn insert_terminals(locals: &mut IndexSet<usize>, place: Option<Switch>) -> Result<(), AllocError>
     ensures { OnOk result (locals.new.keys ≡ insert_all nat_eq locals.old.keys (terminals_of place)) }
 {
@@ -73,7 +74,7 @@ pub(crate) fn local_graph(
     Ok(local)
 }
 
-/// Adds the switches at these places to a local graph without places, between the local nodes.
+// Adds the switches at these places to a local graph without places, between the local nodes.
 fn add_switches(
     graph: &Graph,
     switches: &[usize],
@@ -96,7 +97,7 @@ fn add_switches(
     Ok(())
 }
 
-/// The switch between the local nodes of its terminals.
+// The switch between the local nodes of its terminals.
 fn local_switch(locals: &IndexSet<usize>, switch: Switch) -> Switch
     requires { AreAmong locals.now.keys switch }
     ensures value { result ≡ local_switch locals.now.keys switch }
@@ -112,7 +113,7 @@ fn local_switch(locals: &IndexSet<usize>, switch: Switch) -> Switch
     }
 }
 
-/// The local node that stands for a node.
+// The local node that stands for a node.
 fn local_of(locals: &IndexSet<usize>, node: usize) -> usize
     requires { Contains locals.now.keys node }
     ensures value { result ≡ local_of locals.now.keys node }

@@ -1,10 +1,10 @@
 ghost use Rattle.std.specs.Prelude.{◌≡◌, ◌<◌, ◌≤◌, ◌⊎◌, length, map, None, Some, slice_index_or, IfOk, IfErr, OnOk};
-ghost use Rattle.path_meaning.specs.Wiring.{nodes};
+ghost use Rattle.path_meaning.specs.Graphs.{nodes};
 ghost use Rattle.group_meaning.specs.Groups.{IsGroup};
 ghost use Rattle.group_text.specs.Texts.{IsText, constant_of, local_nodes, size_fault, text_of_group};
 
 use crate::local::{collect_nodes, local_graph};
-use path_meaning::{Graph, graphs_are_wired};
+use path_meaning::{GND, Graph, VDD, graphs_are_wired};
 use std::alloc::{AllocError, Global};
 use std::marker::Model;
 use ternary::{NoMemory, Tern};
@@ -14,12 +14,6 @@ pub const MOST_MEMBERS: usize = 200;
 
 /// The most switches of a group whose text is made.
 pub const MOST_SWITCHES: usize = 800;
-
-/// The node Gnd.
-const GND: usize = 0;
-
-/// The node Vdd.
-const VDD: usize = 1;
 
 /// Why a group has no text.
 #[derive(Clone, Copy, Debug, PartialEq, Eq)]
@@ -55,9 +49,9 @@ pub struct GroupText {
 }
 
 impl Model for GroupText {
-    ghost use Rattle.group_text.specs.Texts.{Text, IsText};
+    ghost use Rattle.group_text.specs.Texts.{GroupTextData, IsText};
 
-    ghost Value = { Text };
+    ghost Value = { GroupTextData };
 
     ghost view = { λ text. record { graph = text.graph; members = text.members; constants = text.constants.items } };
 
@@ -80,7 +74,8 @@ impl GroupText {
         self.members
     }
 
-    /// The constant state of a local node that stands for a rail: 0 for Gnd, 1 for Vdd. `None` exactly where it is no rail.
+    /// The constant state of a local node that stands for a rail: 0 for Gnd, 1 for Vdd. `None` exactly
+    /// where it is no rail.
     pub fn constant(&self, local: usize) -> Option<Tern>
         requires { local < nodes self.now.graph }
         ensures { result ≡ slice_index_or self.now.constants local None }
@@ -118,10 +113,13 @@ pub fn text_of(
     switches: &[usize],
 ) -> Result<(GroupText, Vec<usize>), TextFault>
     requires { IsGroup graph.now (record { members = members.now; switches = switches.now }) }
-    ensures text { IfOk result (λ made. made.0 ≡ text_of_group graph.now (record { members = members.now; switches = switches.now })) }
-    ensures locals { IfOk result (λ made. made.1.items ≡ local_nodes graph.now (record { members = members.now; switches = switches.now })) }
+    ensures text { IfOk result (λ made.
+        made.0 ≡ text_of_group graph.now (record { members = members.now; switches = switches.now })) }
+    ensures locals { IfOk result (λ made.
+        made.1.items ≡ local_nodes graph.now (record { members = members.now; switches = switches.now })) }
     ensures fits { OnOk result (size_fault (length members.now) (length switches.now) ≡ None) }
-    ensures too_large { IfErr result (λ fault. (fault ≡ TextFault.NoMemory) ⊎ (size_fault (length members.now) (length switches.now) ≡ Some fault)) }
+    ensures too_large { IfErr result (λ fault. (fault ≡ TextFault.NoMemory)
+        ⊎ (size_fault (length members.now) (length switches.now) ≡ Some fault)) }
 {
     if members.len() > MOST_MEMBERS {
         return Err(TextFault::GroupNodes {
@@ -136,7 +134,7 @@ pub fn text_of(
     Ok(make_text(alloc, graph, members, switches)?)
 }
 
-/// The text of a group of any size, and the node that each local node stands for.
+// The text of a group of any size, and the node that each local node stands for.
 fn make_text(
     alloc: Global,
     graph: &Graph,
@@ -144,8 +142,10 @@ fn make_text(
     switches: &[usize],
 ) -> Result<(GroupText, Vec<usize>), NoMemory>
     requires { IsGroup graph.now (record { members = members.now; switches = switches.now }) }
-    ensures text { IfOk result (λ made. made.0 ≡ text_of_group graph.now (record { members = members.now; switches = switches.now })) }
-    ensures locals { IfOk result (λ made. made.1.items ≡ local_nodes graph.now (record { members = members.now; switches = switches.now })) }
+    ensures text { IfOk result (λ made.
+        made.0 ≡ text_of_group graph.now (record { members = members.now; switches = switches.now })) }
+    ensures locals { IfOk result (λ made.
+        made.1.items ≡ local_nodes graph.now (record { members = members.now; switches = switches.now })) }
 {
     graphs_are_wired(graph);
     let locals = collect_nodes(alloc, graph, members, switches)?;
@@ -158,14 +158,14 @@ fn make_text(
     Ok((text, nodes))
 }
 
-/// For each local node the constant of the node that it stands for.
+// For each local node the constant of the node that it stands for.
 fn constants_of(alloc: Global, locals: &[usize]) -> Result<Vec<Option<Tern>>, AllocError>
     ensures { IfOk result (λ constants. constants.items ≡ map constant_of locals.now) }
 {
     locals.iter().map(|&node| constant_of(node)).collect(alloc)
 }
 
-/// The constant of a node: Gnd is 0, Vdd is 1.
+// The constant of a node: Gnd is 0, Vdd is 1.
 fn constant_of(node: usize) -> Option<Tern>
     ensures { result ≡ constant_of node }
 {

@@ -1,6 +1,6 @@
 -- A place without a group, and one that a group's switch stands at.
 use Rattle.std.proofs.Common.{◌≡◌, ◌<◌, length, get_or, Some, None, [], ◌∷◌, ◌++◌, sym, ap, ◌∙◌, arith, rules}
-use Rattle.path_meaning.specs.Wiring.{nodes, place_at}
+use Rattle.path_meaning.specs.Graphs.{nodes, place_at}
 use Rattle.channel_groups.specs.Collecting.{number_of, group_of}
 use Rattle.channel_groups.proofs.CollectingLemmas.{place_none, place_added, length-groups_of, group_at, number_of-inside}
 use Rattle.channel_groups.proofs.collecting.add_place.Goals as goal

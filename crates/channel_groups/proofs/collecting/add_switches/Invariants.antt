@@ -1,6 +1,6 @@
 -- The places so far are in the groups.
 use Rattle.std.proofs.Common.{◌≡◌}
-use Rattle.path_meaning.specs.Wiring.{nodes}
+use Rattle.path_meaning.specs.Graphs.{nodes}
 use Rattle.channel_groups.specs.Collecting.{groups_of}
 use Rattle.channel_groups.proofs.collecting.add_switches.Given as goal
 

@@ -1,6 +1,6 @@
 -- The switches so far are in the forest.
 use Rattle.std.proofs.Common.{◌≡◌, length}
-use Rattle.path_meaning.specs.Wiring.{nodes}
+use Rattle.path_meaning.specs.Graphs.{nodes}
 use Rattle.channel_groups.specs.Forest.{AreFalling, AreLinkedUp, AreSharedBelow}
 use Rattle.channel_groups.proofs.forest.join_all.Given as goal
 

@@ -2,7 +2,7 @@
 use Rattle.std.proofs.Common.{◌≡◌, length, rules, arith}
 use Rattle.std.specs.Prelude.{slice_index}
 use Rattle.std.proofs.lemmas.List.{get_or_read}
-use Rattle.group_meaning.specs.Groups.{IsStorage}
+use Rattle.path_meaning.specs.Graphs.{IsStorage}
 use Rattle.channel_groups.specs.Numbers.{number_at}
 use Rattle.channel_groups.proofs.NumberLemmas.{step_input, step_top, step_under}
 use Rattle.channel_groups.proofs.numbers.number_next.Goals as goal

@@ -3,7 +3,7 @@ use Rattle.std.proofs.Common.{◌≡◌, ℕ, ◌+◌, ◌-◌, ◌≤◌, List,
 use Rattle.std.specs.Prelude.{replicate}
 use Rattle.std.proofs.lemmas.List.{replicate_more}
 use Rattle.strength_order.specs.declared.TheConstants.{INPUT_LEVEL}
-use Rattle.path_meaning.specs.Wiring.{level_of}
+use Rattle.path_meaning.specs.Graphs.{level_of}
 use Rattle.group_text.proofs.local.local_graph.Goals as goal
 
 -- behind a list of levels stands one more of the same
@@ -16,5 +16,6 @@ one_more levels level low k above =
 
 pub loop-outside-preserved : goal.loop-outside-preserved
 loop-outside-preserved c =
-    let more = one_more (map (level_of c.args.graph.now) c.args.members.now) INPUT_LEVEL (length c.args.members.now) c.loop-outside._outside (omega arith) in
+    let more = one_more (map (level_of c.args.graph.now) c.args.members.now) INPUT_LEVEL
+    (length c.args.members.now) c.loop-outside._outside (omega arith) in
     rw (c.in_ok-add_node-2.ensures.ok, c.loop-outside.invariant) (λ i. record { levels = more i; places = [] })

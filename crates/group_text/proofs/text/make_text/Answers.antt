@@ -6,7 +6,8 @@ use Rattle.group_text.proofs.WellFormedTexts.{well_formed}
 use Rattle.group_text.proofs.text.make_text.Goals as goal
 
 pub collect_nodes-requires : goal.collect_nodes-requires
-collect_nodes-requires c = switches_inside c.args.graph.now (record { members = c.args.members.now; switches = c.args.switches.now }) c.requires
+collect_nodes-requires c = switches_inside c.args.graph.now
+    (record { members = c.args.members.now; switches = c.args.switches.now }) c.requires
 
 pub local_graph-requires-clause-members : goal.local_graph-requires-clause-members
 local_graph-requires-clause-members c =
@@ -25,7 +26,8 @@ local_graph-requires-clause-switches c =
 pub invariant_of-text : goal.invariant_of-text
 invariant_of-text c =
     rw (c.in_ok-local_graph.ensures, c.in_ok-constants_of.ensures, c.as_slice.ensures.keys, c.in_ok-locals.ensures)
-    (well_formed c.args.graph.now (record { members = c.args.members.now; switches = c.args.switches.now }) c.graphs_are_wired.ensures c.requires)
+    (well_formed c.args.graph.now (record { members = c.args.members.now; switches = c.args.switches.now })
+    c.graphs_are_wired.ensures c.requires)
 
 pub returns-clause-text : goal.returns-clause-text
 returns-clause-text c =
