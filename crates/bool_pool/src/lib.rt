@@ -17,6 +17,9 @@
 //! pool.value(alloc, both, &[true])?             is false: a variable past the end is false
 //! ```
 //!
+//! For the proofs of crates above: `ValueLemmas` (gates that are added leave the values), `ReachLemmas`,
+//! `WithinLemmas` (how many gates formulas reach) and `MadeLemmas` (formulas that were just made).
+//!
 //! Formulas with shared parts are those of Bryant, "Boolean Analysis of MOS Circuits", 1987.
 #![tactic(auto)]
 

@@ -10,6 +10,7 @@ use indexmap::IndexSet;
 use std::alloc::{AllocError, Global};
 use std::marker::Model;
 use std::sync::ledger::Ledger;
+use table_keys::TableKeys;
 use ternary::{NoMemory, Steps};
 
 /// An ordered set of gates.
@@ -18,7 +19,7 @@ use ternary::{NoMemory, Steps};
 /// gates, in order of place. Gates are only added, so each formula keeps its value and its reach.
 #[derive(Drop)]
 pub struct Pool {
-    gates: IndexSet<Gate>,
+    gates: IndexSet<Gate, TableKeys>,
 }
 
 impl Model for Pool {
@@ -34,12 +35,22 @@ impl Model for Pool {
 }
 
 impl Pool {
-    /// A pool with no gate.
+    /// A pool with no gate, whose keys are the same in every run.
     pub fn new(alloc: Global) -> Pool
         ensures { result ≡ [] }
     {
+        Pool::with_keys(alloc, TableKeys::fixed())
+    }
+
+    /// A pool with no gate, which looks its gates up by hashes that start from these keys.
+    ///
+    /// Where the author of a text chooses the formulas, keys that were drawn keep him from choosing
+    /// gates that all fall into one place of the table.
+    pub fn with_keys(alloc: Global, keys: TableKeys) -> Pool
+        ensures { result ≡ [] }
+    {
         Pool {
-            gates: IndexSet::new(alloc),
+            gates: IndexSet::with_hasher(alloc, keys),
         }
     }
 

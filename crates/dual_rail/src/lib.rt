@@ -18,4 +18,4 @@ mod conduct;
 mod rails;
 
 pub use conduct::{closed, may_conduct};
-pub use rails::{const_rails, var_rails};
+pub use rails::{TOO_MANY_NODES, const_rails, var_rails};

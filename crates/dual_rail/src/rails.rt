@@ -7,6 +7,10 @@ use bool_pool::{Gate, Pool, Rails};
 use std::sync::ledger::Ledger;
 use ternary::{NoMemory, Steps, Tern};
 
+/// A local node of this number or a higher one has no variables: a variable's number has 32 bits,
+/// and each node has two.
+pub const TOO_MANY_NODES: usize = 2_147_483_648;
+
 /// The rails of a local node: variable `2 * local` for "may be 1", and the next one for "may be 0".
 ///
 /// At an error the pool may hold further gates.
@@ -15,7 +19,7 @@ pub fn var_rails<L: Ledger>(
     local: u32,
     steps: &mut Steps<L>,
 ) -> Result<Rails, NoMemory>
-    requires { local < 2147483648 }
+    requires { local < TOO_MANY_NODES }
     ensures extends { Extends pool.old pool.new }
     ensures hi { IfOk result (λ rails. IsLeaf pool.new (Gate.Var (2 * local)) (λ vars. vars (2 * local)) rails.hi.place) }
     ensures lo { IfOk result (λ rails. IsLeaf pool.new (Gate.Var (2 * local + 1)) (λ vars. vars (2 * local + 1)) rails.lo.place) }
