@@ -6,11 +6,12 @@ use Rattle.std.proofs.lemmas.List.{append-nil, append_cancel_left, length_push, 
 use Rattle.std.proofs.lemmas.List.Concat.{flat_map-append}
 use Rattle.std.proofs.lemmas.List.Elements.{All-nil, All-cons, All-append, All-push, All-weaker, All-head, All-tail}
 use Rattle.std.proofs.lemmas.Option.{slice_get-get_or, get_or_from_slice_get, slice_get_within}
-use Rattle.linear_code.specs.declared.code.Operand.TheVariants.{Constant}
-use Rattle.linear_code.specs.declared.code.Instruction.{Instruction}
-use Rattle.linear_code.specs.declared.code.Output.{Output}
-use Rattle.linear_code.specs.Code.{AreAllowed, IsOutput}
-use Rattle.linear_code.specs.Listing.{Entry, Listed, IsListedName, storage_before}
+use Rattle.straight_code.specs.declared.code.Operand.TheVariants.{Constant}
+use Rattle.straight_code.specs.declared.code.Instruction.{Instruction}
+use Rattle.straight_code.specs.declared.code.Output.{Output}
+use Rattle.straight_code.specs.Code.{AreAllowed, IsOutput}
+use Rattle.linear_code.specs.Listing.{Entry, ListingData, storage_before}
+use Rattle.line_words.specs.Visible.{IsVisibleName}
 use Rattle.linear_code.specs.ListingText.{node_line, node_lines, instruction_line, instruction_lines, instruction_text, next_line, storage_nodes, kind_letter}
 use Rattle.linear_code.specs.Reading.{IsPartial, partial_text, line_count}
 use Rattle.linear_code.specs.Adding.{Added, with_added, output_text, bare_line, Fits}
@@ -20,7 +21,7 @@ use Rattle.linear_code.proofs.OperandLemmas.{IsSmall, instruction_text-same, IsF
 use Rattle.linear_code.proofs.StorageLemmas.{length-storage_nodes, storage_nodes-at}
 
 -- the line that adds it, with its LF
-abbrev pub whole_line : Listed → Added → List ℕ
+abbrev pub whole_line : ListingData → Added → List ℕ
 whole_line listing added = bare_line listing added ++ 10 ∷ []
 
 -- the line of a node
@@ -112,7 +113,7 @@ next_part-push entries nexts node added found =
     ∙ ap (λ line. next_part entries nexts ++ line) (append-nil (line_at entries more node) ∙ here)
 
 -- the text of a partial listing with one line more
-pub partial_text-added : (listing : Listed) (added : Added) → Fits listing added
+pub partial_text-added : (listing : ListingData) (added : Added) → Fits listing added
     → partial_text (with_added listing added) ≡ partial_text listing ++ whole_line listing added
 partial_text-added listing (entry added) fits =
     let line = node_line (length listing.entries) added in
@@ -142,7 +143,7 @@ partial_text-added listing (next node added) fits =
     ∙ ap (λ last. nodes ++ (before ++ moved) ++ last) (next_line-bare node added)
 
 -- there is one line more
-pub line_count-added : (listing : Listed) (added : Added) → line_count (with_added listing added) ≡ line_count listing + 1
+pub line_count-added : (listing : ListingData) (added : Added) → line_count (with_added listing added) ≡ line_count listing + 1
 line_count-added listing (entry added) = omega (arith, length_push listing.entries added)
 line_count-added listing (instruction added) = omega (arith, length_push listing.instructions added)
 line_count-added listing (next node added) = omega (arith, length_push listing.nexts added)
@@ -170,11 +171,11 @@ AreAllowed-push instructions added nodes reads allowed k read found =
     ]
 
 -- what fits makes a partial listing
-pub IsPartial-added : (listing : Listed) (added : Added) → IsPartial listing → Fits listing added → IsPartial (with_added listing added)
+pub IsPartial-added : (listing : ListingData) (added : Added) → IsPartial listing → Fits listing added → IsPartial (with_added listing added)
 IsPartial-added listing (entry added) partial fits =
     let entries = listing.entries ++ added ∷ [] in
     rw (fits.0, fits.1) (record {
-      names = All-push (λ entry. IsListedName entry.name) listing.entries added partial.names fits.2;
+      names = All-push (λ entry. IsVisibleName entry.name) listing.entries added partial.names fits.2;
       reads = λ k instruction found. absurd (omega (arith, slice_get_within [] k instruction found));
       some_next = omega arith;
       nexts = All-nil (IsOutput (length entries) 0);
@@ -197,12 +198,12 @@ IsPartial-added listing (next node added) partial fits =
     }
 
 -- the listing of these
-abbrev pub listed : List Entry → List Instruction → List Output → Listed
+abbrev pub listed : List Entry → List Instruction → List Output → ListingData
 listed entries instructions nexts = record { entries = entries; instructions = instructions; nexts = nexts }
 
 -- a partial listing that another one makes with one line more
-pub record IsMade (listing : Listed) : Type 0 where
-  pub old : Listed
+pub record IsMade (listing : ListingData) : Type 0 where
+  pub old : ListingData
   pub added : Added
   pub partial : IsPartial old
   pub fits : Fits old added
@@ -241,7 +242,7 @@ slice_get-last front last =
     ∙ ap Some (get_or_push front last last (length front) refl)
 
 -- its last line is a next state
-IsMade-next : (listing : Listed) → IsPartial listing → (nexts : List Output) (added : Output) → listing.nexts ≡ nexts ++ added ∷ [] → IsMade listing
+IsMade-next : (listing : ListingData) → IsPartial listing → (nexts : List Output) (added : Output) → listing.nexts ≡ nexts ++ added ∷ [] → IsMade listing
 IsMade-next listing partial nexts added whole =
     let entries = listing.entries in
     let instructions = listing.instructions in
@@ -257,7 +258,7 @@ IsMade-next listing partial nexts added whole =
     }
 
 -- its last line is an instruction
-IsMade-instruction : (listing : Listed) → IsPartial listing → (instructions : List Instruction) (added : Instruction)
+IsMade-instruction : (listing : ListingData) → IsPartial listing → (instructions : List Instruction) (added : Instruction)
     → listing.instructions ≡ instructions ++ added ∷ [] → listing.nexts ≡ [] → IsMade listing
 IsMade-instruction listing partial instructions added whole none =
     let entries = listing.entries in
@@ -276,10 +277,10 @@ IsMade-instruction listing partial instructions added whole none =
     }
 
 -- its last line is a node
-IsMade-entry : (listing : Listed) → IsPartial listing → (entries : List Entry) (added : Entry) → listing.entries ≡ entries ++ added ∷ []
+IsMade-entry : (listing : ListingData) → IsPartial listing → (entries : List Entry) (added : Entry) → listing.entries ≡ entries ++ added ∷ []
     → listing.instructions ≡ [] → listing.nexts ≡ [] → IsMade listing
 IsMade-entry listing partial entries added whole empty none =
-    let parts = All-front (λ entry. IsListedName entry.name) entries added listing.entries whole partial.names in
+    let parts = All-front (λ entry. IsVisibleName entry.name) entries added listing.entries whole partial.names in
     record {
       old = listed entries [] [];
       added = entry added;
@@ -296,7 +297,7 @@ IsMade-entry listing partial entries added whole empty none =
     }
 
 -- each partial listing with a line is made so
-pub IsMade-of : (listing : Listed) (count : ℕ) → IsPartial listing → line_count listing ≡ count + 1 → IsMade listing
+pub IsMade-of : (listing : ListingData) (count : ℕ) → IsPartial listing → line_count listing ≡ count + 1 → IsMade listing
 IsMade-of listing count partial lines =
     elim (last_of listing.nexts) [
       | inl moved ↦ IsMade-next listing partial moved.0 moved.1 moved.2
@@ -325,11 +326,11 @@ IsFrom-kind true = All-cons (λ byte. 32 ≤ byte) 115 [] (omega arith) (All-nil
 IsFrom-kind false = All-cons (λ byte. 32 ≤ byte) 105 [] (omega arith) (All-nil (λ byte. 32 ≤ byte))
 
 -- the nodes and results of a listing of few lines are few
-IsSmall-of : (listing : Listed) → line_count listing < 2 ^ 64 → IsSmall (length listing.entries) (length listing.instructions)
+IsSmall-of : (listing : ListingData) → line_count listing < 2 ^ 64 → IsSmall (length listing.entries) (length listing.instructions)
 IsSmall-of listing small = record { few_nodes = omega arith; few_results = omega arith }
 
 -- a line has no LF but its last byte
-pub Lacks-bare_line : (listing : Listed) (added : Added) → line_count listing < 2 ^ 64 → Fits listing added → Lacks 10 (bare_line listing added)
+pub Lacks-bare_line : (listing : ListingData) (added : Added) → line_count listing < 2 ^ 64 → Fits listing added → Lacks 10 (bare_line listing added)
 Lacks-bare_line listing (entry added) small fits =
     let name : IsFrom 32 added.name = All-weaker (λ byte. (33 ≤ byte) × (byte ≤ 126)) (λ byte. 32 ≤ byte) (λ byte h. omega (arith, h.0)) added.name fits.2.visible in
     Lacks-from 10 32 (bare_line listing (entry added)) (omega arith)
@@ -362,7 +363,7 @@ kind_and_name-same true false first second same = absurd (omega (arith, ap (λ t
 kind_and_name-same false true first second same = absurd (omega (arith, ap (λ text. get_or text 0 0) same))
 
 -- the same line adds the same
-pub bare_line-same : (listing : Listed) (a b : Added) → line_count listing < 2 ^ 64 → Fits listing a → Fits listing b
+pub bare_line-same : (listing : ListingData) (a b : Added) → line_count listing < 2 ^ 64 → Fits listing a → Fits listing b
     → bare_line listing a ≡ bare_line listing b → a ≡ b
 bare_line-same listing (entry a) (entry b) small first second same =
     let behind = append_cancel_left (decimal (length listing.entries)) _ _ (append_cancel_left (codes "node ") _ _ same) in

@@ -8,14 +8,14 @@ use Rattle.std.proofs.lemmas.List.Sums.{sum-map, sum_by_more}
 use Rattle.std.proofs.lemmas.Option.{slice_get-get_or, slice_get_within, get_or_from_slice_get, same_Some}
 use Rattle.ternary.specs.declared.tern.Tern.{Tern}
 use Rattle.ternary.specs.declared.tern.Tern.TheVariants.{Unk}
-use Rattle.linear_code.specs.declared.code.Operand.TheVariants.{Constant}
-use Rattle.linear_code.specs.declared.code.Instruction.{Instruction}
-use Rattle.linear_code.specs.declared.code.Output.{Output}
-use Rattle.linear_code.specs.declared.part.Part.{Part}
-use Rattle.linear_code.specs.Code.{results, output_state, code_value, AreAllowed, IsOutput, IsProgram}
-use Rattle.linear_code.specs.Parts.{IsPart, IsMemberAt, mapped}
+use Rattle.straight_code.specs.declared.code.Operand.TheVariants.{Constant}
+use Rattle.straight_code.specs.declared.code.Instruction.{Instruction}
+use Rattle.straight_code.specs.declared.code.Output.{Output}
+use Rattle.straight_code.specs.declared.part.Part.{Part}
+use Rattle.straight_code.specs.Code.{results, output_state, code_value, AreAllowed, IsOutput, IsCode}
+use Rattle.straight_code.specs.Parts.{IsPart, IsMemberAt, mapped}
 use Rattle.linear_code.specs.Moved.{moved_instruction, moved_output, output_at, AddsPart}
-use Rattle.linear_code.proofs.ResultLemmas.{length-results, operand_value-more}
+use Rattle.straight_code.proofs.ResultLemmas.{length-results, operand_value-more}
 use Rattle.linear_code.proofs.MovedLemmas.{results-moved, reads-moved, output_state-moved, IsOutput-moved, IsOutput-more}
 
 -- the first so many parts have been added: each of their members moves to what its part's code gives
@@ -29,13 +29,13 @@ pub record AreAdded (nodes : ℕ) (parts : List Part) (done : ℕ) (instructions
       ≡ slice_index_or (code_value member.part.code.value (mapped member.part state)) j Unk
 
 -- the instructions of a part's code read rails of its map's nodes and earlier results alone
-part_reads : (nodes : ℕ) (part : Part) → IsPart nodes part → IsProgram part.code.value
+part_reads : (nodes : ℕ) (part : Part) → IsPart nodes part → IsCode part.code.value
     → (k : ℕ) (instruction : Instruction) → slice_get part.code.value.instructions k ≡ Some instruction
     → AreAllowed (length part.map.items) k instruction
 part_reads nodes part fits program k instruction stands = rw fits.inputs (program.reads k instruction stands)
 
 -- each output of a part's code reads rails of its map's nodes and results alone
-part_output : (nodes : ℕ) (part : Part) (j : ℕ) → IsPart nodes part → IsProgram part.code.value → j < part.members
+part_output : (nodes : ℕ) (part : Part) (j : ℕ) → IsPart nodes part → IsCode part.code.value → j < part.members
     → IsOutput (length part.map.items) (length part.code.value.instructions) (output_at part.code.value.outputs j)
 part_output nodes part j fits program member =
     let inside : j < length part.code.value.outputs = omega (arith, fits.outputs) in
@@ -59,14 +59,14 @@ output_state-more state done more nodes count output enough allowed =
 
 -- the results of a part's instructions follow those that were there
 results-added : (nodes : ℕ) (part : Part) (before after : List Instruction) (old new : List Output) (state : List Tern)
-    → IsPart nodes part → IsProgram part.code.value → AddsPart part before after old new
+    → IsPart nodes part → IsCode part.code.value → AddsPart part before after old new
     → results state after ≡ results state before ++ results (mapped part state) part.code.value.instructions
 results-added nodes part before after old new state fits program adds =
     ap (results state) adds.instructions ∙ results-moved state part.map.items before part.code.value.instructions (part_reads nodes part fits program)
 
 -- a member of the part that was added moves to what the part's code gives
 member-moves : (nodes : ℕ) (part : Part) (before after : List Instruction) (old new : List Output) (state : List Tern) (node j : ℕ)
-    → IsPart nodes part → IsProgram part.code.value → AddsPart part before after old new
+    → IsPart nodes part → IsCode part.code.value → AddsPart part before after old new
     → j < part.members → slice_get part.map.items j ≡ Some node
     → output_state state (results state after) (output_at new node) ≡ slice_index_or (code_value part.code.value (mapped part state)) j Unk
 member-moves nodes part before after old new state node j fits program adds member place =
@@ -107,7 +107,7 @@ length-added part before after old new adds =
 
 -- each output reads nodes and results alone once a part was added
 allowed-next : (nodes : ℕ) (part : Part) (before after : List Instruction) (old new : List Output)
-    → IsPart nodes part → IsProgram part.code.value → AddsPart part before after old new
+    → IsPart nodes part → IsCode part.code.value → AddsPart part before after old new
     → All (IsOutput nodes (length before)) old
     → All (IsOutput nodes (length after)) new
 allowed-next nodes part before after old new fits program adds allowed =
@@ -129,7 +129,7 @@ allowed-next nodes part before after old new fits program adds allowed =
 -- one part more is added
 pub AreAdded-next : (nodes : ℕ) (parts : List Part) (done : ℕ) (part : Part) (before after : List Instruction) (old new : List Output)
     → ((node k j l i : ℕ) → IsMemberAt parts node k j → IsMemberAt parts node l i → k ≡ l)
-    → slice_get parts done ≡ Some part → IsPart nodes part → IsProgram part.code.value
+    → slice_get parts done ≡ Some part → IsPart nodes part → IsCode part.code.value
     → AddsPart part before after old new
     → AreAdded nodes parts done before old
     → AreAdded nodes parts (done + 1) after new

@@ -9,26 +9,28 @@ use Rattle.std.proofs.lemmas.Simd.{map-map}
 use Rattle.strength_order.specs.declared.TheConstants.{INPUT_LEVEL}
 use Rattle.ternary.specs.declared.tern.Tern.{Tern}
 use Rattle.ternary.specs.declared.tern.Tern.TheVariants.{Unk}
-use Rattle.path_meaning.specs.Wiring.{Wiring, nodes, level_of}
-use Rattle.linear_code.specs.declared.code.Instruction.{Instruction}
-use Rattle.linear_code.specs.declared.code.Output.{Output}
-use Rattle.linear_code.specs.declared.part.Part.{Part}
+use Rattle.path_meaning.specs.Graphs.{GraphData, nodes, level_of}
+use Rattle.straight_code.specs.declared.code.Instruction.{Instruction}
+use Rattle.straight_code.specs.declared.code.Output.{Output}
+use Rattle.straight_code.specs.declared.part.Part.{Part}
 use Rattle.linear_code.specs.declared.listing.ListedNode.{ListedNode}
-use Rattle.linear_code.specs.Code.{code_value, IsOutput}
-use Rattle.linear_code.specs.Listing.{Entry, IsListedName, IsListing, is_storage_at, next_of}
-use Rattle.linear_code.specs.Parts.{IsPart, IsMemberAt, AreMembers, IsBuilt, mapped}
+use Rattle.straight_code.specs.Code.{code_value, IsOutput}
+use Rattle.linear_code.specs.Listing.{Entry, IsListing, is_storage_at, next_of}
+use Rattle.line_words.specs.Visible.{IsVisibleName}
+use Rattle.straight_code.specs.Parts.{IsPart, IsMemberAt, AreMembers, mapped}
+use Rattle.linear_code.specs.Built.{IsBuilt}
 use Rattle.linear_code.specs.Moved.{AreNexts}
 use Rattle.linear_code.proofs.BuildLemmas.{AreAdded}
 
 -- what stands once all parts are added: the nodes have the graph's kinds, and the next states are the outputs of the storage nodes
-pub record AreListed (g : Wiring) (names : List (List ℕ)) (parts : List Part) (entries : List Entry) (instructions : List Instruction) (outputs nexts : List Output) : Type 0 where
+pub record AreListed (g : GraphData) (names : List (List ℕ)) (parts : List Part) (entries : List Entry) (instructions : List Instruction) (outputs nexts : List Output) : Type 0 where
   pub kinds : map (λ entry. entry.is_storage) entries ≡ map (λ level. nat_lt level INPUT_LEVEL) g.levels
   pub named : map (λ entry. entry.name) entries ≡ names
   pub added : AreAdded (nodes g) parts (length parts) instructions outputs
   pub stand : AreNexts entries (length entries) outputs nexts
 
 -- the same, from the nodes that were listed
-pub AreListed-nodes : (g : Wiring) (names : List (List ℕ)) (parts : List Part) (listed : List ListedNode) (instructions : List Instruction) (outputs nexts : List Output)
+pub AreListed-nodes : (g : GraphData) (names : List (List ℕ)) (parts : List Part) (listed : List ListedNode) (instructions : List Instruction) (outputs nexts : List Output)
     → map (λ one. one.is_storage) listed ≡ map (λ level. nat_lt level INPUT_LEVEL) g.levels
     → map (λ one. one.name.items) listed ≡ names
     → AreAdded (nodes g) parts (length parts) instructions outputs
@@ -45,13 +47,13 @@ AreListed-nodes g names parts listed instructions outputs nexts kinds named adde
     entry_of one = record { is_storage = one.is_storage; name = one.name.items }
 
 -- each node has an entry
-length-entries : (g : Wiring) (entries : List Entry) → map (λ entry. entry.is_storage) entries ≡ map (λ level. nat_lt level INPUT_LEVEL) g.levels
+length-entries : (g : GraphData) (entries : List Entry) → map (λ entry. entry.is_storage) entries ≡ map (λ level. nat_lt level INPUT_LEVEL) g.levels
     → length entries ≡ nodes g
 length-entries g entries kinds =
     sym (length-map entries (λ entry. entry.is_storage)) ∙ ap length kinds ∙ length-map g.levels (λ level. nat_lt level INPUT_LEVEL)
 
 -- a node below the level of inputs is a storage node
-storage-entry : (g : Wiring) (entries : List Entry) (node : ℕ)
+storage-entry : (g : GraphData) (entries : List Entry) (node : ℕ)
     → map (λ entry. entry.is_storage) entries ≡ map (λ level. nat_lt level INPUT_LEVEL) g.levels
     → node < nodes g → level_of g node < INPUT_LEVEL
     → is_storage_at entries node ≡ true
@@ -74,8 +76,8 @@ member-inside count parts node k j fit member =
     omega (arith, fits.below j 0 place, here)
 
 -- the listing that is built is one
-pub AreListed-listing : (g : Wiring) (names : List (List ℕ)) (parts : List Part) (entries : List Entry) (instructions : List Instruction) (outputs nexts : List Output)
-    → All IsListedName names
+pub AreListed-listing : (g : GraphData) (names : List (List ℕ)) (parts : List Part) (entries : List Entry) (instructions : List Instruction) (outputs nexts : List Output)
+    → All IsVisibleName names
     → AreListed g names parts entries instructions outputs nexts
     → IsListing (record { entries = entries; instructions = instructions; nexts = nexts })
 AreListed-listing g names parts entries instructions outputs nexts visible all = record {
@@ -92,7 +94,7 @@ AreListed-listing g names parts entries instructions outputs nexts visible all =
 }
 
 -- the listing that is built is the one of the graph and the parts
-pub AreListed-built : (g : Wiring) (names : List (List ℕ)) (parts : List Part) (entries : List Entry) (instructions : List Instruction) (outputs nexts : List Output)
+pub AreListed-built : (g : GraphData) (names : List (List ℕ)) (parts : List Part) (entries : List Entry) (instructions : List Instruction) (outputs nexts : List Output)
     → All (IsPart (nodes g)) parts → AreMembers g parts
     → AreListed g names parts entries instructions outputs nexts
     → IsBuilt g names parts (record { entries = entries; instructions = instructions; nexts = nexts })

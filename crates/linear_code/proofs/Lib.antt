@@ -1,8 +1,3 @@
-pub mod ResultLemmas
-pub mod RunLemmas
-pub mod PlaceLemmas
-pub mod LoweringLemmas
-pub mod LinearLemmas
 pub mod ListingLemmas
 pub mod MovedLemmas
 pub mod NextLemmas
@@ -10,6 +5,7 @@ pub mod BuildLemmas
 pub mod BuiltLemmas
 pub mod WritesLemmas
 pub mod ListingTextLemmas
+pub mod TextPlaceLemmas
 pub mod TextLemmas
 pub mod OperandLemmas
 pub mod StorageLemmas

@@ -6,13 +6,13 @@ use Rattle.std.proofs.lemmas.List.Sums.{count_by_more_yes, count_by_more_no, sum
 use Rattle.ternary.specs.declared.tern.Tern.{Tern}
 use Rattle.ternary.specs.declared.tern.Tern.TheVariants.{Zero}
 use Rattle.path_meaning.specs.Switching.{state_at}
-use Rattle.linear_code.specs.declared.code.Instruction.{Instruction}
-use Rattle.linear_code.specs.declared.code.Operand.TheVariants.{Constant}
-use Rattle.linear_code.specs.declared.code.Output.{Output}
+use Rattle.straight_code.specs.declared.code.Instruction.{Instruction}
+use Rattle.straight_code.specs.declared.code.Operand.TheVariants.{Constant}
+use Rattle.straight_code.specs.declared.code.Output.{Output}
 use Rattle.linear_code.specs.declared.listing.ListedNode.{ListedNode}
-use Rattle.linear_code.specs.Code.{instruction_value, results, output_state}
-use Rattle.linear_code.specs.Listing.{Entry, Listed, is_storage_at, storage_before, next_of, IsListing}
-use Rattle.linear_code.proofs.ResultLemmas.{results-more}
+use Rattle.straight_code.specs.Code.{instruction_value, results, output_state}
+use Rattle.linear_code.specs.Listing.{Entry, ListingData, is_storage_at, storage_before, next_of, IsListing}
+use Rattle.straight_code.proofs.ResultLemmas.{results-more}
 
 -- the results up to the next instruction are the earlier ones and its own
 pub results-next : (input : List Tern) (instructions : List Instruction) (k : ℕ) (past : Instruction) (done : List Bool) (result : Bool)
@@ -54,7 +54,7 @@ storage_before-below entries node inside storage =
     omega (arith, more, all)
 
 -- the next state in turn is one of the listing's
-pub turn-below : (listing : Listed) (node turn : ℕ) → IsListing listing → node < length listing.entries
+pub turn-below : (listing : ListingData) (node turn : ℕ) → IsListing listing → node < length listing.entries
     → is_storage_at listing.entries node ≡ true → turn ≡ storage_before listing.entries node
     → turn < length listing.nexts
 turn-below listing node turn good inside storage in_turn =
@@ -62,7 +62,7 @@ turn-below listing node turn good inside storage in_turn =
     omega (arith, below, good.each_next)
 
 -- the same of a node that is known by its own kind
-pub turn-below_node : (listing : Listed) (listed : List ListedNode) (node turn : ℕ) (item : ListedNode) → IsListing listing
+pub turn-below_node : (listing : ListingData) (listed : List ListedNode) (node turn : ℕ) (item : ListedNode) → IsListing listing
     → map (λ one. record { is_storage = one.is_storage; name = one.name.items }) listed ≡ listing.entries
     → node < length listed → item ≡ get_or listed node item → item.is_storage ≡ true
     → turn ≡ storage_before listing.entries node
@@ -73,7 +73,7 @@ turn-below_node listing listed node turn item good view inside is storage in_tur
     turn-below listing node turn good within (kind ∙ storage) in_turn
 
 -- a storage node moves to what the code gives for the output in turn
-pub storage-moves : (listing : Listed) (state : List Tern) (node turn : ℕ) (output : Output) (result : Tern)
+pub storage-moves : (listing : ListingData) (state : List Tern) (node turn : ℕ) (output : Output) (result : Tern)
     → is_storage_at listing.entries node ≡ true
     → turn ≡ storage_before listing.entries node → turn < length listing.nexts → output ≡ get_or listing.nexts turn output
     → result ≡ output_state state (results state listing.instructions) output
@@ -84,7 +84,7 @@ storage-moves listing state node turn output result storage in_turn inside outpu
     rw (storage, ← in_turn, ← next) is
 
 -- an input node keeps its state
-pub next_of-input : (listing : Listed) (state : List Tern) (node : ℕ) → is_storage_at listing.entries node ≡ false
+pub next_of-input : (listing : ListingData) (state : List Tern) (node : ℕ) → is_storage_at listing.entries node ≡ false
     → next_of listing state node ≡ state_at state node
 next_of-input listing state node input = rw input
 

@@ -1,14 +1,14 @@
 -- The lines of a listing's text from a number on: the line of that number, and then those from the next number on.
-use Rattle.std.proofs.Common.{◌≡◌, ℕ, suc, ◌+◌, ◌-◌, ◌<◌, ◌≤◌, true, false, List, [], ◌++◌, length, map, get_or, drop, refl, sym, ap, ◌∙◌, append_assoc, arith, filter, cond}
+use Rattle.std.proofs.Common.{◌≡◌, ℕ, suc, ◌+◌, ◌-◌, ◌<◌, ◌≤◌, true, false, List, [], ◌++◌, length, map, get_or, drop, refl, sym, ap, ◌∙◌, append_assoc, arith, cond}
 use Rattle.std.proofs.lemmas.List.{at_drop_more, get_or-map, get_or_default, length-map}
 use Rattle.std.proofs.lemmas.List.Sums.{count_by_more_yes, count_by_more_no, sum_by-take-le}
-use Rattle.std.specs.List.{flat_map, range_with_len}
-use Rattle.linear_code.specs.declared.code.Instruction.{Instruction}
-use Rattle.linear_code.specs.declared.code.Operand.TheVariants.{Constant}
-use Rattle.linear_code.specs.declared.code.Output.{Output}
+use Rattle.straight_code.specs.declared.code.Instruction.{Instruction}
+use Rattle.straight_code.specs.declared.code.Operand.TheVariants.{Constant}
+use Rattle.straight_code.specs.declared.code.Output.{Output}
 use Rattle.linear_code.specs.declared.listing.ListedNode.{ListedNode}
-use Rattle.linear_code.specs.Listing.{Entry, Listed, is_storage_at, next_at, storage_before, IsListing}
+use Rattle.linear_code.specs.Listing.{Entry, ListingData, is_storage_at, storage_before, IsListing}
 use Rattle.linear_code.specs.ListingText.{node_line, node_lines, instruction_line, instruction_lines, next_line}
+use Rattle.linear_code.specs.TextPlaces.{next_lines}
 
 -- the node with this number is there, and is this entry
 pub record IsEntry (entries : List Entry) (node : ℕ) (entry : Entry) : Type 0 where
@@ -47,13 +47,8 @@ instruction_lines-next instructions read number d rest are inside =
     rw (← are, at_drop_more (instruction_lines number) read number d inside)
     (append_assoc (instruction_line number (get_or read number d)) (instruction_lines (number + 1) (drop (number + 1) read)) rest)
 
--- the lines of the next states of the storage nodes among so many nodes from a number on
-abbrev pub next_lines : Listed → ℕ → ℕ → List ℕ
-next_lines listing first count =
-    flat_map (λ node. next_line node (next_at listing node)) (filter (is_storage_at listing.entries) (range_with_len first count))
-
 -- at a storage node its line comes first, with the next state that was read from those of the listing
-pub next_lines-storage : (listing : Listed) (read : List Output) (node moved : ℕ) (entry : Entry) → read ≡ listing.nexts
+pub next_lines-storage : (listing : ListingData) (read : List Output) (node moved : ℕ) (entry : Entry) → read ≡ listing.nexts
     → moved ≡ storage_before listing.entries node → IsEntry listing.entries node entry → entry.is_storage ≡ true
     → next_lines listing node (length listing.entries - node) ≡ next_line node (get_or read moved (record { hi = Constant false; lo = Constant false })) ++ next_lines listing (node + 1) (length listing.entries - (node + 1))
 next_lines-storage listing read node moved entry are before is storage =
@@ -62,7 +57,7 @@ next_lines-storage listing read node moved entry are before is storage =
     rw (more, here, are, before) refl
 
 -- an input node has no line
-pub next_lines-input : (listing : Listed) (node : ℕ) (entry : Entry) → IsEntry listing.entries node entry → entry.is_storage ≡ false
+pub next_lines-input : (listing : ListingData) (node : ℕ) (entry : Entry) → IsEntry listing.entries node entry → entry.is_storage ≡ false
     → next_lines listing node (length listing.entries - node) ≡ next_lines listing (node + 1) (length listing.entries - (node + 1))
 next_lines-input listing node entry is input =
     let more : length listing.entries - node ≡ suc (length listing.entries - (node + 1)) = omega (arith, is.inside) in
@@ -70,7 +65,7 @@ next_lines-input listing node entry is input =
     rw (more, here) refl
 
 -- no line is left behind the last node
-pub next_lines-none : (listing : Listed) (nodes : List ListedNode) (node : ℕ) → map entry_of nodes ≡ listing.entries → length nodes ≤ node
+pub next_lines-none : (listing : ListingData) (nodes : List ListedNode) (node : ℕ) → map entry_of nodes ≡ listing.entries → length nodes ≤ node
     → next_lines listing node (length listing.entries - node) ≡ []
 next_lines-none listing nodes node are past =
     let none : length listing.entries - node ≡ 0 = omega (arith, ap length are, length-map nodes entry_of) in
@@ -89,7 +84,7 @@ storage_before-input entries node entry is input =
     count_by_more_no (λ entry. entry.is_storage) entries node entry is.inside (rw (← is.here) input)
 
 -- a storage node has its next state among the next states of a listing
-pub storage_before-lt : (listing : Listed) (node : ℕ) (entry : Entry) → IsListing listing → IsEntry listing.entries node entry
+pub storage_before-lt : (listing : ListingData) (node : ℕ) (entry : Entry) → IsListing listing → IsEntry listing.entries node entry
     → entry.is_storage ≡ true → storage_before listing.entries node < length listing.nexts
 storage_before-lt listing node entry whole is storage =
     omega (arith, whole.each_next, storage_before-storage listing.entries node entry is storage, sum_by-take-le (λ entry. cond entry.is_storage 1 0) listing.entries (node + 1))

@@ -12,14 +12,14 @@ use Rattle.ternary.specs.declared.tern.Tern.{Tern}
 use Rattle.ternary.specs.declared.tern.Tern.TheVariants.{Zero}
 use Rattle.ternary.specs.Tern.{may_one, may_zero}
 use Rattle.path_meaning.specs.Switching.{state_at}
-use Rattle.linear_code.specs.declared.code.Operand.{Operand}
-use Rattle.linear_code.specs.declared.code.Operand.TheVariants.{Constant, High, Low, Earlier}
-use Rattle.linear_code.specs.declared.code.Instruction.{Instruction}
-use Rattle.linear_code.specs.declared.code.Instruction.TheVariants.{Not, And, Or}
-use Rattle.linear_code.specs.declared.code.Output.{Output}
-use Rattle.linear_code.specs.Code.{operand_value, instruction_value, results, output_state, IsAllowed, AreAllowed, IsOutput}
+use Rattle.straight_code.specs.declared.code.Operand.{Operand}
+use Rattle.straight_code.specs.declared.code.Operand.TheVariants.{Constant, High, Low, Earlier}
+use Rattle.straight_code.specs.declared.code.Instruction.{Instruction}
+use Rattle.straight_code.specs.declared.code.Instruction.TheVariants.{Not, And, Or}
+use Rattle.straight_code.specs.declared.code.Output.{Output}
+use Rattle.straight_code.specs.Code.{operand_value, instruction_value, results, output_state, IsAllowed, AreAllowed, IsOutput}
 use Rattle.linear_code.specs.Moved.{moved_operand, moved_instruction, moved_output, output_at, PutsOutputs}
-use Rattle.linear_code.proofs.ResultLemmas.{results-more, length-results, IsAllowed-more}
+use Rattle.straight_code.proofs.ResultLemmas.{results-more, length-results, IsAllowed-more}
 
 -- an instruction that reads earlier results reads any that are more
 pub AreAllowed-more : (inputs count more : ℕ) (instruction : Instruction) → AreAllowed inputs count instruction → count ≤ more

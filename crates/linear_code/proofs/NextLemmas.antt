@@ -4,8 +4,8 @@ use Rattle.std.specs.Prelude.{Contains}
 use Rattle.std.proofs.lemmas.List.{take-take, length_push, get_or_append_left, get_or_push, get_or_default}
 use Rattle.std.proofs.lemmas.List.Elements.{All-push, Contains-get_or}
 use Rattle.std.proofs.lemmas.List.Sums.{sum_by-take-le}
-use Rattle.linear_code.specs.declared.code.Operand.TheVariants.{Constant}
-use Rattle.linear_code.specs.declared.code.Output.{Output}
+use Rattle.straight_code.specs.declared.code.Operand.TheVariants.{Constant}
+use Rattle.straight_code.specs.declared.code.Output.{Output}
 use Rattle.linear_code.specs.Listing.{Entry, is_storage_at, storage_before}
 use Rattle.linear_code.specs.Moved.{output_at, AreNexts}
 use Rattle.linear_code.proofs.ListingLemmas.{storage_before-storage, storage_before-input}

@@ -2,12 +2,12 @@
 use Rattle.std.proofs.Common.{◌≡◌, ◌≢◌, ℕ, ◌≤◌, ◌<◌, ◌^◌, true, false, List, [], ◌∷◌, ◌++◌, codes, decimal, refl, sym, ◌∙◌, ap, arith, append_assoc, get_or, rules}
 use Rattle.std.proofs.lemmas.List.Elements.{All-nil, All-cons, All-append, All-weaker}
 use Rattle.std.proofs.lemmas.Fmt.{decimal_injective}
-use Rattle.linear_code.specs.declared.code.Operand.{Operand}
-use Rattle.linear_code.specs.declared.code.Operand.TheVariants.{Constant, High, Low, Earlier}
-use Rattle.linear_code.specs.declared.code.Instruction.{Instruction}
-use Rattle.linear_code.specs.declared.code.Instruction.TheVariants.{Not, And, Or}
-use Rattle.linear_code.specs.declared.code.Output.{Output}
-use Rattle.linear_code.specs.Code.{IsAllowed, AreAllowed, IsOutput}
+use Rattle.straight_code.specs.declared.code.Operand.{Operand}
+use Rattle.straight_code.specs.declared.code.Operand.TheVariants.{Constant, High, Low, Earlier}
+use Rattle.straight_code.specs.declared.code.Instruction.{Instruction}
+use Rattle.straight_code.specs.declared.code.Instruction.TheVariants.{Not, And, Or}
+use Rattle.straight_code.specs.declared.code.Output.{Output}
+use Rattle.straight_code.specs.Code.{IsAllowed, AreAllowed, IsOutput}
 use Rattle.linear_code.specs.ListingText.{operand_text, instruction_text}
 use Rattle.linear_code.specs.Adding.{output_text}
 use Rattle.linear_code.proofs.TextLemmas.{Lacks, Lacks-cut, IsFrom, Lacks-from, cut-same, IsFrom-decimal}

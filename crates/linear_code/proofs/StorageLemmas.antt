@@ -9,7 +9,7 @@ use Rattle.std.proofs.lemmas.List.Quantifiers.{position-Some}
 use Rattle.std.proofs.lemmas.List.Sums.{count_by_more_yes, count_by_more_no, fails_before_first}
 use Rattle.std.proofs.lemmas.Option.{slice_get-get_or, get_or_from_slice_get, slice_get_within, slice_get_past}
 use Rattle.linear_code.specs.declared.listing.ListedNode.{ListedNode}
-use Rattle.linear_code.specs.Listing.{Entry, Listed, is_storage_at, storage_before, IsListing}
+use Rattle.linear_code.specs.Listing.{Entry, ListingData, is_storage_at, storage_before, IsListing}
 use Rattle.linear_code.specs.ListingText.{storage_nodes}
 use Rattle.linear_code.specs.Reading.{IsPartial}
 use Rattle.linear_code.proofs.ListingTextLemmas.{entry_of}
@@ -242,7 +242,7 @@ is_some-none None none = refl
 is_some-none (Some node) none = cc
 
 -- a partial listing with no storage node left is a listing
-pub IsListing-partial : (listing : Listed) → IsPartial listing → is_some (slice_get (storage_nodes listing.entries) (length listing.nexts)) ≡ false
+pub IsListing-partial : (listing : ListingData) → IsPartial listing → is_some (slice_get (storage_nodes listing.entries) (length listing.nexts)) ≡ false
     → IsListing listing
 IsListing-partial listing partial none = record {
   names = partial.names;
@@ -258,7 +258,7 @@ IsListing-partial listing partial none = record {
 }
 
 -- a storage node is left where its next state is missing
-pub few_nexts : (listing : Listed) → is_some (slice_get (storage_nodes listing.entries) (length listing.nexts)) ≡ true
+pub few_nexts : (listing : ListingData) → is_some (slice_get (storage_nodes listing.entries) (length listing.nexts)) ≡ true
     → length listing.nexts < count_by (λ entry. entry.is_storage) listing.entries
 few_nexts listing some =
     elim (cases_lt (length listing.nexts) (length (storage_nodes listing.entries))) [
@@ -267,5 +267,5 @@ few_nexts listing some =
     ]
 
 -- the storage node whose next state comes next, if there is one
-abbrev pub IsNextOf : Option ℕ → Listed → Type 0
+abbrev pub IsNextOf : Option ℕ → ListingData → Type 0
 IsNextOf found listing = found ≡ slice_get (storage_nodes listing.entries) (length listing.nexts)

@@ -1,15 +1,9 @@
 -- Texts that are appended one after another: a part of the whole text stands there, and the rest of it is left.
-use Rattle.std.proofs.Common.{◌≡◌, ℕ, List, [], ◌++◌, Result, Ok, Err, refl, sym, append_assoc, append-nil}
+use Rattle.std.proofs.Common.{◌≡◌, ℕ, List, [], ◌++◌, Result, Ok, Err, OnErr, refl, sym, append_assoc, append-nil}
 use Rattle.std.proofs.lemmas.Result.{on_ok_weaker, on_err_weaker}
 use Rattle.std.specs.Result.{IsErr}
 use Rattle.linear_code.specs.ListingText.{WritesFront}
-use Rattle.linear_code.specs.Pieces.{Writes}
-
--- a part of the text was appended, and this rest of it is left
-pub record IsLeft (old now text rest : List ℕ) : Type 0 where
-  pub front : List ℕ
-  pub splits : text ≡ front ++ rest
-  pub appended : now ≡ old ++ front
+use Rattle.linear_code.specs.Pieces.{IsLeft, Writes}
 
 -- before the first piece all is left
 pub IsLeft-all : (old text : List ℕ) → IsLeft old old text text
@@ -37,6 +31,19 @@ WritesFront-more {old} {now} {new} {text} {left} {piece} rest before splits part
   is_front = rw (before.splits, splits, part.is_front) (simp append_assoc);
   appended = rw (part.appended, before.appended) (append_assoc old before.front part.front);
 }
+
+-- a further part was appended of what was left
+pub IsLeft-trans : {old now new text left rest : List ℕ} → IsLeft old now text left → IsLeft now new left rest → IsLeft old new text rest
+IsLeft-trans before after = IsLeft-more after.front before after.splits after.appended
+
+-- a part of what was left was appended from its start, and so a part of the whole text was
+pub WritesFront-left : {old now new text left : List ℕ} → IsLeft old now text left → WritesFront now new left → WritesFront old new text
+WritesFront-left {old} {now} {new} {text} {left} before part = WritesFront-more [] before (sym (append-nil left)) part
+
+-- what holds anyway holds on a fault
+pub at_err : {T E P : Type 0} (result : Result T E) → P → OnErr result P
+at_err (Ok value) fact = tt
+at_err (Err fault) fact = fact
 
 -- memory was wanting within a piece: a part of the whole text was appended
 pub Writes-stopped : {E F : Type 0} {old now new text left piece : List ℕ} {fault : E} (rest : List ℕ) (result : Result (Unit {0}) F)

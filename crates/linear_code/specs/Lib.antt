@@ -1,11 +1,8 @@
-pub mod Code
-pub mod Linear
-pub mod Places
-pub mod Lowering
 pub mod Listing
-pub mod Parts
+pub mod Built
 pub mod Moved
 pub mod ListingText
 pub mod Pieces
 pub mod Reading
 pub mod Adding
+pub mod TextPlaces

@@ -1,12 +1,12 @@
 -- The text of a listing: its nodes, its instructions and the next states, a line for each.
 use Rattle.std.specs.Prelude.{◌≡◌, ℕ, ◌+◌, Bool, true, false, List, [], ◌∷◌, ◌++◌, length, filter, codes, decimal}
 use Rattle.std.specs.List.{flat_map, range_with_len}
-use Rattle.linear_code.specs.declared.code.Operand.{Operand}
-use Rattle.linear_code.specs.declared.code.Operand.TheVariants.{Constant, High, Low, Earlier}
-use Rattle.linear_code.specs.declared.code.Instruction.{Instruction}
-use Rattle.linear_code.specs.declared.code.Instruction.TheVariants.{Not, And, Or}
-use Rattle.linear_code.specs.declared.code.Output.{Output}
-use Rattle.linear_code.specs.Listing.{Entry, Listed, is_storage_at, next_at}
+use Rattle.straight_code.specs.declared.code.Operand.{Operand}
+use Rattle.straight_code.specs.declared.code.Operand.TheVariants.{Constant, High, Low, Earlier}
+use Rattle.straight_code.specs.declared.code.Instruction.{Instruction}
+use Rattle.straight_code.specs.declared.code.Instruction.TheVariants.{Not, And, Or}
+use Rattle.straight_code.specs.declared.code.Output.{Output}
+use Rattle.linear_code.specs.Listing.{Entry, ListingData, is_storage_at, next_at}
 
 -- the letter of a kind: s for a storage node, i for an input node
 abbrev pub kind_letter : Bool → List ℕ
@@ -55,7 +55,7 @@ abbrev pub storage_nodes : List Entry → List ℕ
 storage_nodes entries = filter (is_storage_at entries) (range_with_len 0 (length entries))
 
 -- the text of a listing
-abbrev pub listing_text : Listed → List ℕ
+abbrev pub listing_text : ListingData → List ℕ
 listing_text listing =
     node_lines 0 listing.entries
     ++ (instruction_lines 0 listing.instructions

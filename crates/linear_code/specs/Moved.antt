@@ -1,11 +1,11 @@
 -- The code of a part among other code: it reads nodes of the whole circuit, and its results stand behind those of other instructions.
 use Rattle.std.specs.Prelude.{◌≡◌, ℕ, ◌+◌, ◌<◌, ◌≢◌, true, false, List, ◌++◌, length, map, All, Contains, slice_index, slice_index_or}
-use Rattle.linear_code.specs.declared.code.Operand.{Operand}
-use Rattle.linear_code.specs.declared.code.Operand.TheVariants.{Constant, High, Low, Earlier}
-use Rattle.linear_code.specs.declared.code.Instruction.{Instruction}
-use Rattle.linear_code.specs.declared.code.Instruction.TheVariants.{Not, And, Or}
-use Rattle.linear_code.specs.declared.code.Output.{Output}
-use Rattle.linear_code.specs.declared.part.Part.{Part}
+use Rattle.straight_code.specs.declared.code.Operand.{Operand}
+use Rattle.straight_code.specs.declared.code.Operand.TheVariants.{Constant, High, Low, Earlier}
+use Rattle.straight_code.specs.declared.code.Instruction.{Instruction}
+use Rattle.straight_code.specs.declared.code.Instruction.TheVariants.{Not, And, Or}
+use Rattle.straight_code.specs.declared.code.Output.{Output}
+use Rattle.straight_code.specs.declared.part.Part.{Part}
 use Rattle.linear_code.specs.Listing.{Entry, is_storage_at, storage_before}
 
 -- the operand over these nodes, behind so many other instructions

@@ -14,3 +14,9 @@ text_of (Read operand) = operand_text operand
 pub record Writes {E : Type 0} (old new text : List ℕ) (result : Result (Unit {0}) E) : Type 0 where
   pub ok : OnOk result (new ≡ old ++ text)
   pub part : OnErr result (WritesFront old new text)
+
+-- a part of the text was appended, and this rest of it is left
+pub record IsLeft (old now text rest : List ℕ) : Type 0 where
+  pub front : List ℕ
+  pub splits : text ≡ front ++ rest
+  pub appended : now ≡ old ++ front

@@ -1,34 +1,26 @@
-//! Straight-line code for formulas, and listings of whole circuits.
+//! Listings of whole circuits.
 //!
-//! The main type is `Code`: instructions, each an And, an Or or a Not of constants, rails of inputs
-//! and earlier results, and a pair of operands for each output. The layers above use that `linearise`
-//! gives code that means its formulas, with one instruction for each operation that they reach, and
-//! that `Code::run` gives what the code means, with one step for each instruction and no memory.
-//!
-//! A `Listing` puts the code of groups, its `Part`s, together over the nodes of a circuit: its step
-//! moves each member of a part to what the part's code gives, and its text has a line for each node,
-//! each instruction and each next state. `read_listing` reads such a text back, and names the first
-//! bad line of any other.
+//! The main type is `Listing`: the code of groups, its `Part`s, put together over the nodes of a
+//! circuit. Its step moves each member of a part to what the part's code gives, and its text has a
+//! line for each node, each instruction and each next state. The layer above uses that `Listing::build`
+//! makes such a listing of a graph and its parts, and that `read_listing` reads a text back, and names
+//! the first bad line of any other. Code itself is that of `straight_code`, whose surface is passed on.
 //!
 //! ```text
-//! the formulas (h0 and l1, not h0)      t0 = h0 & l1, t1 = ! h0, and the output (t0, t1)
+//! node 0 i in, node 1 s out, t0 = ! h0, next 1 t0 h0      out is the complement of in
 //! ```
 //!
 //! After Bryant, Beatty, Brace, Cho and Sheffler, "COSMOS: A Compiled Simulator for MOS Circuits",
 //! 1987.
 #![tactic(auto)]
 
-mod code;
-mod linear;
 mod listing;
 mod listing_text;
-mod part;
 mod reading;
 #[cfg(test)]
 mod tests;
 
-pub use code::{Code, Instruction, Operand, Output};
-pub use linear::linearise;
 pub use listing::Listing;
-pub use part::Part;
+pub use listing_text::TextPlace;
 pub use reading::{ListingFault, read_listing};
+pub use straight_code::{Code, Instruction, Operand, Output, Part, linearise};

@@ -1,16 +1,17 @@
 ghost use Rattle.std.specs.Prelude.{◌≡◌, ℕ, ◌<◌, ◌^◌, length, map, nat_lt, slice_get, All, IfOk, OnOk, Some};
 ghost use Rattle.strength_order.specs.declared.TheConstants.{INPUT_LEVEL};
-ghost use Rattle.path_meaning.specs.Wiring.{nodes};
-ghost use Rattle.linear_code.specs.Code.{results, IsAllowed, AreAllowed, IsOutput, IsProgram};
-ghost use Rattle.linear_code.specs.Listing.{IsListedName, IsListing, IsListingStep};
-ghost use Rattle.linear_code.specs.Parts.{IsPart, AreMembers, IsBuilt};
+ghost use Rattle.path_meaning.specs.Graphs.{nodes};
+ghost use Rattle.straight_code.specs.Code.{results, IsAllowed, AreAllowed, IsOutput, IsCode};
+ghost use Rattle.linear_code.specs.Listing.{IsListing, IsListingStep};
+ghost use Rattle.line_words.specs.Visible.{IsVisibleName};
+ghost use Rattle.straight_code.specs.Parts.{IsPart, AreMembers};
+ghost use Rattle.linear_code.specs.Built.{IsBuilt};
 ghost use Rattle.linear_code.specs.Moved.{moved_operand, moved_instruction, moved_output, AddsPart, AreNexts};
 
-use crate::code::{Instruction, Operand, Output, instruction_value, output_state};
-use crate::part::Part;
 use path_meaning::Graph;
 use std::alloc::{AllocError, Global};
 use std::marker::Model;
+use straight_code::{Instruction, Operand, Output, Part, instruction_value, output_state};
 use strength_order::INPUT_LEVEL;
 use ternary::{NoMemory, Tern};
 
@@ -36,10 +37,10 @@ pub struct Listing {
 
 impl Model for Listing {
     ghost use Rattle.std.specs.Prelude.{map};
-    ghost use Rattle.linear_code.specs.Code.{results, AreAllowed};
-    ghost use Rattle.linear_code.specs.Listing.{Listed, IsListing};
+    ghost use Rattle.straight_code.specs.Code.{results, AreAllowed};
+    ghost use Rattle.linear_code.specs.Listing.{ListingData, IsListing};
 
-    ghost Value = { Listed };
+    ghost Value = { ListingData };
 
     ghost view = { λ listing. record { entries = map (λ node. record { is_storage = node.is_storage; name = node.name.items }) listing.nodes.items; instructions = listing.instructions.items; nexts = listing.nexts.items } };
 
@@ -54,14 +55,14 @@ impl Listing {
     pub fn build(
         alloc: Global,
         graph: &Graph,
-        names: &[Vec<u8>],
+        names: Vec<Vec<u8>>,
         parts: &[Part],
     ) -> Result<Listing, NoMemory>
-        requires names { length names.now ≡ nodes graph.now }
-        requires visible { All (λ name. IsListedName name.items) names.now }
+        requires names { length names.items ≡ nodes graph.now }
+        requires visible { All (λ name. IsVisibleName name.items) names.items }
         requires fit { All (IsPart (nodes graph.now)) parts.now }
         requires members { AreMembers graph.now parts.now }
-        ensures { IfOk result (λ listing. IsBuilt graph.now (map (λ name. name.items) names.now) parts.now listing) }
+        ensures { IfOk result (λ listing. IsBuilt graph.now (map (λ name. name.items) names.items) parts.now listing) }
     {
         let mut instructions = Vec::new(alloc);
         let mut outputs = vec![in alloc; NEVER; graph.nodes()]?;
@@ -77,8 +78,15 @@ impl Listing {
         })
     }
 
+    /// How many nodes it has: a state of it has one for each.
+    pub fn nodes(&self) -> usize
+        ensures { result ≡ length self.now.entries }
+    {
+        self.nodes.len()
+    }
+
     // Its nodes, in order.
-    pub(crate) fn nodes(&self) -> &[ListedNode]
+    pub(crate) fn listed(&self) -> &[ListedNode]
         ensures nodes { map (λ node. record { is_storage = node.is_storage; name = node.name.items }) result.now ≡ self.now.entries }
         ensures listing { IsListing self.now }
     {
@@ -146,19 +154,16 @@ const NEVER: Output = Output {
 fn listed_nodes(
     alloc: Global,
     graph: &Graph,
-    names: &[Vec<u8>],
+    names: Vec<Vec<u8>>,
 ) -> Result<Vec<ListedNode>, AllocError>
-    requires { length names.now ≡ nodes graph.now }
+    requires { length names.items ≡ nodes graph.now }
     ensures kinds { IfOk result (λ listed. map (λ node. node.is_storage) listed.items ≡ map (λ level. nat_lt level INPUT_LEVEL) graph.now.levels) }
-    ensures named { IfOk result (λ listed. map (λ node. node.name.items) listed.items ≡ map (λ name. name.items) names.now) }
+    ensures named { IfOk result (λ listed. map (λ node. node.name.items) listed.items ≡ map (λ name. name.items) names.items) }
 {
     let mut listed = Vec::new(alloc);
-    for (node, name) in names.iter().enumerate() {
-        let entry = ListedNode {
-            is_storage: graph.level(node) < INPUT_LEVEL,
-            name: Vec::from_slice(alloc, name)?,
-        };
-        listed.push(entry)?;
+    for (node, name) in names.into_iter().enumerate() {
+        let is_storage = graph.level(node) < INPUT_LEVEL;
+        listed.push(ListedNode { is_storage, name })?;
     }
     Ok(listed)
 }
@@ -170,7 +175,7 @@ fn add_part(
     outputs: &mut [Output],
 ) -> Result<(), AllocError>
     requires { IsPart (length outputs.old) part.now }
-    ensures program { IsProgram part.now.code.value }
+    ensures program { IsCode part.now.code.value }
     ensures adds { OnOk result (AddsPart part.now instructions.old.items instructions.new.items outputs.old outputs.new) }
 {
     let offset = instructions.len();

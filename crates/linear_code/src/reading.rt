@@ -1,17 +1,18 @@
 //! Listings read from their texts.
 
 ghost use Rattle.std.specs.Prelude.{◌≡◌, ◌≢◌, ℕ, ◌<◌, ◌^◌, Bool, List, [], ◌∷◌, ◌++◌, length, codes, decimal, All, IfOk, IfErr, OnOk, IsTrue, ◌↔◌, MatchOption, slice_get, count_by, position};
-ghost use Rattle.linear_code.specs.Code.{IsAllowed, AreAllowed, IsOutput};
-ghost use Rattle.linear_code.specs.Listing.{IsListedName, IsListing};
+ghost use Rattle.straight_code.specs.Code.{IsAllowed, AreAllowed, IsOutput};
+ghost use Rattle.linear_code.specs.Listing.{ListingData, IsListing};
+ghost use Rattle.line_words.specs.Visible.{IsVisibleName};
 ghost use Rattle.linear_code.specs.ListingText.{kind_letter, operand_text, instruction_text, storage_nodes, listing_text};
 ghost use Rattle.linear_code.specs.Reading.{IsPartial, line_count, Refuses};
 ghost use Rattle.linear_code.specs.Adding.{Fits, with_added, output_text, added_of, IsReadBack, IsReadAs, IsNodeReadAs, IsInstructionReadAs, IsNextReadAs, AddsLine, HasNoLine};
 
-use crate::code::{Instruction, Operand, Output};
 use crate::listing::{ListedNode, Listing};
 use itoa::Buffer;
 use std::alloc::{AllocError, Global};
 use std::marker::Model;
+use straight_code::{Instruction, Operand, Output};
 
 /// Why a text is no listing.
 #[derive(Clone, Copy, Debug, PartialEq, Eq)]
@@ -36,9 +37,12 @@ impl From<AllocError> for ListingFault {
 /// The listing that a text is.
 ///
 /// The text is read byte by byte: each line ends at LF, single spaces stand between its words, and
-/// numbers have no leading zeros. An empty text is the listing without nodes.
+/// numbers have no leading zeros. An empty text is the listing without nodes. A text is that of one
+/// listing at most, so what `write` appended is read back with the same meaning.
 pub fn read_listing(alloc: Global, text: &[u8]) -> Result<Listing, ListingFault>
     ensures ok { IfOk result (λ listing. listing_text listing ≡ text.now) }
+    ensures listing { IfOk result (λ listing. IsListing listing) }
+    ensures only { IfOk result (λ listing. (other : ListingData) → IsListing other → listing_text other ≡ text.now → other ≡ listing) }
     ensures refused { IfErr result (λ fault. Refuses text.now fault) }
 {
     let mut reader = Reader::new(alloc);
@@ -77,9 +81,9 @@ struct Reader {
 
 impl Model for Reader {
     ghost use Rattle.std.specs.Prelude.{◌≡◌, ◌≤◌, length, map};
-    ghost use Rattle.linear_code.specs.Listing.{Listed, storage_before};
+    ghost use Rattle.linear_code.specs.Listing.{ListingData, storage_before};
 
-    ghost Value = { Listed };
+    ghost Value = { ListingData };
 
     ghost view = { λ reader. record { entries = map (λ node. record { is_storage = node.is_storage; name = node.name.items }) reader.nodes.items; instructions = reader.instructions.items; nexts = reader.nexts.items } };
 
@@ -233,7 +237,7 @@ fn after<'a>(bytes: &'a [u8], word: &[u8], number: usize, gap: &[u8]) -> Option<
 
 // The kind and the name of a node.
 fn kind_and_name(bytes: &[u8]) -> Option<(bool, &[u8])>
-    ensures { MatchOption result ((is_storage : Bool) (name : List ℕ) → IsListedName name → bytes.now ≢ kind_letter is_storage ++ (codes " " ++ name)) (λ node. IsListedName node.1.now × (bytes.now ≡ kind_letter node.0 ++ (codes " " ++ node.1.now))) }
+    ensures { MatchOption result ((is_storage : Bool) (name : List ℕ) → IsVisibleName name → bytes.now ≢ kind_letter is_storage ++ (codes " " ++ name)) (λ node. IsVisibleName node.1.now × (bytes.now ≡ kind_letter node.0 ++ (codes " " ++ node.1.now))) }
 {
     if let Some(name) = bytes.strip_prefix(b"s ") {
         return is_name(name).then_some((true, name));
@@ -244,7 +248,7 @@ fn kind_and_name(bytes: &[u8]) -> Option<(bool, &[u8])>
 
 // Whether a node in a listing may have this name.
 fn is_name(name: &[u8]) -> bool
-    ensures { IsTrue result ↔ IsListedName name.now }
+    ensures { IsTrue result ↔ IsVisibleName name.now }
 {
     !name.is_empty() && name.iter().all(|byte| 33 <= *byte && *byte <= 126)
 }

@@ -6,13 +6,20 @@ const LISTING: &[u8] = b"node 0 i in\nnode 1 s out\nnode 2 s x|y\n\
     next 1 t2 0\nnext 2 l2 t0\n";
 
 // Texts that are no listing, each with its first bad line.
-const BAD: [(&[u8], u64); 10] = [
+const BAD: [(&[u8], u64); 17] = [
     (b"node 1 s a\n", 1),
     (b"node 0 s a", 1),
     (b"node 0 s a\n", 2),
+    (b"node 1 i a\n", 1),
+    (b"node 0 i Gnd\nt0 = h0 & t0\n", 2),
+    (b"node 0 s a\nnext 0 h0 l0", 2),
+    (b"node 0 s a\nnext 0 h1 l0\n", 2),
+    (b"node 0 i a\nnext 0 h0 l0\n", 2),
+    (b"node 0 s a\nt00 = ! h0\n", 2),
+    (b"node 0 s a\nt0 = h0 & l0\nt0 = ! h0\n", 3),
+    (b"node 0 s a\nnext 0 t99999999999999999999 0\n", 2),
     (b"node 0 s a\nnext 0 h1 0\n", 2),
     (b"node 0 s a\nnext 0 h00 0\n", 2),
-    (b"node 0 i a\nnext 0 h0 0\n", 2),
     (b"node 0 s a\nt0 = ! t0\nnext 0 h0 0\n", 2),
     (b"node 0 s a\nt0 = ! h0\nnode 1 i b\n", 3),
     (b"node 0 s a\nnext 0 h0 l0\nnext 0 h0 l0\n", 3),
@@ -32,6 +39,20 @@ fn a_listing_is_read_and_written_back(rt: HostRuntime) -> Result<(), Fail> {
         }
         assert_eq!(rt; out.as_slice(), text);
     }
+    Ok(())
+}
+
+#[test]
+fn a_text_is_written_in_pieces(rt: HostRuntime) -> Result<(), Fail> {
+    let Ok(listing) = read_listing(rt.alloc(), LISTING) else {
+        panic!(rt; "no listing");
+    };
+    let mut place = listing.text_start();
+    let mut out = Vec::new(rt.alloc());
+    let more = listing.write_some(&mut place, 30, &mut out)?;
+    assert_eq!(rt; (more, out.len()), (true, 38));
+    let more = listing.write_some(&mut place, usize::MAX, &mut out)?;
+    assert_eq!(rt; (more, out.as_slice()), (false, LISTING));
     Ok(())
 }
 

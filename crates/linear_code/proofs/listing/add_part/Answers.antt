@@ -2,7 +2,7 @@
 use Rattle.std.proofs.Common.{◌≡◌, ◌<◌, ◌≤◌, length, map, take, ap, subst, ◌∙◌, arith}
 use Rattle.std.proofs.lemmas.List.{length-append, length-map, length-take-le, take_all, get_or_read}
 use Rattle.std.proofs.lemmas.Option.{slice_get-get_or}
-use Rattle.linear_code.specs.Code.{IsProgram}
+use Rattle.straight_code.specs.Code.{IsCode}
 use Rattle.linear_code.specs.Moved.{moved_instruction}
 use Rattle.linear_code.proofs.MovedLemmas.{AreAllowed-more, PutsOutputs-next}
 use Rattle.linear_code.proofs.listing.add_part.Goals as goal
@@ -12,7 +12,7 @@ moved_instruction-requires-clause-reads c =
     let part = c.args.part.now in
     let k = c.loop-instruction.instruction-index in
     let value = c.instructions-instruction-items.ensures.value ∙ ap (λ code. code.instructions) c.deref.ensures in
-    let program : IsProgram part.code.value = subst IsProgram c.deref.ensures c.instructions-instruction-items.ensures.program in
+    let program : IsCode part.code.value = subst IsCode c.deref.ensures c.instructions-instruction-items.ensures.program in
     let inside : k < length part.code.value.instructions = omega (arith, ap length value) in
     let passed = take k part.code.value.instructions in
     let long = ap length c.loop-instruction.invariant ∙ length-append c.args.instructions.now.items (map (moved_instruction part.map.items c.len-offset.result) passed) in

@@ -2,8 +2,8 @@
 use Rattle.std.proofs.Common.{◌≡◌, ◌<◌, length, take, ap, ◌∙◌, arith, rules}
 use Rattle.std.proofs.lemmas.List.{length-take-le}
 use Rattle.std.proofs.lemmas.Option.{slice_get-get_or}
-use Rattle.linear_code.specs.Code.{results}
-use Rattle.linear_code.proofs.ResultLemmas.{length-results}
+use Rattle.straight_code.specs.Code.{results}
+use Rattle.straight_code.proofs.ResultLemmas.{length-results}
 use Rattle.linear_code.proofs.ListingLemmas.{results-next}
 use Rattle.linear_code.proofs.listing.results_of.Goals as goal
 

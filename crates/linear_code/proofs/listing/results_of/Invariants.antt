@@ -1,6 +1,6 @@
 -- So far the results are those of the instructions that were passed.
 use Rattle.std.proofs.Common.{◌≡◌, take}
-use Rattle.linear_code.specs.Code.{results}
+use Rattle.straight_code.specs.Code.{results}
 use Rattle.linear_code.proofs.listing.results_of.Given as goal
 
 abbrev pub invariant-loop-instruction : goal.invariant-loop-instruction

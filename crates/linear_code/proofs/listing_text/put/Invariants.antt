@@ -2,7 +2,7 @@
 use Rattle.std.proofs.Common.{drop}
 use Rattle.std.specs.List.{flat_map}
 use Rattle.linear_code.specs.Pieces.{text_of}
-use Rattle.linear_code.proofs.WritesLemmas.{IsLeft}
+use Rattle.linear_code.specs.Pieces.{IsLeft}
 use Rattle.linear_code.proofs.listing_text.put.Given as goal
 
 abbrev pub invariant-loop-piece : goal.invariant-loop-piece

@@ -3,7 +3,7 @@ use Rattle.std.proofs.Common.{◌≡◌, [], true, ◌==◌, length, refl, sym, 
 use Rattle.std.proofs.lemmas.List.{nil_from_length}
 use Rattle.linear_code.specs.Reading.{line_count}
 use Rattle.linear_code.specs.Adding.{AddsLine, HasNoLine}
-use Rattle.linear_code.proofs.ReadingLemmas.{IsRead, IsRead-more, line_count-more, line_count-within, listing_text-whole, IsFirstBad-here, HasNoLine-end}
+use Rattle.linear_code.proofs.ReadingLemmas.{IsRead, IsRead-more, line_count-more, line_count-within, listing_text-whole, one_listing, IsFirstBad-here, HasNoLine-end}
 use Rattle.linear_code.proofs.reading.read_listing.Goals as goal
 
 pub overflow_add-line : goal.overflow_add-line
@@ -33,6 +33,15 @@ returns-in-Some-listing-clause-ok c =
     let read : IsRead c.args.text.now c.loop-rest.reader [] = rw nothing at c.loop-rest.invariant.read in
     let whole : IsRead c.args.text.now c.in-Some-listing.listing [] = rw (← c.in-Some-listing.ensures.0) at read in
     listing_text-whole c.args.text.now c.in-Some-listing.listing whole c.in-Some-listing.ensures.1
+
+pub returns-in-Some-listing-clause-only : goal.returns-in-Some-listing-clause-only
+returns-in-Some-listing-clause-only c = λ other is told.
+    let nothing : c.loop-rest.rest.now ≡ [] =
+    nil_from_length c.loop-rest.rest.now (eqb-true (length c.loop-rest.rest.now) 0 (sym c.is_empty.ensures ∙ c.loop-rest-test.false)) in
+    let read : IsRead c.args.text.now c.loop-rest.reader [] = rw nothing at c.loop-rest.invariant.read in
+    let whole : IsRead c.args.text.now c.in-Some-listing.listing [] = rw (← c.in-Some-listing.ensures.0) at read in
+    one_listing c.args.text.now other c.in-Some-listing.listing (omega arith) is c.in-Some-listing.ensures.1 told
+    (listing_text-whole c.args.text.now c.in-Some-listing.listing whole c.in-Some-listing.ensures.1)
 
 pub returns-in-None-listing-clause-refused : goal.returns-in-None-listing-clause-refused
 returns-in-None-listing-clause-refused c =

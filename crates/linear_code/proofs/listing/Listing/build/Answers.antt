@@ -3,9 +3,9 @@ use Rattle.std.proofs.Common.{◌≡◌, ◌<◌, length, map, refl, arith}
 use Rattle.std.proofs.lemmas.List.{take_at}
 use Rattle.std.proofs.lemmas.List.Elements.{All-map}
 use Rattle.std.proofs.lemmas.Option.{slice_get_read}
-use Rattle.path_meaning.specs.Wiring.{nodes}
-use Rattle.linear_code.specs.Listing.{IsListedName}
-use Rattle.linear_code.specs.Parts.{IsPart}
+use Rattle.path_meaning.specs.Graphs.{nodes}
+use Rattle.line_words.specs.Visible.{IsVisibleName}
+use Rattle.straight_code.specs.Parts.{IsPart}
 use Rattle.linear_code.proofs.BuildLemmas.{AreAdded-next}
 use Rattle.linear_code.proofs.BuiltLemmas.{AreListed-nodes, AreListed-listing, AreListed-built}
 use Rattle.linear_code.proofs.listing.Listing.build.Goals as goal
@@ -32,18 +32,18 @@ invariant_of-result c =
     let last : c.loop-part.part-index ≡ length c.args.parts.now = omega arith in
     let added = rw last at c.loop-part.invariant in
     let stand = rw (c.deref.ensures.value, c.deref-2.ensures.value) at c.in_ok-nexts.ensures in
-    let names = map (λ name. name.items) c.args.names.now in
+    let names = map (λ name. name.items) c.args.names.items in
     let all = AreListed-nodes c.args.graph.now names c.args.parts.now c.in_ok-nodes.nodes.items
     c.loop-part.instructions.items c.loop-part.outputs.items c.in_ok-nexts.nexts.items c.in_ok-nodes.ensures.kinds c.in_ok-nodes.ensures.named added stand in
     AreListed-listing c.args.graph.now names c.args.parts.now _ c.loop-part.instructions.items c.loop-part.outputs.items c.in_ok-nexts.nexts.items
-    (All-map IsListedName (λ name. name.items) c.args.names.now c.requires.visible) all
+    (All-map IsVisibleName (λ name. name.items) c.args.names.items c.requires.visible) all
 
 pub returns : goal.returns
 returns c =
     let last : c.loop-part.part-index ≡ length c.args.parts.now = omega arith in
     let added = rw last at c.loop-part.invariant in
     let stand = rw (c.deref.ensures.value, c.deref-2.ensures.value) at c.in_ok-nexts.ensures in
-    let names = map (λ name. name.items) c.args.names.now in
+    let names = map (λ name. name.items) c.args.names.items in
     let all = AreListed-nodes c.args.graph.now names c.args.parts.now c.in_ok-nodes.nodes.items
     c.loop-part.instructions.items c.loop-part.outputs.items c.in_ok-nexts.nexts.items c.in_ok-nodes.ensures.kinds c.in_ok-nodes.ensures.named added stand in
     AreListed-built c.args.graph.now names c.args.parts.now _ c.loop-part.instructions.items c.loop-part.outputs.items c.in_ok-nexts.nexts.items

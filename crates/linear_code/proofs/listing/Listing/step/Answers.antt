@@ -2,9 +2,9 @@
 use Rattle.std.proofs.Common.{◌≡◌, ◌<◌, [], ◌∷◌, ◌++◌, length, get_or, sym, subst, ap, ◌∙◌, arith, rules}
 use Rattle.std.proofs.lemmas.List.{length_push, length-map}
 use Rattle.ternary.specs.declared.tern.Tern.TheVariants.{Zero}
-use Rattle.linear_code.specs.Code.{results}
+use Rattle.straight_code.specs.Code.{results}
 use Rattle.linear_code.specs.Listing.{next_of, IsListing}
-use Rattle.linear_code.proofs.ResultLemmas.{length-results}
+use Rattle.straight_code.proofs.ResultLemmas.{length-results}
 use Rattle.linear_code.proofs.ListingLemmas.{is_storage_at-node, storage_before-storage, storage_before-input, turn-below, turn-below_node, storage-moves, next_of-input, each-next}
 use Rattle.linear_code.proofs.listing.Listing.step.Goals as goal
 use Rattle.linear_code.proofs.listing.Listing.step.Goals.{then-listed+in_ok-map_err, else-listed+in_ok-map_err-2}

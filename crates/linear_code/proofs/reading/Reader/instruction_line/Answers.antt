@@ -1,7 +1,7 @@
 -- What stands behind the number of an instruction is what was read.
 use Rattle.std.proofs.Common.{◌≡◌, ◌++◌, length, codes, decimal, sym, ap, ◌∙◌, arith}
 use Rattle.std.proofs.lemmas.List.{length-map}
-use Rattle.linear_code.specs.Code.{AreAllowed}
+use Rattle.straight_code.specs.Code.{AreAllowed}
 use Rattle.linear_code.specs.ListingText.{instruction_text}
 use Rattle.linear_code.proofs.ListingTextLemmas.{entry_of}
 use Rattle.linear_code.proofs.TextLemmas.{behind-same}

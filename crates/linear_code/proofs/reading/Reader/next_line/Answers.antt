@@ -1,7 +1,7 @@
 -- What stands behind the number of a storage node is what was read.
 use Rattle.std.proofs.Common.{◌≡◌, ◌++◌, length, codes, decimal, sym, ap, ◌∙◌, arith}
 use Rattle.std.proofs.lemmas.List.{length-map}
-use Rattle.linear_code.specs.Code.{IsOutput}
+use Rattle.straight_code.specs.Code.{IsOutput}
 use Rattle.linear_code.specs.Adding.{output_text}
 use Rattle.linear_code.proofs.ListingTextLemmas.{entry_of}
 use Rattle.linear_code.proofs.TextLemmas.{behind-same}

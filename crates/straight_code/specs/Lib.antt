@@ -1,0 +1,6 @@
+pub mod Code
+pub mod Linear
+pub mod Places
+pub mod Lowering
+pub mod Parts
+pub mod Flat
