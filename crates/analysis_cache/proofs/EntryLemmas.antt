@@ -5,38 +5,38 @@ use Rattle.std.specs.List.{IsDistinct}
 use Rattle.std.specs.Map.{keys_of, lookup}
 use Rattle.std.specs.Borrow.{Bor}
 use Rattle.std.specs.Option.{IfSome, option_copied}
-use Rattle.std.specs.declared.hash.BuildHasherDefault.{BuildHasherDefault}
-use Rattle.std.specs.declared.hash.FoldHasher.{FoldHasher}
 use Rattle.std.specs.declared.rc.Rc.{Rc}
 use Rattle.std.proofs.lemmas.List.{map-append}
 use Rattle.std.proofs.lemmas.List.Elements.{All-head, All-tail, All-push}
 use Rattle.indexmap.specs.IndexMap.{IndexMap, get, insert_entry}
 use Rattle.indexmap.proofs.CallerLemmas.{insert_entry-new}
-use Rattle.group_text.specs.Texts.{Text}
+use Rattle.table_keys.specs.declared.TableKeys.{TableKeys}
+use Rattle.group_text.specs.Texts.{GroupTextData}
 use Rattle.group_text.specs.Compared.{same_text, same_text_decides}
-use Rattle.linear_code.specs.Code.{Program}
-use Rattle.analysis_cache.specs.Meaning.{MeansText}
-use Rattle.analysis_cache.specs.Keeping.{Keeping, code_in, IsKeeping, is_among, texts_of}
+use Rattle.straight_code.specs.Code.{CodeData}
+use Rattle.group_analysis.specs.Meaning.{MeansText}
+use Rattle.group_text.specs.FirstTexts.{is_among}
+use Rattle.analysis_cache.specs.Keeping.{KeptData, code_in, IsKept, texts_of}
 
 -- code that groups share
 abbrev pub Shared : Type 0
-Shared = Rc Program Global
+Shared = Rc CodeData Global
 
 -- the map from texts to code
 abbrev pub Codes : Type 0
-Codes = IndexMap Text Shared (BuildHasherDefault FoldHasher)
+Codes = IndexMap GroupTextData Shared TableKeys
 
 -- what is kept by some entries
-abbrev pub kept_by : List (Text × Shared) → Keeping
+abbrev pub kept_by : List (GroupTextData × Shared) → KeptData
 kept_by entries = map (λ entry. (entry.0, entry.1.value)) entries
 
 -- the texts that are kept are the keys
-texts_of-kept_by : (entries : List (Text × Shared)) → texts_of (kept_by entries) ≡ keys_of entries
+texts_of-kept_by : (entries : List (GroupTextData × Shared)) → texts_of (kept_by entries) ≡ keys_of entries
 texts_of-kept_by [] = refl
 texts_of-kept_by (entry ∷ entries) = ap (λ texts. entry.0 ∷ texts) (texts_of-kept_by entries)
 
 -- the code that is kept under a text is that of its entry
-pub code_in-kept_by : (entries : List (Text × Shared)) (text : Text) →
+pub code_in-kept_by : (entries : List (GroupTextData × Shared)) (text : GroupTextData) →
     option_map (λ shared. shared.value) (lookup (same_text text) entries) ≡ code_in (kept_by entries) text
 code_in-kept_by [] text = refl
 code_in-kept_by (entry ∷ entries) text = by (same_text text entry.0) (code_in-kept_by entries text)
@@ -48,7 +48,7 @@ code_in-kept_by (entry ∷ entries) text = by (same_text text entry.0) (code_in-
     by false rest = rest
 
 -- a text has no entry exactly where it isn't kept
-pub is_none-lookup : (entries : List (Text × Shared)) (text : Text) →
+pub is_none-lookup : (entries : List (GroupTextData × Shared)) (text : GroupTextData) →
     is_none (lookup (same_text text) entries) ≡ not (is_among (texts_of (kept_by entries)) text)
 is_none-lookup [] text = refl
 is_none-lookup (entry ∷ entries) text = by (same_text text entry.0) (is_none-lookup entries text)
@@ -59,7 +59,7 @@ is_none-lookup (entry ∷ entries) text = by (same_text text entry.0) (is_none-l
     by false rest = rest
 
 -- the code that is found for a text means it
-pub MeansText-lookup : (entries : List (Text × Shared)) (text : Text) → All (λ entry. MeansText entry.0 entry.1) (kept_by entries) →
+pub MeansText-lookup : (entries : List (GroupTextData × Shared)) (text : GroupTextData) → All (λ entry. MeansText entry.0 entry.1) (kept_by entries) →
     IfSome (lookup (same_text text) entries) (λ shared. MeansText text shared.value)
 MeansText-lookup [] text means = tt
 MeansText-lookup (entry ∷ entries) text means =
@@ -74,12 +74,12 @@ MeansText-lookup (entry ∷ entries) text means =
     by false is here rest = rest
 
 -- what is kept by one entry more
-pub kept_by-push : (entries : List (Text × Shared)) (text : Text) (shared : Shared) →
+pub kept_by-push : (entries : List (GroupTextData × Shared)) (text : GroupTextData) (shared : Shared) →
     kept_by (entries ++ (text, shared) ∷ []) ≡ kept_by entries ++ (text, shared.value) ∷ []
 kept_by-push entries text shared = map-append _ entries ((text, shared) ∷ [])
 
 -- a text that isn't kept goes last
-pub insert_entry-fresh : (codes : Codes) (text : Text) (shared : Shared) → is_among (texts_of (kept_by codes.entries)) text ≡ false →
+pub insert_entry-fresh : (codes : Codes) (text : GroupTextData) (shared : Shared) → is_among (texts_of (kept_by codes.entries)) text ≡ false →
     insert_entry same_text codes.entries text shared ≡ codes.entries ++ (text, shared) ∷ []
 insert_entry-fresh codes text shared fresh =
     insert_entry-new same_text codes text shared (none (get same_text codes text) (is_none-lookup codes.entries text ∙ ap not fresh))
@@ -89,9 +89,9 @@ insert_entry-fresh codes text shared fresh =
     none (Some shared) is = absurd (true≢false (sym is))
 
 -- entries with distinct keys keep no text twice, and with code that means its text one more keeps its text
-pub IsKeeping-push : (entries new : List (Text × Shared)) (text : Text) (shared : Shared) → new ≡ entries ++ (text, shared) ∷ [] →
-    IsKeeping (kept_by entries) → MeansText text shared.value → IsDistinct same_text (keys_of new) → IsKeeping (kept_by new)
-IsKeeping-push entries new text shared grown keeps means distinct =
+pub IsKept-push : (entries new : List (GroupTextData × Shared)) (text : GroupTextData) (shared : Shared) → new ≡ entries ++ (text, shared) ∷ [] →
+    IsKept (kept_by entries) → MeansText text shared.value → IsDistinct same_text (keys_of new) → IsKept (kept_by new)
+IsKept-push entries new text shared grown keeps means distinct =
     record {
       apart = subst (IsDistinct same_text) (sym (texts_of-kept_by new)) distinct;
       means =

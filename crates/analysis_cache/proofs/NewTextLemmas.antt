@@ -1,13 +1,14 @@
 -- The new texts of a list, as the list is passed from its front: what a text adds, and what the texts behind it add.
 -- A text adds itself where it is neither kept nor among the texts before it. So the new texts of a front are a front of the new texts.
-use Rattle.std.proofs.Common.{◌≡◌, Bool, true, false, not, cond, ◌||◌, ◌&&◌, List, [], ◌∷◌, ◌++◌, filter, refl, sym, ap, ◌∙◌, append-nil, true≢false}
+use Rattle.std.proofs.Common.{◌≡◌, Bool, true, false, not, cond, ◌||◌, ◌&&◌, List, [], ◌∷◌, ◌++◌, filter, All, refl, sym, ap, ◌∙◌, append-nil, true≢false}
 use Rattle.std.specs.List.{list_any}
 use Rattle.std.proofs.lemmas.List.Elements.{filter-append}
 use Rattle.std.proofs.lemmas.List.Folds.{list_any-append}
 use Rattle.std.proofs.lemmas.Bool.{cond-true, cond-false, and_right, or_parts}
-use Rattle.group_text.specs.Texts.{Text}
-use Rattle.group_text.specs.Compared.{same_text, same_text_decides}
-use Rattle.analysis_cache.specs.Keeping.{is_among, first_texts, new_texts}
+use Rattle.group_text.specs.Texts.{GroupTextData}
+use Rattle.std.proofs.lemmas.Map.Made.{All-is_member}
+use Rattle.group_text.specs.Compared.{same_text, same_text_decides, same_text_equivalence}
+use Rattle.group_text.specs.FirstTexts.{is_among, first_texts, new_texts}
 
 -- one of two holds where the first does, or where the first doesn't and the second does
 or_else : (a b : Bool) → (a || (not a && b)) ≡ (a || b)
@@ -60,11 +61,11 @@ module _ {X : Type 0} where
       list_any_step test p answer (list_any test xs) x (filter p xs) (alike x) (list_any-filter test p answer alike xs)
 
 -- texts that are one answer a question alike
-alike_text : (question : Text → Bool) (text other : Text) → same_text text other ≡ true → question other ≡ question text
+alike_text : (question : GroupTextData → Bool) (text other : GroupTextData) → same_text text other ≡ true → question other ≡ question text
 alike_text question text other same = ap question (sym ((same_text_decides text other).0 same))
 
 -- a text is among the first appearances exactly where it is among the texts
-is_among-first : (texts : List Text) (text : Text) → is_among (first_texts texts) text ≡ is_among texts text
+is_among-first : (texts : List GroupTextData) (text : GroupTextData) → is_among (first_texts texts) text ≡ is_among texts text
 is_among-first [] text = refl
 is_among-first (first ∷ texts) text =
     ap (λ b. same_text text first || b)
@@ -74,7 +75,7 @@ is_among-first (first ∷ texts) text =
     ∙ ap (λ b. same_text text first || b) (is_among-first texts text)
 
 -- a text is kept, once the new ones of some texts are, exactly where it was kept or is among those
-pub is_among-kept : (kept texts : List Text) (text : Text) →
+pub is_among-kept : (kept texts : List GroupTextData) (text : GroupTextData) →
     is_among (kept ++ new_texts kept texts) text ≡ (is_among kept text || is_among texts text)
 is_among-kept kept texts text =
     list_any-append (same_text text) kept (new_texts kept texts)
@@ -84,45 +85,53 @@ is_among-kept kept texts text =
     ∙ or_else (is_among kept text) (is_among (first_texts texts) text)
     ∙ ap (λ b. is_among kept text || b) (is_among-first texts text)
 
+-- each of some texts is among them
+pub is_among-themselves : (texts : List GroupTextData) → All (λ text. is_among texts text ≡ true) texts
+is_among-themselves texts = All-is_member same_text_equivalence texts
+
+-- where nothing is kept, all distinct texts are new
+pub new_texts-none_kept : (texts : List GroupTextData) → new_texts [] texts ≡ first_texts texts
+new_texts-none_kept texts = filter_every (λ text. true) (λ text. refl) (first_texts texts)
+
 -- the texts behind some others add what isn't among those
-first_texts-append : (front back : List Text) →
+first_texts-append : (front back : List GroupTextData) →
     first_texts (front ++ back) ≡ first_texts front ++ filter (λ text. not (is_among front text)) (first_texts back)
 first_texts-append [] back = sym (filter_every (λ text. true) (λ text. refl) (first_texts back))
 first_texts-append (first ∷ front) back =
-    let others : Text → Bool = λ other. not (same_text other first) in
-    let added : List Text = filter (λ text. not (is_among front text)) (first_texts back) in
+    let others : GroupTextData → Bool = λ other. not (same_text other first) in
+    let added : List GroupTextData = filter (λ text. not (is_among front text)) (first_texts back) in
     ap (λ l. first ∷ l)
     (ap (filter others) (first_texts-append front back)
     ∙ filter-append others (first_texts front) added
     ∙ ap (λ l. filter others (first_texts front) ++ l) (filter_neither (λ other. same_text other first) (is_among front) (first_texts back)))
 
 -- of texts behind some others those that are neither kept nor among the others
-abbrev pub added_texts : List Text → List Text → List Text → List Text
+abbrev pub added_texts : List GroupTextData → List GroupTextData → List GroupTextData → List GroupTextData
 added_texts kept front texts = filter (λ text. not (is_among kept text)) (filter (λ text. not (is_among front text)) texts)
 
 -- the new texts of a front are a front of the new texts
-new_texts-append : (kept front back : List Text) → new_texts kept (front ++ back) ≡ new_texts kept front ++ added_texts kept front (first_texts back)
+new_texts-append : (kept front back : List GroupTextData) → new_texts kept (front ++ back) ≡ new_texts kept front ++ added_texts kept front (first_texts back)
 new_texts-append kept front back =
     ap (filter (λ text. not (is_among kept text))) (first_texts-append front back)
     ∙ filter-append (λ text. not (is_among kept text)) (first_texts front) (filter (λ text. not (is_among front text)) (first_texts back))
 
 -- the new texts behind a text
-abbrev pub texts_behind : List Text → List Text → Text → List Text → List Text
+abbrev pub texts_behind : List GroupTextData → List GroupTextData → GroupTextData → List GroupTextData → List GroupTextData
 texts_behind kept front text back = added_texts kept front (filter (λ other. not (same_text other text)) (first_texts back))
 
 -- a text that is neither kept nor among those before it comes next among the new texts
-pub new_texts-new : (kept front : List Text) (text : Text) (back : List Text) → is_among (kept ++ new_texts kept front) text ≡ false →
+pub new_texts-new : (kept front : List GroupTextData) (text : GroupTextData) (back : List GroupTextData) → is_among (kept ++ new_texts kept front) text ≡ false →
     new_texts kept (front ++ text ∷ back) ≡ new_texts kept front ++ text ∷ texts_behind kept front text back
 new_texts-new kept front text back is =
     let parts = or_parts (is_among kept text) (is_among front text) (sym (is_among-kept kept front text) ∙ is) in
-    let others : List Text = filter (λ other. not (same_text other text)) (first_texts back) in
+    let others : List GroupTextData = filter (λ other. not (same_text other text)) (first_texts back) in
     new_texts-append kept front (text ∷ back)
     ∙ ap (λ l. new_texts kept front ++ l)
     (ap (filter (λ other. not (is_among kept other))) (cond-true (not (is_among front text)) (text ∷ filter (λ other. not (is_among front other)) others) _ (ap not parts.1))
     ∙ cond-true (not (is_among kept text)) (text ∷ added_texts kept front others) _ (ap not parts.0))
 
 -- one that is kept or among those before it adds none
-pub new_texts-known : (kept front : List Text) (text : Text) → is_among (kept ++ new_texts kept front) text ≡ true →
+pub new_texts-known : (kept front : List GroupTextData) (text : GroupTextData) → is_among (kept ++ new_texts kept front) text ≡ true →
     new_texts kept (front ++ text ∷ []) ≡ new_texts kept front
 new_texts-known kept front text is =
     new_texts-append kept front (text ∷ [])

@@ -1,43 +1,53 @@
-ghost use Rattle.std.specs.Prelude.{◌≡◌, length, [], option_map, false, IfOk, IfSome, OnOk, OnErr, is_none, not};
-ghost use Rattle.analysis_cache.specs.Meaning.{MeansText};
-ghost use Rattle.analysis_cache.specs.Keeping.{code_in, KeepsAll, KeepsSome, texts_of, is_among};
+ghost use Rattle.std.specs.Prelude.{◌≡◌, length, [], option_map, All, IsTrue, false, IfOk, IfSome, OnOk, OnErr, is_none, not};
+ghost use Rattle.group_analysis.specs.Meaning.{MeansText};
+ghost use Rattle.group_text.specs.FirstTexts.{is_among};
+ghost use Rattle.analysis_cache.specs.Keeping.{code_in, KeepsAll, KeepsSome, texts_of};
 ghost use Rattle.analysis_cache.specs.Adding.{AddsText, LacksText};
 
-use crate::analyst::Analyst;
+use group_analysis::Analyst;
 use group_text::GroupText;
 use indexmap::IndexMap;
-use linear_code::Code;
 use std::alloc::Global;
 use std::marker::Model;
 use std::rc::Rc;
+use straight_code::Code;
+use table_keys::TableKeys;
 use ternary::NoMemory;
 
 /// Analyses that are kept: code under the texts that it means, in the order in which they came.
 #[derive(Drop)]
 pub struct Kept {
     alloc: Global,
-    codes: IndexMap<GroupText, Rc<Code>>,
+    codes: IndexMap<GroupText, Rc<Code>, TableKeys>,
 }
 
 impl Model for Kept {
     ghost use Rattle.std.specs.Prelude.{map};
-    ghost use Rattle.analysis_cache.specs.Keeping.{code_in, Keeping, IsKeeping};
+    ghost use Rattle.analysis_cache.specs.Keeping.{code_in, KeptData, IsKept};
 
-    ghost Value = { Keeping };
+    ghost Value = { KeptData };
 
     ghost view = { λ kept. map (λ entry. (entry.0, entry.1.value)) kept.codes.entries };
 
-    ghost invariant = { λ kept. IsKeeping (map (λ entry. (entry.0, entry.1.value)) kept.codes.entries) };
+    ghost invariant = { λ kept. IsKept (map (λ entry. (entry.0, entry.1.value)) kept.codes.entries) };
 }
 
 impl Kept {
-    /// Nothing is kept.
+    /// Nothing is kept. The table's hashes start from keys that are the same in every run.
     pub fn new(alloc: Global) -> Kept
+        ensures { result ≡ [] }
+    {
+        Kept::with_keys(alloc, TableKeys::fixed())
+    }
+
+    /// Nothing is kept. The table's hashes start from these keys: texts of a circuit that others wrote
+    /// want keys that were drawn.
+    pub fn with_keys(alloc: Global, keys: TableKeys) -> Kept
         ensures { result ≡ [] }
     {
         Kept {
             alloc,
-            codes: IndexMap::new(alloc),
+            codes: IndexMap::with_hasher(alloc, keys),
         }
     }
 
@@ -68,6 +78,7 @@ impl Kept {
         analyst: &mut A,
     ) -> Result<u64, NoMemory>
         ensures ok { IfOk result (λ count. KeepsAll self.old self.new (A.analysed analyst.old) (A.analysed analyst.new) texts.now count) }
+        ensures there { OnOk result (All (λ text. IsTrue (is_among (texts_of self.new) text)) texts.now) }
         ensures err { OnErr result (KeepsSome self.old self.new (A.analysed analyst.old) (A.analysed analyst.new) texts.now) }
     {
         let before = self.size();
@@ -86,9 +97,16 @@ impl Kept {
         ensures err { OnErr result (LacksText self.old self.new (A.analysed analyst.old) (A.analysed analyst.new) text.now) }
     {
         let code = analyst.analyse(self.alloc, text)?;
-        let shared = Rc::new(self.alloc, code).map_err(|_| NoMemory)?;
+        let shared = share(self.alloc, code)?;
         let key = text.copy(self.alloc)?;
         self.codes.insert(key, shared).map_err(|_| NoMemory)?;
         Ok(())
     }
+}
+
+// Code that groups can share.
+fn share(alloc: Global, code: Code) -> Result<Rc<Code>, NoMemory>
+    ensures { IfOk result (λ shared. shared.value ≡ code) }
+{
+    Rc::new(alloc, code).map_err(|_| NoMemory)
 }

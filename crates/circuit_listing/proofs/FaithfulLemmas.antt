@@ -1,43 +1,45 @@
 -- What is built of the parts of a circuit's groups is a faithful listing of it.
 use Rattle.std.proofs.Common.{◌≡◌, ℕ, ◌<◌, ◌≤◌, List, [], ◌∷◌, length, map, get_or, All, None, sym, ap, subst, ◌∙◌, arith}
-use Rattle.std.specs.Prelude.{sum}
+use Rattle.std.specs.Prelude.{sum, zip}
 use Rattle.std.specs.List.{AllZip, range_with_len}
 use Rattle.std.proofs.lemmas.List.{get_or-map, length-map}
 use Rattle.std.proofs.lemmas.List.FromFn.{length-map-range_with_len, get_or-map-range_with_len}
 use Rattle.std.proofs.lemmas.Option.{slice_get-get_or, slice_get_within, get_or_from_slice_get}
-use Rattle.path_meaning.specs.Wiring.{Wiring, IsWired, nodes}
-use Rattle.netlist.specs.Netlists.{Netlist}
+use Rattle.path_meaning.specs.Graphs.{GraphData, IsWired, nodes}
+use Rattle.netlist.specs.Circuits.{CircuitData, called, HasVisibleNames}
 use Rattle.group_meaning.specs.Groups.{Group, AreGroups}
 use Rattle.group_meaning.proofs.UniqueGroups.{unique}
-use Rattle.group_text.specs.Texts.{Text, local_nodes, text_of_group}
-use Rattle.linear_code.specs.declared.part.Part.{Part}
-use Rattle.linear_code.specs.Listing.{Listed, IsListedName}
-use Rattle.linear_code.specs.Parts.{IsPart, IsBuilt}
-use Rattle.circuit_listing.specs.Faithful.{called, group_bound, HasVisibleNames, IsFaithful}
-use Rattle.circuit_listing.specs.Parts.{IsMadeOf, IsPartOf}
-use Rattle.circuit_listing.specs.Sizes.{fault_in, AllFit}
-use Rattle.circuit_listing.proofs.MemberLemmas.{group_at}
-use Rattle.circuit_listing.proofs.PairedLists.{partner_first, sum_within}
-use Rattle.circuit_listing.proofs.PartLemmas.{IsPart-from_group}
+use Rattle.group_text.specs.Texts.{GroupTextData, local_nodes, text_of_group}
+use Rattle.straight_code.specs.declared.part.Part.{Part}
+use Rattle.linear_code.specs.Listing.{ListingData}
+use Rattle.line_words.specs.Visible.{IsVisibleName}
+use Rattle.straight_code.specs.Parts.{IsPart}
+use Rattle.linear_code.specs.Built.{IsBuilt}
+use Rattle.circuit_listing.specs.Faithful.{group_bound, IsFaithful}
+use Rattle.circuit_texts.specs.Parts.{IsMadeOf, IsPartOf}
+use Rattle.circuit_texts.specs.Sizes.{fault_in, AllFit}
+use Rattle.circuit_texts.proofs.MemberLemmas.{group_at}
+use Rattle.circuit_texts.proofs.PairedLists.{partner_first, sum_within}
+use Rattle.circuit_texts.proofs.PartLemmas.{IsPart-from_group}
 use Rattle.circuit_listing.proofs.StepLemmas.{IsStep-from_listing}
 
 -- parts that are made of the groups' texts, over the nodes that the local nodes stand for, are parts of the groups
-pub parts_of_groups : {X : Type 0} (text : X → Text) (nodes_of : X → List ℕ) (g : Wiring) (groups : List Group) (texts : List X) (parts : List Part) →
-    map text texts ≡ map (text_of_group g) groups → map nodes_of texts ≡ map (local_nodes g) groups →
-    AllZip (λ made part. IsMadeOf (text made) (nodes_of made) part) texts parts → AllZip (IsPartOf g) groups parts
-parts_of_groups text nodes_of g [] [] parts texts_are nodes_are made = made
-parts_of_groups text nodes_of g [] (one ∷ texts) parts texts_are nodes_are made = absurd cc
-parts_of_groups text nodes_of g (group ∷ groups) [] parts texts_are nodes_are made = absurd cc
-parts_of_groups text nodes_of g (group ∷ groups) (one ∷ texts) [] texts_are nodes_are made = absurd made
-parts_of_groups text nodes_of g (group ∷ groups) (one ∷ texts) (part ∷ parts) texts_are nodes_are made =
-    let text_is : text one ≡ text_of_group g group = cc in
-    let nodes_is : nodes_of one ≡ local_nodes g group = cc in
-    let more_texts : map text texts ≡ map (text_of_group g) groups = cc in
-    let more_nodes : map nodes_of texts ≡ map (local_nodes g) groups = cc in
-    (rw (text_is, nodes_is) at made.0, parts_of_groups text nodes_of g groups texts parts more_texts more_nodes made.1)
+parts_of_pairs : (g : GraphData) (groups : List Group) (parts : List Part) →
+    AllZip (λ made part. IsMadeOf made.0 made.1 part) (zip (map (text_of_group g) groups) (map (local_nodes g) groups)) parts →
+    AllZip (IsPartOf g) groups parts
+parts_of_pairs g [] [] made = made
+parts_of_pairs g [] (part ∷ parts) made = absurd made
+parts_of_pairs g (group ∷ groups) [] made = absurd made
+parts_of_pairs g (group ∷ groups) (part ∷ parts) made = (made.0, parts_of_pairs g groups parts made.1)
+
+pub parts_of_groups : (g : GraphData) (groups : List Group) (texts : List GroupTextData) (maps : List (List ℕ)) (parts : List Part) →
+    texts ≡ map (text_of_group g) groups → maps ≡ map (local_nodes g) groups →
+    AllZip (λ made part. IsMadeOf made.0 made.1 part) (zip texts maps) parts → AllZip (IsPartOf g) groups parts
+parts_of_groups g groups texts maps parts texts_are maps_are made =
+    parts_of_pairs g groups parts (rw (texts_are, maps_are) at made)
 
 -- each part of a group fits the graph
-pub parts_fit : (g : Wiring) → IsWired g → (groups : List Group) → AreGroups g groups → (parts : List Part) → AllZip (IsPartOf g) groups parts →
+pub parts_fit : (g : GraphData) → IsWired g → (groups : List Group) → AreGroups g groups → (parts : List Part) → AllZip (IsPartOf g) groups parts →
     All (IsPart (nodes g)) parts
 parts_fit g wired groups are parts made = λ k d inside.
     let part = get_or parts k d in
@@ -45,8 +47,8 @@ parts_fit g wired groups are parts made = λ k d inside.
     IsPart-from_group g wired partner.0 (group_at g groups are parts made k partner.0 partner.1) part partner.2
 
 -- what the nodes of a circuit are called can be a name of a listing
-pub names_visible : {X : Type 0} (bytes : X → List ℕ) (c : Netlist) (names : List X) → HasVisibleNames c →
-    map bytes names ≡ map (called c) (range_with_len 0 (nodes c.graph)) → All (λ name. IsListedName (bytes name)) names
+pub names_visible : {X : Type 0} (bytes : X → List ℕ) (c : CircuitData) (names : List X) → HasVisibleNames c →
+    map bytes names ≡ map (called c) (range_with_len 0 (nodes c.graph)) → All (λ name. IsVisibleName (bytes name)) names
 names_visible bytes c names visible are = λ k d inside.
     let below : k < nodes c.graph =
     omega (arith, length-map names bytes, ap length are, length-map-range_with_len (called c) 0 (nodes c.graph)) in
@@ -56,19 +58,19 @@ names_visible bytes c names visible are = λ k d inside.
     rw name (visible k below)
 
 -- there are as many names as nodes
-pub names_counted : {X : Type 0} (bytes : X → List ℕ) (c : Netlist) (names : List X) →
+pub names_counted : {X : Type 0} (bytes : X → List ℕ) (c : CircuitData) (names : List X) →
     map bytes names ≡ map (called c) (range_with_len 0 (nodes c.graph)) → length names ≡ nodes c.graph
 names_counted bytes c names are =
     sym (length-map names bytes) ∙ (ap length are ∙ length-map-range_with_len (called c) 0 (nodes c.graph))
 
 -- where the groups that were found fit, no group of the graph is too large
-pub AllFit-from_groups : (g : Wiring) (groups : List Group) → AreGroups g groups → All (λ group. fault_in group ≡ None) groups → AllFit g
+pub AllFit-from_groups : (g : GraphData) (groups : List Group) → AreGroups g groups → All (λ group. fault_in group ≡ None) groups → AllFit g
 AllFit-from_groups g groups are fits = λ others others_are k group stands.
     let here = rw (unique g others groups others_are are) at stands in
     subst (λ group. fault_in group ≡ None) (get_or_from_slice_get groups k group group here) (fits k group (slice_get_within groups k group here))
 
-module _ (c : Netlist) (wired : IsWired c.graph) (groups : List Group) (are : AreGroups c.graph groups) (parts : List Part)
-    (made : AllZip (IsPartOf c.graph) groups parts) (listing : Listed) where
+module _ (c : CircuitData) (wired : IsWired c.graph) (groups : List Group) (are : AreGroups c.graph groups) (parts : List Part)
+    (made : AllZip (IsPartOf c.graph) groups parts) (listing : ListingData) where
   -- there are no more instructions than the bounds of the groups
   few_instructions : (names : List (List ℕ)) → IsBuilt c.graph names parts listing → (others : List Group) → AreGroups c.graph others →
       length listing.instructions ≤ sum (map (group_bound c.graph) others)

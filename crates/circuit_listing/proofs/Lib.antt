@@ -1,6 +1,4 @@
-pub mod SizeLemmas
-pub mod PairedLists
-pub mod PartLemmas
-pub mod MemberLemmas
+pub mod PairLemmas
+pub mod AnalysedLemmas
 pub mod StepLemmas
 pub mod FaithfulLemmas

@@ -1,3 +1,2 @@
 pub mod Faithful
-pub mod Sizes
-pub mod Parts
+pub mod Analysed

@@ -1,10 +1,63 @@
--- The parts are those of the circuit's groups, and so what is built of them is faithful.
-use Rattle.std.proofs.Common.{map}
+-- The parts are those of the circuit's groups, and so what is built of them is faithful. The analyst was given the distinct texts of
+-- the groups, or a front of them.
+use Rattle.std.proofs.Common.{map, ◌∙◌}
 use Rattle.group_meaning.specs.Groups.{AreGroups}
-use Rattle.group_meaning.proofs.UniqueGroups.{unique}
+use Rattle.circuit_listing.proofs.AnalysedLemmas.{at_err, all_analysed, front_some, front_of_groups, all_of_groups, whole_front}
 use Rattle.circuit_listing.proofs.FaithfulLemmas.{parts_of_groups, parts_fit, names_visible, names_counted, AllFit-from_groups, IsFaithful-from_parts}
-use Rattle.circuit_listing.proofs.MemberLemmas.{AreMembers-from_groups}
+use Rattle.circuit_texts.proofs.MemberLemmas.{AreMembers-from_groups}
 use Rattle.circuit_listing.proofs.circuit.list_circuit.Goals as goal
+
+pub returns-in_err-ensure-clause-front : goal.returns-in_err-ensure-clause-front
+returns-in_err-ensure-clause-front g c =
+    let graph = c.args.circuit.now.graph in
+    let groups = c.in_ok-groups.groups.groups in
+    let before = g.A.Analyst.analysed c.args.analyst.now in
+    let after = g.A.Analyst.analysed c.ensure.new.analyst in
+    let are : AreGroups graph groups = rw c.graph.ensures.value at c.in_ok-groups.ensures.groups in
+    let texts = rw c.graph-2.ensures.value at c.in_ok-texts.ensures.texts in
+    let keeps = rw c.deref.ensures.value at c.in_err-ensure.ensures.err in
+    at_err c.from_residual-in_err-ensure.result
+    (front_of_groups graph groups are c.in_ok-texts.field-0.texts.items texts before after
+    (front_some c.with_keys-kept.result c.ensure.new.self before after c.in_ok-texts.field-0.texts.items c.with_keys-kept.ensures keeps))
+
+pub returns-in_err-parts-clause-front : goal.returns-in_err-parts-clause-front
+returns-in_err-parts-clause-front g c =
+    let graph = c.args.circuit.now.graph in
+    let groups = c.in_ok-groups.groups.groups in
+    let before = g.A.Analyst.analysed c.args.analyst.now in
+    let after = g.A.Analyst.analysed c.ensure.new.analyst in
+    let are : AreGroups graph groups = rw c.graph.ensures.value at c.in_ok-groups.ensures.groups in
+    let texts = rw c.graph-2.ensures.value at c.in_ok-texts.ensures.texts in
+    let keeps = rw c.deref.ensures.value at c.in_ok-ensure.ensures.ok in
+    at_err c.from_residual-in_err-parts.result
+    (whole_front graph groups are c.in_ok-texts.field-0.texts.items texts before after
+    (all_analysed c.with_keys-kept.result c.ensure.new.self before after c.in_ok-texts.field-0.texts.items _ c.with_keys-kept.ensures keeps))
+
+pub returns-in_err-names-clause-front : goal.returns-in_err-names-clause-front
+returns-in_err-names-clause-front g c =
+    let graph = c.args.circuit.now.graph in
+    let groups = c.in_ok-groups.groups.groups in
+    let before = g.A.Analyst.analysed c.args.analyst.now in
+    let after = g.A.Analyst.analysed c.ensure.new.analyst in
+    let are : AreGroups graph groups = rw c.graph.ensures.value at c.in_ok-groups.ensures.groups in
+    let texts = rw c.graph-2.ensures.value at c.in_ok-texts.ensures.texts in
+    let keeps = rw c.deref.ensures.value at c.in_ok-ensure.ensures.ok in
+    at_err c.from_residual-in_err-names.result
+    (whole_front graph groups are c.in_ok-texts.field-0.texts.items texts before after
+    (all_analysed c.with_keys-kept.result c.ensure.new.self before after c.in_ok-texts.field-0.texts.items _ c.with_keys-kept.ensures keeps))
+
+pub returns-in_err-build-clause-front : goal.returns-in_err-build-clause-front
+returns-in_err-build-clause-front g c =
+    let graph = c.args.circuit.now.graph in
+    let groups = c.in_ok-groups.groups.groups in
+    let before = g.A.Analyst.analysed c.args.analyst.now in
+    let after = g.A.Analyst.analysed c.ensure.new.analyst in
+    let are : AreGroups graph groups = rw c.graph.ensures.value at c.in_ok-groups.ensures.groups in
+    let texts = rw c.graph-2.ensures.value at c.in_ok-texts.ensures.texts in
+    let keeps = rw c.deref.ensures.value at c.in_ok-ensure.ensures.ok in
+    at_err c.from_residual-in_err-build.result
+    (whole_front graph groups are c.in_ok-texts.field-0.texts.items texts before after
+    (all_analysed c.with_keys-kept.result c.ensure.new.self before after c.in_ok-texts.field-0.texts.items _ c.with_keys-kept.ensures keeps))
 
 pub build-requires : goal.build-requires
 build-requires g c =
@@ -13,11 +66,10 @@ build-requires g c =
     let names = c.in_ok-names.names.items in
     let parts = c.in_ok-parts.parts.items in
     let are : AreGroups circuit.graph groups = rw c.graph.ensures.value at c.in_ok-groups.ensures.groups in
-    let texts = rw (c.graph-2.ensures.value, c.list.ensures) at c.in_ok-texts.ensures.texts in
-    let maps = rw (c.graph-2.ensures.value, c.list.ensures) at c.in_ok-texts.ensures.maps in
-    let made = parts_of_groups (λ made. made.0) (λ made. made.1.items) circuit.graph groups c.in_ok-texts.texts.items parts texts maps
-    c.in_ok-parts.ensures.parts in
-    rw (c.deref.ensures.value, c.deref-2.ensures.value, c.graph-3.ensures.value) (record {
+    let texts = c.deref-2.ensures.value ∙ rw c.graph-2.ensures.value at c.in_ok-texts.ensures.texts in
+    let maps = rw c.graph-2.ensures.value at c.in_ok-texts.ensures.maps in
+    let made = parts_of_groups circuit.graph groups _ _ parts texts maps c.in_ok-parts.ensures in
+    rw (c.deref-3.ensures.value, c.graph-3.ensures.value) (record {
       names = names_counted (λ name. name.items) circuit names c.in_ok-names.ensures;
       visible = names_visible (λ name. name.items) circuit names c.requires c.in_ok-names.ensures;
       fit = parts_fit circuit.graph c.graph.ensures.netlist.wired groups are parts made;
@@ -30,11 +82,10 @@ returns-clause-listing g c =
     let groups = c.in_ok-groups.groups.groups in
     let parts = c.in_ok-parts.parts.items in
     let are : AreGroups circuit.graph groups = rw c.graph.ensures.value at c.in_ok-groups.ensures.groups in
-    let texts = rw (c.graph-2.ensures.value, c.list.ensures) at c.in_ok-texts.ensures.texts in
-    let maps = rw (c.graph-2.ensures.value, c.list.ensures) at c.in_ok-texts.ensures.maps in
-    let made = parts_of_groups (λ made. made.0) (λ made. made.1.items) circuit.graph groups c.in_ok-texts.texts.items parts texts maps
-    c.in_ok-parts.ensures.parts in
-    let built = rw (c.deref.ensures.value, c.deref-2.ensures.value, c.graph-3.ensures.value) at c.in_ok-build.ensures in
+    let texts = c.deref-2.ensures.value ∙ rw c.graph-2.ensures.value at c.in_ok-texts.ensures.texts in
+    let maps = rw c.graph-2.ensures.value at c.in_ok-texts.ensures.maps in
+    let made = parts_of_groups circuit.graph groups _ _ parts texts maps c.in_ok-parts.ensures in
+    let built = rw (c.deref-3.ensures.value, c.graph-3.ensures.value) at c.in_ok-build.ensures in
     IsFaithful-from_parts circuit c.graph.ensures.netlist.wired groups are parts made c.in_ok-build.field-0
     (map (λ name. name.items) c.in_ok-names.names.items) c.in_ok-names.ensures built
 
@@ -42,12 +93,16 @@ pub returns-clause-fits : goal.returns-clause-fits
 returns-clause-fits g c =
     let groups = c.in_ok-groups.groups.groups in
     let are = rw c.graph.ensures.value at c.in_ok-groups.ensures.groups in
-    AllFit-from_groups c.args.circuit.now.graph groups are (rw c.list.ensures at c.in_ok-texts.ensures.fits)
+    AllFit-from_groups c.args.circuit.now.graph groups are c.in_ok-texts.ensures.fits
 
 pub returns-clause-analysed : goal.returns-clause-analysed
-returns-clause-analysed g c = λ others others_are.
+returns-clause-analysed g c =
     let graph = c.args.circuit.now.graph in
     let groups = c.in_ok-groups.groups.groups in
+    let before = g.A.Analyst.analysed c.args.analyst.now in
+    let after = g.A.Analyst.analysed c.ensure.new.analyst in
     let are : AreGroups graph groups = rw c.graph.ensures.value at c.in_ok-groups.ensures.groups in
-    let texts = rw (c.graph-2.ensures.value, c.list.ensures) at c.in_ok-texts.ensures.texts in
-    rw (c.in_ok-parts.ensures.analysed, unique graph others groups others_are are, texts)
+    let texts = rw c.graph-2.ensures.value at c.in_ok-texts.ensures.texts in
+    let keeps = rw c.deref.ensures.value at c.in_ok-ensure.ensures.ok in
+    all_of_groups graph groups are c.in_ok-texts.field-0.texts.items texts before after
+    (all_analysed c.with_keys-kept.result c.ensure.new.self before after c.in_ok-texts.field-0.texts.items _ c.with_keys-kept.ensures keeps)

@@ -3,7 +3,7 @@ use Rattle.std.proofs.Common.{◌≡◌, arith, ap}
 use Rattle.std.specs.Prelude.{[], unwrap_or}
 use Rattle.std.proofs.lemmas.Grind.{common_steps}
 use Rattle.std.proofs.lemmas.List.FromFn.{map-range_with_len_more}
-use Rattle.circuit_listing.specs.Faithful.{called}
+use Rattle.netlist.specs.Circuits.{called}
 use Rattle.circuit_listing.proofs.circuit.names_of.Goals as goal
 
 pub loop-node-preserved : goal.loop-node-preserved

@@ -1,17 +1,26 @@
 -- Each part is made of the next text.
-use Rattle.std.proofs.Common.{◌≡◌, [], ◌∷◌, ◌++◌, true, ap, sym, ◌∙◌, append_assoc}
-use Rattle.std.specs.Result.{is_ok}
-use Rattle.std.proofs.lemmas.List.{map-append}
-use Rattle.std.proofs.lemmas.Slice.Zip.{all_zipped_more}
-use Rattle.circuit_listing.specs.Parts.{IsMadeOf}
+use Rattle.std.proofs.Common.{◌≡◌, ◌<◌, [], ◌∷◌, ◌++◌, length, map, sym, ap, ◌∙◌, rules, arith}
+use Rattle.std.proofs.lemmas.List.{length-map, map-append, length_push}
+use Rattle.circuit_texts.specs.Parts.{IsMadeOf}
+use Rattle.circuit_listing.proofs.PairLemmas.{all_paired_more}
 use Rattle.circuit_listing.proofs.circuit.parts_of.Goals as goal
 
-pub loop-text-preserved : goal.loop-text-preserved
-loop-text-preserved g c =
-    let ok : is_ok c.push.result ≡ true = sym c.map_err.ensures.variant ∙ ap is_ok c.in_ok-map_err.was in
-    let pushed : c.push.new.self.items ≡ c.loop-text.parts.items ++ c.in_ok-part.part ∷ [] = rw ok at c.push.ensures.items in
-    record {
-      parts = rw pushed (all_zipped_more (λ made part. IsMadeOf made.0 made.1.items part) c.loop-text.yielded c.loop-text.parts.items
-          (c.in-Some.text, c.in-Some.map) c.in_ok-part.part c.loop-text.invariant.parts c.in_ok-part.ensures.part);
-      analysed = rw (c.in_ok-part.ensures.analysed, c.loop-text.invariant.analysed, map-append, append_assoc);
-    }
+pub loop-map-preserved : goal.loop-map-preserved
+loop-map-preserved c =
+    let parts = c.loop-map.parts.items in
+    let texts = c.args.texts.now in
+    let part = c.in_ok-part_of.field-0 in
+    let here : length parts ≡ length (map (λ nodes. nodes.items) c.loop-map.yielded) =
+    c.loop-map.invariant.count ∙ sym (length-map c.loop-map.yielded (λ nodes. nodes.items)) in
+    let inside : length parts < length texts = omega (arith, ap length c.in-Some.ensures.steps.0) in
+    let counted : c.len.result ≡ length parts = omega (arith, c.len.ensures, c.loop-map.parts.ok.0) in
+    let stands = rw counted at c.index-texts-len.is in
+    let pushed : c.push.new.self.items ≡ parts ++ part ∷ [] = search rules in
+    let more = all_paired_more (λ made part. IsMadeOf made.0 made.1 part) texts (map (λ nodes. nodes.items) c.loop-map.yielded) parts
+    (length parts) c.index-texts-len.result c.in-Some.map.items part inside here stands c.loop-map.invariant.parts
+    c.in_ok-part_of.ensures in
+    rw (pushed, length_push parts part, map-append) (record {
+      count = omega (arith, length_push c.loop-map.yielded c.in-Some.map);
+      left = omega (arith, length_push c.loop-map.yielded c.in-Some.map, ap length c.in-Some.ensures.steps.0);
+      parts = more;
+    })

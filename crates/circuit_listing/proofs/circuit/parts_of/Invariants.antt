@@ -1,11 +1,13 @@
--- The texts so far have their parts, and were analysed in order.
-use Rattle.std.proofs.Common.{◌≡◌, ◌++◌, map}
+-- The texts so far have their parts.
+use Rattle.std.proofs.Common.{◌≡◌, ◌+◌, map, take, length}
+use Rattle.std.specs.Prelude.{zip}
 use Rattle.std.specs.List.{AllZip}
-use Rattle.circuit_listing.specs.Parts.{IsMadeOf}
+use Rattle.circuit_texts.specs.Parts.{IsMadeOf}
 use Rattle.circuit_listing.proofs.circuit.parts_of.Given as goal
 
-abbrev pub invariant-loop-text : goal.invariant-loop-text
-invariant-loop-text g l = record {
-  parts : AllZip (λ made part. IsMadeOf made.0 made.1.items part) l.yielded l.parts.items;
-  analysed : g.A.Analyst.analysed l.analyst ≡ g.A.Analyst.analysed l.initial.analyst ++ map (λ made. made.0) l.yielded;
+abbrev pub invariant-loop-map : goal.invariant-loop-map
+invariant-loop-map l = record {
+  count : length l.parts.items ≡ length l.yielded;
+  left : length l.yielded + length l.map-iterator.rest.items ≡ length l.texts;
+  parts : AllZip (λ made part. IsMadeOf made.0 made.1 part) (zip (take (length l.parts.items) l.texts) (map (λ nodes. nodes.items) l.yielded)) l.parts.items;
 }

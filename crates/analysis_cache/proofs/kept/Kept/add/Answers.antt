@@ -1,11 +1,12 @@
 -- The text goes last, under its own code.
-use Rattle.std.proofs.Common.{◌≡◌, true, false, List, [], ◌∷◌, ◌++◌, Result, Ok, Err, OnOk, is_ok, sym, ap, subst, ◌∙◌, true≢false, rules}
-use Rattle.group_text.specs.Texts.{Text}
+use Rattle.std.proofs.Common.{◌≡◌, true, false, List, [], ◌∷◌, ◌++◌, Result, Ok, Err, OnOk, is_ok, sym, ap, subst, ◌∙◌, true≢false}
+use Rattle.group_text.specs.Texts.{GroupTextData}
 use Rattle.group_text.specs.Compared.{same_text}
 use Rattle.indexmap.specs.IndexMap.{insert_entry}
-use Rattle.analysis_cache.specs.Meaning.{MeansText}
-use Rattle.analysis_cache.specs.Keeping.{is_among, texts_of}
-use Rattle.analysis_cache.proofs.EntryLemmas.{Codes, Shared, kept_by, kept_by-push, insert_entry-fresh, IsKeeping-push}
+use Rattle.group_analysis.specs.Meaning.{MeansText}
+use Rattle.group_text.specs.FirstTexts.{is_among}
+use Rattle.analysis_cache.specs.Keeping.{texts_of}
+use Rattle.analysis_cache.proofs.EntryLemmas.{Codes, Shared, kept_by, kept_by-push, insert_entry-fresh, IsKept-push}
 use Rattle.analysis_cache.proofs.kept.Kept.add.Goals as goal
 
 -- what holds on an answer holds where there is one
@@ -14,7 +15,7 @@ answered (Ok value) is fact = fact
 answered (Err fault) is fact = absurd (true≢false is)
 
 -- a text that isn't kept is put last
-put_last : (codes : Codes) (entries : List (Text × Shared)) (text key : Text) (shared : Shared) →
+put_last : (codes : Codes) (entries : List (GroupTextData × Shared)) (text key : GroupTextData) (shared : Shared) →
     is_among (texts_of (kept_by codes.entries)) text ≡ false → key ≡ text → entries ≡ insert_entry same_text codes.entries key shared →
     entries ≡ codes.entries ++ (text, shared) ∷ []
 put_last codes entries text key shared fresh own put =
@@ -25,9 +26,8 @@ invariant_of-self-2 g c =
     let text = c.args.text.now in
     let fresh = ap (λ kept. is_among (texts_of kept) text) c.self.view_is ∙ c.requires in
     let put = answered c.insert.result c.in_ok-map_err.ensures.variant c.insert.ensures.entries in
-    let own : c.in_ok-shared.shared.value ≡ c.in_ok-code.code =
-    search rules in
-    IsKeeping-push c.self.inside.codes.entries c.insert.new.self.entries text c.in_ok-shared.shared
+    let own : c.in_ok-shared.shared.value ≡ c.in_ok-code.code = c.in_ok-shared.ensures in
+    IsKept-push c.self.inside.codes.entries c.insert.new.self.entries text c.in_ok-shared.shared
     (put_last c.self.inside.codes c.insert.new.self.entries text c.in_ok-key.key c.in_ok-shared.shared fresh c.in_ok-key.ensures put)
     c.self.invariant (subst (MeansText text) (sym own) c.in_ok-code.ensures.means) c.insert.ensures.unique
 

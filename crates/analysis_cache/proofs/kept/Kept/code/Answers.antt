@@ -1,7 +1,8 @@
 -- What the map finds for a text is what is kept under it.
 use Rattle.std.proofs.Common.{◌∙◌, ap, not}
-use Rattle.analysis_cache.specs.Meaning.{MeansText}
-use Rattle.analysis_cache.specs.Keeping.{code_in, is_among, texts_of}
+use Rattle.group_analysis.specs.Meaning.{MeansText}
+use Rattle.group_text.specs.FirstTexts.{is_among}
+use Rattle.analysis_cache.specs.Keeping.{code_in, texts_of}
 use Rattle.analysis_cache.proofs.EntryLemmas.{code_in-kept_by, is_none-lookup, MeansText-lookup, code-lent, is_none-lent, IfSome-lent}
 use Rattle.analysis_cache.proofs.kept.Kept.code.Goals as goal
 

@@ -1,8 +1,9 @@
 -- A text that is kept changes nothing, and one that isn't is added.
-use Rattle.std.proofs.Common.{◌≡◌, ◌+◌, ◌-◌, ◌∷◌, ◌++◌, [], length, take, drop, Result, Ok, Err, OnErr, sym, ap, ◌∙◌, arith}
-use Rattle.std.proofs.lemmas.List.{take_more, drop_more, take-append-drop}
-use Rattle.analysis_cache.specs.Keeping.{is_among, texts_of}
-use Rattle.analysis_cache.proofs.KeepingLemmas.{is_some-among, length-KeepsAll, KeepsAll-known, KeepsAll-added, KeepsSome-lacking}
+use Rattle.std.proofs.Common.{◌≡◌, ◌+◌, ◌-◌, ◌∷◌, ◌++◌, [], length, take, drop, Result, Ok, Err, OnErr, All, true, sym, ap, subst, ◌∙◌, arith}
+use Rattle.std.proofs.lemmas.List.{take_more, take_all, drop_more, take-append-drop}
+use Rattle.group_text.specs.FirstTexts.{is_among}
+use Rattle.analysis_cache.specs.Keeping.{texts_of}
+use Rattle.analysis_cache.proofs.KeepingLemmas.{is_some-among, length-KeepsAll, each_kept, KeepsAll-known, KeepsAll-added, KeepsSome-lacking}
 use Rattle.analysis_cache.proofs.kept.Kept.ensure.Goals as goal
 use Rattle.analysis_cache.proofs.kept.Kept.ensure.Goals.{then-is_none+in_ok-add, else-is_none}
 
@@ -57,3 +58,13 @@ loop-text-preserved g c =
           rw (w.self-is, w.analyst-is, grown)
           (KeepsAll-known old now before after (take i texts) count c.loop-text.invariant text (there ∙ w.if-is_none.ensures))
     ]
+
+pub returns-clause-there : goal.returns-clause-there
+returns-clause-there g c =
+    let texts = c.args.texts.now in
+    let old = c.args.self.now in
+    let now = c.loop-text.self in
+    let all : take c.loop-text.text-index texts ≡ texts = take_all c.loop-text.text-index texts (omega arith) in
+    subst (λ front. All (λ text. is_among (texts_of now) text ≡ true) front) all
+    (each_kept old now (g.A.Analyst.analysed c.args.analyst.now) (g.A.Analyst.analysed c.loop-text.analyst) (take c.loop-text.text-index texts)
+    (length now - length old) c.loop-text.invariant)

@@ -8,16 +8,16 @@ use Rattle.std.proofs.lemmas.List.{get_or_default}
 use Rattle.std.proofs.lemmas.List.Elements.{Contains-get_or}
 use Rattle.std.proofs.lemmas.List.Kept.{AllPairs-from_increasing}
 use Rattle.std.proofs.lemmas.Option.{slice_get-map, slice_get_within, get_or_from_slice_get, slice_get_read}
-use Rattle.path_meaning.specs.Wiring.{Wiring}
-use Rattle.group_meaning.specs.Groups.{IsStorage, Group, id_of, IsGroup, AreGroups}
+use Rattle.path_meaning.specs.Graphs.{GraphData, IsStorage}
+use Rattle.group_meaning.specs.Groups.{Group, id_of, IsGroup, AreGroups}
 use Rattle.group_meaning.proofs.GroupLemmas.{member_storage}
 use Rattle.group_meaning.proofs.UniqueGroups.{same_id}
 use Rattle.group_text.specs.Texts.{local_nodes}
 use Rattle.group_text.proofs.LocalNodes.{member_at, members_within}
-use Rattle.linear_code.specs.declared.part.Part.{Part}
-use Rattle.linear_code.specs.Parts.{IsMemberAt, IsMember, AreMembers}
-use Rattle.circuit_listing.specs.Parts.{IsPartOf}
-use Rattle.circuit_listing.proofs.PairedLists.{partner_first, partner_second}
+use Rattle.straight_code.specs.declared.part.Part.{Part}
+use Rattle.straight_code.specs.Parts.{IsMemberAt, IsMember, AreMembers}
+use Rattle.circuit_texts.specs.Parts.{IsPartOf}
+use Rattle.circuit_texts.proofs.PairedLists.{partner_first, partner_second}
 
 -- a number stands once in a list that ascends
 same_number : (xs : List ℕ) → IsStrictlyIncreasing xs → (k l x : ℕ) → slice_get xs k ≡ Some x → slice_get xs l ≡ Some x → k ≡ l
@@ -36,7 +36,7 @@ same_number xs ascends k l x at_k at_l =
     ]
 
 -- the part is that of the group with its number, and the node is the group's member with this number
-pub record IsMemberOf (g : Wiring) (groups : List Group) (node k j : ℕ) (part : Part) : Type 0 where
+pub record IsMemberOf (g : GraphData) (groups : List Group) (node k j : ℕ) (part : Part) : Type 0 where
   pub group : Group
   pub stands : slice_get groups k ≡ Some group
   pub is_group : IsGroup g group
@@ -44,7 +44,7 @@ pub record IsMemberOf (g : Wiring) (groups : List Group) (node k j : ℕ) (part 
   pub inside : j < length group.members
   pub here : slice_index group.members j ≡ node
 
-module _ (g : Wiring) (groups : List Group) (are : AreGroups g groups) (parts : List Part) (made : AllZip (IsPartOf g) groups parts) where
+module _ (g : GraphData) (groups : List Group) (are : AreGroups g groups) (parts : List Part) (made : AllZip (IsPartOf g) groups parts) where
   -- what stands at a place of the groups is a group
   pub group_at : (k : ℕ) (group : Group) → slice_get groups k ≡ Some group → IsGroup g group
   group_at k group stands =

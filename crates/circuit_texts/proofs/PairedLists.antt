@@ -5,11 +5,17 @@ use Rattle.std.specs.List.{AllZip}
 use Rattle.std.proofs.lemmas.List.{map-append, map_more}
 use Rattle.std.proofs.lemmas.List.Sums.{sum_by-cons}
 
+-- with the item of the next item of the other list, one item more
+pub mapped_more : {Y Z : Type 0} (h : Y → Z) (zs : List Z) (z : Z) (ys : List Y) (y : Y) (i : ℕ) → i < length ys →
+    y ≡ get_or ys i y → zs ≡ map h (take i ys) → z ≡ h y → zs ++ z ∷ [] ≡ map h (take (i + 1) ys)
+mapped_more h zs z ys y i inside stands so_far here =
+    ap₂ (λ front last. front ++ last ∷ []) so_far (here ∙ ap h stands) ∙ sym (map_more h ys i y inside)
+
 -- with one item more, made of the next item of the other list
 pub map_pushed : {X Y Z : Type 0} (f : X → Z) (h : Y → Z) (xs : List X) (x : X) (ys : List Y) (y : Y) (i : ℕ) → i < length ys →
     y ≡ get_or ys i y → map f xs ≡ map h (take i ys) → f x ≡ h y → map f (xs ++ x ∷ []) ≡ map h (take (i + 1) ys)
 map_pushed f h xs x ys y i inside stands so_far here =
-    map-append f xs (x ∷ []) ∙ ap₂ (λ front last. front ++ last ∷ []) so_far (here ∙ ap h stands) ∙ sym (map_more h ys i y inside)
+    map-append f xs (x ∷ []) ∙ mapped_more h (map f xs) (f x) ys y i inside stands so_far here
 
 -- what belongs to an item of the second list stands in the first at the same place
 pub partner_first : {X Y : Type 0} (R : X → Y → Type 0) (xs : List X) (ys : List Y) (k : ℕ) (y : Y) → AllZip R xs ys → slice_get ys k ≡ Some y →

@@ -3,10 +3,10 @@
 use Rattle.std.specs.Prelude.{◌≡◌, ℕ, ◌+◌, ◌-◌, ◌*◌, ◌^◌, ◌<◌, ◌≤◌, List, length, Option, Some, None, is_some, count_by, slice_index_or}
 use Rattle.ternary.specs.declared.tern.Tern.{Tern}
 use Rattle.path_meaning.specs.Switching.{state_at}
-use Rattle.path_meaning.specs.Wiring.{Wiring, nodes}
+use Rattle.path_meaning.specs.Graphs.{GraphData, nodes}
 use Rattle.path_meaning.specs.Step.{IsResponse}
-use Rattle.group_text.specs.Texts.{Text}
-use Rattle.linear_code.specs.Code.{Program, code_value}
+use Rattle.group_text.specs.Texts.{GroupTextData}
+use Rattle.straight_code.specs.Code.{CodeData, code_value}
 
 -- the constant of a node, where it has one
 abbrev pub constant_at : List (Option Tern) → ℕ → Option Tern
@@ -22,16 +22,16 @@ abbrev pub gate_bound : ℕ → ℕ → ℕ → ℕ
 gate_bound n e t = 16 * (8 * n ^ 3 + 40 * n ^ 2 + 40 * t + 40 * n) + 4 * (n + e)
 
 -- how many switches the graph has
-abbrev pub switch_count : Wiring → ℕ
+abbrev pub switch_count : GraphData → ℕ
 switch_count g = count_by is_some g.places
 
 -- the bound of a graph with so many members
-abbrev pub bound_of : Wiring → ℕ → ℕ
+abbrev pub bound_of : GraphData → ℕ → ℕ
 bound_of g members = gate_bound members (nodes g - members) (switch_count g)
 
 -- the code has an input for each local node and an output for each member; in every state of the local nodes in which the rails have
 -- their constants it gives each member's steady state in the local graph; and it has no more instructions than the bound of the text
-pub record MeansText (text : Text) (code : Program) : Type 0 where
+pub record MeansText (text : GroupTextData) (code : CodeData) : Type 0 where
   pub inputs : code.inputs ≡ nodes text.graph
   pub outputs : length code.outputs ≡ text.members
   pub responses : (state : List Tern) → length state ≡ nodes text.graph → HasConstants text.constants state →

@@ -1,17 +1,17 @@
 ghost use Rattle.std.specs.Prelude.{◌≡◌, List, [], ◌∷◌, ◌++◌, IfOk, OnOk, OnErr};
-ghost use Rattle.group_text.specs.Texts.{Text};
-ghost use Rattle.analysis_cache.specs.Meaning.{MeansText};
+ghost use Rattle.group_text.specs.Texts.{GroupTextData};
+ghost use Rattle.group_analysis.specs.Meaning.{MeansText};
 
 use group_text::GroupText;
-use linear_code::Code;
 use std::alloc::Global;
+use straight_code::Code;
 use ternary::NoMemory;
 
 /// Who makes code of the texts of groups.
 ///
 /// Contracts see the list of the texts that were analysed.
 pub trait Analyst {
-    ghost analysed: { Self → List Text };
+    ghost analysed: { Self → List GroupTextData };
 
     /// Code that means the text.
     ///

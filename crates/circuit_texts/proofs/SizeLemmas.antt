@@ -5,8 +5,8 @@ use Rattle.std.proofs.lemmas.Option.{slice_get_read, get_or_from_slice_get}
 use Rattle.group_meaning.specs.Groups.{Group, id_of}
 use Rattle.group_text.specs.declared.text.TextFault.{TextFault}
 use Rattle.group_text.specs.declared.text.TextFault.TheVariants as text
-use Rattle.circuit_listing.specs.declared.circuit.ListFault.TheVariants.{NoMemory}
-use Rattle.circuit_listing.specs.Sizes.{fault_in, at_node, IsFirstTooLarge}
+use Rattle.circuit_texts.specs.declared.texts.BuildFault.TheVariants.{NoMemory}
+use Rattle.circuit_texts.specs.Sizes.{fault_in, at_node, IsFirstTooLarge}
 
 -- a group that no text was made of, where all groups before it fit, is the first that is too large, or there was want of memory
 pub first_refused : (groups : List Group) (k : ℕ) (group : Group) (cause : TextFault) → k < length groups → group ≡ get_or groups k group →

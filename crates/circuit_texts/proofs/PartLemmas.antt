@@ -5,16 +5,16 @@ use Rattle.std.specs.List.{flat_map}
 use Rattle.std.proofs.lemmas.Bool.Decides.{Decides-eqb}
 use Rattle.std.proofs.lemmas.List.Elements.{All-nil, All-cons, All-head, All-tail, All-append, All-weaker, All-contains, All-contains_itself}
 use Rattle.std.proofs.lemmas.Map.Made.{IsDistinct-from_AllPairs}
-use Rattle.path_meaning.specs.Wiring.{Wiring, IsWired, nodes, place_at}
+use Rattle.path_meaning.specs.Graphs.{GraphData, IsWired, nodes, place_at}
 use Rattle.path_meaning.proofs.PathLemmas.{switch_fits}
 use Rattle.group_meaning.specs.Groups.{Group, IsGroup}
 use Rattle.group_text.specs.Texts.{firsts, terminals_of, local_nodes}
 use Rattle.group_text.proofs.GroupLemmas.{members_inside}
 use Rattle.group_text.proofs.LocalEdges.{nodes_local}
 use Rattle.group_text.proofs.LocalNodes.{Contains-from_firsts, locals_apart, members_within}
-use Rattle.linear_code.specs.declared.part.Part.{Part}
-use Rattle.linear_code.specs.Parts.{IsPart}
-use Rattle.circuit_listing.specs.Parts.{IsPartOf}
+use Rattle.straight_code.specs.declared.part.Part.{Part}
+use Rattle.straight_code.specs.Parts.{IsPart}
+use Rattle.circuit_texts.specs.Parts.{IsPartOf}
 
 -- what holds of all pieces holds of the whole
 All-flat_map : {X Y : Type 0} (P : Y → Type 0) (f : X → List Y) (xs : List X) → All (λ x. All P (f x)) xs → All P (flat_map f xs)
@@ -29,7 +29,7 @@ All-firsts P xs each =
     All-weaker (Contains (firsts xs)) P (λ x there. All-contains P xs x each (Contains-from_firsts xs x there)) (firsts xs)
     (All-contains_itself (firsts xs))
 
-module _ (g : Wiring) (wired : IsWired g) (group : Group) (is_group : IsGroup g group) where
+module _ (g : GraphData) (wired : IsWired g) (group : Group) (is_group : IsGroup g group) where
   -- at the terminals of a switch of the group are nodes of the graph
   terminals_inside : (place : ℕ) → Contains group.switches place → All (λ node. node < nodes g) (terminals_of (place_at g.places place))
   terminals_inside place inside =

@@ -1,0 +1,4 @@
+pub mod SizeLemmas
+pub mod PairedLists
+pub mod PartLemmas
+pub mod MemberLemmas
