@@ -12,7 +12,7 @@ use Rattle.std.proofs.lemmas.Map.Views.{list_any-from_Contains, Contains-from_an
 use Rattle.std.proofs.Math.Nat.{pow-succ', pow-zero, mul-one, mul-add, mul_comm, mul_left_comm}
 use Rattle.ternary.specs.declared.tern.Tern.{Tern}
 use Rattle.ternary.specs.Tern.{may_one, may_zero}
-use Rattle.path_meaning.specs.Wiring.{Wiring, IsWired, nodes}
+use Rattle.path_meaning.specs.Graphs.{GraphData, IsWired, nodes}
 use Rattle.bool_pool.specs.declared.gate.Gate.{Gate}
 use Rattle.bool_pool.specs.declared.gate.Id.{Id}
 use Rattle.bool_pool.specs.declared.gate.Rails.{Rails}
@@ -21,19 +21,18 @@ use Rattle.bool_pool.specs.Value.{value_at}
 use Rattle.bool_pool.specs.Pairs.{IsOperationOf, ReachAtMost, HasVariablesBelow}
 use Rattle.dual_rail.specs.Conduct.{AreInside}
 use Rattle.node_elimination.specs.declared.inputs.Inputs.{Inputs}
-use Rattle.node_elimination.specs.declared.descent.Levels.{Levels}
+use Rattle.node_elimination.specs.declared.descent.Drives.{Drives}
 use Rattle.node_elimination.specs.Growth.{AreGrown, Grows}
 use Rattle.node_elimination.specs.LevelSystem.{value_of}
-use Rattle.analysis_cache.specs.Meaning.{gate_bound, switch_count, bound_of}
+use Rattle.group_analysis.specs.Meaning.{gate_bound, switch_count, bound_of}
 use Rattle.node_elimination.specs.Analysis.{AreRailsOfResponse}
 use Rattle.node_elimination.specs.Inputs.{input_formulas}
-use Rattle.node_elimination.specs.Descent.{level_formulas, HaveLevels, ShowsLevel, level_cost, ArePairs}
-use Rattle.node_elimination.proofs.GrowthLemmas.{All-back}
+use Rattle.node_elimination.specs.Descent.{driven_formulas, HaveDriven, ShowsDriven, level_cost, ArePairs}
 use Rattle.node_elimination.proofs.DescentLemmas.{all_one, all_zero}
 use Rattle.node_elimination.proofs.LevelLemmas.{driven_response}
 
-module _ (one zero : List Id) (answers : List Rails) (pairs : ArePairs one zero answers) (same : length one ≡ length zero) (P : ℕ → Type 0)
-    (of_one : All (λ id. P id.place) one) (of_zero : All (λ id. P id.place) zero) (k : ℕ) (rails : Rails)
+module _ (one zero : List Id) (answers : List Rails) (pairs : ArePairs one zero answers) (same : length one ≡ length zero)
+    (P : ℕ → Type 0) (of_one : All (λ id. P id.place) one) (of_zero : All (λ id. P id.place) zero) (k : ℕ) (rails : Rails)
     (stands : slice_get answers k ≡ Some rails) where
   -- what holds of the formulas for "may be 1" holds of the first one of each pair
   hi_holds : P rails.hi.place
@@ -47,7 +46,8 @@ module _ (one zero : List Id) (answers : List Rails) (pairs : ArePairs one zero 
       let pair = pairs.pairs k rails stands in
       subst P (sym pair.2) (of_zero k (record { place = 0 }) (omega (arith, pair.0)))
 
--- where each formula of the pairs is within a list and a bound, the list holds each operation and the bound is above each variable
+-- where each formula of the pairs is within a list and a bound, the list holds each operation and the bound is above each
+-- variable
 module _ (gates : List Gate) (answers : List Rails) (listed : List ℕ) (bound : ℕ)
     (hi : (k : ℕ) (rails : Rails) → slice_get answers k ≡ Some rails → IsWithin gates listed bound rails.hi.place)
     (lo : (k : ℕ) (rails : Rails) → slice_get answers k ≡ Some rails → IsWithin gates listed bound rails.lo.place) where
@@ -77,14 +77,16 @@ ReachAtMost-more : (gates : List Gate) (answers : List Rails) (few many : ℕ) �
 ReachAtMost-more gates answers few many more at_most places distinct all = omega (arith, at_most places distinct all)
 
 -- the formulas of the last level are the rails of the steady states
-pub AreRails-shown : (g : Wiring) → IsWired g → (members : ℕ) (pool : List Gate) (levels : Levels) (answers : List Rails) (state : List Tern) (vars : ℕ → Bool)
-    → HaveLevels members pool levels → ArePairs levels.one.items levels.zero.items answers → ShowsLevel g members pool levels 1 state vars →
+pub AreRails-shown : (g : GraphData) → IsWired g →
+    (members : ℕ) (pool : List Gate) (drives : Drives) (answers : List Rails) (state : List Tern) (vars : ℕ → Bool)
+    → HaveDriven members pool drives → ArePairs drives.one.items drives.zero.items answers →
+    ShowsDriven g members pool drives 1 state vars →
     (k : ℕ) (rails : Rails) → slice_get answers k ≡ Some rails → AreRailsOfResponse g state pool vars k rails
-AreRails-shown g wired members pool levels answers state vars have pairs shown k rails stands =
+AreRails-shown g wired members pool drives answers state vars have pairs shown k rails stands =
     let pair = pairs.pairs k rails stands in
     let below : k < members = omega (arith, pair.0, have.each_one) in
-    let one : value_at pool vars rails.hi.place ≡ value_of pool levels.one.items vars k = ap (value_at pool vars) pair.1 in
-    let zero : value_at pool vars rails.lo.place ≡ value_of pool levels.zero.items vars k = ap (value_at pool vars) pair.2 in
+    let one : value_at pool vars rails.hi.place ≡ value_of pool drives.one.items vars k = ap (value_at pool vars) pair.1 in
+    let zero : value_at pool vars rails.lo.place ≡ value_of pool drives.zero.items vars k = ap (value_at pool vars) pair.2 in
     let may_be_one = driven_response g wired state may_one k in
     let may_be_zero = driven_response g wired state may_zero k in
     record {
@@ -98,42 +100,45 @@ AreRails-shown g wired members pool levels answers state vars have pairs shown k
       );
     }
 
--- what the inputs reach, and what the levels come to reach on them
-AreGrown-levels : (b c : List Gate) (inputs : Inputs) (levels : Levels) (bound m n count : ℕ) → AreGrown b [] bound m (input_formulas inputs) →
-    Grows b (input_formulas inputs) c (input_formulas inputs ++ level_formulas levels) n → m + n ≤ count →
-    AreGrown c [] bound count (level_formulas levels)
-AreGrown-levels b c inputs levels bound m n count first next sum =
-    let two : AreGrown c (first.more ++ []) bound n (input_formulas inputs ++ level_formulas levels) = next.grown (first.more ++ []) bound first.within in
+-- what the inputs reach, and what U comes to reach on them
+AreGrown-drives : (b c : List Gate) (inputs : Inputs) (drives : Drives) (bound m n count : ℕ) →
+    AreGrown b [] bound m (input_formulas inputs) → Grows b (input_formulas inputs) c (driven_formulas drives) n →
+    m + n ≤ count →
+    AreGrown c [] bound count (driven_formulas drives)
+AreGrown-drives b c inputs drives bound m n count first next sum =
+    let two : AreGrown c (first.more ++ []) bound n (driven_formulas drives) =
+    next.grown (first.more ++ []) bound first.within in
     record {
       more = two.more ++ first.more;
       few = omega (arith, first.few, two.few, length-append two.more first.more);
-      within = rw append_assoc
-          (All-back (λ id. IsWithin c (two.more ++ (first.more ++ [])) bound id.place) (input_formulas inputs) (level_formulas levels) two.within);
+      within = rw append_assoc two.within;
     }
 
 -- the pairs of the last level, once it is made
-module _ (pool : List Gate) (members : ℕ) (levels : Levels) (answers : List Rails) (have : HaveLevels members pool levels)
-    (pairs : ArePairs levels.one.items levels.zero.items answers) where
-  each_pair : length levels.one.items ≡ length levels.zero.items
+module _ (pool : List Gate) (members : ℕ) (drives : Drives) (answers : List Rails) (have : HaveDriven members pool drives)
+    (pairs : ArePairs drives.one.items drives.zero.items answers) where
+  each_pair : length drives.one.items ≡ length drives.zero.items
   each_pair = omega (arith, have.each_one, have.each_zero)
 
   -- what holds of all formulas of the level holds of both of a pair
-  both_hold : (P : ℕ → Type 0) → All (λ id. P id.place) (level_formulas levels) → (k : ℕ) (rails : Rails) → slice_get answers k ≡ Some rails →
+  both_hold : (P : ℕ → Type 0) → All (λ id. P id.place) (driven_formulas drives) → (k : ℕ) (rails : Rails) →
+      slice_get answers k ≡ Some rails →
       P rails.hi.place × P rails.lo.place
   both_hold P all k rails stands =
-      let of_one = all_one (λ id. P id.place) levels all in
-      let of_zero = all_zero (λ id. P id.place) levels all in (
-        hi_holds levels.one.items levels.zero.items answers pairs each_pair P of_one of_zero k rails stands,
-        lo_holds levels.one.items levels.zero.items answers pairs each_pair P of_one of_zero k rails stands,
+      let of_one = all_one (λ id. P id.place) drives all in
+      let of_zero = all_zero (λ id. P id.place) drives all in (
+        hi_holds drives.one.items drives.zero.items answers pairs each_pair P of_one of_zero k rails stands,
+        lo_holds drives.one.items drives.zero.items answers pairs each_pair P of_one of_zero k rails stands,
       )
 
   -- they are formulas of the pool
   pub AreInside-pairs : All (AreInside pool) answers
   AreInside-pairs k d inside =
-      let both = both_hold (λ p. p < length pool) have.formulas k (slice_index_or answers k d) (slice_get-get_or answers k d inside) in
+      let both = both_hold (λ p. p < length pool) have.formulas k (slice_index_or answers k d)
+      (slice_get-get_or answers k d inside) in
       record { hi = both.0; lo = both.1 }
 
-  module _ (bound count : ℕ) (grown : AreGrown pool [] bound count (level_formulas levels)) where
+  module _ (bound count : ℕ) (grown : AreGrown pool [] bound count (driven_formulas drives)) where
     within : (k : ℕ) (rails : Rails) → slice_get answers k ≡ Some rails →
         IsWithin pool (grown.more ++ []) bound rails.hi.place × IsWithin pool (grown.more ++ []) bound rails.lo.place
     within = both_hold (IsWithin pool (grown.more ++ []) bound) grown.within
@@ -141,13 +146,16 @@ module _ (pool : List Gate) (members : ℕ) (levels : Levels) (answers : List Ra
     -- they reach at most so many operations
     ReachAtMost-pairs : (most : ℕ) → count ≤ most → ReachAtMost pool answers most
     ReachAtMost-pairs most fits =
-        ReachAtMost-more pool answers (length (grown.more ++ [])) most (omega (arith, grown.few, length-append grown.more []))
-        (ReachAtMost-listed pool answers (grown.more ++ []) bound (λ k rails stands. (within k rails stands).0) (λ k rails stands. (within k rails stands).1))
+        ReachAtMost-more pool answers (length (grown.more ++ [])) most
+        (omega (arith, grown.few, length-append grown.more []))
+        (ReachAtMost-listed pool answers (grown.more ++ []) bound (λ k rails stands. (within k rails stands).0)
+        (λ k rails stands. (within k rails stands).1))
 
     -- and variables below the bound
     HasVariablesBelow-pairs : HasVariablesBelow pool answers bound
     HasVariablesBelow-pairs =
-        HasVariablesBelow-within pool answers (grown.more ++ []) bound (λ k rails stands. (within k rails stands).0) (λ k rails stands. (within k rails stands).1)
+        HasVariablesBelow-within pool answers (grown.more ++ []) bound (λ k rails stands. (within k rails stands).0)
+        (λ k rails stands. (within k rails stands).1)
 
 -- a square and a cube as products
 square : (n : ℕ) → n ^ 2 ≡ n * n
@@ -174,35 +182,48 @@ sum-within : (n e t squared cubed solved start mid end : ℕ) → 1 ≤ n → so
 sum-within n e t squared cubed solved start mid end some costs inputs levels = omega arith
 
 -- they are within the bound of a graph with a member
-pub steps-within : (n e t start mid end : ℕ) → 1 ≤ n → mid ≤ start + (2 + (2 * (n + e) + 4 * t)) → end ≤ mid + 16 * level_cost n t →
+pub steps-within : (n e t start mid end : ℕ) → 1 ≤ n → mid ≤ start + (2 + (2 * (n + e) + 4 * t)) →
+    end ≤ mid + 16 * level_cost n t →
     end ≤ start + gate_bound n e t
 steps-within n e t start mid end some inputs levels =
     let costs : n * (n * (2 * n + 2)) ≡ 2 * n ^ 3 + 2 * n ^ 2 =
     solving_cost n ∙ ap (λ x. 2 * x + 2 * (n * n)) (sym (cube n)) ∙ ap (λ x. 2 * n ^ 3 + 2 * x) (sym (square n)) in
     sum-within n e t (n ^ 2) (n ^ 3) (n * (n * (2 * n + 2))) start mid end some costs inputs levels
 
+-- the steps of a graph with a member
+pub steps-analysed : (g : GraphData) (members start mid end : ℕ) → members ≤ nodes g → 1 ≤ members →
+    mid ≤ start + (2 + (2 * nodes g + 4 * switch_count g)) → end ≤ mid + 16 * level_cost members (switch_count g) →
+    end ≤ start + bound_of g members
+steps-analysed g members start mid end within some inputs levels =
+    steps-within members (nodes g - members) (switch_count g) start mid end some (omega arith) levels
+
 -- and so are the operations that are reached then
-operations-within : (n e t mid end : ℕ) → 1 ≤ n → mid ≤ end → end ≤ mid + 16 * level_cost n t → 2 * t + (end - mid) ≤ gate_bound n e t
+operations-within : (n e t mid end : ℕ) → 1 ≤ n → mid ≤ end → end ≤ mid + 16 * level_cost n t →
+    2 * t + (end - mid) ≤ gate_bound n e t
 operations-within n e t mid end some rises levels =
-    let all : end + 2 * t ≤ mid + gate_bound n e t = steps-within n e t mid (mid + 2 * t) (end + 2 * t) some (omega arith) (omega arith) in
+    let all : end + 2 * t ≤ mid + gate_bound n e t = steps-within n e t mid (mid + 2 * t) (end + 2 * t) some (omega arith)
+    (omega arith) in
     omega (arith, all)
 
 -- all that the pairs reach, by what the inputs and the levels do
-module _ (g : Wiring) (members : ℕ) (b c : List Gate) (inputs : Inputs) (levels : Levels) (answers : List Rails) (mid end : ℕ)
-    (have : HaveLevels members c levels) (pairs : ArePairs levels.one.items levels.zero.items answers)
+module _ (g : GraphData) (members : ℕ) (b c : List Gate) (inputs : Inputs) (drives : Drives) (answers : List Rails)
+    (mid end : ℕ) (have : HaveDriven members c drives) (pairs : ArePairs drives.one.items drives.zero.items answers)
     (first : AreGrown b [] (2 * nodes g) (2 * switch_count g) (input_formulas inputs))
-    (next : Grows b (input_formulas inputs) c (input_formulas inputs ++ level_formulas levels) (end - mid)) where
-  grown : AreGrown c [] (2 * nodes g) (2 * switch_count g + (end - mid)) (level_formulas levels)
+    (next : Grows b (input_formulas inputs) c (driven_formulas drives) (end - mid)) where
+  grown : AreGrown c [] (2 * nodes g) (2 * switch_count g + (end - mid)) (driven_formulas drives)
   grown =
-      AreGrown-levels b c inputs levels (2 * nodes g) (2 * switch_count g) (end - mid) (2 * switch_count g + (end - mid)) first next (omega arith)
+      AreGrown-drives b c inputs drives (2 * nodes g) (2 * switch_count g) (end - mid) (2 * switch_count g + (end - mid))
+      first next (omega arith)
 
   -- no more operations than the bound
-  pub ReachAtMost-analysed : 1 ≤ members → mid ≤ end → end ≤ mid + 16 * level_cost members (switch_count g) → ReachAtMost c answers (bound_of g members)
+  pub ReachAtMost-analysed : 1 ≤ members → mid ≤ end → end ≤ mid + 16 * level_cost members (switch_count g) →
+      ReachAtMost c answers (bound_of g members)
   ReachAtMost-analysed some rises levels_few =
-      ReachAtMost-pairs c members levels answers have pairs (2 * nodes g) (2 * switch_count g + (end - mid)) grown (bound_of g members)
+      ReachAtMost-pairs c members drives answers have pairs (2 * nodes g) (2 * switch_count g + (end - mid)) grown
+      (bound_of g members)
       (operations-within members (nodes g - members) (switch_count g) mid end some rises levels_few)
 
   -- and variables of the graph's nodes alone
   pub HasVariablesBelow-analysed : HasVariablesBelow c answers (2 * nodes g)
   HasVariablesBelow-analysed =
-      HasVariablesBelow-pairs c members levels answers have pairs (2 * nodes g) (2 * switch_count g + (end - mid)) grown
+      HasVariablesBelow-pairs c members drives answers have pairs (2 * nodes g) (2 * switch_count g + (end - mid)) grown

@@ -34,7 +34,8 @@ All-back P xs ys all = λ k d inside.
     subst P (get_or-append-add xs ys k d) (all (length xs + k) d (omega (arith, length-append xs ys)))
 
 -- formulas of a pool are formulas of one that extends it
-pub AreFormulas-extends : (before after : List Gate) (ids : List Id) → Extends before after → AreFormulas before ids → AreFormulas after ids
+pub AreFormulas-extends : (before after : List Gate) (ids : List Id) → Extends before after → AreFormulas before ids →
+    AreFormulas after ids
 AreFormulas-extends before after ids extends formulas = λ k d inside. omega (arith, formulas k d inside, extends.longer)
 
 -- when gates are added, and further places listed, formulas stay within
@@ -51,7 +52,8 @@ Grows-same gates ids count = record {
 }
 
 -- the operations that come to be reached add up
-pub Grows-trans : (a b c : List Gate) (xs ys zs : List Id) (m n count : ℕ) → Grows a xs b ys m → Grows b ys c zs n → m + n ≤ count →
+pub Grows-trans : (a b c : List Gate) (xs ys zs : List Id) (m n count : ℕ) → Grows a xs b ys m → Grows b ys c zs n →
+    m + n ≤ count →
     Grows a xs c zs count
 Grows-trans a b c xs ys zs m n count first next sum = record { grown = both }
   where
@@ -95,13 +97,15 @@ pub inside-held : (gates : List Gate) (ids : List Id) (p : ℕ) → AreFormulas 
 inside-held gates ids p formulas held = subst (λ q. q < length gates) held.2 (formulas held.0 (record { place = 0 }) held.1)
 
 -- and is within what all are within
-within-held : (gates : List Gate) (listed : List ℕ) (bound : ℕ) (ids : List Id) (p : ℕ) → AreWithin gates listed bound ids → IsHeld ids p →
+within-held : (gates : List Gate) (listed : List ℕ) (bound : ℕ) (ids : List Id) (p : ℕ) → AreWithin gates listed bound ids →
+    IsHeld ids p →
     IsWithin gates listed bound p
 within-held gates listed bound ids p within held =
     subst (IsWithin gates listed bound) held.2 (within held.0 (record { place = 0 }) held.1)
 
 -- the same of several
-pub AllWithin-held : (gates : List Gate) (listed : List ℕ) (bound : ℕ) (ids : List Id) (ps : List ℕ) → AreWithin gates listed bound ids →
+pub AllWithin-held : (gates : List Gate) (listed : List ℕ) (bound : ℕ) (ids : List Id) (ps : List ℕ) →
+    AreWithin gates listed bound ids →
     AreHeld ids ps → AllWithin gates listed bound ps
 AllWithin-held gates listed bound ids [] within held = tt
 AllWithin-held gates listed bound ids (p ∷ ps) within held =
@@ -111,7 +115,8 @@ AllWithin-held gates listed bound ids (p ∷ ps) within held =
 pub IsFormed-or_and : {E : Type 0} (old mid new : List Gate) (into first second both count : ℕ) (r : Result Id E) →
     Extends old mid → Extends mid new → into < length old →
     IsMade old mid (first ∷ second ∷ []) (λ vars. value_at old vars first && value_at old vars second) both →
-    IfOk r (λ id. IsMade mid new (into ∷ both ∷ []) (λ vars. value_at mid vars into || value_at mid vars both) id.place) → 2 ≤ count →
+    IfOk r (λ id. IsMade mid new (into ∷ both ∷ []) (λ vars. value_at mid vars into || value_at mid vars both) id.place) →
+    2 ≤ count →
     IfOk r (λ id. IsFormed old new count (into ∷ first ∷ second ∷ [])
     (λ vars. value_at old vars into || (value_at old vars first && value_at old vars second)) id.place)
 IsFormed-or_and old mid new into first second both count (Ok id) to_mid to_new inside made formed enough = record {
@@ -123,12 +128,18 @@ IsFormed-or_and old mid new into first second both count (Ok id) to_mid to_new i
   grown = grown;
 }
   where
-    grown : (listed : List ℕ) (bound : ℕ) → AllWithin old listed bound (into ∷ first ∷ second ∷ []) → IsGrown new listed bound count id.place
+    grown : (listed : List ℕ) (bound : ℕ) → AllWithin old listed bound (into ∷ first ∷ second ∷ []) →
+        IsGrown new listed bound count id.place
     grown listed bound within =
-        let one : IsGrown mid listed bound 1 both = IsGrown-made old mid listed (first ∷ second ∷ []) (λ vars. value_at old vars first && value_at old vars second) bound both to_mid made within.1 in
+        let one : IsGrown mid listed bound 1 both =
+        IsGrown-made old mid listed (first ∷ second ∷ []) (λ vars. value_at old vars first && value_at old vars second)
+        bound both to_mid made within.1 in
         let into_within : IsWithin mid (one.more ++ listed) bound into =
         IsWithin-listed mid one.more listed bound into (IsWithin-extends old mid listed bound into to_mid within.0) in
-        let two : IsGrown new (one.more ++ listed) bound 1 id.place = IsGrown-made mid new (one.more ++ listed) (into ∷ both ∷ []) (λ vars. value_at mid vars into || value_at mid vars both) bound id.place to_new formed (into_within, (one.within, tt)) in
+        let two : IsGrown new (one.more ++ listed) bound 1 id.place =
+        IsGrown-made mid new (one.more ++ listed) (into ∷ both ∷ [])
+        (λ vars. value_at mid vars into || value_at mid vars both) bound id.place to_new formed
+        (into_within, (one.within, tt)) in
         let all : IsGrown new listed bound 2 id.place = IsGrown-after new one.more listed bound 1 1 id.place one.few two in
         record { more = all.more; few = omega (arith, all.few); within = all.within }
 IsFormed-or_and old mid new into first second both count (Err e) to_mid to_new inside made formed enough = tt

@@ -1,12 +1,12 @@
--- The equations of the levels are the paths.
--- D: over each closed switch a definite path goes on, and along a definite path D is kept. U: onto a clear node an unblocked path goes on,
--- and along an unblocked path U is kept at the strength of the path, since where the path grows weaker U goes down with it.
+-- The equations of the levels are the paths. D: over each closed switch a definite path goes on, and along a definite path D
+-- is kept. U: onto a clear node an unblocked path goes on, and along an unblocked path U is kept at the strength of the
+-- path, since where the path grows weaker U goes down with it.
 use Rattle.std.proofs.Common.{◌≡◌, ◌≢◌, ℕ, zero, suc, ◌+◌, ◌<◌, ◌≤◌, Bool, true, List, [], ◌∷◌, ◌++◌, refl, sym, ◌∙◌, subst, ◌-◌, add-zero, arith}
 use Rattle.std.specs.Prelude.{◌↔◌}
 use Rattle.ternary.specs.declared.tern.Tern.{Tern}
 use Rattle.strength_order.specs.declared.TheConstants.{INPUT_LEVEL}
 use Rattle.path_meaning.specs.Switching.{is_closed, state_at, switch_state_at}
-use Rattle.path_meaning.specs.Wiring.{Wiring, IsWired, Fits, nodes, level_of}
+use Rattle.path_meaning.specs.Graphs.{GraphData, IsWired, Fits, nodes, level_of}
 use Rattle.path_meaning.specs.Path.{Stand, Hop, Leads, at_root, IsBeaten}
 use Rattle.path_meaning.specs.Step.{Responds}
 use Rattle.path_meaning.proofs.PathLemmas.{IsBeaten-lower, beyond, Hop-over, Leads-more, Leads-definite, Leads-weaker, Leads-positive, level_fits, switch_fits, Goes, Goes-here, Goes-leads, Goes-more, Goes-from_unblocked, unblocked-from_Goes}
@@ -16,7 +16,7 @@ use Rattle.node_elimination.specs.Levels.Reached.{own, over}
 use Rattle.node_elimination.specs.Levels.Driven.{above, root, onto}
 use Rattle.node_elimination.specs.Laws.{HasDefinitePath, HasUnblockedPath, ReachedByPaths, DrivenByPaths}
 
-module _ (g : Wiring) (wired : IsWired g) (state : List Tern) where
+module _ (g : GraphData) (wired : IsWired g) (state : List Tern) where
   -- where D holds, a definite path leads
   path-from_Reached : (s n : ℕ) → 1 ≤ s → Reached g state s n → HasDefinitePath g state s n
   path-from_Reached s n low (own strong) = record {
@@ -31,7 +31,8 @@ module _ (g : Wiring) (wired : IsWired g) (state : List Tern) where
   path-from_Reached s n low (over m place switch stands joins closed strong reached) =
       let way : HasDefinitePath g state s m = path-from_Reached s m low reached in
       let next : Stand = beyond state way.there switch n in
-      let hop : Hop g state way.there place next = Hop-over stands (rw way.ends joins) (closed-live (switch_state_at state switch) closed) in
+      let hop : Hop g state way.there place next =
+      Hop-over stands (rw way.ends joins) (closed-live (switch_state_at state switch) closed) in
       record {
         root = way.root;
         hops = way.hops ++ place ∷ [];
@@ -46,14 +47,16 @@ module _ (g : Wiring) (wired : IsWired g) (state : List Tern) where
       }
 
   -- along a definite path D is kept
-  reached_along : (s : ℕ) (hops : List ℕ) (here there : Stand) → Leads g state here hops there → there.definite ≡ true → s ≤ there.strength →
+  reached_along : (s : ℕ) (hops : List ℕ) (here there : Stand) → Leads g state here hops there → there.definite ≡ true →
+      s ≤ there.strength →
       Reached g state s here.node → Reached g state s there.node
   reached_along s [] here there leads definite strong reached = rw (← leads) reached
   reached_along s (place ∷ hops) here there leads definite strong reached =
       let next : Stand = leads.0 in
       let hop : Hop g state here place next = leads.1 in
       let still_definite : next.definite ≡ true = Leads-definite g state hops next there leads.2 definite in
-      let closed = and-second here.definite (is_closed (switch_state_at state hop.switch)) (rw hop.definite at still_definite) in
+      let closed = and-second here.definite (is_closed (switch_state_at state hop.switch))
+      (rw hop.definite at still_definite) in
       let weaker : there.strength ≤ next.strength = Leads-weaker g state hops next there leads.2 in
       reached_along s hops next there leads.2 definite strong
       (over here.node place hop.switch hop.at_place hop.joins closed (omega (arith, hop.strength)) reached)
@@ -63,7 +66,8 @@ module _ (g : Wiring) (wired : IsWired g) (state : List Tern) where
   reached-from_path s n way =
       let start : Stand = at_root g way.root in
       let weaker : way.there.strength ≤ start.strength = Leads-weaker g state way.hops start way.there way.path.leads in
-      rw way.ends at (reached_along s way.hops start way.there way.path.leads way.definite way.strong (own (omega (arith, way.strong))))
+      rw way.ends at (reached_along s way.hops start way.there way.path.leads way.definite way.strong
+      (own (omega (arith, way.strong))))
 
   -- a node that is beaten isn't clear
   reached-from_beaten : (s n : ℕ) → IsBeaten g state n s → Reached g state (s + 1) n
@@ -191,9 +195,11 @@ module _ (g : Wiring) (wired : IsWired g) (state : List Tern) where
     driven-from_path : (s n : ℕ) → HasUnblockedPath rail g state s n → Driven rail g state s n
     driven-from_path s n way =
         let start : Stand = at_root g way.root in
-        let goes : Goes g state start way.hops way.there = Goes-from_unblocked g state way.root way.hops way.there way.path way.unblocked in
+        let goes : Goes g state start way.hops way.there =
+        Goes-from_unblocked g state way.root way.hops way.there way.path way.unblocked in
         let first : Driven rail g state (level_of g way.root) way.root =
-        root (clear-from_unbeaten (level_of g way.root) way.root (Goes-here g state way.hops start way.there goes)) refl way.set in
+        root (clear-from_unbeaten (level_of g way.root) way.root (Goes-here g state way.hops start way.there goes)) refl
+        way.set in
         driven_at way.there.strength s n way.strong (rw way.ends at (driven_along way.hops start way.there goes first))
 
     path-from_Driven : (s n : ℕ) → 1 ≤ s → Driven rail g state s n → HasUnblockedPath rail g state s n
@@ -203,7 +209,11 @@ module _ (g : Wiring) (wired : IsWired g) (state : List Tern) where
           root = way.from;
           hops = way.hops;
           there = way.there;
-          path = record { in_range = way.in_range; leads = Goes-leads g state way.hops (at_root g way.from) way.there way.goes };
+          path = record {
+            in_range = way.in_range;
+            leads =
+                Goes-leads g state way.hops (at_root g way.from) way.there way.goes;
+          };
           ends = way.ends;
           unblocked = unblocked-from_Goes g state way.from way.hops way.there way.goes;
           strong = way.strong;
@@ -214,8 +224,17 @@ module _ (g : Wiring) (wired : IsWired g) (state : List Tern) where
     pub driven_response : (n : ℕ) → Driven rail g state 1 n ↔ Responds rail g state n
     driven_response n = (
       (λ driven.
-          let way : HasUnblockedPath rail g state 1 n = path-from_Driven 1 n (omega arith) driven in
-          (way.root, record { hops = way.hops; there = way.there; path = way.path; ends = way.ends; unblocked = way.unblocked }, way.set)),
+          let way : HasUnblockedPath rail g state 1 n = path-from_Driven 1 n (omega arith) driven in (
+            way.root,
+            record {
+              hops = way.hops;
+              there = way.there;
+              path = way.path;
+              ends = way.ends;
+              unblocked = way.unblocked;
+            },
+            way.set,
+          )),
       (λ responds.
           let reaches = responds.1 in
           let level = level_fits g wired responds.0 reaches.path.in_range in
@@ -226,7 +245,8 @@ module _ (g : Wiring) (wired : IsWired g) (state : List Tern) where
             path = reaches.path;
             ends = reaches.ends;
             unblocked = reaches.unblocked;
-            strong = Leads-positive g state wired reaches.hops (at_root g responds.0) reaches.there reaches.path.leads level.low;
+            strong = Leads-positive g state wired reaches.hops (at_root g responds.0) reaches.there reaches.path.leads
+                level.low;
             set = responds.2;
           })),
     )
@@ -237,20 +257,22 @@ reached_by_paths g wired state s n low = (path-from_Reached g wired state s n lo
 
 -- U(s, n) for a rail holds exactly where an unblocked path of strength at least s leads to n from a root that has the rail
 pub driven_by_paths : DrivenByPaths
-driven_by_paths rail g wired state s n low = (path-from_Driven g wired state rail s n low, driven-from_path g wired state rail s n)
+driven_by_paths rail g wired state s n low =
+    (path-from_Driven g wired state rail s n low, driven-from_path g wired state rail s n)
 
 -- D goes down the levels
-pub reached_down : (g : Wiring) (state : List Tern) (t n : ℕ) → Reached g state (t + 1) n → Reached g state t n
+pub reached_down : (g : GraphData) (state : List Tern) (t n : ℕ) → Reached g state (t + 1) n → Reached g state t n
 reached_down g state t n (own strong) = own (omega arith)
 reached_down g state t n (over m place switch stands joins closed strong reached) =
     over m place switch stands joins closed (omega arith) (reached_down g state t m reached)
 
 -- and so does U
-pub driven_down : (rail : Tern → Bool) (g : Wiring) (state : List Tern) (t n : ℕ) → Driven rail g state (t + 1) n → Driven rail g state t n
+pub driven_down : (rail : Tern → Bool) (g : GraphData) (state : List Tern) (t n : ℕ) → Driven rail g state (t + 1) n →
+    Driven rail g state t n
 driven_down rail g state t n driven = above driven
 
 -- where nothing has a level, D and U are those of the level above
-module _ (g : Wiring) (state : List Tern) (s : ℕ) (unused : IsUnused g s) where
+module _ (g : GraphData) (state : List Tern) (s : ℕ) (unused : IsUnused g s) where
   pub reached_up : (n : ℕ) → Reached g state s n → Reached g state (s + 1) n
   reached_up n (own strong) = let other : level_of g n ≢ s = unused.nodes n in own (omega arith)
   reached_up n (over m place switch stands joins closed strong reached) =

@@ -8,7 +8,7 @@ use Rattle.ternary.specs.declared.tern.Tern.{Tern}
 use Rattle.ternary.specs.declared.tern.Tern.TheVariants.{Zero, One, Unk}
 use Rattle.ternary.specs.Tern.{may_one, may_zero}
 use Rattle.path_meaning.specs.Switching.{state_at}
-use Rattle.path_meaning.specs.Wiring.{Wiring, nodes}
+use Rattle.path_meaning.specs.Graphs.{GraphData, nodes}
 use Rattle.path_meaning.specs.Step.{Responds, IsResponse}
 use Rattle.path_meaning.proofs.ExistingSteps.{exists}
 use Rattle.bool_pool.specs.declared.gate.Gate.{Gate}
@@ -16,12 +16,12 @@ use Rattle.bool_pool.specs.declared.gate.Id.{Id}
 use Rattle.bool_pool.specs.declared.gate.Rails.{Rails}
 use Rattle.bool_pool.specs.Pairs.{IsOperationOf, ReachAtMost, ReachExactly}
 use Rattle.dual_rail.specs.Variables.{AreVariables}
-use Rattle.group_text.specs.Texts.{Text, IsText}
-use Rattle.linear_code.specs.declared.code.Operand.TheVariants.{Constant}
-use Rattle.linear_code.specs.declared.code.Output.{Output}
-use Rattle.linear_code.specs.Code.{Program, operand_value, results, settled, output_state, code_value}
-use Rattle.linear_code.specs.Linear.{HasValues, Means}
-use Rattle.analysis_cache.specs.Meaning.{HasConstants, bound_of, MeansText}
+use Rattle.group_text.specs.Texts.{GroupTextData, IsText}
+use Rattle.straight_code.specs.declared.code.Operand.TheVariants.{Constant}
+use Rattle.straight_code.specs.declared.code.Output.{Output}
+use Rattle.straight_code.specs.Code.{CodeData, operand_value, results, settled, output_state, code_value}
+use Rattle.straight_code.specs.Linear.{HasValues, Means}
+use Rattle.group_analysis.specs.Meaning.{HasConstants, bound_of, MeansText}
 use Rattle.node_elimination.specs.Analysis.{AreRailsOfResponse, AreResponses}
 
 -- the truth value that a state gives a variable: an even one says whether its node may be 1, an odd one whether it may be 0
@@ -29,13 +29,15 @@ abbrev variable_of : List Tern → ℕ → Bool
 variable_of state v = if v % 2 == 0 then may_one (state_at state (v / 2)) else may_zero (state_at state (v / 2))
 
 -- an even variable
-even_variable : (state : List Tern) (v node : ℕ) → v % 2 ≡ 0 → v / 2 ≡ node → variable_of state v ≡ may_one (state_at state node)
+even_variable : (state : List Tern) (v node : ℕ) → v % 2 ≡ 0 → v / 2 ≡ node →
+    variable_of state v ≡ may_one (state_at state node)
 even_variable state v node even half =
     ap (λ r. if r == 0 then may_one (state_at state (v / 2)) else may_zero (state_at state (v / 2))) even
     ∙ ap (λ n. may_one (state_at state n)) half
 
 -- an odd variable
-odd_variable : (state : List Tern) (v node : ℕ) → v % 2 ≡ 1 → v / 2 ≡ node → variable_of state v ≡ may_zero (state_at state node)
+odd_variable : (state : List Tern) (v node : ℕ) → v % 2 ≡ 1 → v / 2 ≡ node →
+    variable_of state v ≡ may_zero (state_at state node)
 odd_variable state v node odd half =
     ap (λ r. if r == 0 then may_one (state_at state (v / 2)) else may_zero (state_at state (v / 2))) odd
     ∙ ap (λ n. may_zero (state_at state n)) half
@@ -48,27 +50,31 @@ AreVariables-state state = record {
 }
 
 -- a steady state has a rail, so some path answers for one
-answered : (g : Wiring) (state : List Tern) (node : ℕ) (answer : Tern) → IsResponse g state node answer →
+answered : (g : GraphData) (state : List Tern) (node : ℕ) (answer : Tern) → IsResponse g state node answer →
     (Responds may_one g state node → false ≡ true) → (Responds may_zero g state node → false ≡ true) → false ≡ true
 answered g state node Zero response no_one no_zero = no_zero (response.zero.0 refl)
 answered g state node One response no_one no_zero = no_one (response.one.0 refl)
 answered g state node Unk response no_one no_zero = no_one (response.one.0 refl)
 
 -- where two truth values are the rails of a node's steady state, the state with these rails is that steady state
-IsResponse-settled : (g : Wiring) (state : List Tern) (node : ℕ) (one zero : Bool) (answer : Tern) → IsResponse g state node answer →
-    (one ≡ true) ↔ Responds may_one g state node → (zero ≡ true) ↔ Responds may_zero g state node → IsResponse g state node (settled one zero)
+IsResponse-settled : (g : GraphData) (state : List Tern) (node : ℕ) (one zero : Bool) (answer : Tern) →
+    IsResponse g state node answer →
+    (one ≡ true) ↔ Responds may_one g state node → (zero ≡ true) ↔ Responds may_zero g state node →
+    IsResponse g state node (settled one zero)
 IsResponse-settled g state node true true answer response of_one of_zero = record { one = of_one; zero = of_zero }
 IsResponse-settled g state node true false answer response of_one of_zero = record { one = of_one; zero = of_zero }
 IsResponse-settled g state node false true answer response of_one of_zero = record { one = of_one; zero = of_zero }
 IsResponse-settled g state node false false answer response of_one of_zero =
     absurd (true≢false (sym (answered g state node answer response of_one.1 of_zero.1)))
 
-module _ (text : Text) (is_text : IsText text) (pool : List Gate) (answers : List Rails) (each_answer : length answers ≡ text.members)
-    (responses : AreResponses text.graph text.constants pool answers) (few : ReachAtMost pool answers (bound_of text.graph text.members)) where
-  module _ (code : Program) (inputs : code.inputs ≡ nodes text.graph) (outputs : length code.outputs ≡ length answers)
+module _ (text : GroupTextData) (is_text : IsText text) (pool : List Gate) (answers : List Rails)
+    (each_answer : length answers ≡ text.members) (responses : AreResponses text.graph text.constants pool answers)
+    (few : ReachAtMost pool answers (bound_of text.graph text.members)) where
+  module _ (code : CodeData) (inputs : code.inputs ≡ nodes text.graph) (outputs : length code.outputs ≡ length answers)
       (means : Means pool answers code) (exact : ReachExactly pool answers (length code.instructions)) where
     -- an output is the steady state of its member
-    output_responds : (state : List Tern) → length state ≡ nodes text.graph → HasConstants text.constants state → (k : ℕ) → k < text.members →
+    output_responds : (state : List Tern) → length state ≡ nodes text.graph → HasConstants text.constants state → (k : ℕ) →
+        k < text.members →
         IsResponse text.graph state k (state_at (code_value code state) k)
     output_responds state count given k below =
         let d : Id = record { place = 0 } in
@@ -108,7 +114,7 @@ module _ (text : Text) (is_text : IsText text) (pool : List Gate) (answers : Lis
     }
 
   -- whatever comes of it, code for the formulas of a text means the text
-  pub MeansText-made : {E : Type 0} (r : Result Program E) → IfOk r (λ code. code.inputs ≡ nodes text.graph) →
+  pub MeansText-made : {E : Type 0} (r : Result CodeData E) → IfOk r (λ code. code.inputs ≡ nodes text.graph) →
       IfOk r (λ code. length code.outputs ≡ length answers) → IfOk r (Means pool answers) →
       IfOk r (λ code. ReachExactly pool answers (length code.instructions)) → IfOk r (MeansText text)
   MeansText-made (Ok code) inputs outputs means exact = means_text code inputs outputs means exact

@@ -44,7 +44,8 @@ pub Sol-along : (left other_left : ℕ → Bool) (edge other_edge : ℕ → ℕ 
     ((i j : ℕ) → left i ≡ true → left j ≡ true → edge i j ≡ true → other_edge i j ≡ true) →
     ((i : ℕ) → left i ≡ true → right i ≡ true → other_right i ≡ true) →
     (i : ℕ) → left i ≡ true → Sol left edge right i → Sol other_left other_edge other_right i
-Sol-along left other_left edge other_edge right other_right lefts edges rights i stays (begins set) = begins (rights i stays set)
+Sol-along left other_left edge other_edge right other_right lefts edges rights i stays (begins set) =
+    begins (rights i stays set)
 Sol-along left other_left edge other_edge right other_right lefts edges rights i stays (follows j next_stays joined sol) =
     follows j (lefts j next_stays) (edges i j stays next_stays joined)
     (Sol-along left other_left edge other_edge right other_right lefts edges rights j next_stays sol)
@@ -78,7 +79,8 @@ module _ (left : ℕ → Bool) (edge : ℕ → ℕ → Bool) (right : ℕ → Bo
               itself = follows j beside (or_first (edge m j) (edge m k && edge k j) joined) rest.itself;
               through = λ same i to_k.
                   follows j beside
-                  (or_second (edge i j) (edge i k && edge k j) (and_both (edge i k) (edge k j) to_k (sym (ap (λ n. edge n j) same) ∙ joined)))
+                  (or_second (edge i j) (edge i k && edge k j)
+                  (and_both (edge i k) (edge k j) to_k (sym (ap (λ n. edge n j) same) ∙ joined)))
                   rest.itself;
             }
       ]
@@ -95,7 +97,8 @@ module _ (left : ℕ → Bool) (edge : ℕ → ℕ → Bool) (right : ℕ → Bo
       let next : left j ≡ true = without-left left k j beside in
       elim (or_either (edge m j) (edge m k && edge k j) joined) [
         | inl own ↦ follows j next own sol
-        | inr by_k ↦ let parts = both_parts (edge m k) (edge k j) by_k in follows k stays parts.0 (follows j next parts.1 sol)
+        | inr by_k ↦ let parts = both_parts (edge m k) (edge k j) by_k in
+            follows k stays parts.0 (follows j next parts.1 sol)
       ]
 
 -- without k, the edges and right sides past k have the same least solution

@@ -3,13 +3,13 @@
 use Rattle.std.specs.Prelude.{◌≡◌, ℕ, ◌≤◌, ◌↔◌, Bool, true, List}
 use Rattle.ternary.specs.declared.tern.Tern.{Tern}
 use Rattle.path_meaning.specs.Switching.{state_at}
-use Rattle.path_meaning.specs.Wiring.{Wiring, IsWired}
+use Rattle.path_meaning.specs.Graphs.{GraphData, IsWired}
 use Rattle.path_meaning.specs.Path.{Stand, LivePath, IsBlocked}
 use Rattle.node_elimination.specs.Solution.{Sol, without, edge_past, right_past}
 use Rattle.node_elimination.specs.Levels.{Reached, Driven}
 
 -- a definite path of strength at least s leads to the node
-pub record HasDefinitePath (g : Wiring) (state : List Tern) (s node : ℕ) : Type 0 where
+pub record HasDefinitePath (g : GraphData) (state : List Tern) (s node : ℕ) : Type 0 where
   pub root : ℕ
   pub hops : List ℕ
   pub there : Stand
@@ -19,7 +19,7 @@ pub record HasDefinitePath (g : Wiring) (state : List Tern) (s node : ℕ) : Typ
   pub strong : s ≤ there.strength
 
 -- an unblocked path of strength at least s leads to the node, from a root whose state has the rail
-pub record HasUnblockedPath (rail : Tern → Bool) (g : Wiring) (state : List Tern) (s node : ℕ) : Type 0 where
+pub record HasUnblockedPath (rail : Tern → Bool) (g : GraphData) (state : List Tern) (s node : ℕ) : Type 0 where
   pub root : ℕ
   pub hops : List ℕ
   pub there : Stand
@@ -32,13 +32,13 @@ pub record HasUnblockedPath (rail : Tern → Bool) (g : Wiring) (state : List Te
 -- D(s, n) holds exactly where a definite path of strength at least s leads to n
 abbrev pub ReachedByPaths : Type 0
 ReachedByPaths =
-    (g : Wiring) → IsWired g → (state : List Tern) (s n : ℕ) → 1 ≤ s →
+    (g : GraphData) → IsWired g → (state : List Tern) (s n : ℕ) → 1 ≤ s →
     Reached g state s n ↔ HasDefinitePath g state s n
 
 -- U(s, n) for a rail holds exactly where an unblocked path of strength at least s leads to n from a root that has the rail
 abbrev pub DrivenByPaths : Type 0
 DrivenByPaths =
-    (rail : Tern → Bool) (g : Wiring) → IsWired g → (state : List Tern) (s n : ℕ) → 1 ≤ s →
+    (rail : Tern → Bool) (g : GraphData) → IsWired g → (state : List Tern) (s n : ℕ) → 1 ≤ s →
     Driven rail g state s n ↔ HasUnblockedPath rail g state s n
 
 -- without k, the edges and right sides past k have the same least solution, that of k itself included

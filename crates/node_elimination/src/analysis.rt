@@ -1,25 +1,24 @@
 //! The formulas of the members of a text.
 
 ghost use Rattle.std.specs.Prelude.{◌≡◌, ℕ, ◌+◌, ◌*◌, ◌≤◌, All, length, IfOk};
-ghost use Rattle.path_meaning.specs.Wiring.{nodes};
+ghost use Rattle.path_meaning.specs.Graphs.{nodes};
 ghost use Rattle.bool_pool.specs.Gate.{Extends};
 ghost use Rattle.bool_pool.specs.Pairs.{ReachAtMost, HasVariablesBelow};
 ghost use Rattle.dual_rail.specs.Conduct.{AreInside};
-ghost use Rattle.analysis_cache.specs.Meaning.{bound_of};
-ghost use Rattle.node_elimination.specs.Analysis.{HasMembers, AreResponses};
+ghost use Rattle.group_analysis.specs.Meaning.{bound_of};
+ghost use Rattle.group_text.specs.Texts.{IsText};
+ghost use Rattle.node_elimination.specs.Analysis.{AreResponses};
 ghost use Rattle.node_elimination.specs.Descent.{ArePairs};
 
 use crate::descent::go_down;
 use crate::inputs::make_inputs;
 use bool_pool::{Id, Pool, Rails};
+use dual_rail::TOO_MANY_NODES;
 use group_text::GroupText;
 use path_meaning::{Graph, graphs_are_wired};
 use std::alloc::{AllocError, Global};
 use std::sync::ledger::Ledger;
 use ternary::{NoMemory, Steps, Tern};
-
-/// So many nodes have no variables: a variable's number has 32 bits, and each node has two.
-const TOO_MANY_NODES: usize = 2147483648;
 
 /// The two formulas of each member of a text: "may be 1" and "may be 0" in its steady state.
 ///
@@ -60,8 +59,7 @@ fn analyse_graph<L: Ledger>(
     constants: &[Option<Tern>],
     steps: &mut Steps<L>,
 ) -> Result<Vec<Rails>, NoMemory>
-    requires members { HasMembers graph.now members }
-    requires constants { length constants.now ≡ nodes graph.now }
+    requires { IsText (record { graph = graph.now; members = members; constants = constants.now }) }
     ensures extends { Extends pool.old pool.new }
     ensures count { IfOk result (λ answers. length answers.items ≡ members) }
     ensures formulas { IfOk result (λ answers. All (AreInside pool.new) answers.items) }
@@ -80,8 +78,8 @@ fn analyse_graph<L: Ledger>(
     }
     graphs_are_wired(graph);
     let inputs = make_inputs(alloc, pool, graph, constants, steps)?;
-    let levels = go_down(alloc, pool, graph, members, &inputs, steps)?;
-    Ok(pairs(alloc, &levels.one, &levels.zero)?)
+    let drives = go_down(alloc, pool, graph, members, &inputs, steps)?;
+    Ok(pairs(alloc, &drives.one, &drives.zero)?)
 }
 
 // The pairs of the formulas of each member.

@@ -1,14 +1,15 @@
 ghost use Rattle.std.specs.Prelude.{◌≡◌, ◌≢◌, [], length, IfOk};
-ghost use Rattle.analysis_cache.specs.Meaning.{MeansText};
+ghost use Rattle.group_analysis.specs.Meaning.{MeansText};
 
 use crate::analysis::analyse;
-use analysis_cache::Analyst;
 use bool_pool::Pool;
+use group_analysis::Analyst;
 use group_text::GroupText;
-use linear_code::{Code, linearise};
 use std::alloc::{AllocError, Global};
 use std::marker::{Brand, Model};
 use std::sync::ledger::{Blank, Ledger};
+use straight_code::{Code, linearise};
+use table_keys::TableKeys;
 use ternary::{NoMemory, Steps};
 
 /// An analyst that eliminates: its code is that of the formulas which [`analyse`] makes of a text.
@@ -23,20 +24,28 @@ pub struct SymbolicAnalyst {
 
 impl Model for SymbolicAnalyst {
     ghost use Rattle.std.specs.Prelude.{List};
-    ghost use Rattle.group_text.specs.Texts.{Text};
+    ghost use Rattle.group_text.specs.Texts.{GroupTextData};
 
-    ghost Value = { List Text };
+    ghost Value = { List GroupTextData };
 
     ghost view = { λ analyst. analyst.texts.items };
 }
 
 impl SymbolicAnalyst {
-    /// An analyst that was given no text.
+    /// An analyst that was given no text, whose keys are the same in every run.
     pub fn new(alloc: Global) -> SymbolicAnalyst
         ensures { result ≡ [] }
     {
+        SymbolicAnalyst::with_keys(alloc, TableKeys::fixed())
+    }
+
+    /// An analyst that was given no text, and whose pool looks its gates up by hashes that start from
+    /// these keys.
+    pub fn with_keys(alloc: Global, keys: TableKeys) -> SymbolicAnalyst
+        ensures { result ≡ [] }
+    {
         SymbolicAnalyst {
-            pool: Pool::new(alloc),
+            pool: Pool::with_keys(alloc, keys),
             texts: Vec::new(alloc),
         }
     }

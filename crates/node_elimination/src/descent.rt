@@ -1,22 +1,21 @@
 //! The levels of a graph, from the strongest one down.
 
-ghost use Rattle.std.specs.Prelude.{◌≡◌, ◌≢◌, ℕ, ◌+◌, ◌-◌, ◌*◌, ◌<◌, ◌≤◌, Bool, true, false, List, ◌++◌, length, Some, IfOk, OnOk};
-ghost use Rattle.ternary.specs.declared.tern.Tern.{Tern};
+ghost use Rattle.std.specs.Prelude.{◌≡◌, ◌≢◌, ℕ, ◌+◌, ◌-◌, ◌*◌, ◌<◌, ◌≤◌, false, ◌++◌, length, Some, IfOk, OnOk};
 ghost use Rattle.path_meaning.specs.declared.switching.Switch.{Switch};
-ghost use Rattle.path_meaning.specs.Wiring.{level_of, place_at};
+ghost use Rattle.path_meaning.specs.Graphs.{level_of, place_at};
 ghost use Rattle.bool_pool.specs.Gate.{Extends};
 ghost use Rattle.strength_order.specs.Levels.{IsLevel};
 ghost use Rattle.node_elimination.specs.Growth.{AreFormulas, Grows};
-ghost use Rattle.node_elimination.specs.Equations.{is_left};
-ghost use Rattle.node_elimination.specs.LevelSystem.{value_of};
-ghost use Rattle.analysis_cache.specs.Meaning.{switch_count};
+ghost use Rattle.node_elimination.specs.Levels.{IsUnused};
+ghost use Rattle.node_elimination.specs.LevelSystem.{AllLeft, system_cost};
+ghost use Rattle.group_analysis.specs.Meaning.{switch_count};
 ghost use Rattle.node_elimination.specs.Analysis.{HasMembers};
-ghost use Rattle.node_elimination.specs.Inputs.{input_formulas, HaveInputs, ShowsState};
-ghost use Rattle.node_elimination.specs.Descent.{level_formulas, HaveLevels, ShowsLevel, AreNegations, level_cost};
+ghost use Rattle.node_elimination.specs.Inputs.{input_formulas, HaveInputs};
+ghost use Rattle.node_elimination.specs.Descent.{driven_formulas, level_formulas, HaveDriven, HaveLevels, ReachAt, DriveAt, DriveDown, StepDown, AreNegations, drives_cost, level_cost};
 
 use crate::inputs::{Inputs, add_to};
 use crate::level::{Links, drive, reach};
-use crate::system::System;
+use crate::system::{System, TOO_MANY_UNKNOWNS};
 use bool_pool::{Id, Pool};
 use path_meaning::{Graph, Switch, graphs_are_wired};
 use std::alloc::Global;
@@ -24,17 +23,25 @@ use std::sync::ledger::Ledger;
 use strength_order::INPUT_LEVEL;
 use ternary::{NoMemory, Steps};
 
-/// The formulas of one level, for each member.
+/// U of one level, for each member: an unblocked path of at least this strength leads to it from a
+/// root that may be 1, or that may be 0.
 #[derive(Drop)]
-pub(crate) struct Levels {
-    // D: a definite path of at least this strength leads to the member
-    pub(crate) strong: Vec<Id>,
-    // U: an unblocked path of at least this strength leads to it from a root that may be 1, or 0
+pub(crate) struct Drives {
     pub(crate) one: Vec<Id>,
     pub(crate) zero: Vec<Id>,
 }
 
-/// The formulas of the least level.
+// The formulas of one level, for each member.
+#[derive(Drop)]
+struct Levels {
+    // D: a definite path of at least this strength leads to it
+    strong: Vec<Id>,
+    drives: Drives,
+}
+
+/// U of the least level.
+///
+/// At the least level that a node or a switch has, D isn't made, since only a lower one would read it.
 pub(crate) fn go_down<L: Ledger>(
     alloc: Global,
     pool: &mut Pool,
@@ -42,27 +49,29 @@ pub(crate) fn go_down<L: Ledger>(
     members: usize,
     inputs: &Inputs,
     steps: &mut Steps<L>,
-) -> Result<Levels, NoMemory>
+) -> Result<Drives, NoMemory>
     requires members { HasMembers graph.now members }
-    requires few { members < 4294967296 }
+    requires few { members < TOO_MANY_UNKNOWNS }
     requires inputs { HaveInputs graph.now pool.old inputs.now }
     ensures extends { Extends pool.old pool.new }
-    ensures levels { IfOk result (λ levels. HaveLevels members pool.new levels) }
-    ensures shows { IfOk result (λ levels. (state : List Tern) (vars : ℕ → Bool)
-        → ShowsState graph.now pool.old inputs.now state vars
-        → ShowsLevel graph.now members pool.new levels 1 state vars) }
-    ensures grows { IfOk result (λ levels. Grows pool.old (input_formulas inputs.now) pool.new (input_formulas inputs.now ++ level_formulas levels) (steps.new - steps.old)) }
+    ensures drives { IfOk result (λ drives. HaveDriven members pool.new drives) }
+    ensures shows { IfOk result (λ drives. DriveAt graph.now members inputs.now pool.old 1 pool.new drives) }
+    ensures grows { IfOk result (λ drives. Grows pool.old (input_formulas inputs.now)
+        pool.new (driven_formulas drives) (steps.new - steps.old)) }
     ensures rises { steps.old ≤ steps.new }
     ensures few { steps.new ≤ steps.old + INPUT_LEVEL * level_cost members (switch_count graph.now) }
 {
     graphs_are_wired(graph);
+    let lowest = lowest_level(graph);
     let mut system = System::new(alloc, members, inputs.falsehood)?;
     let mut levels = Levels {
         strong: vec![in alloc; inputs.falsehood; members]?,
-        one: vec![in alloc; inputs.falsehood; members]?,
-        zero: vec![in alloc; inputs.falsehood; members]?,
+        drives: Drives {
+            one: vec![in alloc; inputs.falsehood; members]?,
+            zero: vec![in alloc; inputs.falsehood; members]?,
+        },
     };
-    for done in 0..INPUT_LEVEL {
+    for done in 0..INPUT_LEVEL - lowest {
         let level = INPUT_LEVEL - done;
         levels = step_down(
             alloc,
@@ -75,41 +84,40 @@ pub(crate) fn go_down<L: Ledger>(
             steps,
         )?;
     }
-    Ok(levels)
+    drive_members(
+        alloc,
+        pool,
+        &mut system,
+        graph,
+        lowest,
+        inputs,
+        &levels,
+        steps,
+    )
 }
 
-// The formulas of this level: those of the level above, where no node and no switch has the level.
-fn step_down<L: Ledger>(
-    alloc: Global,
-    pool: &mut Pool,
-    system: &mut System,
-    graph: &Graph,
-    level: u8,
-    inputs: &Inputs,
-    above: Levels,
-    steps: &mut Steps<L>,
-) -> Result<Levels, NoMemory>
-    requires members { HasMembers graph.now system.old.size }
-    requires left { (i : ℕ) → i < system.old.size → is_left system.old i ≡ true }
-    requires level { IsLevel level }
-    requires inputs { HaveInputs graph.now pool.old inputs.now }
-    requires above { HaveLevels system.old.size pool.old above }
-    ensures extends { Extends pool.old pool.new }
-    ensures size { OnOk result (system.new.size ≡ system.old.size) }
-    ensures left { OnOk result (system.new.left ≡ system.old.left) }
-    ensures levels { IfOk result (λ levels. HaveLevels system.old.size pool.new levels) }
-    ensures shows { IfOk result (λ levels. (state : List Tern) (vars : ℕ → Bool)
-        → ShowsState graph.now pool.old inputs.now state vars
-        → ShowsLevel graph.now system.old.size pool.old above (level + 1) state vars
-        → ShowsLevel graph.now system.old.size pool.new levels level state vars) }
-    ensures grows { IfOk result (λ levels. Grows pool.old (input_formulas inputs.now ++ level_formulas above) pool.new (level_formulas levels) (steps.new - steps.old)) }
-    ensures rises { steps.old ≤ steps.new }
-    ensures few { steps.new ≤ steps.old + level_cost system.old.size (switch_count graph.now) }
+// The least level that a node or a switch has, or else that of an input node.
+fn lowest_level(graph: &Graph) -> u8
+    ensures level { IsLevel result }
+    ensures unused { (s : ℕ) → 1 ≤ s → s < result → IsUnused graph.now s }
 {
-    if !has_node(graph, level) && !has_switch(graph, level) {
-        return Ok(above);
+    for level in 1..INPUT_LEVEL {
+        if is_used(graph, level) {
+            return level;
+        }
     }
-    next_level(alloc, pool, system, graph, level, inputs, &above, steps)
+    INPUT_LEVEL
+}
+
+// Whether a node or a switch has this level.
+fn is_used(graph: &Graph, level: u8) -> bool
+    requires { 1 ≤ level }
+    ensures { (result ≡ false) → IsUnused graph.now level }
+{
+    if has_node(graph, level) {
+        return true;
+    }
+    has_switch(graph, level)
 }
 
 // Whether a node has this level.
@@ -148,6 +156,39 @@ fn is_at_level(place: &Option<Switch>, level: u8) -> bool
     }
 }
 
+// The formulas of this level: those of the level above, where no node and no switch has the level.
+fn step_down<L: Ledger>(
+    alloc: Global,
+    pool: &mut Pool,
+    system: &mut System,
+    graph: &Graph,
+    level: u8,
+    inputs: &Inputs,
+    above: Levels,
+    steps: &mut Steps<L>,
+) -> Result<Levels, NoMemory>
+    requires members { HasMembers graph.now system.old.size }
+    requires left { AllLeft system.old }
+    requires level { IsLevel level }
+    requires inputs { HaveInputs graph.now pool.old inputs.now }
+    requires above { HaveLevels system.old.size pool.old above }
+    ensures extends { Extends pool.old pool.new }
+    ensures size { OnOk result (system.new.size ≡ system.old.size) }
+    ensures left { OnOk result (system.new.left ≡ system.old.left) }
+    ensures levels { IfOk result (λ levels. HaveLevels system.old.size pool.new levels) }
+    ensures shows { IfOk result (λ levels. StepDown graph.now system.old.size inputs.now
+        pool.old above level pool.new levels) }
+    ensures grows { IfOk result (λ levels. Grows pool.old (input_formulas inputs.now ++ level_formulas above)
+        pool.new (level_formulas levels) (steps.new - steps.old)) }
+    ensures rises { steps.old ≤ steps.new }
+    ensures few { steps.new ≤ steps.old + level_cost system.old.size (switch_count graph.now) }
+{
+    if !is_used(graph, level) {
+        return Ok(above);
+    }
+    next_level(alloc, pool, system, graph, level, inputs, &above, steps)
+}
+
 // The formulas of this level, from those of the level above. The unknowns of `system` are the
 // members, all of them left; at an error it is of no use any more.
 fn next_level<L: Ledger>(
@@ -161,7 +202,7 @@ fn next_level<L: Ledger>(
     steps: &mut Steps<L>,
 ) -> Result<Levels, NoMemory>
     requires members { HasMembers graph.now system.old.size }
-    requires left { (i : ℕ) → i < system.old.size → is_left system.old i ≡ true }
+    requires left { AllLeft system.old }
     requires level { IsLevel level }
     requires inputs { HaveInputs graph.now pool.old inputs.now }
     requires above { HaveLevels system.old.size pool.old above.now }
@@ -169,48 +210,111 @@ fn next_level<L: Ledger>(
     ensures size { OnOk result (system.new.size ≡ system.old.size) }
     ensures left { OnOk result (system.new.left ≡ system.old.left) }
     ensures levels { IfOk result (λ levels. HaveLevels system.old.size pool.new levels) }
-    ensures shows { IfOk result (λ levels. (state : List Tern) (vars : ℕ → Bool)
-        → ShowsState graph.now pool.old inputs.now state vars
-        → ShowsLevel graph.now system.old.size pool.old above.now (level + 1) state vars
-        → ShowsLevel graph.now system.old.size pool.new levels level state vars) }
-    ensures grows { IfOk result (λ levels. Grows pool.old (input_formulas inputs.now ++ level_formulas above.now) pool.new (level_formulas levels) (steps.new - steps.old)) }
+    ensures shows { IfOk result (λ levels. StepDown graph.now system.old.size inputs.now
+        pool.old above.now level pool.new levels) }
+    ensures grows { IfOk result (λ levels. Grows pool.old (input_formulas inputs.now ++ level_formulas above.now)
+        pool.new (level_formulas levels) (steps.new - steps.old)) }
     ensures rises { steps.old ≤ steps.new }
     ensures few { steps.new ≤ steps.old + level_cost system.old.size (switch_count graph.now) }
 {
+    let drives = drive_members(alloc, pool, system, graph, level, inputs, above, steps)?;
+    let strong = reach_members(alloc, pool, system, graph, level, inputs, steps)?;
+    Ok(Levels { strong, drives })
+}
+
+// U of this level. At an error the system is of no use any more.
+fn drive_members<L: Ledger>(
+    alloc: Global,
+    pool: &mut Pool,
+    system: &mut System,
+    graph: &Graph,
+    level: u8,
+    inputs: &Inputs,
+    above: &Levels,
+    steps: &mut Steps<L>,
+) -> Result<Drives, NoMemory>
+    requires members { HasMembers graph.now system.old.size }
+    requires left { AllLeft system.old }
+    requires level { IsLevel level }
+    requires inputs { HaveInputs graph.now pool.old inputs.now }
+    requires above { HaveLevels system.old.size pool.old above.now }
+    ensures extends { Extends pool.old pool.new }
+    ensures size { OnOk result (system.new.size ≡ system.old.size) }
+    ensures left { OnOk result (system.new.left ≡ system.old.left) }
+    ensures drives { IfOk result (λ drives. HaveDriven system.old.size pool.new drives) }
+    ensures shows { IfOk result (λ drives. DriveDown graph.now system.old.size inputs.now
+        pool.old above.now level pool.new drives) }
+    ensures grows { IfOk result (λ drives. Grows pool.old (input_formulas inputs.now ++ level_formulas above.now)
+        pool.new (driven_formulas drives) (steps.new - steps.old)) }
+    ensures rises { steps.old ≤ steps.new }
+    ensures few { steps.new ≤ steps.old + drives_cost system.old.size (switch_count graph.now) }
+{
     graphs_are_wired(graph);
     let clear = negations(alloc, pool, &above.strong, steps)?;
-    let roots_one = Links {
+    let to_one = Links {
         graph,
         level,
         gates: &clear,
         passes: &inputs.live,
         sources: &inputs.hi,
     };
+    let above_one = &above.drives.one;
     let one = drive(
         alloc,
         pool,
         system,
-        &roots_one,
+        &to_one,
         inputs.falsehood,
-        &above.one,
+        above_one,
         steps,
     )?;
-    let roots_zero = Links {
+    let to_zero = Links {
         graph,
         level,
         gates: &clear,
         passes: &inputs.live,
         sources: &inputs.lo,
     };
+    let above_zero = &above.drives.zero;
     let zero = drive(
         alloc,
         pool,
         system,
-        &roots_zero,
+        &to_zero,
         inputs.falsehood,
-        &above.zero,
+        above_zero,
         steps,
     )?;
+    Ok(Drives { one, zero })
+}
+
+// D of this level. At an error the system is of no use any more.
+fn reach_members<L: Ledger>(
+    alloc: Global,
+    pool: &mut Pool,
+    system: &mut System,
+    graph: &Graph,
+    level: u8,
+    inputs: &Inputs,
+    steps: &mut Steps<L>,
+) -> Result<Vec<Id>, NoMemory>
+    requires members { HasMembers graph.now system.old.size }
+    requires left { AllLeft system.old }
+    requires level { IsLevel level }
+    requires inputs { HaveInputs graph.now pool.old inputs.now }
+    ensures extends { Extends pool.old pool.new }
+    ensures size { OnOk result (system.new.size ≡ system.old.size) }
+    ensures left { OnOk result (system.new.left ≡ system.old.left) }
+    ensures count { IfOk result (λ strong. length strong.items ≡ system.old.size) }
+    ensures formulas { IfOk result (λ strong. AreFormulas pool.new strong.items) }
+    ensures shows { IfOk result (λ strong. ReachAt graph.now system.old.size inputs.now
+        pool.old level pool.new strong.items) }
+    ensures grows { IfOk result (λ strong. Grows pool.old (input_formulas inputs.now)
+        pool.new strong.items (steps.new - steps.old)) }
+    ensures rises { steps.old ≤ steps.new }
+    ensures few { steps.new ≤ steps.old + system_cost system.old.size (switch_count graph.now) }
+{
+    graphs_are_wired(graph);
     let sure = Links {
         graph,
         level,
@@ -218,16 +322,8 @@ fn next_level<L: Ledger>(
         passes: &inputs.closed,
         sources: &inputs.sure,
     };
-    let strong = reach(
-        alloc,
-        pool,
-        system,
-        &sure,
-        inputs.falsehood,
-        inputs.truth,
-        steps,
-    )?;
-    Ok(Levels { strong, one, zero })
+    let (no, yes) = (inputs.falsehood, inputs.truth);
+    reach(alloc, pool, system, &sure, no, yes, steps)
 }
 
 // The negation of each formula.
@@ -239,7 +335,8 @@ fn negations<L: Ledger>(
 ) -> Result<Vec<Id>, NoMemory>
     requires { AreFormulas pool.old ids.now }
     ensures extends { Extends pool.old pool.new }
-    ensures negated { IfOk result (λ negations. AreNegations pool.old ids.now (length ids.now) pool.new negations.items) }
+    ensures negated { IfOk result (λ negations. AreNegations pool.old ids.now (length ids.now)
+        pool.new negations.items) }
     ensures grows { IfOk result (λ negations. Grows pool.old ids.now pool.new negations.items (steps.new - steps.old)) }
     ensures rises { steps.old ≤ steps.new }
     ensures few { steps.new ≤ steps.old + length ids.now }

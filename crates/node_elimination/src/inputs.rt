@@ -2,16 +2,16 @@
 
 ghost use Rattle.std.specs.Prelude.{◌≡◌, ℕ, ◌+◌, ◌-◌, ◌*◌, ◌<◌, ◌≤◌, Bool, true, false, List, [], ◌∷◌, ◌++◌, length, Option, is_some, count_by, if◌then◌else◌, IfOk, OnOk};
 ghost use Rattle.ternary.specs.Tern.{may_one, may_zero};
-ghost use Rattle.path_meaning.specs.Wiring.{nodes, place_at};
+ghost use Rattle.path_meaning.specs.Graphs.{nodes, place_at};
 ghost use Rattle.bool_pool.specs.Gate.{Extends};
 ghost use Rattle.node_elimination.specs.Growth.{AreFormulas, AreGrown};
 ghost use Rattle.node_elimination.specs.LevelSystem.{IsConstant};
-ghost use Rattle.analysis_cache.specs.Meaning.{switch_count};
+ghost use Rattle.group_analysis.specs.Meaning.{switch_count};
 ghost use Rattle.node_elimination.specs.Analysis.{IsAssignment};
 ghost use Rattle.node_elimination.specs.Inputs.{IsRail, AreRails, IsPass, ArePasses, input_formulas, HaveInputs, ShowsState};
 
 use bool_pool::{Id, Pool, Rails};
-use dual_rail::{closed, const_rails, may_conduct, var_rails};
+use dual_rail::{TOO_MANY_NODES, closed, const_rails, may_conduct, var_rails};
 use path_meaning::{Graph, graphs_are_wired};
 use std::alloc::{AllocError, Global};
 use std::sync::ledger::Ledger;
@@ -49,11 +49,13 @@ pub(crate) fn make_inputs<L: Ledger>(
     steps: &mut Steps<L>,
 ) -> Result<Inputs, NoMemory>
     requires constants { length constants.now ≡ nodes graph.now }
-    requires variables { nodes graph.now < 2147483648 }
+    requires variables { nodes graph.now < TOO_MANY_NODES }
     ensures extends { Extends pool.old pool.new }
     ensures inputs { IfOk result (λ inputs. HaveInputs graph.now pool.new inputs) }
-    ensures shows { IfOk result (λ inputs. (state : List Tern) (vars : ℕ → Bool) → IsAssignment graph.now constants.now state vars → ShowsState graph.now pool.new inputs state vars) }
-    ensures grown { IfOk result (λ inputs. (listed : List ℕ) (bound : ℕ) → 2 * nodes graph.now ≤ bound → AreGrown pool.new listed bound (2 * switch_count graph.now) (input_formulas inputs)) }
+    ensures shows { IfOk result (λ inputs. (state : List Tern) (vars : ℕ → Bool)
+        → IsAssignment graph.now constants.now state vars → ShowsState graph.now pool.new inputs state vars) }
+    ensures grown { IfOk result (λ inputs. (listed : List ℕ) (bound : ℕ) → 2 * nodes graph.now ≤ bound
+        → AreGrown pool.new listed bound (2 * switch_count graph.now) (input_formulas inputs)) }
     ensures rises { steps.old ≤ steps.new }
     ensures few { steps.new ≤ steps.old + (2 + (2 * nodes graph.now + 4 * switch_count graph.now)) }
 {
@@ -86,10 +88,12 @@ fn rails_of_nodes<L: Ledger>(
     constants: &[Option<Tern>],
     steps: &mut Steps<L>,
 ) -> Result<NodeRails, NoMemory>
-    requires { length constants.now < 2147483648 }
+    requires { length constants.now < TOO_MANY_NODES }
     ensures extends { Extends pool.old pool.new }
-    ensures hi { IfOk result (λ rails. AreRails may_one (λ node. 2 * node) constants.now (length constants.now) pool.new rails.hi.items) }
-    ensures lo { IfOk result (λ rails. AreRails may_zero (λ node. 2 * node + 1) constants.now (length constants.now) pool.new rails.lo.items) }
+    ensures hi { IfOk result (λ rails. AreRails may_one (λ node. 2 * node)
+        constants.now (length constants.now) pool.new rails.hi.items) }
+    ensures lo { IfOk result (λ rails. AreRails may_zero (λ node. 2 * node + 1)
+        constants.now (length constants.now) pool.new rails.lo.items) }
     ensures rises { steps.old ≤ steps.new }
     ensures few { steps.new ≤ steps.old + 2 * length constants.now }
 {
@@ -110,7 +114,7 @@ fn node_rails<L: Ledger>(
     constant: Option<Tern>,
     steps: &mut Steps<L>,
 ) -> Result<Rails, NoMemory>
-    requires { node < 2147483648 }
+    requires { node < TOO_MANY_NODES }
     ensures extends { Extends pool.old pool.new }
     ensures hi { IfOk result (λ rails. IsRail may_one constant (2 * node) pool.new rails.hi.place) }
     ensures lo { IfOk result (λ rails. IsRail may_zero constant (2 * node + 1) pool.new rails.lo.place) }
@@ -139,7 +143,8 @@ fn passes_of<L: Ledger>(
     requires formulas { AreFormulas pool.old (hi.now ++ lo.now) }
     requires falsehood { IsConstant false pool.old falsehood }
     ensures extends { Extends pool.old pool.new }
-    ensures passes { IfOk result (λ passes. ArePasses graph.now sure pool.old hi.now lo.now (length graph.now.places) pool.new passes.items) }
+    ensures passes { IfOk result (λ passes. ArePasses graph.now sure pool.old hi.now lo.now
+        (length graph.now.places) pool.new passes.items) }
     ensures rises { steps.old ≤ steps.new }
     ensures few { steps.new ≤ steps.old + 2 * switch_count graph.now }
 {

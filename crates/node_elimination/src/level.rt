@@ -1,15 +1,15 @@
 //! The system of one level, and its solution.
 
 ghost use Rattle.std.specs.Prelude.{◌≡◌, ℕ, ◌+◌, ◌-◌, ◌*◌, ◌<◌, ◌≤◌, Bool, true, false, nat_le, ◌&&◌, ◌||◌, List, [], ◌∷◌, ◌++◌, length, IfOk, OnOk, is_some, if◌then◌else◌};
-ghost use Rattle.path_meaning.specs.Wiring.{nodes, level_of, place_at};
+ghost use Rattle.path_meaning.specs.Graphs.{nodes, level_of, place_at};
 ghost use Rattle.bool_pool.specs.Gate.{Extends};
 ghost use Rattle.bool_pool.specs.Value.{value_at};
 ghost use Rattle.bool_pool.specs.Made.{IsFormed};
 ghost use Rattle.node_elimination.specs.Growth.{AreFormulas, Grows};
-ghost use Rattle.node_elimination.specs.Equations.{IsSquare, IsWhole, formulas_of, is_left, right_at, right};
+ghost use Rattle.node_elimination.specs.Equations.{IsSquare, IsWhole, formulas_of, right_at, right};
 ghost use Rattle.node_elimination.specs.Elimination.{Moves, PutsRight, PutsRights};
-ghost use Rattle.node_elimination.specs.LevelSystem.{IsConstant, reached_base, driven_base, value_of, FitLinks, AddsLink, AddsLinks, IsFresh, IsPlace, SolvesLevel};
-ghost use Rattle.analysis_cache.specs.Meaning.{switch_count};
+ghost use Rattle.node_elimination.specs.LevelSystem.{IsConstant, reached_base, value_of, AddsLink, AddsLinks, AllLeft, IsFresh, IsPlace, link_formulas, AreLinks, root_base, SolvesLinks, system_cost};
+ghost use Rattle.group_analysis.specs.Meaning.{switch_count};
 
 use crate::solve::{or_and, solve};
 use crate::system::System;
@@ -45,19 +45,21 @@ pub(crate) fn reach<L: Ledger>(
     truth: Id,
     steps: &mut Steps<L>,
 ) -> Result<Vec<Id>, NoMemory>
-    requires left { (i : ℕ) → i < system.old.size → is_left system.old i ≡ true }
+    requires left { AllLeft system.old }
     requires falsehood { IsConstant false pool.old falsehood }
     requires truth { IsConstant true pool.old truth }
-    requires fit { FitLinks links.now.graph.now system.old.size pool.old links.now.gates.now links.now.passes.now links.now.sources.now }
+    requires fit { AreLinks links.now system.old.size pool.old }
     ensures extends { Extends pool.old pool.new }
     ensures size { OnOk result (system.new.size ≡ system.old.size) }
     ensures left { OnOk result (system.new.left ≡ system.old.left) }
     ensures count { IfOk result (λ answers. length answers.items ≡ system.old.size) }
     ensures formulas { IfOk result (λ answers. AreFormulas pool.new answers.items) }
-    ensures solves { IfOk result (λ answers. (vars : ℕ → Bool) → SolvesLevel links.now.graph.now system.old.size (value_of pool.old links.now.passes.now vars) (reached_base links.now.graph.now links.now.level) (value_of pool.old links.now.gates.now vars) (value_of pool.old links.now.sources.now vars) links.now.level (value_of pool.new answers.items vars)) }
-    ensures grows { IfOk result (λ answers. Grows pool.old (links.now.gates.now ++ (links.now.passes.now ++ links.now.sources.now)) pool.new answers.items (steps.new - steps.old)) }
+    ensures solves { IfOk result (λ answers. SolvesLinks links.now system.old.size
+        (λ vars. reached_base links.now.graph.now links.now.level) pool.old pool.new answers.items) }
+    ensures grows { IfOk result (λ answers. Grows pool.old
+        (link_formulas links.now) pool.new answers.items (steps.new - steps.old)) }
     ensures rises { steps.old ≤ steps.new }
-    ensures few { steps.new ≤ steps.old + (6 * switch_count links.now.graph.now + system.old.size * (system.old.size * (2 * system.old.size + 2))) }
+    ensures few { steps.new ≤ steps.old + system_cost system.old.size (switch_count links.now.graph.now) }
 {
     system.reset(falsehood);
     put_levels(system, links, falsehood, truth);
@@ -77,9 +79,9 @@ pub(crate) fn drive<L: Ledger>(
     above: &[Id],
     steps: &mut Steps<L>,
 ) -> Result<Vec<Id>, NoMemory>
-    requires left { (i : ℕ) → i < system.old.size → is_left system.old i ≡ true }
+    requires left { AllLeft system.old }
     requires falsehood { IsConstant false pool.old falsehood }
-    requires fit { FitLinks links.now.graph.now system.old.size pool.old links.now.gates.now links.now.passes.now links.now.sources.now }
+    requires fit { AreLinks links.now system.old.size pool.old }
     requires above { system.old.size ≤ length above.now }
     requires formulas { AreFormulas pool.old above.now }
     ensures extends { Extends pool.old pool.new }
@@ -87,10 +89,13 @@ pub(crate) fn drive<L: Ledger>(
     ensures left { OnOk result (system.new.left ≡ system.old.left) }
     ensures count { IfOk result (λ answers. length answers.items ≡ system.old.size) }
     ensures formulas { IfOk result (λ answers. AreFormulas pool.new answers.items) }
-    ensures solves { IfOk result (λ answers. (vars : ℕ → Bool) → SolvesLevel links.now.graph.now system.old.size (value_of pool.old links.now.passes.now vars) (driven_base links.now.graph.now links.now.level (value_of pool.old above.now vars) (value_of pool.old links.now.gates.now vars) (value_of pool.old links.now.sources.now vars)) (value_of pool.old links.now.gates.now vars) (value_of pool.old links.now.sources.now vars) links.now.level (value_of pool.new answers.items vars)) }
-    ensures grows { IfOk result (λ answers. Grows pool.old (above.now ++ (links.now.gates.now ++ (links.now.passes.now ++ links.now.sources.now))) pool.new answers.items (steps.new - steps.old)) }
+    ensures solves { IfOk result (λ answers. SolvesLinks links.now system.old.size
+        (root_base links.now pool.old above.now) pool.old pool.new answers.items) }
+    ensures grows { IfOk result (λ answers. Grows pool.old
+        (above.now ++ link_formulas links.now) pool.new answers.items (steps.new - steps.old)) }
     ensures rises { steps.old ≤ steps.new }
-    ensures few { steps.new ≤ steps.old + (2 * system.old.size + (6 * switch_count links.now.graph.now + system.old.size * (system.old.size * (2 * system.old.size + 2)))) }
+    ensures few { steps.new ≤ steps.old
+        + (2 * system.old.size + system_cost system.old.size (switch_count links.now.graph.now)) }
 {
     system.reset(falsehood);
     put_roots(pool, system, links, above, steps)?;
@@ -130,12 +135,14 @@ fn put_roots<L: Ledger>(
     steps: &mut Steps<L>,
 ) -> Result<(), NoMemory>
     requires whole { IsWhole pool.old system.old }
-    requires fit { FitLinks links.now.graph.now system.old.size pool.old links.now.gates.now links.now.passes.now links.now.sources.now }
+    requires fit { AreLinks links.now system.old.size pool.old }
     requires above { system.old.size ≤ length above.now }
     requires formulas { AreFormulas pool.old above.now }
     ensures extends { Extends pool.old pool.new }
-    ensures moves { OnOk result (Moves (above.now ++ (links.now.gates.now ++ (links.now.passes.now ++ links.now.sources.now))) pool.old system.old pool.new system.new (steps.new - steps.old)) }
-    ensures puts { OnOk result (PutsRights system.old.size (λ vars. driven_base links.now.graph.now links.now.level (value_of pool.old above.now vars) (value_of pool.old links.now.gates.now vars) (value_of pool.old links.now.sources.now vars)) pool.old system.old pool.new system.new) }
+    ensures moves { OnOk result (Moves (above.now ++ link_formulas links.now)
+        pool.old system.old pool.new system.new (steps.new - steps.old)) }
+    ensures puts { OnOk result (PutsRights system.old.size
+        (root_base links.now pool.old above.now) pool.old system.old pool.new system.new) }
     ensures rises { steps.old ≤ steps.new }
     ensures few { steps.new ≤ steps.old + 2 * system.old.size }
 {
@@ -155,13 +162,15 @@ fn put_root<L: Ledger>(
     steps: &mut Steps<L>,
 ) -> Result<(), NoMemory>
     requires whole { IsWhole pool.old system.old }
-    requires fit { FitLinks links.now.graph.now system.old.size pool.old links.now.gates.now links.now.passes.now links.now.sources.now }
+    requires fit { AreLinks links.now system.old.size pool.old }
     requires above { system.old.size ≤ length above.now }
     requires formulas { AreFormulas pool.old above.now }
     requires row { i < system.old.size }
     ensures extends { Extends pool.old pool.new }
-    ensures moves { OnOk result (Moves (above.now ++ (links.now.gates.now ++ (links.now.passes.now ++ links.now.sources.now))) pool.old system.old pool.new system.new (steps.new - steps.old)) }
-    ensures puts { OnOk result (PutsRight i (λ vars. driven_base links.now.graph.now links.now.level (value_of pool.old above.now vars) (value_of pool.old links.now.gates.now vars) (value_of pool.old links.now.sources.now vars) i) pool.old system.old pool.new system.new) }
+    ensures moves { OnOk result (Moves (above.now ++ link_formulas links.now)
+        pool.old system.old pool.new system.new (steps.new - steps.old)) }
+    ensures puts { OnOk result (PutsRight i
+        (λ vars. root_base links.now pool.old above.now vars i) pool.old system.old pool.new system.new) }
     ensures rises { steps.old ≤ steps.new }
     ensures few { steps.new ≤ steps.old + 2 }
 {
@@ -184,16 +193,18 @@ fn solve_level<L: Ledger>(
 ) -> Result<Vec<Id>, NoMemory>
     requires whole { IsWhole pool.old system.old }
     requires fresh { IsFresh pool.old system.old }
-    requires fit { FitLinks links.now.graph.now system.old.size pool.old links.now.gates.now links.now.passes.now links.now.sources.now }
+    requires fit { AreLinks links.now system.old.size pool.old }
     ensures extends { Extends pool.old pool.new }
     ensures size { OnOk result (system.new.size ≡ system.old.size) }
     ensures left { OnOk result (system.new.left ≡ system.old.left) }
     ensures count { IfOk result (λ answers. length answers.items ≡ system.old.size) }
     ensures formulas { IfOk result (λ answers. AreFormulas pool.new answers.items) }
-    ensures solves { IfOk result (λ answers. (vars : ℕ → Bool) → SolvesLevel links.now.graph.now system.old.size (value_of pool.old links.now.passes.now vars) (right pool.old system.old vars) (value_of pool.old links.now.gates.now vars) (value_of pool.old links.now.sources.now vars) links.now.level (value_of pool.new answers.items vars)) }
-    ensures grows { IfOk result (λ answers. Grows pool.old ((links.now.gates.now ++ (links.now.passes.now ++ links.now.sources.now)) ++ formulas_of system.old) pool.new answers.items (steps.new - steps.old)) }
+    ensures solves { IfOk result (λ answers. SolvesLinks links.now system.old.size
+        (right pool.old system.old) pool.old pool.new answers.items) }
+    ensures grows { IfOk result (λ answers. Grows pool.old
+        (link_formulas links.now ++ formulas_of system.old) pool.new answers.items (steps.new - steps.old)) }
     ensures rises { steps.old ≤ steps.new }
-    ensures few { steps.new ≤ steps.old + (6 * switch_count links.now.graph.now + system.old.size * (system.old.size * (2 * system.old.size + 2))) }
+    ensures few { steps.new ≤ steps.old + system_cost system.old.size (switch_count links.now.graph.now) }
 {
     add_links(pool, system, links, steps)?;
     system.count_all(pool);
@@ -209,10 +220,13 @@ fn add_links<L: Ledger>(
     steps: &mut Steps<L>,
 ) -> Result<(), NoMemory>
     requires whole { IsWhole pool.old system.old }
-    requires fit { FitLinks links.now.graph.now system.old.size pool.old links.now.gates.now links.now.passes.now links.now.sources.now }
+    requires fit { AreLinks links.now system.old.size pool.old }
     ensures extends { Extends pool.old pool.new }
-    ensures moves { OnOk result (Moves (links.now.gates.now ++ (links.now.passes.now ++ links.now.sources.now)) pool.old system.old pool.new system.new (steps.new - steps.old)) }
-    ensures adds { OnOk result (AddsLinks links.now.graph.now system.old.size (IsPlace links.now.graph.now) links.now.level links.now.gates.now links.now.passes.now links.now.sources.now pool.old system.old pool.new system.new) }
+    ensures moves { OnOk result (Moves (link_formulas links.now)
+        pool.old system.old pool.new system.new (steps.new - steps.old)) }
+    ensures adds { OnOk result (AddsLinks links.now.graph.now system.old.size (IsPlace links.now.graph.now)
+        links.now.level links.now.gates.now links.now.passes.now links.now.sources.now
+        pool.old system.old pool.new system.new) }
     ensures rises { steps.old ≤ steps.new }
     ensures few { steps.new ≤ steps.old + 6 * switch_count links.now.graph.now }
 {
@@ -231,11 +245,14 @@ fn add_place<L: Ledger>(
     steps: &mut Steps<L>,
 ) -> Result<(), NoMemory>
     requires whole { IsWhole pool.old system.old }
-    requires fit { FitLinks links.now.graph.now system.old.size pool.old links.now.gates.now links.now.passes.now links.now.sources.now }
+    requires fit { AreLinks links.now system.old.size pool.old }
     requires in_range { place < length links.now.graph.now.places }
     ensures extends { Extends pool.old pool.new }
-    ensures moves { OnOk result (Moves (links.now.gates.now ++ (links.now.passes.now ++ links.now.sources.now)) pool.old system.old pool.new system.new (steps.new - steps.old)) }
-    ensures adds { OnOk result (AddsLinks links.now.graph.now system.old.size (λ p. p ≡ place) links.now.level links.now.gates.now links.now.passes.now links.now.sources.now pool.old system.old pool.new system.new) }
+    ensures moves { OnOk result (Moves (link_formulas links.now)
+        pool.old system.old pool.new system.new (steps.new - steps.old)) }
+    ensures adds { OnOk result (AddsLinks links.now.graph.now system.old.size (λ p. p ≡ place)
+        links.now.level links.now.gates.now links.now.passes.now links.now.sources.now
+        pool.old system.old pool.new system.new) }
     ensures rises { steps.old ≤ steps.new }
     ensures few { steps.new ≤ steps.old + (if is_some (place_at links.now.graph.now.places place) then 6 else 0) }
 {
@@ -259,13 +276,17 @@ fn add_link<L: Ledger>(
     steps: &mut Steps<L>,
 ) -> Result<(), NoMemory>
     requires whole { IsWhole pool.old system.old }
-    requires fit { FitLinks links.now.graph.now system.old.size pool.old links.now.gates.now links.now.passes.now links.now.sources.now }
+    requires fit { AreLinks links.now system.old.size pool.old }
     requires in_range { place < length links.now.graph.now.places }
     requires from { m < nodes links.now.graph.now }
     requires to { n < nodes links.now.graph.now }
     ensures extends { Extends pool.old pool.new }
-    ensures moves { OnOk result (Moves (links.now.gates.now ++ (links.now.passes.now ++ links.now.sources.now)) pool.old system.old pool.new system.new (steps.new - steps.old)) }
-    ensures adds { OnOk result (AddsLink system.old.size m n (λ vars. value_of pool.old links.now.gates.now vars n) (λ vars. value_of pool.old links.now.passes.now vars place) (λ vars. value_of pool.old links.now.sources.now vars m) pool.old system.old pool.new system.new) }
+    ensures moves { OnOk result (Moves (link_formulas links.now)
+        pool.old system.old pool.new system.new (steps.new - steps.old)) }
+    ensures adds { OnOk result (AddsLink system.old.size m n
+        (λ vars. value_of pool.old links.now.gates.now vars n)
+        (λ vars. value_of pool.old links.now.passes.now vars place)
+        (λ vars. value_of pool.old links.now.sources.now vars m) pool.old system.old pool.new system.new) }
     ensures rises { steps.old ≤ steps.new }
     ensures few { steps.new ≤ steps.old + 3 }
 {

@@ -150,7 +150,7 @@ fn pass_edge<L: Ledger>(
     Ok(())
 }
 
-// Hands on the right side of k to row i.
+// Adds to the right side of i what comes by its edge to k.
 fn pass_right<L: Ledger>(
     pool: &mut Pool,
     system: &mut System,
@@ -163,7 +163,9 @@ fn pass_right<L: Ledger>(
     requires row { i < system.old.size }
     ensures extends { Extends pool.old pool.new }
     ensures moves { OnOk result (Moves [] pool.old system.old pool.new system.new (steps.new - steps.old)) }
-    ensures passes { OnOk result (PutsRight i (λ vars. right_past (edge pool.old system.old vars) (right pool.old system.old vars) k i) pool.old system.old pool.new system.new) }
+    ensures passes { OnOk result (PutsRight i
+        (λ vars. right_past (edge pool.old system.old vars) (right pool.old system.old vars) k i)
+        pool.old system.old pool.new system.new) }
     ensures rises { steps.old ≤ steps.new }
     ensures few { steps.new ≤ steps.old + 2 }
 {
@@ -196,7 +198,7 @@ fn gather<L: Ledger>(
     Ok(())
 }
 
-// Adds to the right side of k what comes by its edge to j.
+// Adds to the right side of k what comes by its edge to j, if j is left.
 fn gather_one<L: Ledger>(
     pool: &mut Pool,
     system: &mut System,
@@ -209,18 +211,15 @@ fn gather_one<L: Ledger>(
     requires column { j < system.old.size }
     ensures extends { Extends pool.old pool.new }
     ensures moves { OnOk result (Moves [] pool.old system.old pool.new system.new (steps.new - steps.old)) }
-    ensures gathers { OnOk result (PutsRight k (λ vars. with_next pool.old system.old vars k j) pool.old system.old pool.new system.new) }
+    ensures gathers { OnOk result (PutsRight k
+        (λ vars. with_next pool.old system.old vars k j) pool.old system.old pool.new system.new) }
     ensures rises { steps.old ≤ steps.new }
     ensures few { steps.new ≤ steps.old + 2 }
 {
     if !system.is_left(j) || is_false(pool, system.edge(k, j)) {
         return Ok(());
     }
-    let edge = system.edge(k, j);
-    let of_j = system.right(j);
-    let right = or_and(pool, system.right(k), edge, of_j, steps)?;
-    system.put_right(k, right);
-    Ok(())
+    pass_right(pool, system, j, k, steps)
 }
 
 /// The formula "`into`, or both `first` and `second`".

@@ -8,6 +8,9 @@ use std::alloc::Global;
 use std::marker::Model;
 use ternary::NoMemory;
 
+/// So many unknowns have more edges than can be numbered.
+pub(crate) const TOO_MANY_UNKNOWNS: usize = 4_294_967_296;
+
 /// A system of equations: unknown i is true where its right side is, or where an edge leads from
 /// it to a true unknown.
 ///
@@ -26,20 +29,35 @@ pub(crate) struct System {
 
 impl Model for System {
     ghost use Rattle.std.specs.Prelude.{◌≡◌, length};
-    ghost use Rattle.node_elimination.specs.Equations.{Equations, IsSquare};
+    ghost use Rattle.node_elimination.specs.Equations.{SystemData, IsSquare};
 
-    ghost Value = { Equations };
+    ghost Value = { SystemData };
 
-    ghost view = { λ system. record { size = system.size; edges = system.edges.items; rights = system.rights.items; left = system.left.items } };
+    ghost view = { λ system. record {
+      size = system.size;
+      edges = system.edges.items;
+      rights = system.rights.items;
+      left = system.left.items;
+    } };
 
-    ghost invariant = { λ system. IsSquare (record { size = system.size; edges = system.edges.items; rights = system.rights.items; left = system.left.items }) × (length system.neighbours.items ≡ system.size) };
+    ghost invariant = { λ system. IsSquare (record {
+      size = system.size;
+      edges = system.edges.items;
+      rights = system.rights.items;
+      left = system.left.items;
+    }) × (length system.neighbours.items ≡ system.size) };
 }
 
 impl System {
     /// A system of so many unknowns, all left, with this formula as each edge and right side.
     pub(crate) fn new(alloc: Global, size: usize, id: Id) -> Result<System, NoMemory>
-        requires { size < 4294967296 }
-        ensures { IfOk result (λ system. system ≡ record { size = size; edges = replicate (size * size) id; rights = replicate size id; left = replicate size true }) }
+        requires { size < TOO_MANY_UNKNOWNS }
+        ensures { IfOk result (λ system. system ≡ record {
+          size = size;
+          edges = replicate (size * size) id;
+          rights = replicate size id;
+          left = replicate size true;
+        }) }
     {
         Ok(System {
             size,

@@ -11,10 +11,12 @@ loop-i-preserved g c =
     record {
       extends = Extends-trans _ _ _ so_far.extends next.extends;
       negated = rw c.in_ok-add_to.ensures
-          (AreNegations-push _ _ _ c.args.ids.now c.loop-i.i c.loop-i.negations.items c.in_ok-negation.negation (omega arith) c.requires
+          (AreNegations-push _ _ _ c.args.ids.now c.loop-i.i c.loop-i.negations.items c.in_ok-negation.negation
+          (omega arith) c.requires
           so_far.extends next.extends so_far.negated next.made);
       grows = rw c.in_ok-add_to.ensures
-          (Grows-negation _ _ _ c.args.ids.now c.loop-i.i c.loop-i.negations.items c.in_ok-negation.negation _ 1 _ _ (omega arith) so_far.extends
+          (Grows-negation _ _ _ c.args.ids.now c.loop-i.i c.loop-i.negations.items c.in_ok-negation.negation _ 1 _ _
+          (omega arith) so_far.extends
           next.extends so_far.grows next.made (omega arith) (omega (arith, so_far.rises, next.step)));
       rises = omega (arith, so_far.rises, next.step);
       few = omega (arith, so_far.few, next.step);

@@ -1,226 +1,56 @@
--- Clear, U for both rails, and D, each from what was held before.
-use Rattle.std.proofs.Common.{◌≡◌, ℕ, ◌+◌, ◌<◌, Bool, true, false, length, ap, ◌∙◌, arith}
-use Rattle.std.specs.Prelude.{◌↔◌, List}
-use Rattle.std.proofs.lemmas.List.{length-replicate}
-use Rattle.ternary.specs.declared.tern.Tern.{Tern}
-use Rattle.ternary.specs.Tern.{may_one, may_zero}
-use Rattle.path_meaning.specs.Wiring.{nodes}
-use Rattle.bool_pool.specs.declared.gate.Id.{Id}
-use Rattle.bool_pool.specs.Gate.{Extends}
+-- First U, and then D, from what was held before.
+use Rattle.std.proofs.Common.{true, false, ◌∙◌, arith}
 use Rattle.node_elimination.specs.declared.descent.Levels.{Levels}
-use Rattle.node_elimination.specs.Levels.{Reached, IsClear, Driven}
-use Rattle.node_elimination.specs.LevelSystem.{value_of}
-use Rattle.node_elimination.specs.Inputs.{ShowsState}
-use Rattle.node_elimination.specs.Descent.{ShowsLevel}
-use Rattle.node_elimination.proofs.GrowthLemmas.{Extends-trans, AreFormulas-extends}
+use Rattle.node_elimination.proofs.GrowthLemmas.{AreFormulas-extends}
 use Rattle.node_elimination.proofs.InputLemmas.{IsConstant-extends}
-use Rattle.node_elimination.proofs.DescentLemmas.{all_hi, all_lo, all_closed, all_live, all_sure, all_one, all_zero, all_levels, FitLinks-of, ShowsState-extends, sure-true, strong_shown, driven_shown, clear_shown, shown-extends, Grows-next}
-use Rattle.node_elimination.proofs.descent.next_level.Given as given
+use Rattle.node_elimination.proofs.PassingLemmas.{left-same}
+use Rattle.node_elimination.proofs.DescentLemmas.{HaveInputs-extends, ShowsState-extends, HaveDriven-extends, ShowsDriven-extends, Grows-next}
 use Rattle.node_elimination.proofs.descent.next_level.Goals as goal
 
-pub drive-requires-clause-falsehood : goal.drive-requires-clause-falsehood
-drive-requires-clause-falsehood g c =
-    IsConstant-extends false _ _ c.args.inputs.now.falsehood c.in_ok-clear.ensures.extends c.requires.inputs.falsehood
+pub reach_members-requires-clause-left : goal.reach_members-requires-clause-left
+reach_members-requires-clause-left g c = λ i inside.
+    let drives = c.in_ok-drives.ensures in
+    left-same c.drive_members.new.system c.args.system.now i drives.left ∙ c.requires.left i (omega (arith, drives.size))
 
-pub drive-requires-clause-fit : goal.drive-requires-clause-fit
-drive-requires-clause-fit g c =
+pub reach_members-requires-clause-members : goal.reach_members-requires-clause-members
+reach_members-requires-clause-members g c = rw c.in_ok-drives.ensures.size c.requires.members
+
+pub reach_members-requires-clause-inputs : goal.reach_members-requires-clause-inputs
+reach_members-requires-clause-inputs g c =
     let inputs = c.args.inputs.now in
-    let p0 = c.args.pool.now in
-    let p1 = c.negations.new.pool in
-    let P : Id → Type 0 = λ id. id.place < length p0 in
-    let e = c.in_ok-clear.ensures.extends in
-    let clear = c.in_ok-clear.ensures.negated in
-    let each : length c.in_ok-clear.clear.items ≡ length c.args.above.now.strong.items = clear.each_one ∙ ap length c.deref.ensures.value in
-    rw (c.deref-2.ensures.value, c.deref-3.ensures.value, c.deref-4.ensures.value)
-    (FitLinks-of c.args.graph.now c.args.system.now.size p1 c.in_ok-clear.clear.items inputs.live.items inputs.hi.items c.requires.members
-    (omega (arith, each, c.requires.above.each_strong)) (omega (arith, c.requires.inputs.each_live)) (omega (arith, c.requires.inputs.each_hi)) clear.formulas
-    (AreFormulas-extends p0 p1 inputs.live.items e (all_live P inputs c.requires.inputs.formulas))
-    (AreFormulas-extends p0 p1 inputs.hi.items e (all_hi P inputs c.requires.inputs.formulas)))
-
-pub drive-requires-clause-formulas : goal.drive-requires-clause-formulas
-drive-requires-clause-formulas g c =
-    let p0 = c.args.pool.now in
-    rw c.deref-5.ensures.value
-    (AreFormulas-extends p0 c.negations.new.pool c.args.above.now.one.items c.in_ok-clear.ensures.extends
-    (all_one (λ id. id.place < length p0) c.args.above.now c.requires.above.formulas))
-
-pub drive-requires-2-clause-falsehood : goal.drive-requires-2-clause-falsehood
-drive-requires-2-clause-falsehood g c =
-    IsConstant-extends false _ _ c.args.inputs.now.falsehood (Extends-trans _ _ _ c.in_ok-clear.ensures.extends c.in_ok-one.ensures.extends)
-    c.requires.inputs.falsehood
-
-pub drive-requires-2-clause-fit : goal.drive-requires-2-clause-fit
-drive-requires-2-clause-fit g c =
-    let inputs = c.args.inputs.now in
-    let p0 = c.args.pool.now in
-    let p2 = c.drive.new.pool in
-    let P : Id → Type 0 = λ id. id.place < length p0 in
-    let e = Extends-trans _ _ _ c.in_ok-clear.ensures.extends c.in_ok-one.ensures.extends in
-    let clear = c.in_ok-clear.ensures.negated in
-    let each : length c.in_ok-clear.clear.items ≡ length c.args.above.now.strong.items = clear.each_one ∙ ap length c.deref.ensures.value in
-    rw (c.in_ok-one.ensures.size, c.deref-6.ensures.value, c.deref-7.ensures.value, c.deref-8.ensures.value)
-    (FitLinks-of c.args.graph.now c.args.system.now.size p2 c.in_ok-clear.clear.items inputs.live.items inputs.lo.items c.requires.members
-    (omega (arith, each, c.requires.above.each_strong)) (omega (arith, c.requires.inputs.each_live)) (omega (arith, c.requires.inputs.each_lo))
-    (AreFormulas-extends _ p2 c.in_ok-clear.clear.items c.in_ok-one.ensures.extends clear.formulas)
-    (AreFormulas-extends p0 p2 inputs.live.items e (all_live P inputs c.requires.inputs.formulas))
-    (AreFormulas-extends p0 p2 inputs.lo.items e (all_lo P inputs c.requires.inputs.formulas)))
-
-pub drive-requires-2-clause-formulas : goal.drive-requires-2-clause-formulas
-drive-requires-2-clause-formulas g c =
-    let p0 = c.args.pool.now in
-    rw c.deref-9.ensures.value
-    (AreFormulas-extends p0 c.drive.new.pool c.args.above.now.zero.items
-    (Extends-trans _ _ _ c.in_ok-clear.ensures.extends c.in_ok-one.ensures.extends)
-    (all_zero (λ id. id.place < length p0) c.args.above.now c.requires.above.formulas))
-
-pub reach-requires-clause-falsehood : goal.reach-requires-clause-falsehood
-reach-requires-clause-falsehood g c =
-    IsConstant-extends false _ _ c.args.inputs.now.falsehood
-    (Extends-trans _ _ _ (Extends-trans _ _ _ c.in_ok-clear.ensures.extends c.in_ok-one.ensures.extends) c.in_ok-zero.ensures.extends)
-    c.requires.inputs.falsehood
-
-pub reach-requires-clause-truth : goal.reach-requires-clause-truth
-reach-requires-clause-truth g c =
-    IsConstant-extends true _ _ c.args.inputs.now.truth
-    (Extends-trans _ _ _ (Extends-trans _ _ _ c.in_ok-clear.ensures.extends c.in_ok-one.ensures.extends) c.in_ok-zero.ensures.extends)
-    c.requires.inputs.truth
-
-pub reach-requires-clause-fit : goal.reach-requires-clause-fit
-reach-requires-clause-fit g c =
-    let inputs = c.args.inputs.now in
-    let p0 = c.args.pool.now in
-    let p3 = c.drive-2.new.pool in
-    let P : Id → Type 0 = λ id. id.place < length p0 in
-    let e = Extends-trans _ _ _ (Extends-trans _ _ _ c.in_ok-clear.ensures.extends c.in_ok-one.ensures.extends) c.in_ok-zero.ensures.extends in
+    let e = c.in_ok-drives.ensures.extends in
     let have = c.requires.inputs in
-    let each_sure : length inputs.sure.items ≡ nodes c.args.graph.now = ap length have.each_sure ∙ length-replicate (nodes c.args.graph.now) inputs.truth in
-    rw (c.in_ok-zero.ensures.size, c.in_ok-one.ensures.size, c.deref-10.ensures.value, c.deref-11.ensures.value, c.deref-12.ensures.value)
-    (FitLinks-of c.args.graph.now c.args.system.now.size p3 inputs.sure.items inputs.closed.items inputs.sure.items c.requires.members
-    (omega (arith, each_sure, c.requires.members.within)) (omega (arith, have.each_closed)) (omega (arith, each_sure))
-    (AreFormulas-extends p0 p3 inputs.sure.items e (all_sure P inputs have.formulas))
-    (AreFormulas-extends p0 p3 inputs.closed.items e (all_closed P inputs have.formulas))
-    (AreFormulas-extends p0 p3 inputs.sure.items e (all_sure P inputs have.formulas)))
+    HaveInputs-extends c.args.graph.now _ _ inputs e (IsConstant-extends false _ _ inputs.falsehood e have.falsehood)
+    (IsConstant-extends true _ _ inputs.truth e have.truth) have
 
 pub returns-clause-levels : goal.returns-clause-levels
 returns-clause-levels g c =
-    let one = c.in_ok-one.ensures in
-    let zero = c.in_ok-zero.ensures in
+    let drives = c.in_ok-drives.ensures in
     let strong = c.in_ok-strong.ensures in
-    let next : Levels = record { strong = c.in_ok-strong.strong; one = c.in_ok-one.one; zero = c.in_ok-zero.zero } in
     record {
-      each_strong = strong.count ∙ zero.size ∙ one.size;
-      each_one = one.count;
-      each_zero = zero.count ∙ one.size;
-      formulas = all_levels (λ id. id.place < length c.reach.new.pool) next strong.formulas
-          (AreFormulas-extends _ _ c.in_ok-one.one.items (Extends-trans _ _ _ zero.extends strong.extends) one.formulas)
-          (AreFormulas-extends _ _ c.in_ok-zero.zero.items strong.extends zero.formulas);
+      each_strong = strong.count ∙ drives.size;
+      formulas = strong.formulas;
+      drives = HaveDriven-extends c.args.system.now.size _ _ c.in_ok-drives.drives strong.extends drives.drives;
     }
 
--- what holds at each moment, under the variables of a state
-module _ (g : given.Over) (c : goal.After-drop-clear-2 g) (state : List Tern) (vars : ℕ → Bool)
-    (shows : ShowsState c.args.graph.now c.args.pool.now c.args.inputs.now state vars)
-    (shown : ShowsLevel c.args.graph.now c.args.system.now.size c.args.pool.now c.args.above.now (c.args.level + 1) state vars) where
-  to_one : Extends c.args.pool.now c.drive.new.pool
-  to_one = Extends-trans _ _ _ c.in_ok-clear.ensures.extends c.in_ok-one.ensures.extends
-
-  to_zero : Extends c.args.pool.now c.drive-2.new.pool
-  to_zero = Extends-trans _ _ _ to_one c.in_ok-zero.ensures.extends
-
-  -- the state is told in each of the pools
-  shows_clear : ShowsState c.args.graph.now c.negations.new.pool c.args.inputs.now state vars
-  shows_clear =
-      ShowsState-extends c.args.graph.now c.args.pool.now c.negations.new.pool c.args.inputs.now state vars c.in_ok-clear.ensures.extends c.requires.inputs
-      shows
-
-  shows_one : ShowsState c.args.graph.now c.drive.new.pool c.args.inputs.now state vars
-  shows_one = ShowsState-extends c.args.graph.now c.args.pool.now c.drive.new.pool c.args.inputs.now state vars to_one c.requires.inputs shows
-
-  shows_zero : ShowsState c.args.graph.now c.drive-2.new.pool c.args.inputs.now state vars
-  shows_zero = ShowsState-extends c.args.graph.now c.args.pool.now c.drive-2.new.pool c.args.inputs.now state vars to_zero c.requires.inputs shows
-
-  -- the negations are clear(s)
-  each_clear : length c.in_ok-clear.clear.items ≡ c.args.system.now.size
-  each_clear = c.in_ok-clear.ensures.negated.each_one ∙ ap length c.deref.ensures.value ∙ c.requires.above.each_strong
-
-  cleared : (i : ℕ) → i < c.args.system.now.size →
-      (value_of c.negations.new.pool c.in_ok-clear.clear.items vars i ≡ true) ↔ IsClear c.args.graph.now state c.args.level i
-  cleared i inside =
-      let negated = rw c.deref.ensures.value at c.in_ok-clear.ensures.negated in
-      clear_shown c.args.graph.now state c.args.level i (value_of c.args.pool.now c.args.above.now.strong.items vars i)
-      (value_of c.negations.new.pool c.in_ok-clear.clear.items vars i) (negated.value_is vars i (omega (arith, c.requires.above.each_strong)))
-      (shown.strong i inside)
-
-  one_shown : (i : ℕ) → i < c.args.system.now.size →
-      (value_of c.drive.new.pool c.in_ok-one.one.items vars i ≡ true) ↔ Driven may_one c.args.graph.now state c.args.level i
-  one_shown =
-      let above = c.args.above.now in
-      let inputs = c.args.inputs.now in
-      driven_shown c.args.graph.now c.graphs_are_wired.ensures c.args.system.now.size c.requires.members state vars c.args.level c.requires.level.low
-      c.requires.level.high may_one c.negations.new.pool c.drive.new.pool above.one.items c.in_ok-clear.clear.items inputs.live.items inputs.hi.items
-      c.in_ok-one.one.items cleared
-      (λ i inside.
-      shown-extends c.args.pool.now c.negations.new.pool above.one.items vars i _ c.in_ok-clear.ensures.extends
-      (all_one (λ id. id.place < length c.args.pool.now) above c.requires.above.formulas) (omega (arith, c.requires.above.each_one)) (shown.one i inside))
-      shows_clear.hi shows_clear.live
-      (rw (c.deref-2.ensures.value, c.deref-3.ensures.value, c.deref-4.ensures.value, c.deref-5.ensures.value) at (c.in_ok-one.ensures.solves vars))
-
-  zero_shown : (i : ℕ) → i < c.args.system.now.size →
-      (value_of c.drive-2.new.pool c.in_ok-zero.zero.items vars i ≡ true) ↔ Driven may_zero c.args.graph.now state c.args.level i
-  zero_shown =
-      let above = c.args.above.now in
-      let inputs = c.args.inputs.now in
-      driven_shown c.args.graph.now c.graphs_are_wired.ensures c.args.system.now.size c.requires.members state vars c.args.level c.requires.level.low
-      c.requires.level.high may_zero c.drive.new.pool c.drive-2.new.pool above.zero.items c.in_ok-clear.clear.items inputs.live.items inputs.lo.items
-      c.in_ok-zero.zero.items
-      (λ i inside.
-      shown-extends c.negations.new.pool c.drive.new.pool c.in_ok-clear.clear.items vars i _ c.in_ok-one.ensures.extends
-      c.in_ok-clear.ensures.negated.formulas (omega (arith, each_clear)) (cleared i inside))
-      (λ i inside.
-      shown-extends c.args.pool.now c.drive.new.pool above.zero.items vars i _ to_one
-      (all_zero (λ id. id.place < length c.args.pool.now) above c.requires.above.formulas) (omega (arith, c.requires.above.each_zero))
-      (shown.zero i inside))
-      shows_one.lo shows_one.live
-      (rw (c.in_ok-one.ensures.size, c.deref-6.ensures.value, c.deref-7.ensures.value, c.deref-8.ensures.value, c.deref-9.ensures.value) at (c.in_ok-zero.ensures.solves vars))
-
-  strong_now : (i : ℕ) → i < c.args.system.now.size →
-      (value_of c.reach.new.pool c.in_ok-strong.strong.items vars i ≡ true) ↔ Reached c.args.graph.now state c.args.level i
-  strong_now =
-      let inputs = c.args.inputs.now in
-      strong_shown c.args.graph.now c.graphs_are_wired.ensures c.args.system.now.size c.requires.members state vars c.args.level c.requires.level.low
-      c.requires.level.high c.drive-2.new.pool c.reach.new.pool inputs.closed.items inputs.sure.items c.in_ok-strong.strong.items shows_zero.closed
-      (λ k below.
-      sure-true c.args.graph.now c.drive-2.new.pool inputs vars k below
-      (IsConstant-extends true _ _ inputs.truth to_zero c.requires.inputs.truth) c.requires.inputs.each_sure)
-      (rw (c.in_ok-zero.ensures.size, c.in_ok-one.ensures.size, c.deref-10.ensures.value, c.deref-11.ensures.value, c.deref-12.ensures.value) at (c.in_ok-strong.ensures.solves vars))
-
-  now_shown : ShowsLevel c.args.graph.now c.args.system.now.size c.reach.new.pool
-      (record { strong = c.in_ok-strong.strong; one = c.in_ok-one.one; zero = c.in_ok-zero.zero }) c.args.level state vars
-  now_shown = record {
-    strong = strong_now;
-    one = λ i inside.
-        shown-extends c.drive.new.pool c.reach.new.pool c.in_ok-one.one.items vars i _
-        (Extends-trans _ _ _ c.in_ok-zero.ensures.extends c.in_ok-strong.ensures.extends) c.in_ok-one.ensures.formulas
-        (omega (arith, c.in_ok-one.ensures.count)) (one_shown i inside);
-    zero = λ i inside.
-        shown-extends c.drive-2.new.pool c.reach.new.pool c.in_ok-zero.zero.items vars i _ c.in_ok-strong.ensures.extends
-        c.in_ok-zero.ensures.formulas (omega (arith, c.in_ok-zero.ensures.count, c.in_ok-one.ensures.size)) (zero_shown i inside);
-  }
-
 pub returns-clause-shows : goal.returns-clause-shows
-returns-clause-shows g c = λ state vars shows shown. now_shown g c state vars shows shown
+returns-clause-shows g c = λ state vars shows shown.
+    let drives = c.in_ok-drives.ensures in
+    let strong = c.in_ok-strong.ensures in
+    let graph = c.args.graph.now in
+    let inputs = c.args.inputs.now in
+    record {
+      strong = rw drives.size at
+          (strong.shows state vars (ShowsState-extends graph _ _ inputs state vars drives.extends c.requires.inputs shows));
+      drives = ShowsDriven-extends graph c.args.system.now.size _ _ c.in_ok-drives.drives c.args.level state vars
+          strong.extends
+          drives.drives (drives.shows state vars shows shown);
+    }
 
 pub returns-clause-grows : goal.returns-clause-grows
 returns-clause-grows g c =
-    let inputs = c.args.inputs.now in
-    let above = c.args.above.now in
-    let clear = c.in_ok-clear.ensures in
-    let one = c.in_ok-one.ensures in
-    let zero = c.in_ok-zero.ensures in
+    let drives = c.in_ok-drives.ensures in
     let strong = c.in_ok-strong.ensures in
-    let next : Levels = record { strong = c.in_ok-strong.strong; one = c.in_ok-one.one; zero = c.in_ok-zero.zero } in
-    Grows-next inputs above next _ _ _ _ _ c.in_ok-clear.clear.items _ _ _ _ _ clear.extends one.extends zero.extends strong.extends
-    (rw c.deref.ensures.value at clear.grows)
-    (rw (c.deref-2.ensures.value, c.deref-3.ensures.value, c.deref-4.ensures.value, c.deref-5.ensures.value) at one.grows)
-    (rw (c.deref-6.ensures.value, c.deref-7.ensures.value, c.deref-8.ensures.value, c.deref-9.ensures.value) at zero.grows)
-    (rw (c.deref-10.ensures.value, c.deref-11.ensures.value, c.deref-12.ensures.value) at strong.grows)
-    (omega (arith, clear.rises, one.rises, zero.rises, strong.rises))
+    let next : Levels = record { strong = c.in_ok-strong.strong; drives = c.in_ok-drives.drives } in
+    Grows-next c.args.inputs.now c.args.above.now next _ _ _ _ _ _ drives.extends strong.extends drives.grows strong.grows
+    (omega (arith, drives.rises, strong.rises))

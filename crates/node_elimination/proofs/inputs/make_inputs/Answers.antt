@@ -2,7 +2,7 @@
 use Rattle.std.proofs.Common.{◌≡◌, ◌<◌, rules, ◌*◌, ◌+◌, ◌++◌, length, replicate, true, false}
 use Rattle.std.proofs.lemmas.List.Elements.{All-append}
 use Rattle.ternary.specs.Tern.{may_one, may_zero}
-use Rattle.path_meaning.specs.Wiring.{nodes}
+use Rattle.path_meaning.specs.Graphs.{nodes}
 use Rattle.node_elimination.specs.LevelSystem.{IsConstant}
 use Rattle.node_elimination.specs.declared.inputs.Inputs.{Inputs}
 use Rattle.node_elimination.specs.Inputs.{AreRails, ArePasses}
@@ -24,12 +24,14 @@ passes_of-requires-2-clause-formulas g c =
     let a = c.rails_of_nodes.new.pool in
     rw (c.deref-3.ensures.value, c.deref-4.ensures.value)
     (AreFormulas-extends a _ (hi ++ lo) c.in_ok-closed.ensures.extends
-    (All-append (λ id. id.place < length a) hi lo (AreFormulas-rails may_one _ _ _ a hi c.in_ok-rails.ensures.hi) (AreFormulas-rails may_zero _ _ _ a lo c.in_ok-rails.ensures.lo)))
+    (All-append (λ id. id.place < length a) hi lo (AreFormulas-rails may_one _ _ _ a hi c.in_ok-rails.ensures.hi)
+    (AreFormulas-rails may_zero _ _ _ a lo c.in_ok-rails.ensures.lo)))
 
 pub passes_of-requires-2-clause-falsehood : goal.passes_of-requires-2-clause-falsehood
 passes_of-requires-2-clause-falsehood g c =
     IsConstant-extends false _ _ c.in_ok-falsehood.falsehood
-    (Extends-trans _ _ _ (Extends-trans _ _ _ c.in_ok-truth.ensures.extends c.in_ok-rails.ensures.extends) c.in_ok-closed.ensures.extends)
+    (Extends-trans _ _ _ (Extends-trans _ _ _ c.in_ok-truth.ensures.extends c.in_ok-rails.ensures.extends)
+    c.in_ok-closed.ensures.extends)
     (IsConstant-leaf false _ c.in_ok-falsehood.falsehood c.in_ok-falsehood.ensures.made)
 
 -- what holds once all is made
@@ -38,23 +40,28 @@ module _ (g : given.Over) (c : goal.In_ok-vec g) where
   falsehood =
       IsConstant-extends false _ _ c.in_ok-falsehood.falsehood
       (Extends-trans _ _ _
-      (Extends-trans _ _ _ (Extends-trans _ _ _ c.in_ok-truth.ensures.extends c.in_ok-rails.ensures.extends) c.in_ok-closed.ensures.extends)
+      (Extends-trans _ _ _ (Extends-trans _ _ _ c.in_ok-truth.ensures.extends c.in_ok-rails.ensures.extends)
+      c.in_ok-closed.ensures.extends)
       c.in_ok-live.ensures.extends)
       (IsConstant-leaf false _ c.in_ok-falsehood.falsehood c.in_ok-falsehood.ensures.made)
 
   truth : IsConstant true c.passes_of-2.new.pool c.in_ok-truth.truth
   truth =
       IsConstant-extends true _ _ c.in_ok-truth.truth
-      (Extends-trans _ _ _ (Extends-trans _ _ _ c.in_ok-rails.ensures.extends c.in_ok-closed.ensures.extends) c.in_ok-live.ensures.extends)
+      (Extends-trans _ _ _ (Extends-trans _ _ _ c.in_ok-rails.ensures.extends c.in_ok-closed.ensures.extends)
+      c.in_ok-live.ensures.extends)
       (IsConstant-leaf true _ c.in_ok-truth.truth c.in_ok-truth.ensures.made)
 
-  hi : AreRails may_one (λ node. 2 * node) c.args.constants.now (nodes c.args.graph.now) c.rails_of_nodes.new.pool c.in_ok-rails.rails.hi.items
+  hi : AreRails may_one (λ node. 2 * node) c.args.constants.now (nodes c.args.graph.now) c.rails_of_nodes.new.pool
+      c.in_ok-rails.rails.hi.items
   hi = rw c.requires.constants at c.in_ok-rails.ensures.hi
 
-  lo : AreRails may_zero (λ node. 2 * node + 1) c.args.constants.now (nodes c.args.graph.now) c.rails_of_nodes.new.pool c.in_ok-rails.rails.lo.items
+  lo : AreRails may_zero (λ node. 2 * node + 1) c.args.constants.now (nodes c.args.graph.now) c.rails_of_nodes.new.pool
+      c.in_ok-rails.rails.lo.items
   lo = rw c.requires.constants at c.in_ok-rails.ensures.lo
 
-  closed : ArePasses c.args.graph.now true c.rails_of_nodes.new.pool c.in_ok-rails.rails.hi.items c.in_ok-rails.rails.lo.items
+  closed : ArePasses c.args.graph.now true c.rails_of_nodes.new.pool c.in_ok-rails.rails.hi.items
+      c.in_ok-rails.rails.lo.items
       (length c.args.graph.now.places) c.passes_of.new.pool c.in_ok-closed.closed.items
   closed = rw (c.deref.ensures.value, c.deref-2.ensures.value) at c.in_ok-closed.ensures.passes
 
@@ -79,15 +86,18 @@ module _ (g : given.Over) (c : goal.In_ok-vec g) where
 
 pub returns-clause-inputs : goal.returns-clause-inputs
 returns-clause-inputs g c =
-    HaveInputs-made c.args.graph.now c.graphs_are_wired.ensures c.args.constants.now _ _ _ (made g c) c.in_ok-closed.ensures.extends c.in_ok-live.ensures.extends
+    HaveInputs-made c.args.graph.now c.graphs_are_wired.ensures c.args.constants.now _ _ _
+    (made g c) c.in_ok-closed.ensures.extends c.in_ok-live.ensures.extends
     (falsehood g c) (truth g c) (hi g c) (lo g c) (closed g c) (live g c) (sure g c)
 
 pub returns-clause-shows : goal.returns-clause-shows
 returns-clause-shows g c = λ state vars assignment.
-    ShowsState-made c.args.graph.now c.graphs_are_wired.ensures c.args.constants.now _ _ _ (made g c) c.in_ok-closed.ensures.extends c.in_ok-live.ensures.extends
+    ShowsState-made c.args.graph.now c.graphs_are_wired.ensures c.args.constants.now _ _ _
+    (made g c) c.in_ok-closed.ensures.extends c.in_ok-live.ensures.extends
     (falsehood g c) (truth g c) (hi g c) (lo g c) (closed g c) (live g c) (sure g c) state vars assignment
 
 pub returns-clause-grown : goal.returns-clause-grown
 returns-clause-grown g c = λ listed bound enough.
-    AreGrown-made c.args.graph.now c.graphs_are_wired.ensures c.args.constants.now _ _ _ (made g c) c.in_ok-closed.ensures.extends c.in_ok-live.ensures.extends
+    AreGrown-made c.args.graph.now c.graphs_are_wired.ensures c.args.constants.now _ _ _
+    (made g c) c.in_ok-closed.ensures.extends c.in_ok-live.ensures.extends
     (falsehood g c) (truth g c) (hi g c) (lo g c) (closed g c) (live g c) (sure g c) listed bound enough

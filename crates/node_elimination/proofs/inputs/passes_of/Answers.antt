@@ -6,15 +6,30 @@ use Rattle.node_elimination.proofs.InputLemmas.{IsConstant-extends, ArePasses-pu
 use Rattle.node_elimination.proofs.inputs.passes_of.Goals as goal
 
 pub pass_of-requires-clause-falsehood : goal.pass_of-requires-clause-falsehood
-pass_of-requires-clause-falsehood g c = IsConstant-extends _ _ _ c.args.falsehood c.loop-place.invariant.extends c.requires.falsehood
+pass_of-requires-clause-falsehood g c =
+    IsConstant-extends _ _ _ c.args.falsehood c.loop-place.invariant.extends c.requires.falsehood
 
 pub returns-in_err-pass-clause-few : goal.returns-in_err-pass-clause-few
 returns-in_err-pass-clause-few g c =
-    omega (arith, c.loop-place.invariant.few, c.pass_of.ensures.few, pass_steps c.args.graph.now c.loop-place.place (omega arith), all_steps c.args.graph.now (c.loop-place.place + 1))
+    omega (
+      arith,
+      c.loop-place.invariant.few,
+      c.pass_of.ensures.few,
+      pass_steps c.args.graph.now c.loop-place.place
+          (omega arith),
+      all_steps c.args.graph.now (c.loop-place.place + 1),
+    )
 
 pub returns-in_err-add_to-clause-few : goal.returns-in_err-add_to-clause-few
 returns-in_err-add_to-clause-few g c =
-    omega (arith, c.loop-place.invariant.few, c.pass_of.ensures.few, pass_steps c.args.graph.now c.loop-place.place (omega arith), all_steps c.args.graph.now (c.loop-place.place + 1))
+    omega (
+      arith,
+      c.loop-place.invariant.few,
+      c.pass_of.ensures.few,
+      pass_steps c.args.graph.now c.loop-place.place
+          (omega arith),
+      all_steps c.args.graph.now (c.loop-place.place + 1),
+    )
 
 pub loop-place-preserved : goal.loop-place-preserved
 loop-place-preserved g c =
@@ -25,7 +40,8 @@ loop-place-preserved g c =
     record {
       extends = Extends-trans _ _ _ so_far.extends next.extends;
       passes = rw c.in_ok-add_to.ensures
-          (ArePasses-push graph c.args.sure _ _ _ c.args.hi.now c.args.lo.now place c.loop-place.passes.items c.in_ok-pass.pass (omega arith)
+          (ArePasses-push graph c.args.sure _ _ _ c.args.hi.now c.args.lo.now place c.loop-place.passes.items
+          c.in_ok-pass.pass (omega arith)
           c.requires.formulas
           (λ switch stands.
           let fits = switch_fits graph c.graphs_are_wired.ensures place switch stands in

@@ -12,10 +12,12 @@ loop-node-preserved g c =
     record {
       extends = Extends-trans _ _ _ so_far.extends next.extends;
       hi = rw c.in_ok-add_to.ensures
-          (AreRails-push may_one (λ node. 2 * node) c.args.constants.now c.loop-node.node _ _ c.loop-node.hi.items c.in_ok-rails.rails.hi next.extends
+          (AreRails-push may_one (λ node. 2 * node) c.args.constants.now c.loop-node.node _ _ c.loop-node.hi.items
+          c.in_ok-rails.rails.hi next.extends
           so_far.hi next.hi);
       lo = rw c.in_ok-add_to-2.ensures
-          (AreRails-push may_zero (λ node. 2 * node + 1) c.args.constants.now c.loop-node.node _ _ c.loop-node.lo.items c.in_ok-rails.rails.lo next.extends
+          (AreRails-push may_zero (λ node. 2 * node + 1) c.args.constants.now c.loop-node.node _ _ c.loop-node.lo.items
+          c.in_ok-rails.rails.lo next.extends
           so_far.lo next.lo);
       rises = omega (arith, so_far.rises, next.rises);
       few = omega (arith, so_far.few, next.few);

@@ -28,7 +28,10 @@ returns-in_ok-edge-clause-moves g c =
     rw c.put_edge.ensures
     (Moves-put_edge others _ _ old c.args.n c.args.m c.in_ok-edge.edge _ _ _ r.whole c.in_ok-edge.ensures.extends (
       IsHeld-at_edge others old r.whole.square c.args.n c.args.m c.edge.result.place row column c.edge.ensures.place,
-      (IsHeld-gate _ _ _ _ _ _ (formulas_of old) r.fit c.args.n _ row refl, (IsHeld-pass _ _ _ _ _ _ (formulas_of old) r.fit c.args.place _ r.in_range refl, tt)),
+      (
+        IsHeld-gate _ _ _ _ _ _ (formulas_of old) r.fit c.args.n _ row refl,
+        (IsHeld-pass _ _ _ _ _ _ (formulas_of old) r.fit c.args.place _ r.in_range refl, tt),
+      ),
     )
     c.in_ok-edge.ensures.formed)
 
@@ -37,7 +40,8 @@ returns-in_ok-edge-clause-adds g c =
     let row : c.args.n < c.args.system.now.size = omega arith in
     let column : c.args.m < c.args.system.now.size = omega arith in
     rw c.put_edge.ensures
-    (AddsLink-edge _ _ c.args.system.now c.requires.whole c.in_ok-edge.ensures.extends c.args.m c.args.n _ _ _ row c.in_ok-edge.edge column
+    (AddsLink-edge _ _ c.args.system.now c.requires.whole c.in_ok-edge.ensures.extends c.args.m c.args.n _ _ _ row
+    c.in_ok-edge.edge column
     (λ vars. c.in_ok-edge.ensures.formed.value_is vars ∙ cc (c.edge.ensures.place)))
 
 pub returns-in_ok-right-clause-moves : goal.returns-in_ok-right-clause-moves
@@ -65,5 +69,6 @@ returns-in_ok-right-clause-adds g c =
     let row : c.args.n < c.args.system.now.size = omega arith in
     let outside : c.args.system.now.size ≤ c.args.m = omega arith in
     rw c.put_right.ensures
-    (AddsLink-right _ _ c.args.system.now c.requires.whole c.in_ok-right.ensures.extends c.args.m c.args.n _ _ _ row c.in_ok-right.right outside
+    (AddsLink-right _ _ c.args.system.now c.requires.whole c.in_ok-right.ensures.extends c.args.m c.args.n _ _ _ row
+    c.in_ok-right.right outside
     (λ vars. c.in_ok-right.ensures.formed.value_is vars ∙ cc (c.right.ensures.place)))

@@ -17,8 +17,10 @@ loop-place-preserved g c =
     let graph = c.args.links.now.graph.now in
     record {
       moves = Moves-trans _ _ _ _ _ _ _ _ _ _ so_far.moves next.moves (omega (arith, so_far.rises, next.rises));
-      adds = AddsLinks-trans graph _ _ _ _ _ _ _ _ _ _ _ c.requires.fit so_far.moves.extends (λ p. p < place) (λ p. p ≡ place) (λ p. p < place + 1)
-          (λ p below. omega arith) (λ p same. omega arith) (either place) so_far.adds (AddsLinks-size _ _ _ _ _ _ _ _ _ _ _ _ so_far.moves.size next.adds);
+      adds = AddsLinks-trans graph _ _ _ _ _ _ _ _ _ _ _ c.requires.fit so_far.moves.extends (λ p. p < place)
+          (λ p. p ≡ place) (λ p. p < place + 1)
+          (λ p below. omega arith) (λ p same. omega arith) (either place) so_far.adds
+          (AddsLinks-size _ _ _ _ _ _ _ _ _ _ _ _ so_far.moves.size next.adds);
       rises = omega (arith, so_far.rises, next.rises);
       few = omega (arith, so_far.few, next.few, switches-more graph.places place (omega arith));
     }

@@ -1,6 +1,6 @@
 -- One member more.
 use Rattle.std.proofs.Common.{nat_le, if◌then◌else◌, ◌∙◌, arith}
-use Rattle.path_meaning.specs.Wiring.{level_of}
+use Rattle.path_meaning.specs.Graphs.{level_of}
 use Rattle.node_elimination.proofs.EquationsLemmas.{IsSquare-put_right, edges-put_right, size-put_right, left-put_right}
 use Rattle.node_elimination.proofs.BaseLemmas.{rights-more}
 use Rattle.node_elimination.proofs.level.put_levels.Goals as goal
@@ -13,7 +13,8 @@ loop-i-preserved c =
     let i = c.loop-i.i in
     rw c.put_right.ensures (record {
       rights = rights-more system so_far.square i c.chosen.result
-          (λ k. if nat_le c.args.links.now.level (level_of graph k) then c.args.truth.place else c.args.falsehood.place) (omega arith) so_far.rights
+          (λ k. if nat_le c.args.links.now.level (level_of graph k) then c.args.truth.place else c.args.falsehood.place)
+          (omega arith) so_far.rights
           (rw c.level.ensures.value at c.chosen.ensures);
       square = IsSquare-put_right system i c.chosen.result so_far.square;
       edges = edges-put_right system i c.chosen.result ∙ so_far.edges;

@@ -13,7 +13,8 @@ pub or_and-requires-clause-first : goal.or_and-requires-clause-first
 or_and-requires-clause-first g c = gate-inside _ _ _ _ _ _ [] c.requires.fit c.args.i c.requires.row
 
 pub or_and-requires-clause-second : goal.or_and-requires-clause-second
-or_and-requires-clause-second g c = source-inside _ _ _ _ _ _ [] c.requires.fit c.args.i (omega (arith, c.requires.row, c.requires.fit.within))
+or_and-requires-clause-second g c =
+    source-inside _ _ _ _ _ _ [] c.requires.fit c.args.i (omega (arith, c.requires.row, c.requires.fit.within))
 
 pub returns-then-level-links-clause-moves : goal.returns-then-level-links-clause-moves
 returns-then-level-links-clause-moves g c =
@@ -33,7 +34,8 @@ returns-then-level-links-clause-puts g c =
     rw c.put_right.ensures
     (PutsRight-put _ c.args.system.now _ c.requires.whole (Extends-same c.args.pool.now) c.args.i _ _ c.requires.row
     (λ vars.
-    driven_base-other links.graph.now links.level c.args.i c.args.above.now links.gates.now links.sources.now c.args.pool.now vars
+    driven_base-other links.graph.now links.level c.args.i c.args.above.now links.gates.now links.sources.now c.args.pool.now
+    vars
     (rw c.level.ensures.value at c.if-level-links.true)))
 
 pub returns-clause-moves : goal.returns-clause-moves
@@ -47,10 +49,12 @@ returns-clause-moves g c =
     (Moves-put_right (above ++ held) _ _ old c.args.i c.in_ok-root.root _ _ _ c.requires.whole c.in_ok-root.ensures.extends (
       IsHeld-front (above ++ held) (formulas_of old) _ (IsHeld-front above held _ (c.args.i, inside, refl)),
       (
-        IsHeld-front (above ++ held) (formulas_of old) _ (IsHeld-back above held _ (gate_held _ _ _ _ _ _ [] c.requires.fit c.args.i c.requires.row)),
+        IsHeld-front (above ++ held) (formulas_of old) _
+            (IsHeld-back above held _ (gate_held _ _ _ _ _ _ [] c.requires.fit c.args.i c.requires.row)),
         (
           IsHeld-front (above ++ held) (formulas_of old) _
-              (IsHeld-back above held _ (source_held _ _ _ _ _ _ [] c.requires.fit c.args.i (omega (arith, c.requires.row, c.requires.fit.within)))),
+              (IsHeld-back above held _ (source_held _ _ _ _ _ _ [] c.requires.fit c.args.i
+              (omega (arith, c.requires.row, c.requires.fit.within)))),
           tt,
         ),
       ),
@@ -61,8 +65,10 @@ pub returns-clause-puts : goal.returns-clause-puts
 returns-clause-puts g c =
     let links = c.args.links.now in
     rw c.put_right-2.ensures
-    (PutsRight-put _ c.args.system.now _ c.requires.whole c.in_ok-root.ensures.extends c.args.i c.in_ok-root.root _ c.requires.row
+    (PutsRight-put _ c.args.system.now _ c.requires.whole c.in_ok-root.ensures.extends c.args.i c.in_ok-root.root _
+    c.requires.row
     (λ vars.
     c.in_ok-root.ensures.formed.value_is vars
-    ∙ driven_base-root links.graph.now links.level c.args.i c.args.above.now links.gates.now links.sources.now c.args.pool.now vars
+    ∙ driven_base-root links.graph.now links.level c.args.i c.args.above.now links.gates.now links.sources.now
+    c.args.pool.now vars
     (rw c.level.ensures.value at c.if-level-links.false)))

@@ -19,7 +19,8 @@ loop-i-preserved g c =
       moves = Moves-trans _ _ _ _ _ _ _ _ _ _ so_far.moves next.moves (omega (arith, so_far.rises, next.rises));
       puts = PutsRights-more i _ _ _ _ _ _ _ _ so_far.moves.size
           (λ vars.
-          driven_base-extends links.graph.now links.level i above links.gates.now links.sources.now c.args.pool.now c.loop-i.pool vars extends
+          driven_base-extends links.graph.now links.level i above links.gates.now links.sources.now c.args.pool.now
+          c.loop-i.pool vars extends
           (c.requires.formulas i (record { place = 0 }) inside) (gate-inside _ _ _ _ _ _ [] c.requires.fit i row)
           (source-inside _ _ _ _ _ _ [] c.requires.fit i (omega (arith, c.requires.fit.within))))
           so_far.puts next.puts;

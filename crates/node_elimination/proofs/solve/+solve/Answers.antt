@@ -15,7 +15,8 @@ returns-in_ok-gather-in-Some-clause-moves g t c =
     let rows = rw c.put_left.ensures at eliminated.passes in
     let solves = rw c.recount.ensures at solved.solves in
     rw c.put_left-in-Some.ensures
-    (Moves-step _ _ _ _ x _ _ _ k c.requires.square c.in-Some.ensures.found.1 first.size second.size first.left second.left rows solves
+    (Moves-step _ _ _ _ x _ _ _ k c.requires.square c.in-Some.ensures.found.1 first.size second.size first.left second.left
+    rows solves
     gathered.gathers _ _ _ _ first second gathered.moves (omega (arith, eliminated.rises, solved.rises, gathered.rises)))
 
 pub returns-in_ok-gather-in-Some-clause-solves : goal.returns-in_ok-gather-in-Some-clause-solves
@@ -30,5 +31,6 @@ returns-in_ok-gather-in-Some-clause-solves g t c =
     let rows = rw c.put_left.ensures at eliminated.passes in
     let solves = rw c.recount.ensures at solved.solves in
     rw c.put_left-in-Some.ensures
-    (Solves-step _ _ _ _ x _ _ _ k c.requires.square c.in-Some.ensures.found.1 first.size second.size first.left second.left rows solves
+    (Solves-step _ _ _ _ x _ _ _ k c.requires.square c.in-Some.ensures.found.1 first.size second.size first.left second.left
+    rows solves
     gathered.gathers)

@@ -10,7 +10,8 @@ loop-i-preserved g c =
     let next = c.in_ok-pass_row.ensures in
     record {
       moves = Moves-trans [] _ _ _ _ _ _ _ _ _ so_far.moves next.moves (omega (arith, so_far.rises, next.rises));
-      passes = PassesRows-more c.args.k c.loop-i.i _ _ _ _ _ _ c.requires.whole.square c.requires.in_range (omega arith) c.requires.gone
+      passes = PassesRows-more c.args.k c.loop-i.i _ _ _ _ _ _ c.requires.whole.square c.requires.in_range
+          (omega arith) c.requires.gone
           so_far.moves.size so_far.moves.left so_far.passes next.passes;
       rises = omega (arith, so_far.rises, next.rises);
       few = omega (arith, so_far.few, next.few, so_far.moves.size);

@@ -12,7 +12,8 @@ loop-j-preserved g c =
     let j = c.loop-j.j in
     record {
       moves = Moves-trans [] _ _ _ _ _ _ _ _ _ so_far.moves next.moves (omega (arith, so_far.rises, next.rises));
-      passes = PassesEdges-more c.args.k c.args.i j _ _ _ _ _ _ c.requires.in_range c.requires.row (omega arith) c.requires.other c.requires.gone
+      passes = PassesEdges-more c.args.k c.args.i j _ _ _ _ _ _ c.requires.in_range c.requires.row
+          (omega arith) c.requires.other c.requires.gone
           so_far.moves.size so_far.moves.left so_far.passes next.passes;
       rises = omega (arith, so_far.rises, next.rises);
       few = omega (arith, so_far.few, next.few);

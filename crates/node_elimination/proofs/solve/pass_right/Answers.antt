@@ -12,7 +12,8 @@ returns-clause-moves g c =
     (Moves-put_right [] _ _ old c.args.i c.in_ok-right.right _ _ _ r.whole c.in_ok-right.ensures.extends (
       IsHeld-at_right [] old r.whole.square c.args.i c.right.result.place r.row c.right.ensures.place,
       (
-        IsHeld-at_edge [] old r.whole.square c.args.i c.args.k c.edge-to_k.result.place r.row r.in_range c.edge-to_k.ensures.place,
+        IsHeld-at_edge [] old r.whole.square c.args.i c.args.k c.edge-to_k.result.place r.row r.in_range
+            c.edge-to_k.ensures.place,
         (IsHeld-at_right [] old r.whole.square c.args.k c.right-of_k.result.place r.in_range c.right-of_k.ensures.place, tt),
       ),
     )
@@ -22,4 +23,5 @@ pub returns-clause-passes : goal.returns-clause-passes
 returns-clause-passes g c =
     rw c.put_right.ensures
     (PutsRight-put _ _ _ c.requires.whole c.in_ok-right.ensures.extends c.args.i c.in_ok-right.right _ c.requires.row
-    (λ vars. c.in_ok-right.ensures.formed.value_is vars ∙ cc (c.right.ensures.place, c.edge-to_k.ensures.place, c.right-of_k.ensures.place)))
+    (λ vars. c.in_ok-right.ensures.formed.value_is vars
+    ∙ cc (c.right.ensures.place, c.edge-to_k.ensures.place, c.right-of_k.ensures.place)))

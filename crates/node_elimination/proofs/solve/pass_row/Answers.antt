@@ -17,6 +17,7 @@ returns-clause-passes g c =
     let first = c.in_ok-pass_edges.ensures in
     let r = c.requires in
     on_ok_weaker c.pass_right.result
-    (λ passes. PassesRow-passed c.args.k c.args.i _ _ _ _ _ _ r.whole.square r.in_range r.row r.gone (sym c.is_left.ensures ∙ c.if-not-is_left.false)
+    (λ passes. PassesRow-passed c.args.k c.args.i _ _ _ _ _ _ r.whole.square r.in_range r.row r.gone
+    (sym c.is_left.ensures ∙ c.if-not-is_left.false)
     first.moves.size first.passes passes)
     c.pass_right.ensures.passes

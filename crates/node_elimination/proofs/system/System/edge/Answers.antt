@@ -11,7 +11,8 @@ returns-clause-place c =
     rw (← c.self.view_is)
     (ap (λ id. id.place)
     (get_or_read c.self.inside.edges.items (c.args.i * c.self.inside.size + c.args.j) c.index.result.now
-    (index_in _ c.self.invariant.0 c.args.i c.args.j (rw (← c.self.view_is) at c.requires.row) (rw (← c.self.view_is) at c.requires.column)) c.index.ensures (record { place = 0 })))
+    (index_in _ c.self.invariant.0 c.args.i c.args.j (rw (← c.self.view_is) at c.requires.row)
+    (rw (← c.self.view_is) at c.requires.column)) c.index.ensures (record { place = 0 })))
 
 pub returns-clause-inside : goal.returns-clause-inside
 returns-clause-inside c = λ gates whole.

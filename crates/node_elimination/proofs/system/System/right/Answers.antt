@@ -11,7 +11,8 @@ returns-clause-place c =
     let row : c.args.i < c.self.inside.size = rw (← c.self.view_is) at c.requires in
     rw (← c.self.view_is)
     (ap (λ id. id.place)
-    (get_or_read c.self.inside.rights.items c.args.i c.index.result.now (omega (arith, c.self.invariant.0.rights)) c.index.ensures (record { place = 0 })))
+    (get_or_read c.self.inside.rights.items c.args.i c.index.result.now (omega (arith, c.self.invariant.0.rights))
+    c.index.ensures (record { place = 0 })))
 
 pub returns-clause-inside : goal.returns-clause-inside
 returns-clause-inside c = λ gates whole.
