@@ -2,8 +2,8 @@
 -- The plan: a loop over the places of a cycle keeps what was done so far, the phases at the places before this one with their lines sent. At
 -- the end these are all phases. After a fault the phases that are left were not done, but what they would have come to exists, since
 -- every state settles: so what was sent is a part of the whole cycle's text.
-use Rattle.std.proofs.Common.{◌≡◌, ℕ, zero, suc, ◌+◌, ◌-◌, ◌*◌, ◌%◌, ◌<◌, ◌≤◌, Bool, true, false, List, [], ◌∷◌, ◌++◌, length, map, All, Option, None, Some, Ok, Err, refl, sym, ap, subst, ◌∙◌, inl, inr, arith, append_assoc, append-nil}
-use Rattle.std.specs.Prelude.{Result, IfErr, ◌==◌, ◌&&◌}
+use Rattle.std.proofs.Common.{◌≡◌, ℕ, zero, suc, ◌+◌, ◌-◌, ◌*◌, ◌%◌, ◌<◌, ◌≤◌, Bool, true, List, [], ◌∷◌, ◌++◌, length, map, All, Option, Ok, Err, refl, sym, ap, subst, ◌∙◌, arith, append_assoc, append-nil}
+use Rattle.std.specs.Prelude.{Result, ◌==◌}
 use Rattle.std.specs.List.{range_with_len, list_all}
 use Rattle.std.proofs.Math.Nat.{mul-add-mod_self_right, mod-eq_of_lt}
 use Rattle.std.proofs.lemmas.List.{map-append}
@@ -12,14 +12,14 @@ use Rattle.std.proofs.lemmas.Bool.{and_parts}
 use Rattle.std.proofs.lemmas.Bool.Decides.{nat_tests}
 use Rattle.std.specs.Io.KnownBytes.{append_known}
 use Rattle.port_edge.specs.Sending.{WritesPart}
-use Rattle.port_edge.proofs.SendingLemmas.{append_known-nil, append_known-append, sends_part, part_none}
+use Rattle.port_edge.proofs.SendingLemmas.{append_known-append, sends_part}
 use Rattle.ternary.specs.declared.tern.Tern.{Tern}
 use Rattle.oscillation_x.specs.Settling.{Settles}
-use Rattle.cosmos_session.specs.declared.fault.Halt.{Halt}
-use Rattle.cosmos_session.specs.Sessions.{SessionData, Beats, IsReady, places_of, have_places}
+use Rattle.cosmos_session.specs.declared.fault.ApplyFault.{ApplyFault}
+use Rattle.cosmos_session.specs.Sessions.{SessionData, ClockData, IsReady, places_of, have_places}
 use Rattle.cosmos_session.specs.Lines.{Line, text_of}
 use Rattle.cosmos_session.specs.Effects.{IsPhase, AreBeats, with_beat, states_with, moved_to, wave_by, places_in}
-use Rattle.cosmos_session.specs.Outcomes.{Sent, TakesBeats, IsPhaseSent}
+use Rattle.cosmos_session.specs.Outcomes.{Sent, FrontDone, BeatsBegun, TakesBeats, IsPhaseSent}
 use Rattle.cosmos_session.proofs.LineLemmas.{text_of-append}
 use Rattle.cosmos_session.proofs.EffectLemmas.{beats-ready, beats_exist}
 
@@ -67,33 +67,47 @@ beat_done start now next state done place before mid after so_far beat sent =
     beats_joined start now next done (place ∷ []) before mid after sent.lines so_far
     (one_beat now next place sent.lines (subst (λ (s : SessionData). IsPhase s next sent.lines) beat sent.phase)) sent.sent
 
--- a part of the text of more phases was sent: it is a part of the text of all
-pub beats_part : (start now next last : SessionData) (all done more rest : List ℕ) (before mid after : Option (List ℕ)) (lines : List Line) (halt : Halt) →
+-- phases at a front of more places, after those that are done, are phases at a front of all
+front_more : (start now next : SessionData) (all done more rest : List ℕ) (before mid : Option (List ℕ)) → all ≡ done ++ (more ++ rest) →
+    BeatsDone start now done before mid → FrontDone more now next → FrontDone all start next
+front_more start now next all done more rest before mid split so_far front = record {
+  done = done ++ front.done;
+  left = front.left ++ rest;
+  split = split ∙ ap (λ places. done ++ (places ++ rest)) front.split ∙ ap (λ places. done ++ places) (append_assoc front.done front.left rest)
+      ∙ sym (append_assoc done front.done (front.left ++ rest));
+  lines = so_far.lines ++ front.lines;
+  beats = beats-append done front.done start now next so_far.lines front.lines so_far.beats front.beats;
+}
+
+-- a part of the text of more phases was sent, and a front of them done: it is a part of the text of all
+beats_part : (start now next last : SessionData) (all done more rest : List ℕ) (before mid after : Option (List ℕ)) (lines : List Line) →
     IsReady start → all ≡ done ++ (more ++ rest) → BeatsDone start now done before mid → AreBeats now more next lines →
-    WritesPart mid after (text_of lines) → TakesBeats all start last before after (Err halt)
-beats_part start now next last all done more rest before mid after lines halt ready split so_far beats part =
+    WritesPart mid after (text_of lines) → FrontDone more now last → BeatsBegun all start last before after
+beats_part start now next last all done more rest before mid after lines ready split so_far beats part front =
     let others = beats_exist rest next (beats-ready more now next lines beats (beats-ready done start now so_far.lines so_far.beats ready)) in
     let back : List Line = lines ++ others.1 in
-    let whole : List Line = so_far.lines ++ back in (
-      others.0,
-      whole,
-      subst (λ places. AreBeats start places others.0 whole) (sym split)
+    let whole : List Line = so_far.lines ++ back in record {
+      end = others.0;
+      lines = whole;
+      beats = subst (λ places. AreBeats start places others.0 whole) (sym split)
           (beats-append done (more ++ rest) start now others.0 so_far.lines back so_far.beats
-          (beats-append more rest now next others.0 lines others.1 beats others.2)),
-      sends_part before mid after (text_of whole) (text_of lines) (text_of others.1) (record {
+          (beats-append more rest now next others.0 lines others.1 beats others.2));
+      written = sends_part before mid after (text_of whole) (text_of lines) (text_of others.1) (record {
         sent = text_of so_far.lines;
         whole = text_of-append so_far.lines back ∙ ap (λ text. text_of so_far.lines ++ text) (text_of-append lines others.1);
         grew = so_far.grew;
-      }) part,
-    )
+      }) part;
+      done = front_more start now last all done more rest before mid split so_far front;
+    }
 
--- a phase met a fault
-pub beat_stopped : (start now next : SessionData) (state : List Tern) (all done rest : List ℕ) (place : ℕ) (before mid after : Option (List ℕ)) (cause halt : Halt) →
+-- the sink ended a phase
+pub beat_stopped : (start now next : SessionData) (state : List Tern) (all done rest : List ℕ) (place : ℕ) (before mid after : Option (List ℕ)) (cause : ApplyFault) →
     IsReady start → all ≡ done ++ (place ∷ rest) → BeatsDone start now done before mid → record now { state = state } ≡ with_beat now place →
-    IsPhaseSent (record now { state = state }) next mid after (Err cause) → TakesBeats all start next before after (Err halt)
-beat_stopped start now next state all done rest place before mid after cause halt ready split so_far beat sent =
-    beats_part start now next next all done (place ∷ []) rest before mid after sent.lines halt ready split so_far
-    (one_beat now next place sent.lines (subst (λ (s : SessionData). IsPhase s next sent.lines) beat sent.phase)) sent.sent
+    IsPhaseSent (record now { state = state }) next mid after (Err cause) → BeatsBegun all start next before after
+beat_stopped start now next state all done rest place before mid after cause ready split so_far beat sent =
+    let phase = one_beat now next place sent.lines (subst (λ (s : SessionData). IsPhase s next sent.lines) beat sent.phase) in
+    beats_part start now next next all done (place ∷ []) rest before mid after sent.lines ready split so_far phase sent.sent
+    (record { done = place ∷ []; left = []; split = refl; lines = sent.lines; beats = phase })
 
 -- numbers in order, so many and then more
 range-add : (first count more all next : ℕ) → count + more ≡ all → first + count ≡ next →
@@ -169,36 +183,37 @@ cycle_done start now next cycle before mid after so_far (lines, beats, grew) =
     rw (cycles-next count cycle) (beats_joined start now next (places_in count cycle) (range_with_len 0 count) before mid after lines so_far
     (subst (λ n. AreBeats now (range_with_len 0 n) next lines) same beats) grew)
 
--- a cycle met a fault
-pub cycle_stopped : (start now next : SessionData) (cycle times : ℕ) (before mid after : Option (List ℕ)) (cause halt : Halt) →
+-- the sink ended a cycle
+pub cycle_stopped : (start now next : SessionData) (cycle times : ℕ) (before mid after : Option (List ℕ)) (cause : ApplyFault) →
     IsReady start → cycle < times → BeatsDone start now (places_in (places_of start.clocks) cycle) before mid →
     TakesBeats (range_with_len 0 (places_of now.clocks)) now next mid after (Err cause) →
-    TakesBeats (places_in (places_of start.clocks) times) start next before after (Err halt)
-cycle_stopped start now next cycle times before mid after cause halt ready inside so_far (last, lines, beats, part) =
+    BeatsBegun (places_in (places_of start.clocks) times) start next before after
+cycle_stopped start now next cycle times before mid after cause ready inside so_far begun =
     let count : ℕ = places_of start.clocks in
     let same : places_of now.clocks ≡ count = ap places_of (clocks-beats (places_in count cycle) start now so_far.lines so_far.beats) in
     let others : CyclesSplit count cycle times = cycles-split count cycle times inside in
-    beats_part start now last next (places_in count times) (places_in count cycle) (range_with_len 0 count) others.rest before mid after lines halt
-    ready others.split so_far (subst (λ n. AreBeats now (range_with_len 0 n) last lines) same beats) part
+    beats_part start now begun.end next (places_in count times) (places_in count cycle) (range_with_len 0 count) others.rest before mid after begun.lines
+    ready others.split so_far (subst (λ n. AreBeats now (range_with_len 0 n) begun.end begun.lines) same begun.beats) begun.written
+    (subst (λ n. FrontDone (range_with_len 0 n) now next) same begun.done)
 
 -- the clocks' states at a place are put where the states of the nodes are
-pub beat_put : (session : SessionData) (place : ℕ) (clocks : List Beats) (state next : List Tern) → clocks ≡ session.clocks → state ≡ session.state →
+pub beat_put : (session : SessionData) (place : ℕ) (clocks : List ClockData) (state next : List Tern) → clocks ≡ session.clocks → state ≡ session.state →
     next ≡ states_with clocks place state → record session { state = next } ≡ with_beat session place
 beat_put session place clocks state next same_clocks same_state put =
     ap (λ (other : List Tern). record session { state = other })
     (put ∙ ap (λ others. states_with others place state) same_clocks ∙ ap (λ other. states_with session.clocks place other) same_state)
 
 -- a place of a cycle is within each clock's states
-pub places_within : (clocks : List Beats) (count place : ℕ) → have_places count clocks ≡ true → place < count →
+pub places_within : (clocks : List ClockData) (count place : ℕ) → have_places count clocks ≡ true → place < count →
     All (λ clock. place < length clock.states) clocks
-places_within [] count place even inside = All-nil (λ (clock : Beats). place < length clock.states)
+places_within [] count place even inside = All-nil (λ (clock : ClockData). place < length clock.states)
 places_within (clock ∷ clocks) count place even inside =
-    let both = and_parts (length clock.states == count) (list_all (λ (other : Beats). length other.states == count) clocks) even in
-    All-cons (λ (other : Beats). place < length other.states) clock clocks (grind (arith, nat_tests, both.0)) (places_within clocks count place both.1 inside)
+    let both = and_parts (length clock.states == count) (list_all (λ (other : ClockData). length other.states == count) clocks) even in
+    All-cons (λ (other : ClockData). place < length other.states) clock clocks (grind (arith, nat_tests, both.0)) (places_within clocks count place both.1 inside)
 
 -- a state that settled, with its line sent, is a phase
 pub phase_sent : (session new : SessionData) (from next : List Tern) (steps : ℕ) (joined : Bool) (before after : Option (List ℕ))
-    (result : Result (Unit {0}) Halt) → Settles session.circuit.graph from session.limit next steps joined → new ≡ moved_to session next →
+    (result : Result (Unit {0}) ApplyFault) → Settles session.circuit.graph from session.limit next steps joined → new ≡ moved_to session next →
     Sent before after (wave_by new steps joined ∷ []) result → IsPhaseSent (record session { state = from }) new before after result
 phase_sent session new from next steps joined before after result settles moved sent = record {
   lines = wave_by new steps joined ∷ [];

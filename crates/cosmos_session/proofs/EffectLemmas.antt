@@ -1,65 +1,60 @@
 -- Each command is refused or has an effect, and an effect keeps the data ready: the circuit well formed, and one state for each node.
 -- The plan: edits give nodes other than the rails a level, which keeps the circuit well formed; states are set and keep their number; steps,
 -- phases and cycles have an outcome because every state of a graph has a step and settles.
-use Rattle.std.proofs.Common.{◌≡◌, ◌≢◌, ℕ, zero, suc, ◌-◌, ◌<◌, ◌≤◌, ◌++◌, ◌&&◌, ◌||◌, All, List, [], ◌∷◌, length, map, nat_lt, nat_le, get_or, is_some, Option, None, Some, Bool, true, false, refl, sym, ap, subst, ◌∙◌, inl, inr, arith, replicate}
-use Rattle.std.specs.Prelude.{slice_set, if◌then◌else◌, ◌==◌, ◌⊎◌}
-use Rattle.std.specs.Option.{option_map}
+use Rattle.std.proofs.Common.{◌≡◌, ℕ, ◌-◌, ◌≤◌, ◌++◌, ◌&&◌, ◌||◌, List, [], ◌∷◌, map, nat_lt, nat_le, Option, None, Some, Bool, true, false, refl, sym, ◌∙◌, inl, inr, arith}
+use Rattle.std.specs.Prelude.{if◌then◌else◌, ◌⊎◌}
 use Rattle.std.proofs.lemmas.List.{length-set, length-replicate}
+use Rattle.std.proofs.lemmas.List.Elements.{All-nil}
 use Rattle.std.proofs.lemmas.Bool.Decides.{nat_tests}
-use Rattle.ternary.specs.declared.tern.Tern.{Tern}
 use Rattle.ternary.specs.declared.tern.Tern.TheVariants.{Unk}
 use Rattle.strength_order.specs.declared.Profile.{Profile}
 use Rattle.strength_order.specs.declared.Profile.TheVariants.{One}
 use Rattle.strength_order.specs.declared.TheConstants.{INPUT_LEVEL}
-use Rattle.strength_order.specs.Levels.{IsLevel, greatest_size, level_of_size}
-use Rattle.path_meaning.specs.Wiring.{Wiring, nodes}
-use Rattle.path_meaning.specs.Switching.{state_at}
+use Rattle.strength_order.specs.Levels.{IsLevel, level_of_size}
+use Rattle.path_meaning.specs.Graphs.{nodes}
 use Rattle.path_meaning.proofs.ExistingSteps.{exists}
-use Rattle.oscillation_x.specs.Settling.{Stepping, Joining, Settles}
 use Rattle.oscillation_x.proofs.SettlingExists.{every_state}
-use Rattle.netlist.specs.declared.TheConstants.{RAILS}
-use Rattle.netlist.specs.declared.fault.EditFault.{EditFault}
-use Rattle.netlist.specs.declared.fault.EditFault.TheVariants as edit
+use Rattle.path_meaning.specs.declared.TheConstants.{RAILS}
 use Rattle.netlist.specs.Names.{node_of}
-use Rattle.netlist.specs.Netlists.{Netlist, IsNetlist}
-use Rattle.netlist.proofs.KeptLemmas.{IsLevel-input, IsNetlist-with_level}
-use Rattle.netlist.specs.Edits.{with_level, with_input, with_store, node_named, rail_fault, store_fault, is_size}
+use Rattle.netlist.specs.Circuits.{CircuitData, IsCircuit}
+use Rattle.netlist.proofs.KeptLemmas.{IsLevel-input, IsCircuit-with_level}
+use Rattle.netlist.specs.Edits.{with_input, with_store, node_named, is_size}
 use Rattle.script_lang.specs.declared.command.Command.{Command}
 use Rattle.script_lang.specs.declared.command.Command.TheVariants.{Input, Store, Set, Charge, Watch, Limit, Step, Phase, Clock, Cycle, Expect}
 use Rattle.script_lang.specs.Forms.{IsFormed}
-use Rattle.cosmos_session.specs.declared.TheConstants.{MOST_WATCHED}
 use Rattle.cosmos_session.specs.declared.fault.Refusal.{Refusal}
-use Rattle.cosmos_session.specs.declared.fault.Refusal.TheVariants.{UnknownNode, Edit, NotInput, NotStore, ClockLength, NoClock, TooManyWatched}
-use Rattle.cosmos_session.specs.Sessions.{SessionData, Beats, IsReady, start_of, places_of}
-use Rattle.cosmos_session.specs.Refusals.{refusal_of, first_refusal, or_else, edit_refusal, set_refusal, charge_refusal, known_refusal, watch_refusal, length_refusal, clock_refusal, cycle_refusal, is_input}
+use Rattle.cosmos_session.specs.declared.fault.Refusal.TheVariants.{Rail, BadSize}
+use Rattle.cosmos_session.specs.Sessions.{SessionData, ClockData, IsReady, start_of, places_of}
+use Rattle.cosmos_session.specs.Refusals.{refusal_of, first_refusal, rail_refusal, store_refusal, length_refusal}
 use Rattle.cosmos_session.specs.Lines.{Line, text_of}
-use Rattle.cosmos_session.specs.Effects.{Effect, IsUnitStep, IsPhase, AreBeats, with_inputs, assigned, clock_of, states_with, with_beat, moved_to, wave_by, unmet_lines, has_lines, places_in}
+use Rattle.cosmos_session.specs.Effects.{Effect, IsPhase, AreBeats, with_inputs, assigned, clock_of, with_beat, moved_to, wave_by, unmet_lines, has_lines, places_in}
 use Rattle.cosmos_session.specs.Outcomes.{Does}
-use Rattle.cosmos_session.proofs.RefusalLemmas.{first_refusal-none}
+use Rattle.cosmos_session.proofs.RefusalLemmas.{first_refusal-none, or_else-none}
+use Rattle.cosmos_session.proofs.StateLemmas.{length-assigned, length-states_with, length-settles, set_past, charged_past, clocks_past, sound-assigned, sound-states_with, sound-step, sound-settles}
 use Rattle.cosmos_session.proofs.OutcomeLemmas.{does_effect}
 
 -- ---- edits
 
 -- a node whose edit isn't refused is in use and no rail
-no_rail_edit : (found : Option ℕ) → edit_refusal rail_fault found ≡ None → (node : ℕ) × (found ≡ Some node) × (RAILS ≤ node)
+no_rail_edit : (found : Option ℕ) → rail_refusal found ≡ None → (node : ℕ) × (found ≡ Some node) × (RAILS ≤ node)
 no_rail_edit None none = absurd (cc)
 no_rail_edit (Some node) none = (node, refl, grind (arith, nat_tests))
 
 -- `input` makes no new node, and gives no new name
-pub nodes-with_inputs : (names : List (List ℕ)) (c : Netlist) → nodes (with_inputs c names).graph ≡ nodes c.graph
+pub nodes-with_inputs : (names : List (List ℕ)) (c : CircuitData) → nodes (with_inputs c names).graph ≡ nodes c.graph
 nodes-with_inputs [] c = refl
 nodes-with_inputs (name ∷ names) c =
     nodes-with_inputs names (with_input c (node_named c name)) ∙ length-set c.graph.levels (node_named c name) INPUT_LEVEL
 
 -- a circuit stays well formed by an `input` that isn't refused
-IsNetlist-with_inputs : (names : List (List ℕ)) (c : Netlist) → first_refusal (λ name. edit_refusal rail_fault (node_of c.names name)) names ≡ None →
-    IsNetlist c → IsNetlist (with_inputs c names)
-IsNetlist-with_inputs [] c none is = is
-IsNetlist-with_inputs (name ∷ names) c none is =
-    let both = first_refusal-none (λ name. edit_refusal rail_fault (node_of c.names name)) name names none in
+IsCircuit-with_inputs : (names : List (List ℕ)) (c : CircuitData) → first_refusal (λ name. rail_refusal (node_of c.names name)) names ≡ None →
+    IsCircuit c → IsCircuit (with_inputs c names)
+IsCircuit-with_inputs [] c none is = is
+IsCircuit-with_inputs (name ∷ names) c none is =
+    let both = first_refusal-none (λ name. rail_refusal (node_of c.names name)) name names none in
     let found = no_rail_edit (node_of c.names name) both.0 in
-    IsNetlist-with_inputs names (with_input c (node_named c name)) both.1
-    (IsNetlist-with_level c (node_named c name) INPUT_LEVEL (rw found.1 found.2) IsLevel-input is)
+    IsCircuit-with_inputs names (with_input c (node_named c name)) both.1
+    (IsCircuit-with_level c (node_named c name) INPUT_LEVEL (rw found.1 found.2) IsLevel-input is)
 
 -- a size that a profile accepts has a level
 size_level : (profile : Profile) (size : ℕ) → is_size profile size ≡ true → IsLevel (level_of_size size)
@@ -71,48 +66,17 @@ size_level One size accepted = by (nat_le 1 size) (nat_le size 3) refl refl acce
     by false high low is_high both = absurd (cc)
 
 -- a node whose new size isn't refused is in use, is no rail, and gets a level
-no_rail_store : (profile : Profile) (size : ℕ) (found : Option ℕ) → edit_refusal (λ node. store_fault profile node size) found ≡ None →
+no_rail_store : (c : CircuitData) (size : ℕ) (found : Option ℕ) → store_refusal c size found ≡ None →
     (node : ℕ) × (found ≡ Some node) × (RAILS ≤ node) × IsLevel (level_of_size size)
-no_rail_store profile size None none = absurd (cc)
-no_rail_store profile size (Some node) none = by (nat_lt node RAILS) (is_size profile size) refl refl none
+no_rail_store c size None none = absurd (cc)
+no_rail_store c size (Some node) none = by (nat_lt node RAILS) (is_size c.profile size) refl refl none
   where
-    by : (rail fits : Bool) → nat_lt node RAILS ≡ rail → is_size profile size ≡ fits →
-        option_map Edit (if rail then Some edit.Rail else (if fits then None else Some edit.BadSize)) ≡ None →
+    by : (rail fits : Bool) → nat_lt node RAILS ≡ rail → is_size c.profile size ≡ fits →
+        (if rail then Some Rail else (if fits then None else Some BadSize)) ≡ None →
         (node' : ℕ) × (Some node ≡ Some node') × (RAILS ≤ node') × IsLevel (level_of_size size)
     by true fits is_rail is_fits none = absurd (cc)
     by false false is_rail is_fits none = absurd (cc)
-    by false true is_rail is_fits none = (node, refl, grind (arith, nat_tests), size_level profile size is_fits)
-
--- ---- states
-
--- assignments keep the number of states
-length-assigned : (c : Netlist) (list : List (List ℕ × Tern)) (state : List Tern) → length (assigned c state list) ≡ length state
-length-assigned c [] state = refl
-length-assigned c (item ∷ list) state =
-    length-assigned c list (slice_set state (node_named c item.0) item.1) ∙ length-set state (node_named c item.0) item.1
-
--- so do clocks
-length-states_with : (clocks : List Beats) (place : ℕ) (state : List Tern) → length (states_with clocks place state) ≡ length state
-length-states_with [] place state = refl
-length-states_with (clock ∷ clocks) place state =
-    length-states_with clocks place (slice_set state clock.node (state_at clock.states place)) ∙ length-set state clock.node (state_at clock.states place)
-
--- so do plain replacements
-length-stepping : (g : Wiring) (limit : ℕ) (old : List Tern) (count : ℕ) (new : List Tern) → length old ≡ nodes g → Stepping g limit old count new → length new ≡ nodes g
-length-stepping g zero old count new known (none, same) = rw same known
-length-stepping g (suc left) old count new known (next, step, inl rests) = rw rests.2 known
-length-stepping g (suc left) old count new known (next, step, inr goes) = length-stepping g left next goes.1.0 new step.count goes.1.2
-
--- and joining ones
-length-joining : (g : Wiring) (count : ℕ) (old new : List Tern) → length old ≡ nodes g → Joining g old count new → length new ≡ nodes g
-length-joining g zero old new known (step, same) = rw same known
-length-joining g (suc count) old new known (next, step, changed, goes) = length-joining g count next new (step.joins.left ∙ known) goes
-
--- and so does settling
-pub length-settles : (g : Wiring) (old : List Tern) (limit : ℕ) (new : List Tern) (steps : ℕ) (joined : Bool) → length old ≡ nodes g →
-    Settles g old limit new steps joined → length new ≡ nodes g
-length-settles g old limit new steps joined known settles =
-    length-joining g settles.second settles.mid new (length-stepping g limit old settles.first settles.mid known settles.stepping) settles.joining
+    by false true is_rail is_fits none = (node, refl, grind (arith, nat_tests), size_level c.profile size is_fits)
 
 -- ---- phases and cycles
 
@@ -121,6 +85,8 @@ pub phase-ready : (session new : SessionData) (lines : List Line) → IsPhase se
 phase-ready session new lines phase ready = rw phase.moved (record {
   netlist = ready.netlist;
   states = length-settles session.circuit.graph session.state session.limit phase.next phase.steps phase.joined ready.states phase.settles;
+  sound = sound-settles session.circuit ready.netlist session.state session.limit phase.next phase.steps phase.joined ready.states phase.settles ready.sound;
+  free = ready.free;
 })
 
 -- so do clocks' states at a place
@@ -128,6 +94,8 @@ pub with_beat-ready : (session : SessionData) (place : ℕ) → IsReady session 
 with_beat-ready session place ready = record {
   netlist = ready.netlist;
   states = length-states_with session.clocks place session.state ∙ ready.states;
+  sound = sound-states_with session.clocks place session.state ready.free ready.sound;
+  free = ready.free;
 }
 
 -- every state has a phase
@@ -196,36 +164,60 @@ does_or_refused session command ready formed = by (refusal_of session command) r
 ready-effect : (old new : SessionData) (command : Command) (lines : List Line) → refusal_of old command ≡ None → Effect old command new lines →
     IsReady old → IsReady new
 ready-effect old new (Input names) lines allowed effect ready = rw (effect.0) (record {
-  netlist = IsNetlist-with_inputs names old.circuit allowed ready.netlist;
+  netlist = IsCircuit-with_inputs names old.circuit allowed ready.netlist;
   states = ready.states ∙ sym (nodes-with_inputs names old.circuit);
+  sound = ready.sound;
+  free = ready.free;
 })
 ready-effect old new (Store name size) lines allowed effect ready =
     let node = node_named old.circuit name in
-    let found = no_rail_store old.circuit.profile size (node_of old.circuit.names name) allowed in
+    let found = no_rail_store old.circuit size (node_of old.circuit.names name) allowed in
     rw (effect.0) (record {
-      netlist = IsNetlist-with_level old.circuit node (level_of_size size) (rw found.1 found.2) found.3 ready.netlist;
+      netlist = IsCircuit-with_level old.circuit node (level_of_size size) (rw found.1 found.2) found.3 ready.netlist;
       states = ready.states ∙ sym (length-set old.circuit.graph.levels node (level_of_size size));
+      sound = ready.sound;
+      free = ready.free;
     })
-ready-effect old new (Set list) lines allowed effect ready =
-    rw (effect.0) (record { netlist = ready.netlist; states = length-assigned old.circuit list old.state ∙ ready.states })
-ready-effect old new (Charge list) lines allowed effect ready =
-    rw (effect.0) (record { netlist = ready.netlist; states = length-assigned old.circuit list old.state ∙ ready.states })
-ready-effect old new (Watch names) lines allowed effect ready = rw (effect.0) (record { netlist = ready.netlist; states = ready.states })
-ready-effect old new (Limit number) lines allowed effect ready = rw (effect.0) (record { netlist = ready.netlist; states = ready.states })
-ready-effect old new Step lines allowed effect ready = rw effect.moved (record { netlist = ready.netlist; states = effect.step.count })
+ready-effect old new (Set list) lines allowed effect ready = rw (effect.0) (record {
+  netlist = ready.netlist;
+  states = length-assigned old.circuit list old.state ∙ ready.states;
+  sound = sound-assigned old.circuit list old.state (set_past old.circuit list allowed) ready.sound;
+  free = ready.free;
+})
+ready-effect old new (Charge list) lines allowed effect ready = rw (effect.0) (record {
+  netlist = ready.netlist;
+  states = length-assigned old.circuit list old.state ∙ ready.states;
+  sound = sound-assigned old.circuit list old.state (charged_past old.circuit list allowed) ready.sound;
+  free = ready.free;
+})
+ready-effect old new (Watch names) lines allowed effect ready = rw (effect.0) (record { netlist = ready.netlist; states = ready.states; sound = ready.sound; free = ready.free })
+ready-effect old new (Limit number) lines allowed effect ready = rw (effect.0) (record { netlist = ready.netlist; states = ready.states; sound = ready.sound; free = ready.free })
+ready-effect old new Step lines allowed effect ready = rw effect.moved (record {
+  netlist = ready.netlist;
+  states = effect.step.count;
+  sound = sound-step old.circuit ready.netlist old.state effect.next effect.step ready.sound;
+  free = ready.free;
+})
 ready-effect old new Phase lines allowed effect ready = phase-ready old new lines effect ready
-ready-effect old new (Clock list) lines allowed effect ready = rw (effect.0) (record { netlist = ready.netlist; states = ready.states })
+ready-effect old new (Clock list) lines allowed effect ready = rw (effect.0) (record {
+  netlist = ready.netlist;
+  states = ready.states;
+  sound = ready.sound;
+  free = clocks_past old.circuit list (set_past old.circuit list (or_else-none (length_refusal list) _ allowed).1);
+})
 ready-effect old new (Cycle times) lines allowed effect ready =
     beats-ready (places_in (places_of old.clocks) times) old new lines effect ready
-ready-effect old new (Expect list) lines allowed effect ready = rw (effect.0) (record { netlist = ready.netlist; states = ready.states })
+ready-effect old new (Expect list) lines allowed effect ready = rw (effect.0) (record { netlist = ready.netlist; states = ready.states; sound = ready.sound; free = ready.free })
 
 -- what a command does keeps the data ready
 pub ready-does : (session new : SessionData) (command : Command) (text : List ℕ) → IsReady session → Does session command new text → IsReady new
 ready-does session new command text ready does = ready-effect session new command does.lines does.allowed does.effect ready
 
 -- a session starts ready
-pub ready-start : (circuit : Netlist) → IsNetlist circuit → IsReady (start_of circuit)
+pub ready-start : (circuit : CircuitData) → IsCircuit circuit → IsReady (start_of circuit)
 ready-start circuit is = record {
   netlist = is;
   states = omega (arith, length-replicate (nodes circuit.graph - RAILS) Unk, is.railed);
+  sound = record { gnd = refl; vdd = refl };
+  free = All-nil (λ (clock : ClockData). RAILS ≤ clock.node);
 }

@@ -1,7 +1,8 @@
 pub mod RefusalLemmas
 pub mod LineLemmas
 pub mod OutcomeLemmas
+pub mod StateLemmas
 pub mod EffectLemmas
 pub mod BeatLemmas
 pub mod ClockLemmas
-pub mod FaultLemmas
+pub mod StoreLemmas

@@ -8,25 +8,25 @@ use Rattle.ternary.specs.declared.tern.Tern.TheVariants.{Zero, One, Unk}
 use Rattle.path_meaning.specs.Switching.{state_at}
 use Rattle.path_meaning.specs.Step.{IsStep}
 use Rattle.oscillation_x.specs.Settling.{Settles}
-use Rattle.netlist.specs.Netlists.{Netlist}
+use Rattle.netlist.specs.Circuits.{CircuitData}
 use Rattle.netlist.specs.Edits.{node_named, with_input, with_store}
 use Rattle.script_lang.specs.declared.command.Command.{Command}
 use Rattle.script_lang.specs.declared.command.Command.TheVariants.{Input, Store, Set, Charge, Watch, Limit, Step, Phase, Clock, Cycle, Expect}
-use Rattle.cosmos_session.specs.Sessions.{SessionData, Beats, places_of}
+use Rattle.cosmos_session.specs.Sessions.{SessionData, ClockData, places_of}
 use Rattle.cosmos_session.specs.Lines.{Line, Wave, Unmet}
 
 -- the circuit with the named nodes as input nodes
-abbrev pub with_inputs : Netlist → List (List ℕ) → Netlist
+abbrev pub with_inputs : CircuitData → List (List ℕ) → CircuitData
 with_inputs c [] = c
 with_inputs c (name ∷ names) = with_inputs (with_input c (node_named c name)) names
 
 -- the state with the named nodes in their states, from left to right
-abbrev pub assigned : Netlist → List Tern → List (List ℕ × Tern) → List Tern
+abbrev pub assigned : CircuitData → List Tern → List (List ℕ × Tern) → List Tern
 assigned c state [] = state
 assigned c state (item ∷ items) = assigned c (slice_set state (node_named c item.0) item.1) items
 
 -- the clock of a name and its letters
-abbrev pub clock_of : Netlist → (List ℕ × List Tern) → Beats
+abbrev pub clock_of : CircuitData → (List ℕ × List Tern) → ClockData
 clock_of c item = record { node = node_named c item.0; states = item.1 }
 
 -- a count that has reached the last value of its type stays there
@@ -59,7 +59,7 @@ pub record IsPhase (old new : SessionData) (lines : List Line) : Type 0 where
   pub wrote : lines ≡ wave_by new steps joined ∷ []
 
 -- the states with each clock's node in its state at a place, from left to right
-abbrev pub states_with : List Beats → ℕ → List Tern → List Tern
+abbrev pub states_with : List ClockData → ℕ → List Tern → List Tern
 states_with [] place state = state
 states_with (clock ∷ clocks) place state =
     states_with clocks place (slice_set state clock.node (state_at clock.states place))

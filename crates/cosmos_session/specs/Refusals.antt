@@ -1,23 +1,18 @@
 -- When a command is refused: the first of these causes, in the order in which they stand for its command.
 use Rattle.std.specs.Prelude.{ℕ, Bool, ◌+◌, ◌==◌, List, [], ◌∷◌, length, nat_lt, Option, Some, None, if◌then◌else◌}
-use Rattle.std.specs.Option.{option_map}
 use Rattle.strength_order.specs.declared.TheConstants.{INPUT_LEVEL}
 use Rattle.ternary.specs.declared.tern.Tern.{Tern}
-use Rattle.path_meaning.specs.Wiring.{level_of}
-use Rattle.netlist.specs.declared.TheConstants.{RAILS}
-use Rattle.netlist.specs.declared.fault.EditFault.{EditFault}
-use Rattle.netlist.specs.declared.fault.EditFault.TheVariants.{Rail}
+use Rattle.path_meaning.specs.Graphs.{level_of}
+use Rattle.path_meaning.specs.declared.TheConstants.{RAILS}
 use Rattle.netlist.specs.Names.{node_of}
-use Rattle.netlist.specs.Netlists.{Netlist}
-use Rattle.netlist.specs.Edits.{rail_fault, store_fault}
+use Rattle.netlist.specs.Circuits.{CircuitData}
+use Rattle.netlist.specs.Edits.{is_size}
 use Rattle.script_lang.specs.declared.command.Command.{Command}
 use Rattle.script_lang.specs.declared.command.Command.TheVariants.{Input, Store, Set, Charge, Watch, Limit, Step, Phase, Clock, Cycle, Expect}
 use Rattle.cosmos_session.specs.declared.TheConstants.{MOST_WATCHED}
-use Rattle.cosmos_session.specs.declared.fault.ApplyFault.{ApplyFault}
-use Rattle.cosmos_session.specs.declared.fault.ApplyFault.TheVariants as fault
 use Rattle.cosmos_session.specs.declared.fault.Refusal.{Refusal}
-use Rattle.cosmos_session.specs.declared.fault.Refusal.TheVariants.{UnknownNode, Edit, NotInput, NotStore, ClockLength, NoClock, TooManyWatched}
-use Rattle.cosmos_session.specs.Sessions.{SessionData, Beats}
+use Rattle.cosmos_session.specs.declared.fault.Refusal.TheVariants.{UnknownNode, Rail, BadSize, NotInput, NotStore, ClockLength, NoClock, TooManyWatched}
+use Rattle.cosmos_session.specs.Sessions.{SessionData, ClockData}
 
 -- one refusal, or else another
 abbrev pub or_else : Option Refusal → Option Refusal → Option Refusal
@@ -30,7 +25,7 @@ first_refusal f [] = None
 first_refusal f (item ∷ items) = or_else (f item) (first_refusal f items)
 
 -- the node is an input node
-abbrev pub is_input : Netlist → ℕ → Bool
+abbrev pub is_input : CircuitData → ℕ → Bool
 is_input c node = level_of c.graph node == INPUT_LEVEL
 
 -- the name isn't in use
@@ -38,22 +33,28 @@ abbrev pub known_refusal : Option ℕ → Option Refusal
 known_refusal None = Some UnknownNode
 known_refusal (Some node) = None
 
--- the name isn't in use, or the node's edit is refused
-abbrev pub edit_refusal : (ℕ → Option EditFault) → Option ℕ → Option Refusal
-edit_refusal fault None = Some UnknownNode
-edit_refusal fault (Some node) = option_map Edit (fault node)
+-- the name isn't in use, or is a rail's
+abbrev pub rail_refusal : Option ℕ → Option Refusal
+rail_refusal None = Some UnknownNode
+rail_refusal (Some node) = if nat_lt node RAILS then Some Rail else None
+
+-- the name isn't in use, is a rail's, or the profile doesn't accept the size
+abbrev pub store_refusal : CircuitData → ℕ → Option ℕ → Option Refusal
+store_refusal c size None = Some UnknownNode
+store_refusal c size (Some node) =
+    if nat_lt node RAILS then Some Rail else (if is_size c.profile size then None else Some BadSize)
 
 -- the name isn't in use, is a rail's, or is a storage node's
-abbrev pub set_refusal : Netlist → Option ℕ → Option Refusal
+abbrev pub set_refusal : CircuitData → Option ℕ → Option Refusal
 set_refusal c None = Some UnknownNode
 set_refusal c (Some node) =
-    if nat_lt node RAILS then Some (Edit Rail) else (if is_input c node then None else Some NotInput)
+    if nat_lt node RAILS then Some Rail else (if is_input c node then None else Some NotInput)
 
 -- the name isn't in use, is a rail's, or is an input node's
-abbrev pub charge_refusal : Netlist → Option ℕ → Option Refusal
+abbrev pub charge_refusal : CircuitData → Option ℕ → Option Refusal
 charge_refusal c None = Some UnknownNode
 charge_refusal c (Some node) =
-    if nat_lt node RAILS then Some (Edit Rail) else (if is_input c node then Some NotStore else None)
+    if nat_lt node RAILS then Some Rail else (if is_input c node then Some NotStore else None)
 
 -- the watch list would be too long
 abbrev pub watch_refusal : ℕ → Option Refusal
@@ -66,20 +67,20 @@ length_refusal (first ∷ others) =
     first_refusal (λ other. if length other.1 == length first.1 then None else Some ClockLength) others
 
 -- a clock's node is no input node any more
-abbrev pub clock_refusal : Netlist → Beats → Option Refusal
+abbrev pub clock_refusal : CircuitData → ClockData → Option Refusal
 clock_refusal c clock = if is_input c clock.node then None else Some NotInput
 
 -- there are no clocks, or some clock's node is no input node any more
-abbrev pub cycle_refusal : Netlist → List Beats → Option Refusal
+abbrev pub cycle_refusal : CircuitData → List ClockData → Option Refusal
 cycle_refusal c [] = Some NoClock
 cycle_refusal c (clock ∷ clocks) = first_refusal (clock_refusal c) (clock ∷ clocks)
 
 -- the refusal of a command, by the data before it
 abbrev pub refusal_of : SessionData → Command → Option Refusal
 refusal_of session (Input names) =
-    first_refusal (λ name. edit_refusal rail_fault (node_of session.circuit.names name)) names
+    first_refusal (λ name. rail_refusal (node_of session.circuit.names name)) names
 refusal_of session (Store name size) =
-    edit_refusal (λ node. store_fault session.circuit.profile node size) (node_of session.circuit.names name)
+    store_refusal session.circuit size (node_of session.circuit.names name)
 refusal_of session (Set list) =
     first_refusal (λ item. set_refusal session.circuit (node_of session.circuit.names item.0)) list
 refusal_of session (Charge list) =
@@ -96,13 +97,3 @@ refusal_of session (Clock list) =
 refusal_of session (Cycle number) = cycle_refusal session.circuit session.clocks
 refusal_of session (Expect list) =
     first_refusal (λ item. known_refusal (node_of session.circuit.names item.0)) list
-
--- what a caller is told of a refusal
-abbrev pub fault_of : Refusal → ApplyFault
-fault_of UnknownNode = fault.UnknownNode
-fault_of (Edit cause) = fault.Edit cause
-fault_of NotInput = fault.NotInput
-fault_of NotStore = fault.NotStore
-fault_of ClockLength = fault.ClockLength
-fault_of NoClock = fault.NoClock
-fault_of TooManyWatched = fault.TooManyWatched

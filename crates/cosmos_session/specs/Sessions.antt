@@ -3,30 +3,31 @@ use Rattle.std.specs.Prelude.{◌≡◌, ◌≢◌, ℕ, Bool, true, false, ◌-
 use Rattle.std.specs.List.{list_all}
 use Rattle.ternary.specs.declared.tern.Tern.{Tern}
 use Rattle.ternary.specs.declared.tern.Tern.TheVariants.{Zero, One, Unk}
-use Rattle.path_meaning.specs.Wiring.{nodes}
-use Rattle.netlist.specs.declared.TheConstants.{RAILS}
-use Rattle.netlist.specs.Netlists.{Netlist, IsNetlist}
+use Rattle.path_meaning.specs.Graphs.{nodes}
+use Rattle.path_meaning.specs.Rails.{IsSound}
+use Rattle.path_meaning.specs.declared.TheConstants.{RAILS}
+use Rattle.netlist.specs.Circuits.{CircuitData, IsCircuit}
 use Rattle.script_lang.specs.declared.TheConstants.{MOST_TIMES}
 use Rattle.cosmos_session.specs.declared.TheConstants.{MOST_WATCHED, FIRST_LIMIT}
 
 -- a clock: a node, and its states at the places of a cycle
-pub record Beats : Type 0 where
+pub record ClockData : Type 0 where
   pub node : ℕ
   pub states : List Tern
 
 -- the circuit, the state of its nodes, the nodes that are watched, the clocks, the limit of a phase, how many waveform lines there
 -- were, and whether some `expect` was not met
 pub record SessionData : Type 0 where
-  pub circuit : Netlist
+  pub circuit : CircuitData
   pub state : List Tern
   pub watched : List ℕ
-  pub clocks : List Beats
+  pub clocks : List ClockData
   pub limit : ℕ
   pub count : ℕ
   pub missed : Bool
 
 -- at the start Gnd is 0, Vdd is 1 and every other node X; nothing is watched, there are no clocks, and nothing was missed
-abbrev pub start_of : Netlist → SessionData
+abbrev pub start_of : CircuitData → SessionData
 start_of circuit = record {
   circuit = circuit;
   state = Zero ∷ One ∷ replicate (nodes circuit.graph - RAILS) Unk;
@@ -38,18 +39,21 @@ start_of circuit = record {
 }
 
 -- how many places a cycle of these clocks has
-abbrev pub places_of : List Beats → ℕ
+abbrev pub places_of : List ClockData → ℕ
 places_of [] = 0
 places_of (clock ∷ clocks) = length clock.states
 
 -- each clock has so many places
-abbrev pub have_places : ℕ → List Beats → Bool
+abbrev pub have_places : ℕ → List ClockData → Bool
 have_places count clocks = list_all (λ clock. length clock.states == count) clocks
 
--- the circuit is one, and there is one state for each node: so each command has an outcome
+-- the circuit is one, there is one state for each node, the rails have theirs, and no clock's node is a rail: so each command has an
+-- outcome, after which the rails have their states still
 pub record IsReady (session : SessionData) : Type 0 where
-  pub netlist : IsNetlist session.circuit
+  pub netlist : IsCircuit session.circuit
   pub states : length session.state ≡ nodes session.circuit.graph
+  pub sound : IsSound session.state
+  pub free : All (λ clock. RAILS ≤ clock.node) session.clocks
 
 -- the session is ready; each watched node is a node, and so is each clock's; the watched nodes are few, the limit is within its range,
 -- and all clocks have the same number of places, one at least

@@ -9,9 +9,9 @@ pub(crate) struct Clock {
 }
 
 impl Model for Clock {
-    ghost use Rattle.cosmos_session.specs.Sessions.{Beats};
+    ghost use Rattle.cosmos_session.specs.Sessions.{ClockData};
 
-    ghost Value = { Beats };
+    ghost Value = { ClockData };
 
     ghost view = { λ clock. record { node = clock.node; states = clock.states.items } };
 }

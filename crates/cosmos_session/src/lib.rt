@@ -14,14 +14,17 @@
 #![tactic(auto)]
 
 mod clock;
+mod expecting;
 mod fault;
+mod quiet;
 mod refusals;
 mod session;
+mod stepping;
 #[cfg(test)]
 mod tests;
 mod waves;
 
-pub use fault::ApplyFault;
+pub use fault::{ApplyFault, Refusal};
 pub use session::Session;
 
 /// The most entries of the watch list.

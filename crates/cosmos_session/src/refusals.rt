@@ -1,22 +1,21 @@
 //! When a command is refused.
 
 ghost use Rattle.std.specs.Prelude.{◌≡◌, ◌<◌, ◌==◌, length, All, if◌then◌else◌};
-ghost use Rattle.path_meaning.specs.Wiring.{nodes};
+ghost use Rattle.path_meaning.specs.Graphs.{nodes};
 ghost use Rattle.netlist.specs.Names.{node_of};
-ghost use Rattle.netlist.specs.Edits.{rail_fault};
 ghost use Rattle.cosmos_session.specs.Refusals as spec;
 ghost use Rattle.cosmos_session.specs.declared.fault.Refusal.TheVariants.{ClockLength};
 
 use crate::clock::Clock;
 use crate::fault::Refusal;
-use netlist::{Circuit, EditFault, RAILS};
+use netlist::{Circuit, RAILS};
 use script_lang::{Name, StateList};
 use strength_order::INPUT_LEVEL;
 use ternary::Tern;
 
 /// The first refusal of making these named nodes input nodes.
 pub(crate) fn input_refusal(circuit: &Circuit, names: &[Name]) -> Option<Refusal>
-    ensures { result ≡ spec.first_refusal (λ name. spec.edit_refusal rail_fault (node_of circuit.now.names name)) names.now }
+    ensures { result ≡ spec.first_refusal (λ name. spec.rail_refusal (node_of circuit.now.names name)) names.now }
 {
     for name in names {
         if let Some(refusal) = rail_refusal(circuit, name.items()) {
@@ -138,10 +137,10 @@ pub(crate) fn cycle_refusal(circuit: &Circuit, clocks: &[Clock]) -> Option<Refus
 
 // The refusal of editing a named node: it is none, or it is a rail.
 fn rail_refusal(circuit: &Circuit, name: &[u8]) -> Option<Refusal>
-    ensures { result ≡ spec.edit_refusal rail_fault (node_of circuit.now.names name.now) }
+    ensures { result ≡ spec.rail_refusal (node_of circuit.now.names name.now) }
 {
     match circuit.find(name) {
-        Some(node) if node < RAILS => Some(Refusal::Edit(EditFault::Rail)),
+        Some(node) if node < RAILS => Some(Refusal::Rail),
         Some(_) => None,
         None => Some(Refusal::UnknownNode),
     }
@@ -152,7 +151,7 @@ fn input_node_refusal(circuit: &Circuit, name: &[u8]) -> Option<Refusal>
     ensures { result ≡ spec.set_refusal circuit.now (node_of circuit.now.names name.now) }
 {
     match circuit.find(name) {
-        Some(node) if node < RAILS => Some(Refusal::Edit(EditFault::Rail)),
+        Some(node) if node < RAILS => Some(Refusal::Rail),
         Some(node) if circuit.graph().level(node) == INPUT_LEVEL => None,
         Some(_) => Some(Refusal::NotInput),
         None => Some(Refusal::UnknownNode),
@@ -164,7 +163,7 @@ fn storage_node_refusal(circuit: &Circuit, name: &[u8]) -> Option<Refusal>
     ensures { result ≡ spec.charge_refusal circuit.now (node_of circuit.now.names name.now) }
 {
     match circuit.find(name) {
-        Some(node) if node < RAILS => Some(Refusal::Edit(EditFault::Rail)),
+        Some(node) if node < RAILS => Some(Refusal::Rail),
         Some(node) if circuit.graph().level(node) == INPUT_LEVEL => Some(Refusal::NotStore),
         Some(_) => None,
         None => Some(Refusal::UnknownNode),

@@ -2,14 +2,13 @@
 
 ghost use Rattle.std.specs.Prelude.{◌≡◌, ◌<◌, ◌≤◌, ◌+◌, ◌++◌, length, map, vec_len, vec_capacity, All, OnOk, OnErr, IfErr, IfOk};
 ghost use Rattle.std.specs.Io.KnownBytes.{append_known};
-ghost use Rattle.port_edge.specs.Ports.{Rose};
 ghost use Rattle.port_edge.specs.Sending.{WritesPart};
 ghost use Rattle.path_meaning.specs.Switching.{state_at};
 ghost use Rattle.wave_print.specs.Lines.{wave_line_of};
-ghost use Rattle.cosmos_session.specs.Outcomes.{IsSinkHalt};
+ghost use Rattle.cosmos_session.specs.Sinks.{IsSinkFault, faults_applied, refusals_sent};
 
 use crate::MOST_WATCHED;
-use crate::fault::Halt;
+use crate::fault::ApplyFault;
 use port_edge::{Sink, send};
 use std::alloc::Global;
 use std::marker::Model;
@@ -55,16 +54,16 @@ impl WaveRoom {
         state: &[Tern],
         nodes: &[usize],
         out: &mut S,
-    ) -> Result<(), Halt>
+    ) -> Result<(), ApplyFault>
         requires room { length nodes.now ≤ self.old }
         requires few { length nodes.now ≤ MOST_WATCHED }
         requires within { All (λ node. node < length state.now) nodes.now }
         ensures room { self.new ≡ self.old }
         ensures ok { OnOk result (S.written out.new ≡ append_known (S.written out.old) (wave_line_of n k mark (map (state_at state.now) nodes.now))) }
         ensures part { OnErr result (WritesPart (S.written out.old) (S.written out.new) (wave_line_of n k mark (map (state_at state.now) nodes.now))) }
-        ensures halt { IfErr result (λ halt. IsSinkHalt (S.faults out.old) (S.faults out.new) (S.refusals out.old) (S.refusals out.new) halt) }
-        ensures later { S.faults out.old ≤ S.faults out.new }
-        ensures refusals_later { S.refusals out.old ≤ S.refusals out.new }
+        ensures cause { IfErr result IsSinkFault }
+        ensures faults { S.faults out.new ≡ faults_applied (S.faults out.old) result }
+        ensures refusals { S.refusals out.new ≡ refusals_sent (S.refusals out.old) result }
     {
         push_states(&mut self.values, state, nodes);
         wave_line(&mut self.line, n, k, mark, &self.values);
@@ -76,16 +75,16 @@ impl WaveRoom {
 }
 
 /// Sends a text to the sink.
-pub(crate) fn send_text<S: Sink>(out: &mut S, text: &[u8]) -> Result<(), Halt>
+pub(crate) fn send_text<S: Sink>(out: &mut S, text: &[u8]) -> Result<(), ApplyFault>
     ensures ok { OnOk result (S.written out.new ≡ append_known (S.written out.old) text.now) }
     ensures part { OnErr result (WritesPart (S.written out.old) (S.written out.new) text.now) }
-    ensures halt { IfErr result (λ halt. IsSinkHalt (S.faults out.old) (S.faults out.new) (S.refusals out.old) (S.refusals out.new) halt) }
-    ensures later { S.faults out.old ≤ S.faults out.new }
-    ensures refusals_later { S.refusals out.old ≤ S.refusals out.new }
+    ensures cause { IfErr result IsSinkFault }
+    ensures faults { S.faults out.new ≡ faults_applied (S.faults out.old) result }
+    ensures refusals { S.refusals out.new ≡ refusals_sent (S.refusals out.old) result }
 {
     match send(out, text) {
         Ok(()) => Ok(()),
-        Err(fault) => Err(Halt::of_sink(fault)),
+        Err(fault) => Err(ApplyFault::of_sink(fault)),
     }
 }
 

@@ -3,13 +3,13 @@ use Rattle.std.proofs.Common.{◌≡◌, ℕ, ◌+◌, ◌<◌, List, ◌∷◌,
 use Rattle.std.proofs.lemmas.List.{drop_more}
 use Rattle.port_edge.specs.Sending.{Sends}
 use Rattle.group_meaning.specs.Groups.{Group}
-use Rattle.netlist.specs.Netlists.{Netlist}
+use Rattle.netlist.specs.Circuits.{CircuitData}
 use Rattle.group_report.specs.Report.{line_of, line_with, lines_from}
 use Rattle.group_report.specs.Noted.{Noted, AreNoted, NotesGroup, noted_number}
 use Rattle.group_report.proofs.NumberLemmas.{AreNoted-more, text_number-noted}
 
 -- of the group at this place the text was noted, and then its line was made
-pub record IsMade (c : Netlist) (groups : List Group) (place : ℕ) (group : Group) (old new : Noted) (line : List ℕ) : Type 0 where
+pub record IsMade (c : CircuitData) (groups : List Group) (place : ℕ) (group : Group) (old new : Noted) (line : List ℕ) : Type 0 where
   pub inside : place < length groups
   pub here : get_or groups place group ≡ group
   pub before : AreNoted c.graph (take place groups) old
@@ -17,13 +17,13 @@ pub record IsMade (c : Netlist) (groups : List Group) (place : ℕ) (group : Gro
   pub whole : line ≡ line_with c (place + 1) (noted_number c.graph new group) group
 
 -- so the texts of the groups up to it are noted
-pub AreNoted-made : {c : Netlist} {groups : List Group} {place : ℕ} {group : Group} {old new : Noted} {line : List ℕ} →
+pub AreNoted-made : {c : CircuitData} {groups : List Group} {place : ℕ} {group : Group} {old new : Noted} {line : List ℕ} →
     IsMade c groups place group old new line → AreNoted c.graph (take (place + 1) groups) new
 AreNoted-made {c} {groups} {place} {group} {old} {new} made =
     AreNoted-more c.graph groups place group old new made.inside made.here made.before made.notes
 
 -- and the lines from it on are that line and the lines after it
-lines_from-made : {c : Netlist} {groups : List Group} {place : ℕ} {group : Group} {old new : Noted} {line : List ℕ} →
+lines_from-made : {c : CircuitData} {groups : List Group} {place : ℕ} {group : Group} {old new : Noted} {line : List ℕ} →
     IsMade c groups place group old new line →
     lines_from c groups (place + 1) (drop place groups) ≡ line ++ lines_from c groups (place + 1 + 1) (drop (place + 1) groups)
 lines_from-made {c} {groups} {place} {group} {old} {new} {line} made =
@@ -35,7 +35,7 @@ lines_from-made {c} {groups} {place} {group} {old} {new} {line} made =
     ∙ sym (ap (λ front. front ++ lines_from c groups (place + 1 + 1) (drop (place + 1) groups)) is)
 
 -- where the lines from it on were left to be sent, that line is the next one
-pub Sends-made : {c : Netlist} {groups : List Group} {place : ℕ} {group : Group} {old new : Noted} {line : List ℕ} →
+pub Sends-made : {c : CircuitData} {groups : List Group} {place : ℕ} {group : Group} {old new : Noted} {line : List ℕ} →
     IsMade c groups place group old new line → (before now : Option (List ℕ)) (text : List ℕ) →
     Sends before now text (lines_from c groups (place + 1) (drop place groups)) →
     Sends before now text (line ++ lines_from c groups (place + 1 + 1) (drop (place + 1) groups))

@@ -6,15 +6,15 @@ use Rattle.std.proofs.lemmas.List.{take_more, take-append-drop, length-take-le, 
 use Rattle.std.proofs.lemmas.List.Folds.{prefix_len-append, position_or_len_push}
 use Rattle.std.proofs.lemmas.List.Sums.{prefix_len-le-length, fails_before_first}
 use Rattle.indexmap.specs.IndexMap.{Updates}
-use Rattle.path_meaning.specs.Wiring.{Wiring}
+use Rattle.path_meaning.specs.Graphs.{GraphData}
 use Rattle.group_meaning.specs.Groups.{Group}
-use Rattle.group_text.specs.Texts.{Text, size_fault, text_of_group}
+use Rattle.group_text.specs.Texts.{GroupTextData, size_fault, text_of_group}
 use Rattle.group_text.specs.Compared.{same_text, same_text_decides}
 use Rattle.group_report.specs.Report.{has_text, is_of_text, number_of_text, text_number}
 use Rattle.group_report.specs.Noted.{Noted, number_at, AreNoted, NotesText, NotesGroup, noted_number}
 
 -- a text that is noted keeps its number
-pub NotesText-known : (noted : Noted) (text : Text) (number first : ℕ) → number_at noted text ≡ Some first → NotesText text number noted noted
+pub NotesText-known : (noted : Noted) (text : GroupTextData) (number first : ℕ) → number_at noted text ≡ Some first → NotesText text number noted noted
 NotesText-known noted text number first known other = by (same_text text other) refl
   where
     by : (same : Bool) → same_text text other ≡ same →
@@ -25,7 +25,7 @@ NotesText-known noted text number first known other = by (same_text text other) 
     by false same = refl
 
 -- a text that isn't gets the number
-pub NotesText-new : (old new : Noted) (text : Text) (number : ℕ) → number_at old text ≡ None → Updates same_text old new text (Some number) →
+pub NotesText-new : (old new : Noted) (text : GroupTextData) (number : ℕ) → number_at old text ≡ None → Updates same_text old new text (Some number) →
     NotesText text number old new
 NotesText-new old new text number absent updates other = updates.0 other ∙ by (same_text text other) refl
   where
@@ -37,7 +37,7 @@ NotesText-new old new text number absent updates other = updates.0 other ∙ by 
     by false same = refl
 
 -- of a group that has a text its number is noted
-pub noted_number-is : (g : Wiring) (noted : Noted) (group : Group) (text : Text) (first : ℕ) →
+pub noted_number-is : (g : GraphData) (noted : Noted) (group : Group) (text : GroupTextData) (first : ℕ) →
     size_fault (length group.members) (length group.switches) ≡ None → text ≡ text_of_group g group → number_at noted text ≡ Some first →
     Some first ≡ noted_number g noted group
 noted_number-is g noted group text first fits is known =
@@ -96,7 +96,7 @@ module _ {X : Type 0} (p : X → Bool) where
       either false o found = refl
 
 -- of one group more: its texts have the numbers that they had, else its own text has the next number
-number_of_text-push : (g : Wiring) (groups : List Group) (group : Group) (text : Text) →
+number_of_text-push : (g : GraphData) (groups : List Group) (group : Group) (text : GroupTextData) →
     number_of_text g (groups ++ group ∷ []) text
     ≡ (if is_of_text g text group then Some (unwrap_or (number_of_text g groups text) (length groups + 1)) else number_of_text g groups text)
 number_of_text-push g groups group text =
@@ -109,7 +109,7 @@ number_of_text-push g groups group text =
     by false o = refl
 
 -- the texts of the groups before a place are noted, and then those up to it
-pub AreNoted-more : (g : Wiring) (groups : List Group) (place : ℕ) (group : Group) (old new : Noted) → place < length groups →
+pub AreNoted-more : (g : GraphData) (groups : List Group) (place : ℕ) (group : Group) (old new : Noted) → place < length groups →
     get_or groups place group ≡ group → AreNoted g (take place groups) old → NotesGroup g group (place + 1) old new →
     AreNoted g (take (place + 1) groups) new
 AreNoted-more g groups place group old new inside here are notes text =
@@ -123,11 +123,11 @@ AreNoted-more g groups place group old new inside here are notes text =
     ∙ ap (λ list. number_of_text g list text) (sym grown)
 
 -- what is noted of a group that was passed is the number of its text among all groups
-pub text_number-noted : (g : Wiring) (groups : List Group) (place : ℕ) (group : Group) (noted : Noted) → place < length groups →
+pub text_number-noted : (g : GraphData) (groups : List Group) (place : ℕ) (group : Group) (noted : Noted) → place < length groups →
     get_or groups place group ≡ group → AreNoted g (take (place + 1) groups) noted → noted_number g noted group ≡ text_number g groups group
 text_number-noted g groups place group noted inside here are = by (has_text group) refl
   where
-    text : Text
+    text : GroupTextData
     text = text_of_group g group
 
     front : List Group

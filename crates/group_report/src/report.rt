@@ -1,11 +1,12 @@
 ghost use Rattle.std.specs.Prelude.{◌≡◌, ◌<◌, ◌++◌, map, Some, All, IfOk, OnOk, OnErr};
 ghost use Rattle.std.specs.Io.KnownBytes.{append_known};
-ghost use Rattle.port_edge.specs.Ports.{FailedRaised};
+ghost use Rattle.port_edge.specs.Ports.{RefusedOnce, faults_after};
 ghost use Rattle.port_edge.specs.Sending.{WritesPart};
-ghost use Rattle.path_meaning.specs.Wiring.{nodes};
+ghost use Rattle.path_meaning.specs.Graphs.{nodes};
 ghost use Rattle.group_meaning.specs.Groups.{AreGroups, IsGroup};
 ghost use Rattle.wave_print.specs.Lines.{names_after};
-ghost use Rattle.group_report.specs.Report.{Reports, called, line_with, lines_of};
+ghost use Rattle.group_report.specs.Report.{Reports, line_with, lines_of};
+ghost use Rattle.netlist.specs.Circuits.{called};
 ghost use Rattle.group_report.specs.Noted.{NotesGroup, NotesText, noted_number, number_at};
 
 use channel_groups::{Group, Groups};
@@ -15,6 +16,7 @@ use netlist::Circuit;
 use path_meaning::Graph;
 use port_edge::{PortFault, Sink, send};
 use std::alloc::Global;
+use table_keys::TableKeys;
 use ternary::NoMemory;
 use wave_print::{GROUP_START_ROOM, LineBuf, group_name, group_start, line_end};
 
@@ -23,17 +25,20 @@ use wave_print::{GROUP_START_ROOM, LineBuf, group_name, group_start, line_end};
 ///
 /// A line says how many members and switches the group has, the number of the first group that has
 /// the same text, and the members' names. A group that is too large to have a text has `-` there.
-/// After a fault, and after want of memory, a front of the report was written.
+/// After a fault, and after want of memory, a front of the report was written, and nothing after the call
+/// that failed. Texts are kept in a table that is hashed with these keys.
 pub fn report_groups<S: Sink>(
     alloc: Global,
     circuit: &Circuit,
+    keys: TableKeys,
     out: &mut S,
 ) -> Result<(), PortFault>
     ensures report { Reports circuit.now (S.written out.old) (S.written out.new) result }
-    ensures cause { FailedRaised (S.faults out.old) (S.faults out.new) result }
+    ensures cause { S.faults out.new ≡ faults_after (S.faults out.old) result }
+    ensures memory { RefusedOnce (S.refusals out.old) (S.refusals out.new) result }
 {
     match Groups::of(alloc, circuit.graph()) {
-        Ok(groups) => write_lines(alloc, circuit, groups.list(), out),
+        Ok(groups) => write_lines(alloc, circuit, groups.list(), keys, out),
         Err(want) => Err(memory_fault(want)),
     }
 }
@@ -43,6 +48,7 @@ fn write_lines<S: Sink>(
     alloc: Global,
     circuit: &Circuit,
     groups: &[Group],
+    keys: TableKeys,
     out: &mut S,
 ) -> Result<(), PortFault>
     requires { AreGroups circuit.now.graph groups.now }
@@ -50,9 +56,10 @@ fn write_lines<S: Sink>(
         (S.written out.new ≡ append_known (S.written out.old) (lines_of circuit.now groups.now)) }
     ensures part { OnErr result
         (WritesPart (S.written out.old) (S.written out.new) (lines_of circuit.now groups.now)) }
-    ensures cause { FailedRaised (S.faults out.old) (S.faults out.new) result }
+    ensures cause { S.faults out.new ≡ faults_after (S.faults out.old) result }
+    ensures memory { RefusedOnce (S.refusals out.old) (S.refusals out.new) result }
 {
-    let mut noted = IndexMap::new(alloc);
+    let mut noted = IndexMap::with_hasher(alloc, keys);
     let mut line = LineBuf::new(alloc, GROUP_START_ROOM).map_err(memory_fault)?;
     for (place, group) in groups.iter().enumerate() {
         let number = place as u64 + 1;
@@ -75,7 +82,7 @@ fn make_line(
     circuit: &Circuit,
     group: &Group,
     number: u64,
-    noted: &mut IndexMap<GroupText, u64>,
+    noted: &mut IndexMap<GroupText, u64, TableKeys>,
     line: &mut LineBuf,
 ) -> Result<(), NoMemory>
     requires { IsGroup circuit.now.graph group.now }
@@ -95,7 +102,7 @@ fn number_text(
     graph: &Graph,
     group: &Group,
     number: u64,
-    noted: &mut IndexMap<GroupText, u64>,
+    noted: &mut IndexMap<GroupText, u64, TableKeys>,
 ) -> Result<Option<u64>, NoMemory>
     requires { IsGroup graph.now group.now }
     ensures value { IfOk result (λ first. first ≡ noted_number graph.now noted.new group.now) }
@@ -110,7 +117,7 @@ fn number_text(
 
 // The number under which a text is noted. One that isn't is noted with this number.
 fn first_number(
-    noted: &mut IndexMap<GroupText, u64>,
+    noted: &mut IndexMap<GroupText, u64, TableKeys>,
     text: GroupText,
     number: u64,
 ) -> Result<u64, NoMemory>

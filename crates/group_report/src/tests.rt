@@ -5,12 +5,16 @@ use port_edge::HonestSink;
 use std::alloc::Global;
 use std::test::Fail;
 use strength_order::Profile;
+use table_keys::TableKeys;
 
 #[test]
 fn equal_groups_have_one_text(rt: HostRuntime) -> Result<(), Fail> {
     let circuit = chain_and_capacitor(rt.alloc())?;
     let mut out = HonestSink::new(rt.alloc());
-    assert_eq!(rt; report_groups(rt.alloc(), &circuit, &mut out), Ok(()));
+    assert_eq!(rt;
+        report_groups(rt.alloc(), &circuit, TableKeys::fixed(), &mut out),
+        Ok(())
+    );
     let report: &[u8] = b"group 1 nodes 1 switches 2 text 1: b\n\
         group 2 nodes 1 switches 2 text 1: c\n\
         group 3 nodes 1 switches 0 text 3: d\n";

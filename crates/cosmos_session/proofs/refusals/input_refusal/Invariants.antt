@@ -1,10 +1,9 @@
 use Rattle.std.proofs.Common.{◌≡◌, ℕ, List, drop}
 use Rattle.netlist.specs.Names.{node_of}
-use Rattle.netlist.specs.Edits.{rail_fault}
-use Rattle.cosmos_session.specs.Refusals.{first_refusal, edit_refusal}
+use Rattle.cosmos_session.specs.Refusals.{first_refusal, rail_refusal}
 use Rattle.cosmos_session.proofs.refusals.input_refusal.Given as goal
 
 abbrev pub invariant-loop-name : goal.invariant-loop-name
 invariant-loop-name l =
-    let refusal = (λ (name : List ℕ). edit_refusal rail_fault (node_of l.circuit.names name)) in
+    let refusal = (λ (name : List ℕ). rail_refusal (node_of l.circuit.names name)) in
     first_refusal refusal (drop l.name-index l.names) ≡ first_refusal refusal l.names

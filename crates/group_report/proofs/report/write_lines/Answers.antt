@@ -1,5 +1,5 @@
 -- Each line that is sent takes the report one group on; at each exit what was sent is a part of it.
-use Rattle.std.proofs.Common.{◌≡◌, ◌+◌, drop, Result, Ok, Err, OnOk, is_ok, true, true≢false, sym, ◌∙◌, arith}
+use Rattle.std.proofs.Common.{◌≡◌, ◌+◌, drop, Result, Ok, Err, OnOk, is_ok, true, true≢false, sym, ◌∙◌}
 use Rattle.port_edge.proofs.ResultLemmas.{at_err}
 use Rattle.port_edge.proofs.SendingLemmas.{part_none, sends_more, sends_part}
 use Rattle.group_report.specs.Report.{lines_from, lines_of}
@@ -45,5 +45,6 @@ loop-place-preserved g c =
           sends_more (g.S.Sink.written c.args.out.now) (g.S.Sink.written c.loop-place.out) (g.S.Sink.written c.send.new.out)
           (lines_of c.args.circuit.now c.args.groups.now) c.bytes.result.now rest (Sends-made made _ _ _ c.loop-place.invariant.sent) c.in_ok-send.ensures.ok;
       noted = AreNoted-made made;
-      later = omega (arith, c.loop-place.invariant.later, c.send.ensures.cause.later);
+      faults = c.in_ok-send.ensures.cause ∙ c.loop-place.invariant.faults;
+      refusals = c.in_ok-send.ensures.memory ∙ c.loop-place.invariant.refusals;
     }

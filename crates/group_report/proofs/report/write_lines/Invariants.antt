@@ -1,5 +1,5 @@
 -- The lines of the groups that were passed are written, and of their texts the numbers are noted.
-use Rattle.std.proofs.Common.{◌+◌, ◌≤◌, drop, take}
+use Rattle.std.proofs.Common.{◌≡◌, ◌+◌, drop, take}
 use Rattle.port_edge.specs.Sending.{Sends}
 use Rattle.group_report.specs.Report.{lines_from, lines_of}
 use Rattle.group_report.specs.Noted.{AreNoted}
@@ -10,5 +10,6 @@ invariant-loop-place g l = record {
   sent : Sends (g.S.Sink.written l.fn.out) (g.S.Sink.written l.out) (lines_of l.circuit l.groups)
       (lines_from l.circuit l.groups (l.place + 1) (drop l.place l.groups));
   noted : AreNoted l.circuit.graph (take l.place l.groups) l.noted;
-  later : g.S.Sink.faults l.fn.out ≤ g.S.Sink.faults l.out;
+  faults : g.S.Sink.faults l.out ≡ g.S.Sink.faults l.fn.out;
+  refusals : g.S.Sink.refusals l.out ≡ g.S.Sink.refusals l.fn.out;
 }

@@ -1,4 +1,4 @@
-use Rattle.std.proofs.Common.{◌≡◌, ◌||◌, refl, sym, ap, rules, None}
+use Rattle.std.proofs.Common.{◌≡◌, Bool, ◌||◌, refl, sym, ap, rules, None}
 use Rattle.script_lang.specs.declared.command.Command.TheVariants as asked
 use Rattle.cosmos_session.specs.Refusals.{refusal_of}
 use Rattle.cosmos_session.specs.Lines.{text_of}
@@ -10,7 +10,7 @@ use Rattle.cosmos_session.proofs.session.Session.expect.Goals as goal
 
 pub returns-in-Some-clause-obeys : goal.returns-in-Some-clause-obeys
 returns-in-Some-clause-obeys g c =
-    (rw (← c.self.view_is, ← c.items.ensures) (sym c.in-Some.ensures), record { same = refl; unwritten = refl })
+    (record { cause = rw (← c.self.view_is, ← c.items.ensures) (sym c.in-Some.ensures); keeps = record { same = refl; unwritten = refl } }, refl)
 
 pub put_unmet-requires : goal.put_unmet-requires
 put_unmet-requires g c =
@@ -22,8 +22,10 @@ returns-clause-obeys g c =
     let session = the_view c.self.inside in
     let allowed : refusal_of session (asked.Expect c.args.list.now) ≡ None = sym (rw (c.in_default.is, c.items.ensures) at c.expect_refusal.ensures) in
     let text : c.bytes.result.now ≡ text_of (unmet_lines c.args.self.now c.args.list.now) = search rules in
+    let lines = unmet_lines session c.args.list.now in
+    let any = rw (c.items-2.ensures, ← c.self.view_is) at c.in_ok-unmet.ensures.any in
+    let missed = λ (any : Bool). record session { missed = session.missed || any } in
     rw (← c.self.view_is)
-    (sent_obeys session _ (asked.Expect c.args.list.now) (unmet_lines session c.args.list.now) _ _ _ _ _ _ c.send_text.result allowed
-    (ap (λ any. record session { missed = session.missed || any }) (rw (c.items-2.ensures, ← c.self.view_is) at c.in_ok-unmet.ensures.any), refl)
-    (sent_text _ _ (unmet_lines session c.args.list.now) _ c.send_text.result (rw (← c.self.view_is) at text) c.send_text.ensures.ok c.send_text.ensures.part)
-    c.send_text.ensures.halt)
+    (sent_obeys session _ (asked.Expect c.args.list.now) lines _ _ _ _ c.send_text.result allowed (ap missed any, refl) (lines, (ap missed any, refl))
+    (sent_text _ _ lines _ c.send_text.result (rw (← c.self.view_is) at text) c.send_text.ensures.ok c.send_text.ensures.part)
+    c.send_text.ensures.cause c.send_text.ensures.refusals)

@@ -1,5 +1,5 @@
 -- The places before this one are done, with their lines sent, and the stepper has the session's state.
-use Rattle.std.proofs.Common.{◌≡◌, ◌≤◌}
+use Rattle.std.proofs.Common.{◌≡◌}
 use Rattle.std.specs.List.{range_with_len}
 use Rattle.oscillation_x.specs.PlainStepping.{HasRoom}
 use Rattle.cosmos_session.specs.Sessions.{places_of}
@@ -14,6 +14,6 @@ invariant-loop-place g l = record {
   fits : HasRoom l.stepper l.self.circuit.graph;
   watched : l.self.watched ≡ l.fn.self.watched;
   room : l.room ≡ l.fn.room;
-  later : g.S.Sink.faults l.fn.out ≤ g.S.Sink.faults l.out;
-  refusals_later : g.S.Sink.refusals l.fn.out ≤ g.S.Sink.refusals l.out;
+  faults : g.S.Sink.faults l.out ≡ g.S.Sink.faults l.fn.out;
+  refusals : g.S.Sink.refusals l.out ≡ g.S.Sink.refusals l.fn.out;
 }

@@ -1,5 +1,5 @@
 -- The cycles before this one are run, with their lines sent, and the stepper has the session's state.
-use Rattle.std.proofs.Common.{◌≡◌, ◌≤◌}
+use Rattle.std.proofs.Common.{◌≡◌}
 use Rattle.oscillation_x.specs.PlainStepping.{HasRoom}
 use Rattle.cosmos_session.specs.Sessions.{places_of}
 use Rattle.cosmos_session.specs.Effects.{places_in}
@@ -13,6 +13,6 @@ invariant-loop-cycle g l = record {
   fits : HasRoom l.stepper l.self.circuit.graph;
   watched : l.self.watched ≡ l.fn.self.watched;
   room : l.room ≡ l.fn.room;
-  later : g.S.Sink.faults l.fn.out ≤ g.S.Sink.faults l.out;
-  refusals_later : g.S.Sink.refusals l.fn.out ≤ g.S.Sink.refusals l.out;
+  faults : g.S.Sink.faults l.out ≡ g.S.Sink.faults l.fn.out;
+  refusals : g.S.Sink.refusals l.out ≡ g.S.Sink.refusals l.fn.out;
 }

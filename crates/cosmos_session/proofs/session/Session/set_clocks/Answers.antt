@@ -1,5 +1,4 @@
-use Rattle.std.proofs.Common.{◌≡◌, refl, sym, None}
-use Rattle.cosmos_session.specs.Refusals.{length_refusal, first_refusal, set_refusal}
+use Rattle.std.proofs.Common.{refl, sym}
 use Rattle.cosmos_session.specs.contracts.session.Session.{the_view}
 use Rattle.cosmos_session.proofs.RefusalLemmas.{or_else-none, set_known}
 use Rattle.cosmos_session.proofs.ClockLemmas.{IsSession-clocks}
@@ -16,5 +15,5 @@ named_clocks-requires c =
 pub invariant_of-self : goal.invariant_of-self
 invariant_of-self c =
     let allowed = or_else-none _ _ (sym (rw (c.in_default.is, c.items.ensures) at c.clocks_refusal.ensures)) in
-    IsSession-clocks (the_view c.self.inside) c.args.list.now _ c.requires allowed.0
+    IsSession-clocks (the_view c.self.inside) c.args.list.now _ c.requires allowed.0 allowed.1
     (rw c.items-2.ensures at c.in_ok-self-inside.ensures.items) c.in_ok-self-inside.ensures.within c.self.invariant

@@ -1,12 +1,12 @@
 use Rattle.std.proofs.Common.{◌≡◌, ◌<◌, ◌≤◌, All, ◌+◌, ◌-◌, ◌++◌, map, drop, length, vec_len, vec_capacity}
-use Rattle.path_meaning.specs.Wiring.{nodes}
-use Rattle.cosmos_session.specs.Sessions.{Beats}
+use Rattle.path_meaning.specs.Graphs.{nodes}
+use Rattle.cosmos_session.specs.Sessions.{ClockData}
 use Rattle.cosmos_session.specs.Effects.{clock_of}
-use Rattle.cosmos_session.proofs.session.named_clocks.Given as goal
+use Rattle.cosmos_session.proofs.quiet.named_clocks.Given as goal
 
 abbrev pub invariant-loop-name : goal.invariant-loop-name
 invariant-loop-name l = record {
   done : l.clocks.items ++ map (clock_of l.circuit) (drop l.name-index l.list) ≡ map (clock_of l.circuit) l.list;
-  within : All (λ (clock : Beats). clock.node < nodes l.circuit.graph) l.clocks.items;
+  within : All (λ (clock : ClockData). clock.node < nodes l.circuit.graph) l.clocks.items;
   room : vec_len l.clocks + (length l.list - l.name-index) ≤ vec_capacity l.clocks;
 }

@@ -1,7 +1,7 @@
 use Rattle.std.proofs.Common.{◌≡◌, drop}
-use Rattle.path_meaning.specs.Wiring.{nodes}
+use Rattle.path_meaning.specs.Graphs.{nodes}
 use Rattle.cosmos_session.specs.Effects.{with_inputs}
-use Rattle.cosmos_session.proofs.session.make_inputs.Given as goal
+use Rattle.cosmos_session.proofs.quiet.make_inputs.Given as goal
 
 abbrev pub invariant-loop-name : goal.invariant-loop-name
 invariant-loop-name l = record {

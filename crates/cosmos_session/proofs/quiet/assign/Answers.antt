@@ -1,5 +1,5 @@
 use Rattle.std.proofs.Common.{arith}
-use Rattle.cosmos_session.proofs.session.assign.Goals as goal
+use Rattle.cosmos_session.proofs.quiet.assign.Goals as goal
 
 pub unwrap-node-requires : goal.unwrap-node-requires
 unwrap-node-requires c =

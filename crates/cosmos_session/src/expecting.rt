@@ -1,0 +1,67 @@
+//! Expectations, and the lines of those that aren't met.
+
+ghost use Rattle.std.specs.Prelude.{◌≡◌, ◌++◌, [], ◌∷◌, is_some, true, All, IfOk};
+ghost use Rattle.netlist.specs.Names.{node_of};
+ghost use Rattle.script_lang.specs.declared.command.Command.TheVariants as asked;
+ghost use Rattle.cosmos_session.specs.Effects as effect;
+ghost use Rattle.cosmos_session.specs.Lines.{text_of};
+ghost use Rattle.cosmos_session.specs.Sinks.{faults_applied};
+ghost use Rattle.cosmos_session.specs.Outcomes.{Obeys};
+
+use crate::fault::ApplyFault;
+use crate::refusals;
+use crate::session::Session;
+use crate::waves::send_text;
+use port_edge::Sink;
+use script_lang::{AssignList, Name};
+use ternary::{NoMemory, Tern};
+use wave_print::{EXPECT_LINE_ROOM, LineBuf, expect_line};
+
+impl Session {
+    /// `expect`: a line for each node that isn't in the wanted state.
+    pub(crate) fn expect<S: Sink>(
+        &mut self,
+        list: &AssignList,
+        out: &mut S,
+    ) -> Result<(), ApplyFault>
+        ensures obeys { Obeys self.old (asked.Expect list.now) self.new (S.written out.old) (S.written out.new)
+            (S.refusals out.old) (S.refusals out.new) result }
+        ensures faults { S.faults out.new ≡ faults_applied (S.faults out.old) result }
+    {
+        if let Some(refusal) = refusals::expect_refusal(&self.circuit, list.items()) {
+            return Err(ApplyFault::Refused(refusal));
+        }
+        let mut lines = LineBuf::new(self.alloc, 0)?;
+        let unmet = self.put_unmet(list.items(), &mut lines)?;
+        self.missed |= unmet;
+        send_text(out, lines.bytes())
+    }
+
+    // Puts the line of each assignment that isn't met; true where there is one. The names are in use.
+    fn put_unmet(&self, list: &[(Name, Tern)], lines: &mut LineBuf) -> Result<bool, NoMemory>
+        requires { All (λ item. is_some (node_of self.now.circuit.names item.0) ≡ true) list.now }
+        ensures bytes { IfOk result (λ _. lines.new.bytes ≡ lines.old.bytes ++ text_of (effect.unmet_lines self.now list.now)) }
+        ensures any { IfOk result (λ any. any ≡ effect.has_lines (effect.unmet_lines self.now list.now)) }
+    {
+        let mut any = false;
+        for (name, want) in list {
+            any |= self.put_if_unmet(name.items(), *want, lines)?;
+        }
+        Ok(any)
+    }
+
+    // Puts the line of an assignment that isn't met; true where it isn't. The name is in use.
+    fn put_if_unmet(&self, name: &[u8], want: Tern, lines: &mut LineBuf) -> Result<bool, NoMemory>
+        requires { is_some (node_of self.now.circuit.names name.now) ≡ true }
+        ensures bytes { IfOk result (λ _. lines.new.bytes ≡ lines.old.bytes ++ text_of (effect.unmet_lines self.now ((name.now, want) ∷ []))) }
+        ensures any { IfOk result (λ any. any ≡ effect.has_lines (effect.unmet_lines self.now ((name.now, want) ∷ []))) }
+    {
+        let got = self.state[self.circuit.find(name).unwrap()];
+        if got == want {
+            return Ok(false);
+        }
+        lines.reserve(EXPECT_LINE_ROOM + name.len())?;
+        expect_line(lines, name, want, got, self.count);
+        Ok(true)
+    }
+}

@@ -1,0 +1,163 @@
+//! The commands that write nothing.
+
+ghost use Rattle.std.specs.Prelude.{◌≡◌, ◌<◌, ◌≤◌, ◌++◌, None, is_some, true, map, length, vec_len, vec_capacity, ◌+◌, All, IfOk};
+ghost use Rattle.path_meaning.specs.Graphs.{nodes};
+ghost use Rattle.netlist.specs.Names.{node_of};
+ghost use Rattle.netlist.specs.Circuits.{IsCircuit};
+ghost use Rattle.netlist.specs.Edits.{node_named, with_input};
+ghost use Rattle.script_lang.specs.declared.command.Command.TheVariants as asked;
+ghost use Rattle.script_lang.specs.Forms.{AreBeats};
+ghost use Rattle.cosmos_session.specs.Refusals as refusal;
+ghost use Rattle.cosmos_session.specs.Effects as effect;
+ghost use Rattle.cosmos_session.specs.Outcomes.{Quietly};
+
+use crate::clock::Clock;
+use crate::fault::{ApplyFault, Refusal};
+use crate::session::Session;
+use crate::{MOST_WATCHED, refusals};
+use netlist::{Circuit, RAILS};
+use script_lang::{AssignList, ClockList, Name, NameList, StateList};
+use std::alloc::Global;
+use ternary::{NoMemory, Tern};
+
+impl Session {
+    /// `input`: makes the named nodes input nodes.
+    pub(crate) fn input(&mut self, names: &NameList) -> Result<(), ApplyFault>
+        ensures { Quietly self.old (asked.Input names.now) self.new result }
+    {
+        if let Some(refusal) = refusals::input_refusal(&self.circuit, names.items()) {
+            return Err(ApplyFault::Refused(refusal));
+        }
+        make_inputs(&mut self.circuit, names.items());
+        Ok(())
+    }
+
+    /// `store`: makes the named node a storage node of this size.
+    pub(crate) fn store(&mut self, name: &Name, size: u64) -> Result<(), ApplyFault>
+        ensures { Quietly self.old (asked.Store name.now size) self.new result }
+    {
+        let Some(node) = self.circuit.find(name.items()) else {
+            return Err(ApplyFault::Refused(Refusal::UnknownNode));
+        };
+        match self.circuit.make_store(node, size) {
+            Ok(()) => Ok(()),
+            Err(_) if node < RAILS => Err(ApplyFault::Refused(Refusal::Rail)),
+            Err(_) => Err(ApplyFault::Refused(Refusal::BadSize)),
+        }
+    }
+
+    /// `set`: gives the named input nodes their states, from left to right.
+    pub(crate) fn set(&mut self, list: &AssignList) -> Result<(), ApplyFault>
+        ensures { Quietly self.old (asked.Set list.now) self.new result }
+    {
+        if let Some(refusal) = refusals::set_refusal(&self.circuit, list.items()) {
+            return Err(ApplyFault::Refused(refusal));
+        }
+        assign(&self.circuit, list.items(), &mut self.state);
+        Ok(())
+    }
+
+    /// `charge`: gives the named storage nodes their states, from left to right.
+    pub(crate) fn charge(&mut self, list: &AssignList) -> Result<(), ApplyFault>
+        ensures { Quietly self.old (asked.Charge list.now) self.new result }
+    {
+        if let Some(refusal) = refusals::charge_refusal(&self.circuit, list.items()) {
+            return Err(ApplyFault::Refused(refusal));
+        }
+        assign(&self.circuit, list.items(), &mut self.state);
+        Ok(())
+    }
+
+    /// `watch`: appends the named nodes to the watch list.
+    pub(crate) fn watch(&mut self, names: &NameList) -> Result<(), ApplyFault>
+        ensures { Quietly self.old (asked.Watch names.now) self.new result }
+    {
+        if let Some(refusal) = refusals::known_refusal(&self.circuit, names.items()) {
+            return Err(ApplyFault::Refused(refusal));
+        }
+        if names.items().len() > MOST_WATCHED - self.watched.len() {
+            return Err(ApplyFault::Refused(Refusal::TooManyWatched));
+        }
+        self.watched.reserve(names.items().len())?;
+        append_nodes(&self.circuit, names.items(), &mut self.watched);
+        Ok(())
+    }
+
+    /// `clock`: puts these clocks in place of all others.
+    pub(crate) fn set_clocks(&mut self, list: &ClockList) -> Result<(), ApplyFault>
+        requires { AreBeats list.now }
+        ensures { Quietly self.old (asked.Clock list.now) self.new result }
+    {
+        if let Some(refusal) = refusals::clocks_refusal(&self.circuit, list.items()) {
+            return Err(ApplyFault::Refused(refusal));
+        }
+        self.clocks = named_clocks(self.alloc, &self.circuit, list.items())?;
+        Ok(())
+    }
+}
+
+// Makes these named nodes, which are in use and no rails, input nodes.
+fn make_inputs(circuit: &mut Circuit, names: &[Name])
+    requires { All (λ name. refusal.rail_refusal (node_of circuit.old.names name) ≡ None) names.now }
+    ensures made { circuit.new ≡ effect.with_inputs circuit.old names.now }
+    ensures nodes { nodes circuit.new.graph ≡ nodes circuit.old.graph }
+    ensures netlist { IsCircuit circuit.new }
+{
+    for name in names {
+        make_input(circuit, name.items());
+    }
+    circuit.graph();
+}
+
+// Makes a named node, which is in use and no rail, an input node.
+fn make_input(circuit: &mut Circuit, name: &[u8])
+    requires { refusal.rail_refusal (node_of circuit.old.names name.now) ≡ None }
+    ensures { circuit.new ≡ with_input circuit.old (node_named circuit.old name.now) }
+{
+    let node = circuit.find(name).unwrap();
+    let _made = circuit.make_input(node);
+}
+
+// Gives these named nodes, which are in use, their states, from left to right.
+fn assign(circuit: &Circuit, list: &[(Name, Tern)], state: &mut Vec<Tern>)
+    requires states { vec_len state.old ≡ nodes circuit.now.graph }
+    requires known { All (λ item. is_some (node_of circuit.now.names item.0) ≡ true) list.now }
+    ensures { state.new.items ≡ effect.assigned circuit.now state.old.items list.now }
+{
+    for (name, value) in list {
+        let node = circuit.find(name.items()).unwrap();
+        state[node] = *value;
+    }
+}
+
+// Appends the nodes of these names, which are in use, in room that is there.
+fn append_nodes(circuit: &Circuit, names: &[Name], watched: &mut Vec<usize>)
+    requires known { All (λ name. is_some (node_of circuit.now.names name) ≡ true) names.now }
+    requires room { vec_len watched.old + length names.now ≤ vec_capacity watched.old }
+    requires within { All (λ node. node < nodes circuit.now.graph) watched.old.items }
+    ensures items { watched.new.items ≡ watched.old.items ++ map (node_named circuit.now) names.now }
+    ensures within { All (λ node. node < nodes circuit.now.graph) watched.new.items }
+{
+    for name in names {
+        watched.push_reserved(circuit.find(name.items()).unwrap());
+    }
+}
+
+// The clocks of these names, which are in use, and their letters.
+fn named_clocks(
+    alloc: Global,
+    circuit: &Circuit,
+    list: &[(Name, StateList)],
+) -> Result<Vec<Clock>, NoMemory>
+    requires { All (λ item. is_some (node_of circuit.now.names item.0) ≡ true) list.now }
+    ensures items { IfOk result (λ clocks. clocks.items ≡ map (effect.clock_of circuit.now) list.now) }
+    ensures within { IfOk result (λ clocks. All (λ clock. clock.node < nodes circuit.now.graph) clocks.items) }
+{
+    let mut clocks = Vec::with_capacity(alloc, list.len())?;
+    for (name, states) in list {
+        let node = circuit.find(name.items()).unwrap();
+        let states = Vec::from_slice(alloc, states.items())?;
+        clocks.push_reserved(Clock { node, states });
+    }
+    Ok(clocks)
+}
