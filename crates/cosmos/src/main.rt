@@ -9,7 +9,7 @@
 //! The exit status is that of `cosmos_app::run`, whose contract says what is written: 0 where all went
 //! well, 1 where an expectation wasn't met, 2 for words that are no command line, 3 and 4 for a refused
 //! line of the netlist or of the script, 5 and 6 where reading or writing failed, and 7 for want of
-//! memory.
+//! memory. For 2, 5, 6 and 7 a line on standard error says more.
 //!
 //! ```text
 //! cosmos sim inverter.sim inverter.cmd
@@ -17,10 +17,18 @@
 //! ```
 #![tactic(auto)]
 
+mod named_files;
+mod telling;
+
 use cosmos_app::{Status, run};
-use port_edge::{RealFiles, RealSink};
+use named_files::NamedFiles;
+use node_elimination::SymbolicAnalyst;
+use port_edge::{real_files, real_sink};
+use std::hash::RandomState;
 use std::process::ExitCode;
 use std::{env, io};
+use table_keys::TableKeys;
+use telling::{tell_start, tell_stop};
 
 fn main(rt: HostRuntime) -> ExitCode {
     ExitCode::from(status(&rt).code())
@@ -29,9 +37,12 @@ fn main(rt: HostRuntime) -> ExitCode {
 // What the words of the command line come to. Words that aren't UTF-8 are no command line.
 fn status(rt: &HostRuntime) -> Status {
     match words(rt) {
-        Ok(words) => answer(rt, &words),
-        Err(error) if error.kind() == io::ErrorKind::InvalidData => answer(rt, &[]),
-        Err(_) => Status::NoMemory,
+        Ok(words) => answer_drawn(rt, &words),
+        Err(error) if error.kind() == io::ErrorKind::InvalidData => answer_drawn(rt, &[]),
+        Err(error) => {
+            tell_start(rt, "words of the command line", error);
+            Status::NoMemory
+        }
     }
 }
 
@@ -41,12 +52,29 @@ fn words(rt: &HostRuntime) -> io::Result<Vec<String>> {
     Ok(words)
 }
 
+// Answers the words, with tables that are hashed from keys that the system draws.
+fn answer_drawn(rt: &HostRuntime, words: &[String]) -> Status {
+    match RandomState::new(rt) {
+        Ok(random) => answer(rt, words, TableKeys::drawn(random)),
+        Err(error) => {
+            tell_start(rt, "keys of the tables", error);
+            Status::NoMemory
+        }
+    }
+}
+
 // Answers the words over the files of the system and the standard output.
-fn answer(rt: &HostRuntime, words: &[String]) -> Status {
-    run(
-        rt.alloc(),
-        words,
-        &mut RealFiles::new(rt),
-        &mut RealSink::new(rt),
-    )
+fn answer(rt: &HostRuntime, words: &[String], keys: TableKeys) -> Status {
+    let mut files = NamedFiles::over(real_files(rt, keys));
+    let mut out = real_sink(rt);
+    let mut analyst = SymbolicAnalyst::with_keys(rt.alloc(), keys);
+    let status = run(rt.alloc(), words, &mut files, &mut out, &mut analyst);
+    tell_stop(
+        rt,
+        status,
+        files.name_in(words),
+        files.reason(),
+        out.reason(),
+    );
+    status
 }

@@ -4,5 +4,10 @@ pub mod RunLemmas
 pub mod TurnLemmas
 pub mod NetLemmas
 pub mod StartLemmas
-pub mod CutLemmas
+pub mod GroupsLemmas
 pub mod ListLemmas
+pub mod AnswerLemmas
+pub mod WholeLemmas
+pub mod CountLemmas
+pub mod PieceLemmas
+pub mod FirstRefusedLemmas

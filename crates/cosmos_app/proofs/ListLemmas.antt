@@ -1,59 +1,77 @@
 -- What was told of a circuit's listing, or of a group that is too large, is told of the answer to `compile`.
-use Rattle.std.proofs.Common.{◌≡◌, ℕ, ◌<◌, ◌⊎◌, inl, inr, List, [], Option, Some, Result, Ok, Err, unwrap_or, refl, sym, ap, subst}
+use Rattle.std.proofs.Common.{◌≡◌, ℕ, ◌<◌, ◌⊎◌, inl, inr, List, [], ◌++◌, Option, Some, Result, Ok, Err, unwrap_or, refl, sym, ap, subst, ◌∙◌}
 use Rattle.std.specs.Io.KnownBytes.{append_known}
 use Rattle.std.proofs.lemmas.List.Elements.{All-contains_itself}
 use Rattle.std.proofs.lemmas.Option.{slice_get_within, get_or_from_slice_get}
 use Rattle.port_edge.specs.Sending.{WritesPart}
-use Rattle.path_meaning.specs.Wiring.{Wiring, nodes}
+use Rattle.path_meaning.specs.Graphs.{GraphData, nodes, IsStorage}
 use Rattle.netlist.specs.Names.{name_at}
-use Rattle.netlist.specs.Netlists.{Netlist}
+use Rattle.netlist.specs.Circuits.{CircuitData}
 use Rattle.wave_print.specs.declared.faults.FaultPlace.TheVariants.{NetWhole}
 use Rattle.wave_print.specs.declared.faults.FaultCode.TheVariants.{G1GroupNodes, G2GroupSwitches}
-use Rattle.group_meaning.specs.Groups.{IsGroup, IsStorage, id_of}
+use Rattle.group_meaning.specs.Groups.{Group, AreGroups, IsGroup, id_of}
 use Rattle.group_meaning.proofs.GroupLemmas.{member_storage}
+use Rattle.group_text.specs.Texts.{GroupTextData}
 use Rattle.group_text.specs.declared.text.TextFault.{TextFault}
 use Rattle.group_text.specs.declared.text.TextFault.TheVariants as text
-use Rattle.linear_code.specs.Listing.{Listed, IsListing}
+use Rattle.linear_code.specs.Listing.{ListingData, IsListing}
 use Rattle.linear_code.specs.ListingText.{listing_text}
-use Rattle.circuit_listing.specs.declared.circuit.ListFault.{ListFault}
-use Rattle.circuit_listing.specs.declared.circuit.ListFault.TheVariants.{GroupNodes, GroupSwitches, NoMemory}
+use Rattle.circuit_texts.specs.declared.texts.BuildFault.{BuildFault}
+use Rattle.circuit_texts.specs.declared.texts.BuildFault.TheVariants.{GroupNodes, GroupSwitches, NoMemory}
 use Rattle.circuit_listing.specs.Faithful.{IsFaithful}
-use Rattle.circuit_listing.specs.Sizes.{at_node, AllFit, TellsTooLarge}
-use Rattle.cosmos_app.specs.declared.stop.End.TheVariants as ended
+use Rattle.circuit_texts.specs.Sizes.{at_node, AllFit, TellsTooLarge}
 use Rattle.cosmos_app.specs.declared.stop.Stop.{Stop}
+use Rattle.cosmos_app.specs.declared.stop.Stop.TheVariants.{Memory}
 use Rattle.cosmos_app.specs.declared.status.Status.TheVariants as status
 use Rattle.cosmos_app.specs.declared.stop.End as end
-use Rattle.cosmos_app.specs.Answers.{IsCompiled, IsNamedRefusal, size_line}
-use Rattle.cosmos_app.specs.Ends.{IsTold}
-use Rattle.cosmos_app.proofs.EndLemmas.{told_as, told_none}
+use Rattle.cosmos_app.specs.Runs.{Answer, plain_answer}
+use Rattle.cosmos_app.specs.Answers.{distinct_texts, IsCompiled, IsTooLarge, IsNamedRefusal, size_line}
+use Rattle.cosmos_app.specs.Ends.{IsTextOf, IsTold, IsToldBy}
+use Rattle.cosmos_app.proofs.EndLemmas.{told_as, told_by_none}
 
-module _ (c : Netlist) (listing : Listed) (is : IsListing listing) (faithful : IsFaithful c listing) (fits : AllFit c.graph) where
+-- what was told of a listing's text is told of the answer to `compile`
+module _ (c : CircuitData) (listing : ListingData) (is : IsListing listing) (faithful : IsFaithful c listing) (fits : AllFit c.graph) (groups : List Group) (are : AreGroups c.graph groups) where
   -- the listing is a right answer
-  listed : IsCompiled c (record { status = status.Done; text = listing_text listing })
-  listed = inl (record { listing = listing; is = is; faithful = faithful; fits = fits; told = refl })
+  listed : IsCompiled c (record { status = status.Done; text = listing_text listing; texts = distinct_texts c groups })
+  listed = inl (record { listing = listing; is = is; faithful = faithful; fits = fits; groups = groups; are = are; told = refl })
 
-  -- the whole listing was written
-  pub told_listing : (old new : Option (List ℕ)) → new ≡ append_known old (listing_text listing) → IsTold (IsCompiled c) old new (Ok ended.Done)
-  told_listing old new grew = record { answer = record { status = status.Done; text = listing_text listing }; right = listed; told = (refl, grew) }
+  pub told_listing : (old new : Option (List ℕ)) (before after : List GroupTextData) (result : Result end.End Stop) →
+      after ≡ before ++ distinct_texts c groups → IsTold (IsTextOf listing) old new result →
+      IsToldBy (IsCompiled c) old new before after result
+  told_listing old new before after (Ok end) analysed told = record {
+    answer = record { status = status.Done; text = listing_text listing; texts = distinct_texts c groups };
+    right = (listed, analysed);
+    ended = sym told.right.0 ∙ told.ended;
+    grew = told.grew ∙ ap (append_known old) told.right.1;
+  }
+  told_listing old new before after (Err stop) analysed (inl same) = inl same
+  told_listing old new before after (Err stop) analysed (inr begun) = inr (record {
+    answer = record { status = status.Done; text = listing_text listing; texts = distinct_texts c groups };
+    right = listed;
+    part = subst (WritesPart old new) begun.right.1 begun.part;
+  })
 
-  -- a part of it was written
-  pub told_listing_part : (old new : Option (List ℕ)) (stop : Stop) → WritesPart old new (listing_text listing) → IsTold (IsCompiled c) old new (Err stop)
-  told_listing_part old new stop part = record { answer = record { status = status.Done; text = listing_text listing }; right = listed; told = part }
-
--- a run that stops before it has a listing has written nothing
-pub told_unfinished : (c : Netlist) (known : Option (List ℕ)) (result : Result end.End Stop) (stop : Stop) → result ≡ Err stop →
-    IsTold (IsCompiled c) known known result
-told_unfinished c known result stop is = told_none (IsCompiled c) known result stop is (_, inr (inr refl))
+-- and so is what was told of a group that is too large: nothing was analysed for it
+pub told_too_large : (c : CircuitData) (fault : BuildFault) (old new : Option (List ℕ)) (before after : List GroupTextData) (result : Result end.End Stop) →
+    (fault ≡ NoMemory) ⊎ (TellsTooLarge c.graph fault × (after ≡ before)) → (fault ≡ NoMemory → result ≡ Err Memory) →
+    IsTold (IsTooLarge c) old new result → IsToldBy (IsCompiled c) old new before after result
+told_too_large c fault old new before after result (inl want) stops told =
+    let stopped : IsTold (IsTooLarge c) old new (Err Memory) = subst (IsTold (IsTooLarge c) old new) (stops want) told in
+    subst (IsToldBy (IsCompiled c) old new before after) (sym (stops want))
+    (told_as (IsTooLarge c) (IsCompiled c) old new (Err Memory) (λ answer right. inr right) stopped)
+told_too_large c fault old new before after result (inr first) stops told =
+    subst (λ (analysed : List GroupTextData). IsToldBy (IsCompiled c) old new before analysed result) (sym first.1)
+    (told_by_none (IsTooLarge c) (IsCompiled c) old new before result (λ answer right. (inr right, ap (λ (told : Answer). told.texts) right.told)) told)
 
 -- the line of the first group that is too large is a right answer
-told_size : (c : Netlist) (fault : ListFault) (old new : Option (List ℕ)) (result : Result end.End Stop) → TellsTooLarge c.graph fault →
-    IsTold (λ answer. answer ≡ record { status = status.NetRefused; text = size_line c fault }) old new result → IsTold (IsCompiled c) old new result
+told_size : (c : CircuitData) (fault : BuildFault) (old new : Option (List ℕ)) (result : Result end.End Stop) → TellsTooLarge c.graph fault →
+    IsTold (λ answer. answer ≡ plain_answer status.NetRefused (size_line c fault)) old new result → IsTold (IsTooLarge c) old new result
 told_size c fault old new result first told =
-    told_as (λ answer. answer ≡ record { status = status.NetRefused; text = size_line c fault }) (IsCompiled c) old new result
-    (λ answer right. inr (inl (record { fault = fault; first = first; told = right }))) told
+    told_as (λ answer. answer ≡ plain_answer status.NetRefused (size_line c fault)) (IsTooLarge c) old new result
+    (λ answer right. record { fault = fault; first = first; told = right }) told
 
 -- the node that a too large group's fault tells of is the group's least one
-node_is : (node id count : ℕ) (cause : TextFault) (fault : ListFault) → fault ≡ at_node id cause →
+node_is : (node id count : ℕ) (cause : TextFault) (fault : BuildFault) → fault ≡ at_node id cause →
     (fault ≡ GroupNodes node count) ⊎ (fault ≡ GroupSwitches node count) → node ≡ id
 node_is node id count (text.GroupNodes m) fault named (inl is) = cc
 node_is node id count (text.GroupNodes m) fault named (inr is) = absurd (cc)
@@ -63,7 +81,7 @@ node_is node id count text.NoMemory fault named (inl is) = absurd (cc)
 node_is node id count text.NoMemory fault named (inr is) = absurd (cc)
 
 -- so it is a node of the graph
-told_node : (g : Wiring) (fault : ListFault) (node count : ℕ) → TellsTooLarge g fault →
+told_node : (g : GraphData) (fault : BuildFault) (node count : ℕ) → TellsTooLarge g fault →
     (fault ≡ GroupNodes node count) ⊎ (fault ≡ GroupSwitches node count) → node < nodes g
 told_node g fault node count told is =
     let first = told.first in
@@ -76,21 +94,21 @@ told_node g fault node count told is =
     subst (λ n. n < nodes g) (sym (node_is node (id_of group) count first.cause fault first.named is)) storage.inside
 
 -- a fault that names a group isn't want of memory
-is_too_large : (g : Wiring) (fault : ListFault) (node count : ℕ) → (fault ≡ NoMemory) ⊎ TellsTooLarge g fault →
+is_too_large : (g : GraphData) (fault : BuildFault) (node count : ℕ) → (fault ≡ NoMemory) ⊎ TellsTooLarge g fault →
     (fault ≡ GroupNodes node count) ⊎ (fault ≡ GroupSwitches node count) → TellsTooLarge g fault
 is_too_large g fault node count (inl want) (inl is) = absurd (cc)
 is_too_large g fault node count (inl want) (inr is) = absurd (cc)
 is_too_large g fault node count (inr told) is = told
 
-pub node-inside : (g : Wiring) (fault : ListFault) (node count : ℕ) → (fault ≡ NoMemory) ⊎ TellsTooLarge g fault →
+pub node-inside : (g : GraphData) (fault : BuildFault) (node count : ℕ) → (fault ≡ NoMemory) ⊎ TellsTooLarge g fault →
     (fault ≡ GroupNodes node count) ⊎ (fault ≡ GroupSwitches node count) → node < nodes g
 node-inside g fault node count refused is = told_node g fault node count (is_too_large g fault node count refused is) is
 
-module _ (c : Netlist) (fault : ListFault) (node count : ℕ) (name : List ℕ) (refused : (fault ≡ NoMemory) ⊎ TellsTooLarge c.graph fault)
+module _ (c : CircuitData) (fault : BuildFault) (node count : ℕ) (name : List ℕ) (refused : (fault ≡ NoMemory) ⊎ TellsTooLarge c.graph fault)
     (found : name_at c.names node ≡ Some name) (old new : Option (List ℕ)) (result : Result end.End Stop) where
   -- the line of a group with too many members is told of the circuit
   pub told_nodes : fault ≡ GroupNodes node count → IsTold (IsNamedRefusal NetWhole G1GroupNodes name count status.NetRefused) old new result →
-      IsTold (IsCompiled c) old new result
+      IsTold (IsTooLarge c) old new result
   told_nodes is told =
       told_size c (GroupNodes node count) old new result
       (subst (TellsTooLarge c.graph) is (is_too_large c.graph fault node count refused (inl is)))
@@ -99,7 +117,7 @@ module _ (c : Netlist) (fault : ListFault) (node count : ℕ) (name : List ℕ) 
 
   -- and that of a group with too many switches
   pub told_switches : fault ≡ GroupSwitches node count →
-      IsTold (IsNamedRefusal NetWhole G2GroupSwitches name count status.NetRefused) old new result → IsTold (IsCompiled c) old new result
+      IsTold (IsNamedRefusal NetWhole G2GroupSwitches name count status.NetRefused) old new result → IsTold (IsTooLarge c) old new result
   told_switches is told =
       told_size c (GroupSwitches node count) old new result
       (subst (TellsTooLarge c.graph) is (is_too_large c.graph fault node count refused (inr is)))

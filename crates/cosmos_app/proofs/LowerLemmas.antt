@@ -1,9 +1,7 @@
 -- What the crates below show of lines, of commands and of netlists.
-use Rattle.std.proofs.Common.{◌≡◌, ◌≢◌, ℕ, ◌⊎◌, List, Some, Ok, Err, IfErr}
-use Rattle.std.specs.Option.{option_map}
+use Rattle.std.proofs.Common.{◌≡◌, ◌≢◌, ℕ, ◌⊎◌, List, Some, Ok, Err}
 use Rattle.line_words.specs.Files.{front_of}
-use Rattle.netlist.specs.Netlists.{Netlist, IsNetlist}
-use Rattle.sim_read.specs.declared.fault.NetFault.TheVariants as net
+use Rattle.netlist.specs.Circuits.{CircuitData, IsCircuit}
 use Rattle.sim_read.specs.Meaning.{netlist_of}
 use Rattle.sim_read.proofs.CircuitLemmas as circuits
 use Rattle.sim_read.proofs.MeaningLemmas as meanings
@@ -12,13 +10,11 @@ use Rattle.script_lang.specs.declared.command.ScriptFault.TheVariants as script
 use Rattle.script_lang.specs.Commands.{reading_of}
 use Rattle.script_lang.specs.Forms.{IsFormed}
 use Rattle.script_lang.proofs.ReadingLemmas.{reading-named, reading-formed}
-use Rattle.cosmos_session.specs.declared.fault.ApplyFault.{ApplyFault}
+use Rattle.cosmos_session.specs.declared.fault.Refusal.{Refusal}
 use Rattle.cosmos_session.specs.Sessions.{SessionData, IsReady, start_of}
-use Rattle.cosmos_session.specs.Refusals.{refusal_of, fault_of}
+use Rattle.cosmos_session.specs.Refusals.{refusal_of}
 use Rattle.cosmos_session.specs.Outcomes.{Does}
 use Rattle.cosmos_session.proofs.EffectLemmas as effects
-use Rattle.cosmos_session.proofs.FaultLemmas as faults
-use Rattle.cosmos_session.proofs.FaultLemmas.{IsMeant}
 
 -- a line is never refused by want of memory
 pub reading_of-meant : (line : List ℕ) → reading_of line ≢ Err script.NoMemory
@@ -30,29 +26,20 @@ reading_of-formed line command is = reading-formed line command is
 
 -- a formed command is refused, or has an effect
 pub does_or_refused : (session : SessionData) (command : Command) → IsReady session → IsFormed command →
-    ((fault : ApplyFault) × (option_map fault_of (refusal_of session command) ≡ Some fault))
+    ((refusal : Refusal) × (refusal_of session command ≡ Some refusal))
     ⊎ ((new : SessionData) × (text : List ℕ) × Does session command new text)
-does_or_refused session command ready formed = faults.does_or_told session command ready formed
+does_or_refused session command ready formed = effects.does_or_refused session command ready formed
 
 -- the effect of a command keeps the data ready
 pub ready-does : (old new : SessionData) (command : Command) (text : List ℕ) → IsReady old → Does old command new text → IsReady new
 ready-does old new command text ready does = effects.ready-does old new command text ready does
 
 -- a session starts ready
-pub ready-start : (circuit : Netlist) → IsNetlist circuit → IsReady (start_of circuit)
+pub ready-start : (circuit : CircuitData) → IsCircuit circuit → IsReady (start_of circuit)
 ready-start circuit is = effects.ready-start circuit is
 
--- no command is refused by a fault of writing or by want of memory
-pub refusal_of-meant : (session : SessionData) (command : Command) (fault : ApplyFault) →
-    option_map fault_of (refusal_of session command) ≡ Some fault → IsMeant fault
-refusal_of-meant session command fault is = faults.refusal_of-meant session command fault is
-
--- no netlist is refused by want of memory
-pub netlist_of-meant : (text : List ℕ) → IfErr (netlist_of text) (λ fault. fault ≢ net.NoMemory)
-netlist_of-meant text = meanings.netlist_of-meant text
-
 -- what a netlist gives is a circuit
-pub netlist_of-netlist : (text : List ℕ) (circuit : Netlist) → netlist_of text ≡ Ok circuit → IsNetlist circuit
+pub netlist_of-netlist : (text : List ℕ) (circuit : CircuitData) → netlist_of text ≡ Ok circuit → IsCircuit circuit
 netlist_of-netlist text circuit is = circuits.netlist_of-netlist text circuit is
 
 -- a netlist means what its front means

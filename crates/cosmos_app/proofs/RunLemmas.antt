@@ -5,14 +5,10 @@ use Rattle.std.proofs.Common.{◌≡◌, ◌≢◌, ℕ, inl, inr, Bool, true, f
 use Rattle.std.specs.Io.KnownBytes.{append_known}
 use Rattle.port_edge.proofs.SendingLemmas.{append_known-nil, append_known-append, sends_part, part_whole, part_longer}
 use Rattle.line_words.specs.Files.{is_cut}
-use Rattle.netlist.specs.declared.fault.EditFault.{EditFault}
-use Rattle.netlist.specs.declared.fault.EditFault.TheVariants as edit
 use Rattle.script_lang.specs.declared.command.Command.{Command}
 use Rattle.script_lang.specs.declared.command.ScriptFault.{ScriptFault}
 use Rattle.script_lang.specs.declared.command.ScriptFault.TheVariants as script
 use Rattle.script_lang.specs.Commands.{reading_of}
-use Rattle.cosmos_session.specs.declared.fault.ApplyFault.{ApplyFault}
-use Rattle.cosmos_session.specs.declared.fault.ApplyFault.TheVariants as apply
 use Rattle.cosmos_session.specs.Sessions.{SessionData, IsReady}
 use Rattle.wave_print.specs.declared.faults.FaultCode.{FaultCode}
 use Rattle.wave_print.specs.declared.faults.FaultCode.TheVariants.{S11TooLong}
@@ -21,13 +17,12 @@ use Rattle.cosmos_app.specs.declared.status.Status.TheVariants.{ScriptRefused}
 use Rattle.cosmos_app.specs.declared.stop.Stop.{Stop}
 use Rattle.cosmos_app.specs.declared.stop.End as end
 use Rattle.cosmos_app.specs.declared.script.Turn.TheVariants.{Accepted, Refused}
-use Rattle.cosmos_app.specs.Codes.{script_code, edit_code, apply_code}
+use Rattle.cosmos_app.specs.Codes.{script_code, refusal_code}
 use Rattle.cosmos_app.specs.Runs.{Answer, Runs, ends, passes, obeys, refuses, IsIdle, Asks, IsRefused, too_long, unread, refused, end_answer, refused_at, after_text}
 use Rattle.cosmos_app.specs.Answers.{IsRefusal}
 use Rattle.cosmos_app.specs.Turns.{Follows, TakesTurn}
 use Rattle.cosmos_app.specs.Ends.{IsTold, status_of}
-use Rattle.cosmos_session.proofs.FaultLemmas.{IsMeant}
-use Rattle.cosmos_app.proofs.LowerLemmas.{reading_of-meant, reading_of-formed, does_or_refused, ready-does, refusal_of-meant}
+use Rattle.cosmos_app.proofs.LowerLemmas.{reading_of-meant, reading_of-formed, does_or_refused, ready-does}
 use Rattle.cosmos_app.proofs.EndLemmas.{told_after}
 
 -- a fault of a line has a code, but for want of memory
@@ -40,29 +35,6 @@ script_coded script.ManyWords other = (_, refl)
 script_coded script.BadValue other = (_, refl)
 script_coded script.BadNumber other = (_, refl)
 script_coded script.NoMemory other = absurd (other refl)
-
--- and so has a refused edit
-edit_coded : (fault : EditFault) → fault ≢ edit.NoMemory → (code : FaultCode) × (edit_code fault ≡ Some code)
-edit_coded edit.NoSuchSwitch other = (_, refl)
-edit_coded edit.Rail other = (_, refl)
-edit_coded edit.BadStrength other = (_, refl)
-edit_coded edit.BadSize other = (_, refl)
-edit_coded edit.AliasTaken other = (_, refl)
-edit_coded edit.TooManyNodes other = (_, refl)
-edit_coded edit.TooManySwitches other = (_, refl)
-edit_coded edit.NoMemory other = absurd (other refl)
-
--- and so has the refusal of a command
-apply_coded : (fault : ApplyFault) → IsMeant fault → (code : FaultCode) × (apply_code fault ≡ Some code)
-apply_coded apply.UnknownNode meant = (_, refl)
-apply_coded (apply.Edit fault) meant = edit_coded fault (λ is. meant.no_edit (ap apply.Edit is))
-apply_coded apply.NotInput meant = (_, refl)
-apply_coded apply.NotStore meant = (_, refl)
-apply_coded apply.ClockLength meant = (_, refl)
-apply_coded apply.NoClock meant = (_, refl)
-apply_coded apply.TooManyWatched meant = (_, refl)
-apply_coded apply.WriteFault meant = absurd (meant.no_write refl)
-apply_coded apply.NoMemory meant = absurd (meant.no_memory refl)
 
 -- a script has an answer from everywhere
 abbrev pub HasAnswer : Option ℕ → SessionData → List (ℕ × List ℕ) → Type 0
@@ -78,9 +50,7 @@ module _ (cut : Option ℕ) (session : SessionData) (line : ℕ × List ℕ) (li
   answer-asked : (command : Command) → Asks cut line command → HasAnswer cut session (line ∷ lines)
   answer-asked command asks =
       elim (does_or_refused session command ready (reading_of-formed line.1 command asks.reading)) [
-        | inl is ↦
-            let coded = apply_coded is.0 (refusal_of-meant session command is.0 is.1) in
-            answer-refused coded.0 (refused command is.0 asks is.1 coded.1)
+        | inl is ↦ answer-refused (refusal_code is.0) (refused command is.0 asks is.1 refl)
         | inr found ↦
             let rest = goes found.0 (ready-does session found.0 command found.1 ready found.2) in
             (after_text found.1 rest.0, obeys session found.0 line lines command found.1 rest.0 asks found.2 rest.1)
@@ -127,7 +97,7 @@ comes_first cut start all before ready = record {
 -- two texts before an answer are their sum before it
 after_texts : (first second : List ℕ) (answer : Answer) → after_text first (after_text second answer) ≡ after_text (first ++ second) answer
 after_texts first second answer =
-    let told : List ℕ → Answer = λ text. record { status = answer.status; text = text } in
+    let told : List ℕ → Answer = λ text. record { status = answer.status; text = text; texts = answer.texts } in
     ap told (sym (append_assoc first second answer.text))
 
 module _ (cut : Option ℕ) (start : SessionData) (all : List (ℕ × List ℕ)) (before : Option (List ℕ)) (now : SessionData) (line : ℕ × List ℕ) (left : List (ℕ × List ℕ)) (after : Option (List ℕ)) (come : HasCome cut start all before now (line ∷ left) after) where
@@ -168,27 +138,27 @@ module _ (cut : Option ℕ) (start : SessionData) (all : List (ℕ × List ℕ))
       told_after (IsRefusal (Script line.0) code ScriptRefused) (Runs cut start all) before more last come.sent result (same ∙ come.grew)
       (λ answer right. subst (λ other. Runs cut start all (after_text come.sent other)) (sym right)
       (come.goes_on (refused_at line.0 code) (refuses now line left code is)))
-      told
+      (_, refl) told
 
   -- to a line at which the run stopped: what was written is where the answer begins that the script would have had
   pub told_stop : (new : SessionData) (more : Option (List ℕ)) (stop : Stop) → TakesTurn cut line now new after more (Err stop) →
       IsTold (Runs cut start all) before more (Err stop)
   told_stop new more stop (inl same) =
       let rest = answer_exists cut (line ∷ left) now come.ready in
-      record {
+      inr (record {
         answer = after_text come.sent rest.0;
         right = come.goes_on rest.0 rest.1;
-        told = part_longer before more come.sent rest.0.text (part_whole before more come.sent (same ∙ come.grew));
-      }
+        part = part_longer before more come.sent rest.0.text (part_whole before more come.sent (same ∙ come.grew));
+      })
   told_stop new more stop (inr starts) =
       let begins = starts.begins in
       let rest = answer_exists cut left begins.end (ready-does now begins.end starts.command begins.text come.ready begins.does) in
-      record {
+      inr (record {
         answer = after_text come.sent (after_text begins.text rest.0);
         right = come.goes_on (after_text begins.text rest.0) (obeys now begins.end line left starts.command begins.text rest.0 starts.asks begins.does rest.1);
-        told = sends_part before after more (come.sent ++ (begins.text ++ rest.0.text)) begins.text rest.0.text
-            (record { sent = come.sent; whole = refl; grew = come.grew }) begins.part;
-      }
+        part = sends_part before after more (come.sent ++ (begins.text ++ rest.0.text)) begins.text rest.0.text
+            (record { sent = come.sent; whole = refl; grew = come.grew }) begins.written;
+      })
 
 -- to the end
 pub told_end : (cut : Option ℕ) (start : SessionData) (all : List (ℕ × List ℕ)) (before : Option (List ℕ)) (now : SessionData) (after : Option (List ℕ)) (ending : end.End) →
@@ -196,5 +166,14 @@ pub told_end : (cut : Option ℕ) (start : SessionData) (all : List (ℕ × List
 told_end cut start all before now after ending come same = record {
   answer = after_text come.sent (end_answer now);
   right = come.goes_on (end_answer now) (ends now);
-  told = (sym same, come.grew ∙ ap (append_known before) (sym (append-nil come.sent)));
+  ended = sym same;
+  grew = come.grew ∙ ap (append_known before) (sym (append-nil come.sent));
 }
+
+-- a script has no text of a group analysed
+pub runs_plain : (cut : Option ℕ) (session : SessionData) (lines : List (ℕ × List ℕ)) (answer : Answer) →
+    Runs cut session lines answer → answer.texts ≡ []
+runs_plain cut session lines answer (ends _) = refl
+runs_plain cut session lines answer (passes _ _ left _ idle runs) = runs_plain cut session left answer runs
+runs_plain cut session lines answer (obeys _ new _ left command text rest asks does runs) = runs_plain cut new left rest runs
+runs_plain cut session lines answer (refuses _ _ left code is) = refl

@@ -21,7 +21,7 @@ pub takes_turn : (cut : Option ℕ) (line : ℕ × List ℕ) (command : Command)
 takes_turn cut line command old new before after (Ok Accepted) asks accepts =
     inr (record { command = command; asks = asks; accepts = accepts })
 takes_turn cut line command old new before after (Ok (Refused code)) asks (is, same) =
-    (refused command is.fault asks is.cause is.coded, same)
+    (refused command is.refusal asks is.cause is.coded, same)
 takes_turn cut line command old new before after (Err stop) asks (inl same) = inl same
 takes_turn cut line command old new before after (Err stop) asks (inr begins) =
     inr (record { command = command; asks = asks; begins = begins })

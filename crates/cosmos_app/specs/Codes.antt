@@ -1,13 +1,11 @@
 -- The codes under which faults are printed.
 use Rattle.std.specs.Prelude.{Option, Some, None}
-use Rattle.netlist.specs.declared.fault.EditFault.{EditFault}
-use Rattle.netlist.specs.declared.fault.EditFault.TheVariants as edit
 use Rattle.sim_read.specs.declared.fault.NetWhat.{NetWhat}
 use Rattle.sim_read.specs.declared.fault.NetWhat.TheVariants as net
 use Rattle.script_lang.specs.declared.command.ScriptFault.{ScriptFault}
 use Rattle.script_lang.specs.declared.command.ScriptFault.TheVariants as script
-use Rattle.cosmos_session.specs.declared.fault.ApplyFault.{ApplyFault}
-use Rattle.cosmos_session.specs.declared.fault.ApplyFault.TheVariants as apply
+use Rattle.cosmos_session.specs.declared.fault.Refusal.{Refusal}
+use Rattle.cosmos_session.specs.declared.fault.Refusal.TheVariants as refusal
 use Rattle.wave_print.specs.declared.faults.FaultCode.{FaultCode}
 use Rattle.wave_print.specs.declared.faults.FaultCode.TheVariants as code
 
@@ -36,25 +34,13 @@ script_code script.BadValue = Some code.S4BadValue
 script_code script.BadNumber = Some code.S5BadNumber
 script_code script.NoMemory = None
 
--- of a refused edit; want of memory has none
-abbrev pub edit_code : EditFault → Option FaultCode
-edit_code edit.NoSuchSwitch = Some code.E2NoSuchSwitch
-edit_code edit.Rail = Some code.E3Rail
-edit_code edit.BadStrength = Some code.E4BadStrength
-edit_code edit.BadSize = Some code.E5BadSize
-edit_code edit.AliasTaken = Some code.E6AliasTaken
-edit_code edit.TooManyNodes = Some code.E7TooManyNodes
-edit_code edit.TooManySwitches = Some code.E8TooManySwitches
-edit_code edit.NoMemory = None
-
--- of a refused command; a fault of writing and want of memory have none
-abbrev pub apply_code : ApplyFault → Option FaultCode
-apply_code apply.UnknownNode = Some code.E1UnknownNode
-apply_code (apply.Edit fault) = edit_code fault
-apply_code apply.NotInput = Some code.S6NotInput
-apply_code apply.NotStore = Some code.S7NotStore
-apply_code apply.ClockLength = Some code.S8ClockLength
-apply_code apply.NoClock = Some code.S9NoClock
-apply_code apply.TooManyWatched = Some code.S10TooManyWatched
-apply_code apply.WriteFault = None
-apply_code apply.NoMemory = None
+-- of a refused command
+abbrev pub refusal_code : Refusal → FaultCode
+refusal_code refusal.UnknownNode = code.E1UnknownNode
+refusal_code refusal.Rail = code.E3Rail
+refusal_code refusal.BadSize = code.E5BadSize
+refusal_code refusal.NotInput = code.S6NotInput
+refusal_code refusal.NotStore = code.S7NotStore
+refusal_code refusal.ClockLength = code.S8ClockLength
+refusal_code refusal.NoClock = code.S9NoClock
+refusal_code refusal.TooManyWatched = code.S10TooManyWatched

@@ -1,14 +1,16 @@
 -- How a run ends, with what it wrote: inside the program, before the end becomes a status.
-use Rattle.std.specs.Prelude.{◌≡◌, ℕ, List, Option, Result, Ok, Err}
-use Rattle.std.specs.Io.KnownBytes.{append_known}
-use Rattle.port_edge.specs.Sending.{WritesPart}
+use Rattle.std.specs.Prelude.{◌≡◌, ℕ, List, Option, Result, Ok, Err, IfErr}
+use Rattle.group_text.specs.Texts.{GroupTextData}
 use Rattle.cosmos_app.specs.declared.stop.End as end
 use Rattle.cosmos_app.specs.declared.stop.End.TheVariants as ended
 use Rattle.cosmos_app.specs.declared.stop.Stop.{Stop}
 use Rattle.cosmos_app.specs.declared.stop.Stop.TheVariants.{Read, Write, Memory}
 use Rattle.cosmos_app.specs.declared.status.Status.{Status}
 use Rattle.cosmos_app.specs.declared.status.Status.TheVariants as status
+use Rattle.linear_code.specs.Listing.{ListingData}
+use Rattle.linear_code.specs.ListingText.{listing_text}
 use Rattle.cosmos_app.specs.Runs.{Answer}
+use Rattle.cosmos_app.specs.Answers.{IsWritten, IsStopped, IsAnalysed}
 
 -- the status of a run that met no fault and no want of memory
 abbrev pub status_of : end.End → Status
@@ -25,13 +27,20 @@ status_after (Err Read) = status.ReadFault
 status_after (Err Write) = status.WriteFault
 status_after (Err Memory) = status.NoMemory
 
--- the whole text of the answer was written and its status is the end's, or a part of the text was written, from its start
-abbrev pub Tells : Option (List ℕ) → Option (List ℕ) → Result end.End Stop → Answer → Type 0
-Tells old new (Ok end) answer = (answer.status ≡ status_of end) × (new ≡ append_known old answer.text)
-Tells old new (Err stop) answer = WritesPart old new answer.text
+-- a right answer was written whole, with the end's status; where the run stopped, nothing or a part of a right answer
+abbrev pub IsTold : (Answer → Type 0) → Option (List ℕ) → Option (List ℕ) → Result end.End Stop → Type 0
+IsTold IsRight old new (Ok end) = IsWritten IsRight old new (status_of end)
+IsTold IsRight old new (Err stop) = IsStopped IsRight old new
 
--- some right answer was told
-pub record IsTold (IsRight : Answer → Type 0) (old new : Option (List ℕ)) (result : Result end.End Stop) : Type 0 where
-  pub answer : Answer
-  pub right : IsRight answer
-  pub told : Tells old new result answer
+-- and the texts of the answer were analysed; where the run stopped, nothing is said of them
+abbrev pub IsToldBy : (Answer → Type 0) → Option (List ℕ) → Option (List ℕ) → List GroupTextData → List GroupTextData → Result end.End Stop → Type 0
+IsToldBy IsRight old new before after (Ok end) = IsWritten (IsAnalysed IsRight before after) old new (status_of end)
+IsToldBy IsRight old new before after (Err stop) = IsStopped IsRight old new
+
+-- nothing was written where reading stopped the run
+abbrev pub IsUntouched : {T X : Type 0} → X → X → Result T Stop → Type 0
+IsUntouched old new result = IfErr result (λ stop. stop ≡ Read → new ≡ old)
+
+-- the answer is the text of a listing, whatever texts were analysed for it
+abbrev pub IsTextOf : ListingData → Answer → Type 0
+IsTextOf listing answer = (answer.status ≡ status.Done) × (answer.text ≡ listing_text listing)

@@ -7,3 +7,7 @@ pub mod Stops
 pub mod Turns
 pub mod Ends
 pub mod Starts
+pub mod Counts
+pub mod Wholes
+pub mod Sendings
+pub mod FirstRefused

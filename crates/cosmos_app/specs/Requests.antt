@@ -1,20 +1,53 @@
 -- What the words of a command line ask for.
-use Rattle.std.specs.Prelude.{ℕ, List, [], ◌∷◌, codes, bytes_eq, if◌then◌else◌}
+use Rattle.std.specs.Prelude.{ℕ, List, [], ◌∷◌, map, codes, bytes_eq, if◌then◌else◌, Option, Some, None, String, string_bytes}
+use Rattle.std.specs.declared.alloc.Global.{Global}
+use Rattle.cosmos_app.specs.declared.request.Question as code_question
+use Rattle.cosmos_app.specs.declared.request.Question.TheVariants as code_question_is
+use Rattle.cosmos_app.specs.declared.request.Request as code_request
+use Rattle.cosmos_app.specs.declared.request.Request.TheVariants as code_request_is
 
--- a simulation of the netlist and the script with these names, a check, the groups or the listing of the netlist with this name, or
--- nothing that there is
+-- what may be asked about a netlist: the run of the script with this name in its circuit, a check, its groups, or its listing
+pub data Question : Type 0 where
+  Simulate : List ℕ → Question
+  Check : Question
+  Groups : Question
+  Compile : Question
+
+-- what words ask for: a question about the netlist with this name, or nothing that there is
 pub data Request : Type 0 where
-  Simulate : List ℕ → List ℕ → Request
-  Check : List ℕ → Request
-  Cut : List ℕ → Request
-  Compile : List ℕ → Request
+  About : List ℕ → Question → Request
   Unclear : Request
+
+-- what a word alone asks about a netlist
+abbrev pub question_of : List ℕ → Option Question
+question_of command =
+    if bytes_eq command (codes "check") then Some Check
+    else (if bytes_eq command (codes "groups") then Some Groups
+    else (if bytes_eq command (codes "compile") then Some Compile else None))
+
+-- a question about a netlist, where there is one
+abbrev pub about : List ℕ → Option Question → Request
+about net (Some question) = About net question
+about net None = Unclear
 
 -- `sim NET SCRIPT`, `check NET`, `groups NET` and `compile NET`, compared byte by byte
 abbrev pub request_of : List (List ℕ) → Request
-request_of (command ∷ net ∷ script ∷ []) = if bytes_eq command (codes "sim") then Simulate net script else Unclear
-request_of (command ∷ net ∷ []) =
-    if bytes_eq command (codes "check") then Check net
-    else (if bytes_eq command (codes "groups") then Cut net
-    else (if bytes_eq command (codes "compile") then Compile net else Unclear))
+request_of (command ∷ net ∷ script ∷ []) = if bytes_eq command (codes "sim") then About net (Simulate script) else Unclear
+request_of (command ∷ net ∷ []) = about net (question_of command)
 request_of _ = Unclear
+
+-- a question of the code, as it is meant here
+abbrev pub question_seen : code_question.Question → Question
+question_seen (code_question_is.Simulate script) = Simulate script.now
+question_seen code_question_is.Check = Check
+question_seen code_question_is.Groups = Groups
+question_seen code_question_is.Compile = Compile
+
+-- and a request of the code
+abbrev pub request_seen : code_request.Request → Request
+request_seen (code_request_is.About net question) = About net.now (question_seen question)
+request_seen code_request_is.Unclear = Unclear
+
+-- the bytes of the words
+abbrev pub names_of : List (String Global) → List (List ℕ)
+names_of words = map string_bytes words

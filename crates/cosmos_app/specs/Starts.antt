@@ -2,10 +2,10 @@
 use Rattle.std.specs.Prelude.{◌≡◌, ℕ, ⊤, ◌⊎◌, List, Option, IfSome, Result, Ok, Err}
 use Rattle.port_edge.specs.Ports.{with_name}
 use Rattle.cosmos_app.specs.declared.stop.Stop.{Stop}
-use Rattle.netlist.specs.Netlists.{Netlist}
-use Rattle.sim_read.specs.declared.fault.NetFault.{NetFault}
+use Rattle.netlist.specs.Circuits.{CircuitData}
+use Rattle.sim_read.specs.declared.fault.NetRefusal.{NetRefusal}
 use Rattle.sim_read.specs.Meaning.{netlist_of}
-use Rattle.cosmos_app.specs.Requests.{Request, Simulate, Check, Cut, Compile, Unclear}
+use Rattle.cosmos_app.specs.Requests.{Question, Simulate, Request, About, Unclear}
 
 -- the started names, where they are told
 abbrev pub Started : Type 0
@@ -20,21 +20,23 @@ abbrev pub StartsFile : {T : Type 0} → Started → Started → List ℕ → Re
 StartsFile old new name (Ok _) = new ≡ with_name old name
 StartsFile old new name (Err stop) = StartsAtMost old new name
 
+-- what a question starts beside the netlist: a simulation starts nothing or its script
+abbrev pub ScriptStarts : Question → Started → Started → Type 0
+ScriptStarts (Simulate script) old new = StartsAtMost old new script
+ScriptStarts _ old new = new ≡ old
+
 -- the netlist has no refusal
-abbrev pub IsAccepted : Result Netlist NetFault → Type 0
+abbrev pub IsAccepted : Result CircuitData NetRefusal → Type 0
 IsAccepted (Ok circuit) = ⊤
 IsAccepted (Err fault) = ⊥
 
--- a simulation starts nothing, or its netlist, or its netlist and then its script; the script only where the netlist has no refusal
-abbrev pub SimulationStarts : Option (List ℕ → List ℕ) → List ℕ → List ℕ → Started → Started → Type 0
-SimulationStarts known net script old new =
+-- what a question starts: nothing, or the netlist; and then what it starts beside it, only where the netlist has no refusal
+abbrev pub QuestionStarts : List ℕ → Question → Option (List ℕ → List ℕ) → Started → Started → Type 0
+QuestionStarts net question known old new =
     StartsAtMost old new net
-    ⊎ ((new ≡ with_name (with_name old net) script) × IfSome known (λ holds. IsAccepted (netlist_of (holds net))))
+    ⊎ (ScriptStarts question (with_name old net) new × IfSome known (λ holds. IsAccepted (netlist_of (holds net))))
 
 -- what a request starts
 abbrev pub RequestStarts : Request → Option (List ℕ → List ℕ) → Started → Started → Type 0
-RequestStarts (Simulate net script) known old new = SimulationStarts known net script old new
-RequestStarts (Check net) known old new = StartsAtMost old new net
-RequestStarts (Cut net) known old new = StartsAtMost old new net
-RequestStarts (Compile net) known old new = StartsAtMost old new net
+RequestStarts (About net question) known old new = QuestionStarts net question known old new
 RequestStarts Unclear known old new = new ≡ old

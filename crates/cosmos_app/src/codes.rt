@@ -3,8 +3,7 @@
 ghost use Rattle.std.specs.Prelude.{◌≡◌};
 ghost use Rattle.cosmos_app.specs.Codes as spec;
 
-use cosmos_session::ApplyFault;
-use netlist::EditFault;
+use cosmos_session::Refusal;
 use script_lang::ScriptFault;
 use sim_read::NetWhat;
 use wave_print::FaultCode;
@@ -44,34 +43,18 @@ pub(crate) fn script_code(fault: ScriptFault) -> Option<FaultCode>
     }
 }
 
-/// The code of a refused command; a fault of writing and want of memory have none.
-pub(crate) fn apply_code(fault: ApplyFault) -> Option<FaultCode>
-    ensures { result ≡ spec.apply_code fault }
+/// The code of a refused command.
+pub(crate) fn refusal_code(refusal: Refusal) -> FaultCode
+    ensures { result ≡ spec.refusal_code refusal }
 {
-    match fault {
-        ApplyFault::UnknownNode => Some(FaultCode::E1UnknownNode),
-        ApplyFault::Edit(cause) => edit_code(cause),
-        ApplyFault::NotInput => Some(FaultCode::S6NotInput),
-        ApplyFault::NotStore => Some(FaultCode::S7NotStore),
-        ApplyFault::ClockLength => Some(FaultCode::S8ClockLength),
-        ApplyFault::NoClock => Some(FaultCode::S9NoClock),
-        ApplyFault::TooManyWatched => Some(FaultCode::S10TooManyWatched),
-        ApplyFault::WriteFault | ApplyFault::NoMemory => None,
-    }
-}
-
-// The code of a refused edit; want of memory has none.
-fn edit_code(fault: EditFault) -> Option<FaultCode>
-    ensures { result ≡ spec.edit_code fault }
-{
-    match fault {
-        EditFault::NoSuchSwitch => Some(FaultCode::E2NoSuchSwitch),
-        EditFault::Rail => Some(FaultCode::E3Rail),
-        EditFault::BadStrength => Some(FaultCode::E4BadStrength),
-        EditFault::BadSize => Some(FaultCode::E5BadSize),
-        EditFault::AliasTaken => Some(FaultCode::E6AliasTaken),
-        EditFault::TooManyNodes => Some(FaultCode::E7TooManyNodes),
-        EditFault::TooManySwitches => Some(FaultCode::E8TooManySwitches),
-        EditFault::NoMemory => None,
+    match refusal {
+        Refusal::UnknownNode => FaultCode::E1UnknownNode,
+        Refusal::Rail => FaultCode::E3Rail,
+        Refusal::BadSize => FaultCode::E5BadSize,
+        Refusal::NotInput => FaultCode::S6NotInput,
+        Refusal::NotStore => FaultCode::S7NotStore,
+        Refusal::ClockLength => FaultCode::S8ClockLength,
+        Refusal::NoClock => FaultCode::S9NoClock,
+        Refusal::TooManyWatched => FaultCode::S10TooManyWatched,
     }
 }

@@ -16,11 +16,17 @@
 #![tactic(auto)]
 
 mod codes;
+mod compile;
+mod laws;
+mod reading;
 mod refusal;
+mod reports;
+mod request;
 mod script;
 mod status;
 mod stop;
 mod top;
 
+pub use laws::scripts_end_at_their_first_refused_line;
 pub use status::Status;
 pub use top::run;

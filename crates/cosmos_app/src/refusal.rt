@@ -1,17 +1,17 @@
 //! The lines of refusals.
 
-ghost use Rattle.std.specs.Prelude.{◌≡◌, ◌≢◌, ◌≤◌, ◌⊎◌, Err, IfOk, IfErr};
-ghost use Rattle.circuit_listing.specs.Sizes.{TellsTooLarge};
-ghost use Rattle.cosmos_app.specs.Answers.{IsCompiled, IsNamedRefusal, IsNetRefusal, IsRefusal};
+ghost use Rattle.std.specs.Prelude.{◌≡◌, ◌≢◌, ◌⊎◌, Err, IfOk, IfErr};
+ghost use Rattle.circuit_texts.specs.Sizes.{TellsTooLarge};
+ghost use Rattle.cosmos_app.specs.Answers.{IsNamedRefusal, IsNetRefusal, IsRefusal, IsTooLarge, IsUsage};
 ghost use Rattle.cosmos_app.specs.Ends.{IsTold, status_of};
-ghost use Rattle.cosmos_app.specs.Stops.{RaisedAt};
+ghost use Rattle.cosmos_app.specs.Stops.{faults_written, IsRefusedOnce};
 
 use crate::codes::net_code;
 use crate::stop::{End, Stop};
-use circuit_listing::ListFault;
+use circuit_listing::BuildFault;
 use netlist::Circuit;
 use port_edge::{Sink, send};
-use sim_read::NetFault;
+use sim_read::NetRefusal;
 use std::alloc::Global;
 use wave_print::{FAULT_LINE_ROOM, FaultCode, FaultPlace, LineBuf, fault_line};
 
@@ -27,8 +27,8 @@ pub(crate) fn refuse<S: Sink>(
         (IsRefusal place code (status_of end)) (S.written out.old) (S.written out.new) result }
     ensures same { IfOk result (λ ended. ended ≡ end) }
     ensures no_read { IfErr result (λ stop. stop ≢ Stop.Read) }
-    ensures write { RaisedAt Stop.Write (S.faults out.old) (S.faults out.new) result }
-    ensures later { S.faults out.old ≤ S.faults out.new }
+    ensures write { S.faults out.new ≡ faults_written (S.faults out.old) result }
+    ensures refused { IsRefusedOnce (S.refusals out.old) (S.refusals out.new) result }
 {
     refuse_named(alloc, place, code, b"", 0, end, out)
 }
@@ -47,8 +47,8 @@ fn refuse_named<S: Sink>(
         (IsNamedRefusal place code name.now count (status_of end)) (S.written out.old) (S.written out.new) result }
     ensures same { IfOk result (λ ended. ended ≡ end) }
     ensures no_read { IfErr result (λ stop. stop ≢ Stop.Read) }
-    ensures write { RaisedAt Stop.Write (S.faults out.old) (S.faults out.new) result }
-    ensures later { S.faults out.old ≤ S.faults out.new }
+    ensures write { S.faults out.new ≡ faults_written (S.faults out.old) result }
+    ensures refused { IsRefusedOnce (S.refusals out.old) (S.refusals out.new) result }
 {
     let mut line = LineBuf::new(alloc, FAULT_LINE_ROOM + name.len())?;
     fault_line(&mut line, place, code, name, count);
@@ -62,47 +62,57 @@ fn refuse_named<S: Sink>(
 pub(crate) fn refuse_size<S: Sink>(
     alloc: Global,
     circuit: &Circuit,
-    fault: ListFault,
+    fault: BuildFault,
     out: &mut S,
 ) -> Result<End, Stop>
-    requires { (fault ≡ ListFault.NoMemory) ⊎ TellsTooLarge circuit.now.graph fault }
-    ensures told { IsTold (IsCompiled circuit.now) (S.written out.old) (S.written out.new) result }
+    requires { (fault ≡ BuildFault.NoMemory) ⊎ TellsTooLarge circuit.now.graph fault }
+    ensures told { IsTold (IsTooLarge circuit.now) (S.written out.old) (S.written out.new) result }
+    ensures memory { fault ≡ BuildFault.NoMemory → result ≡ Err Stop.Memory }
     ensures no_read { IfErr result (λ stop. stop ≢ Stop.Read) }
-    ensures write { RaisedAt Stop.Write (S.faults out.old) (S.faults out.new) result }
+    ensures write { S.faults out.new ≡ faults_written (S.faults out.old) result }
+    ensures refused { IsRefusedOnce (S.refusals out.old) (S.refusals out.new) result }
 {
     let place = FaultPlace::NetWhole;
     match fault {
-        ListFault::GroupNodes { node, count } => {
+        BuildFault::GroupNodes { node, count } => {
             let name = circuit.name_of(node);
             let code = FaultCode::G1GroupNodes;
             refuse_named(alloc, place, code, name, count, End::NetRefused, out)
         }
-        ListFault::GroupSwitches { node, count } => {
+        BuildFault::GroupSwitches { node, count } => {
             let name = circuit.name_of(node);
             let code = FaultCode::G2GroupSwitches;
             refuse_named(alloc, place, code, name, count, End::NetRefused, out)
         }
-        ListFault::NoMemory => Err(Stop::Memory),
+        BuildFault::NoMemory => Err(Stop::Memory),
     }
 }
 
-/// Writes the line of a netlist's refusal; want of memory ends the run.
-pub(crate) fn refuse_net<S: Sink>(alloc: Global, fault: NetFault, out: &mut S) -> Result<End, Stop>
-    ensures told { fault ≢ NetFault.NoMemory
-        → IsTold (IsNetRefusal fault) (S.written out.old) (S.written out.new) result }
-    ensures memory { fault ≡ NetFault.NoMemory
-        → (result ≡ Err Stop.Memory) × (S.written out.new ≡ S.written out.old) }
+/// Writes the line of a netlist's refusal.
+pub(crate) fn refuse_net<S: Sink>(
+    alloc: Global,
+    refusal: NetRefusal,
+    out: &mut S,
+) -> Result<End, Stop>
+    ensures told { IsTold (IsNetRefusal refusal) (S.written out.old) (S.written out.new) result }
     ensures no_read { IfErr result (λ stop. stop ≢ Stop.Read) }
-    ensures write { RaisedAt Stop.Write (S.faults out.old) (S.faults out.new) result }
+    ensures write { S.faults out.new ≡ faults_written (S.faults out.old) result }
+    ensures refused { IsRefusedOnce (S.refusals out.old) (S.refusals out.new) result }
 {
-    match fault {
-        NetFault::At { line, what } => refuse(
-            alloc,
-            FaultPlace::Net(line),
-            net_code(what),
-            End::NetRefused,
-            out,
-        ),
-        NetFault::NoMemory => Err(Stop::Memory),
+    let place = FaultPlace::Net(refusal.line);
+    let code = net_code(refusal.what);
+    refuse(alloc, place, code, End::NetRefused, out)
+}
+
+/// Writes the usage line.
+pub(crate) fn refuse_words<S: Sink>(out: &mut S) -> Result<End, Stop>
+    ensures told { IsTold IsUsage (S.written out.old) (S.written out.new) result }
+    ensures no_read { IfErr result (λ stop. stop ≢ Stop.Read) }
+    ensures write { S.faults out.new ≡ faults_written (S.faults out.old) result }
+    ensures refused { IsRefusedOnce (S.refusals out.old) (S.refusals out.new) result }
+{
+    match send(out, b"bad command line\n") {
+        Ok(()) => Ok(End::Usage),
+        Err(fault) => Err(Stop::of_write(fault)),
     }
 }

@@ -1,15 +1,15 @@
 //! Running the lines of a script.
 
-ghost use Rattle.std.specs.Prelude.{◌≡◌, ◌≢◌, ◌≤◌, IfErr};
+ghost use Rattle.std.specs.Prelude.{◌≡◌, ◌≢◌, IfErr};
 ghost use Rattle.line_words.specs.Files as file;
 ghost use Rattle.script_lang.specs.Forms.{IsFormed};
 ghost use Rattle.cosmos_session.specs.Sessions.{IsReady};
 ghost use Rattle.cosmos_app.specs.Runs.{Runs, end_answer};
 ghost use Rattle.cosmos_app.specs.Turns.{TakesTurn, TakesCommand};
 ghost use Rattle.cosmos_app.specs.Ends.{IsTold, status_of};
-ghost use Rattle.cosmos_app.specs.Stops.{RaisedAt};
+ghost use Rattle.cosmos_app.specs.Stops.{faults_written, IsRefusedOnce};
 
-use crate::codes::{apply_code, script_code};
+use crate::codes::{refusal_code, script_code};
 use crate::refusal::refuse;
 use crate::stop::{End, Stop};
 use cosmos_session::{ApplyFault, Session};
@@ -40,7 +40,8 @@ pub(crate) fn run_lines<S: Sink>(
         (Runs (file.cut_line text.now) session.old (file.lines_in text.now))
         (S.written out.old) (S.written out.new) result }
     ensures no_read { IfErr result (λ stop. stop ≢ Stop.Read) }
-    ensures write { RaisedAt Stop.Write (S.faults out.old) (S.faults out.new) result }
+    ensures write { S.faults out.new ≡ faults_written (S.faults out.old) result }
+    ensures refused { IsRefusedOnce (S.refusals out.old) (S.refusals out.new) result }
 {
     let cut = cut_line(text);
     for line in lines(front(text)) {
@@ -81,8 +82,8 @@ fn run_line<S: Sink>(
         cut (line.entry.number, line.entry.bytes.now)
         session.old session.new (S.written out.old) (S.written out.new) result }
     ensures no_read { IfErr result (λ stop. stop ≢ Stop.Read) }
-    ensures write { RaisedAt Stop.Write (S.faults out.old) (S.faults out.new) result }
-    ensures later { S.faults out.old ≤ S.faults out.new }
+    ensures write { S.faults out.new ≡ faults_written (S.faults out.old) result }
+    ensures refused { IsRefusedOnce (S.refusals out.old) (S.refusals out.new) result }
 {
     if cut == Some(line.number) {
         return Ok(Turn::Refused(FaultCode::S11TooLong));
@@ -103,15 +104,13 @@ fn run_command<S: Sink>(session: &mut Session, command: &Command, out: &mut S) -
     ensures turn { TakesCommand
         session.old command.now session.new (S.written out.old) (S.written out.new) result }
     ensures no_read { IfErr result (λ stop. stop ≢ Stop.Read) }
-    ensures write { RaisedAt Stop.Write (S.faults out.old) (S.faults out.new) result }
-    ensures later { S.faults out.old ≤ S.faults out.new }
+    ensures write { S.faults out.new ≡ faults_written (S.faults out.old) result }
+    ensures refused { IsRefusedOnce (S.refusals out.old) (S.refusals out.new) result }
 {
     match session.apply(command, out) {
         Ok(()) => Ok(Turn::Accepted),
+        Err(ApplyFault::Refused(refusal)) => Ok(Turn::Refused(refusal_code(refusal))),
         Err(ApplyFault::WriteFault) => Err(Stop::Write),
-        Err(fault) => match apply_code(fault) {
-            Some(code) => Ok(Turn::Refused(code)),
-            None => Err(Stop::Memory),
-        },
+        Err(ApplyFault::NoMemory) => Err(Stop::Memory),
     }
 }

@@ -1,38 +1,42 @@
-//! Runs of the program over ports in memory, and the worked rows as one table of tests.
+//! Runs of the program over ports in memory, and worked rows as tables of tests.
 //!
 //! `run_in_memory` is the top call over a table of texts: no fault can be answered there, so its
 //! answer is that of the words, or want of memory. The tests show what no clause says: that a run with ample
 //! memory doesn't answer want of memory, and that the texts of the rows are the expected ones.
 //!
 //! ```text
-//! run_in_memory(alloc, ["sim", "net", "script"], files, out)   is Status::Done
+//! run_in_memory(alloc, ["sim", "net", "script"], files, out, analyst)   is Status::Done
 //! ```
 #![tactic(auto)]
 
 ghost use Rattle.std.specs.Prelude.{◌≡◌, ◌≢◌, Some};
 ghost use Rattle.port_edge.specs.HonestPorts.{held};
-ghost use Rattle.cosmos_app.specs.Answers.{IsAnswered, names_of};
+ghost use Rattle.cosmos_app.specs.Requests.{names_of};
+ghost use Rattle.cosmos_app.specs.Answers.{IsAnswered};
 
 use cosmos_app::{Status, run};
+use group_analysis::Analyst;
 use port_edge::{HonestFiles, HonestSink};
 use std::alloc::Global;
 
 /// Answers the words of a command line over files and a sink in memory.
 ///
 /// What was written is the answer's text, or a front of it under want of memory.
-pub fn run_in_memory(
+pub fn run_in_memory<A: Analyst>(
     alloc: Global,
     words: &[String],
     files: &mut HonestFiles,
     out: &mut HonestSink,
+    analyst: &mut A,
 ) -> Status
-    ensures answer { IsAnswered (names_of words.now) (held files.old.table) (Some out.old.written) (Some out.new.written) result }
+    ensures answer { IsAnswered (names_of words.now) (held files.old.table) (Some out.old.written) (Some out.new.written)
+        (A.analysed analyst.old) (A.analysed analyst.new) result }
 
     // Over ports that never fail no fault is answered.
     ensures no_read_fault { result ≢ Status.ReadFault }
     ensures no_write_fault { result ≢ Status.WriteFault }
 {
-    run(alloc, words, files, out)
+    run(alloc, words, files, out, analyst)
 }
 
 #[cfg(test)]

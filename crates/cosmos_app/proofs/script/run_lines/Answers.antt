@@ -1,5 +1,5 @@
 -- Each line takes the script one step on; at each exit what was told so far becomes what is told of the whole script.
-use Rattle.std.proofs.Common.{List, ℕ, Ok, Err, sym, ap, ◌∙◌, subst, arith}
+use Rattle.std.proofs.Common.{List, ℕ, Ok, Err, refl, sym, ap, ◌∙◌, subst}
 use Rattle.std.specs.List.{enumerate_from}
 use Rattle.std.proofs.lemmas.Result.{err_from_is_err_and}
 use Rattle.line_words.specs.Lines.{lines_of}
@@ -19,7 +19,8 @@ loop-line-init g c = record {
       ∙ ap (λ (front : List ℕ). enumerate_from 1 (lines_of front)) c.front.ensures in
       subst (λ left. HasCome c.cut_line-cut.result c.args.session.now all written c.args.session.now left written) (sym first)
       (comes_first c.cut_line-cut.result c.args.session.now all written c.requires);
-  later = omega arith;
+  faults = refl;
+  refusals = refl;
 }
 
 pub returns-in_err-run_line-clause-told : goal.returns-in_err-run_line-clause-told
@@ -32,7 +33,7 @@ returns-in_err-run_line-clause-told g c =
     let come = subst (λ left. HasCome cut start all written c.loop-line.session left (g.S.Sink.written c.loop-line.out)) c.in-Some.ensures.steps c.loop-line.invariant.come in
     let told = told_stop _ _ _ _ _ _ _ _ come c.run_line.new.session more c.in_err-run_line.field-0.0 c.in_err-run_line.ensures.turn in
     let p = err_from_is_err_and c.from_residual.result c.from_residual.ensures.1 in
-    rw (p.1, p.2) (subst (λ cut. IsTold (Runs cut start all) written more (Err c.in_err-run_line.field-0.0)) c.cut_line-cut.ensures told)
+    rw p.1 (subst (λ cut. IsTold (Runs cut start all) written more (Err c.in_err-run_line.field-0.0)) c.cut_line-cut.ensures told)
 
 pub loop-line-preserved : goal.loop-line-preserved
 loop-line-preserved g c = record {
@@ -44,7 +45,8 @@ loop-line-preserved g c = record {
       comes_on _ _ _ _ _ _ _ _ come _ _
       (subst (λ turn. TakesTurn cut (c.in-Some.line.number, c.in-Some.line.bytes.now) c.loop-line.session c.run_line.new.session before after (Ok turn))
       c.in-Accepted.is c.in_ok-run_line.ensures.turn);
-  later = omega (arith, c.loop-line.invariant.later, c.run_line.ensures.later);
+  faults = c.in_ok-run_line.ensures.write ∙ c.loop-line.invariant.faults;
+  refusals = c.in_ok-run_line.ensures.refused ∙ c.loop-line.invariant.refusals;
 }
 
 pub returns-in-Refused-clause-told : goal.returns-in-Refused-clause-told

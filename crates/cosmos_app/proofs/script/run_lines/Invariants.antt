@@ -1,4 +1,4 @@
-use Rattle.std.proofs.Common.{◌≤◌}
+use Rattle.std.proofs.Common.{◌≡◌}
 use Rattle.line_words.specs.Files as file
 use Rattle.cosmos_app.proofs.RunLemmas.{HasCome}
 use Rattle.cosmos_app.proofs.script.run_lines.Given as goal
@@ -6,5 +6,6 @@ use Rattle.cosmos_app.proofs.script.run_lines.Given as goal
 abbrev pub invariant-loop-line : goal.invariant-loop-line
 invariant-loop-line g l = record {
   come : HasCome l.cut l.fn.session (file.lines_in l.text) (g.S.Sink.written l.fn.out) l.session l.line-iterator (g.S.Sink.written l.out);
-  later : g.S.Sink.faults l.fn.out ≤ g.S.Sink.faults l.out;
+  faults : g.S.Sink.faults l.out ≡ g.S.Sink.faults l.fn.out;
+  refusals : g.S.Sink.refusals l.out ≡ g.S.Sink.refusals l.fn.out;
 }

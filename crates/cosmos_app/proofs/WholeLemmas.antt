@@ -1,0 +1,93 @@
+-- How much of its files a run has read, joined from what each call says of it.
+use Rattle.std.proofs.Common.{◌≡◌, ℕ, List, [], ◌∷◌, ◌++◌, length, map, Option, None, Some, IfSome, IfOk, Result, Ok, Err, refl, sym, ap, subst, ◌∙◌, append_assoc}
+use Rattle.std.proofs.lemmas.List.{map-append}
+use Rattle.line_words.specs.Files.{front_of}
+use Rattle.netlist.specs.Circuits.{CircuitData}
+use Rattle.sim_read.specs.declared.fault.NetRefusal.{NetRefusal}
+use Rattle.sim_read.specs.Meaning.{netlist_of}
+use Rattle.port_edge.specs.Taken.{Taken, with_files}
+use Rattle.cosmos_app.specs.declared.stop.End as end
+use Rattle.cosmos_app.specs.declared.stop.End.TheVariants as ended
+use Rattle.cosmos_app.specs.declared.stop.Stop.{Stop}
+use Rattle.cosmos_app.specs.declared.stop.Stop.TheVariants.{Read, Write, Memory}
+use Rattle.cosmos_app.specs.declared.status.Status.{Status}
+use Rattle.cosmos_app.specs.Requests.{Question, Request, Unclear}
+use Rattle.cosmos_app.specs.Ends.{status_after}
+use Rattle.cosmos_app.specs.Wholes.{scripts_of, needed, files_of, ReadsWhole, ReadsAll}
+
+-- a file whose front was read was read whole
+pub whole_file : (known : Option (List ℕ → List ℕ)) (name text : List ℕ) (old new : Taken) →
+    IfSome known (λ holds. text ≡ front_of (holds name)) → new ≡ with_files old (length text ∷ []) →
+    IfSome known (λ holds. ReadsWhole old new holds (name ∷ []))
+whole_file None name text old new front taken = tt
+whole_file (Some holds) name text old new front taken = taken ∙ ap (λ (bytes : List ℕ). with_files old (length bytes ∷ [])) front
+
+-- where no file is needed none is read
+whole_none : (taken : Taken) → taken ≡ with_files taken []
+whole_none None = refl
+whole_none (Some counts) = refl
+
+pub whole_unclear : (known : Option (List ℕ → List ℕ)) (request : Request) (taken : Taken) → request ≡ Unclear →
+    IfSome known (λ holds. ReadsWhole taken taken holds (files_of request holds))
+whole_unclear None request taken asks = tt
+whole_unclear (Some holds) request taken asks =
+    subst (λ asked. ReadsWhole taken taken holds (files_of asked holds)) (sym asks) (whole_none taken)
+
+-- files taken one after another
+with_files-twice : (taken : Taken) (first second : List ℕ) → with_files (with_files taken first) second ≡ with_files taken (second ++ first)
+with_files-twice None first second = refl
+with_files-twice (Some counts) first second = ap Some (sym (append_assoc second first counts))
+
+-- files read one after another
+whole_both : (old mid new : Taken) (holds : List ℕ → List ℕ) (first second : List (List ℕ)) →
+    ReadsWhole old mid holds first → ReadsWhole mid new holds second → ReadsWhole old new holds (second ++ first)
+whole_both old mid new holds first second before after =
+    let size : List ℕ → ℕ = λ name. length (front_of (holds name)) in
+    after ∙ ap (λ (taken : Taken). with_files taken (map size second)) before ∙ with_files-twice old (map size first) (map size second)
+    ∙ ap (with_files old) (sym (map-append size second first))
+
+-- after the netlist, what the question needs beside it
+pub whole_beside : (known later : Option (List ℕ → List ℕ)) (net : List ℕ) (question : Question) (circuit : CircuitData) (old mid new : Taken) →
+    IfSome known (λ holds. netlist_of (holds net) ≡ Ok circuit) → later ≡ known →
+    IfSome known (λ holds. ReadsWhole old mid holds (net ∷ [])) → IfSome later (λ holds. ReadsWhole mid new holds (scripts_of question)) →
+    IfSome known (λ holds. ReadsWhole old new holds (needed question net (netlist_of (holds net))))
+whole_beside None later net question circuit old mid new means kept before after = tt
+whole_beside (Some holds) later net question circuit old mid new means kept before after =
+    let here : ReadsWhole mid new holds (scripts_of question) =
+    subst (λ names. IfSome names (λ holds. ReadsWhole mid new holds (scripts_of question))) kept after in
+    subst (λ meaning. ReadsWhole old new holds (needed question net meaning)) (sym means)
+    (whole_both old mid new holds (net ∷ []) (scripts_of question) before here)
+
+-- a refused netlist alone
+pub whole_refused : (known : Option (List ℕ → List ℕ)) (net : List ℕ) (question : Question) (refusal : NetRefusal) (old new : Taken) →
+    IfSome known (λ holds. netlist_of (holds net) ≡ Err refusal) → IfSome known (λ holds. ReadsWhole old new holds (net ∷ [])) →
+    IfSome known (λ holds. ReadsWhole old new holds (needed question net (netlist_of (holds net))))
+whole_refused None net question refusal old new means read = tt
+whole_refused (Some holds) net question refusal old new means read =
+    subst (λ meaning. ReadsWhole old new holds (needed question net meaning)) (sym means) read
+
+-- what a run has read by its end, it has read by its status
+whole_ended : (holds : List ℕ → List ℕ) (request : Request) (old new : Taken) (result : Result end.End Stop) →
+    IfOk result (λ _. ReadsWhole old new holds (files_of request holds)) → ReadsAll old new holds request (status_after result)
+whole_ended holds request old new (Ok ended.Done) read = read
+whole_ended holds request old new (Ok ended.Mismatch) read = read
+whole_ended holds request old new (Ok ended.Usage) read = read
+whole_ended holds request old new (Ok ended.NetRefused) read = read
+whole_ended holds request old new (Ok ended.ScriptRefused) read = read
+whole_ended holds request old new (Err Read) read = tt
+whole_ended holds request old new (Err Write) read = tt
+whole_ended holds request old new (Err Memory) read = tt
+
+-- where it is told what the names hold
+told_ended : {T : Type 0} (holds : List ℕ → List ℕ) (P : (List ℕ → List ℕ) → Type 0) (result : Result T Stop) →
+    IfOk result (λ _. IfSome (Some holds) P) → IfOk result (λ _. P holds)
+told_ended holds P (Ok value) known = known
+told_ended holds P (Err stop) known = tt
+
+pub whole_all : (known : Option (List ℕ → List ℕ)) (request : Request) (old new : Taken) (result : Result end.End Stop) (status : Status) →
+    status ≡ status_after result → IfOk result (λ _. IfSome known (λ holds. ReadsWhole old new holds (files_of request holds))) →
+    IfSome known (λ holds. ReadsAll old new holds request status)
+whole_all None request old new result status same read = tt
+whole_all (Some holds) request old new result status same read =
+    subst (ReadsAll old new holds request) (sym same)
+    (whole_ended holds request old new result (told_ended holds (λ names. ReadsWhole old new names (files_of request names)) result read))

@@ -1,0 +1,36 @@
+-- How much of its files a run reads before it answers: each one to its end, or to the first byte too many.
+use Rattle.std.specs.Prelude.{◌≡◌, ℕ, List, [], ◌∷◌, ◌++◌, length, map, Result, Ok, Err}
+use Rattle.line_words.specs.Files.{front_of}
+use Rattle.netlist.specs.Circuits.{CircuitData}
+use Rattle.sim_read.specs.declared.fault.NetRefusal.{NetRefusal}
+use Rattle.sim_read.specs.Meaning.{netlist_of}
+use Rattle.port_edge.specs.Taken.{Taken, with_files}
+use Rattle.cosmos_app.specs.declared.status.Status.{Status}
+use Rattle.cosmos_app.specs.declared.status.Status.TheVariants.{ReadFault, WriteFault, NoMemory}
+use Rattle.cosmos_app.specs.Requests.{Question, Simulate, Request, About, Unclear}
+
+-- the files that a question needs beside the netlist
+abbrev pub scripts_of : Question → List (List ℕ)
+scripts_of (Simulate script) = script ∷ []
+scripts_of _ = []
+
+-- the files that a question about a netlist of this meaning needs, the last one first: a script only where the netlist has no refusal
+abbrev pub needed : Question → List ℕ → Result CircuitData NetRefusal → List (List ℕ)
+needed question net (Ok circuit) = scripts_of question ++ net ∷ []
+needed question net (Err refusal) = net ∷ []
+
+-- the files that a request needs, the last one first
+abbrev pub files_of : Request → (List ℕ → List ℕ) → List (List ℕ)
+files_of (About net question) holds = needed question net (netlist_of (holds net))
+files_of Unclear holds = []
+
+-- each of these files was started, and read to its end or to the first byte too many
+abbrev pub ReadsWhole : Taken → Taken → (List ℕ → List ℕ) → List (List ℕ) → Type 0
+ReadsWhole old new holds names = new ≡ with_files old (map (λ name. length (front_of (holds name))) names)
+
+-- where the run isn't stopped by a fault or want of memory, each file that its request needs was read whole
+abbrev pub ReadsAll : Taken → Taken → (List ℕ → List ℕ) → Request → Status → Type 0
+ReadsAll old new holds request ReadFault = Unit {0}
+ReadsAll old new holds request WriteFault = Unit {0}
+ReadsAll old new holds request NoMemory = Unit {0}
+ReadsAll old new holds request status = ReadsWhole old new holds (files_of request holds)
