@@ -1,8 +1,8 @@
 //! Worked groups, analysed, beside the plain step.
 //!
-//! The tests show what the clauses of `analyse` say, on circuits that an engineer would draw: over
-//! all states of a group's local nodes, the formulas of its members have the values that the plain
-//! step of the local graph gives.
+//! The tests show what the clauses of `analyse` and of an analyst say, on the nets of `drawn_nets`: over
+//! all states of a group's local nodes, the formulas of its members and the code of its text give what
+//! the plain step of the local graph gives.
 #![tactic(auto)]
 
 #[cfg(test)]

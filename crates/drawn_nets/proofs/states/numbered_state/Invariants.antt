@@ -1,6 +1,6 @@
 -- A state for each node so far.
 use Rattle.std.proofs.Common.{◌≡◌, length}
-use Rattle.elimination_rows.proofs.tests.numbered_state.Given as goal
+use Rattle.drawn_nets.proofs.states.numbered_state.Given as goal
 
 abbrev pub invariant-loop-constant : goal.invariant-loop-constant
 invariant-loop-constant l = length l.state.items ≡ l.constant-index

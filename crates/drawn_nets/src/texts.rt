@@ -1,0 +1,15 @@
+use channel_groups::Groups;
+use group_text::{GroupText, TextFault, text_of};
+use path_meaning::Graph;
+use std::alloc::Global;
+
+/// The texts of all groups of a graph, each with the nodes that its local nodes stand for.
+pub fn texts_of(alloc: Global, graph: &Graph) -> Result<Vec<(GroupText, Vec<usize>)>, TextFault> {
+    let groups = Groups::of(alloc, graph)?;
+    let mut texts = Vec::new(alloc);
+    for group in groups.list() {
+        let text = text_of(alloc, graph, group.members(), group.switches())?;
+        texts.push(text).map_err(|_| TextFault::NoMemory)?;
+    }
+    Ok(texts)
+}
