@@ -1,0 +1,2 @@
+pub mod ReadNodes
+pub mod RestingGroups

@@ -1,0 +1,11 @@
+pub mod CaseLemmas
+pub mod PartLemmas
+pub mod ResponseLemmas
+pub mod FittingLemmas
+pub mod PlacingLemmas
+pub mod MarkLemmas
+pub mod EvaluationLemmas
+pub mod TakingLemmas
+pub mod AdvanceLemmas
+pub mod MachineLemmas
+pub mod MakingLemmas

@@ -1,0 +1,228 @@
+-- Marks: setting and clearing one, how many are set, and the lists in which the marked parts stand.
+use Rattle.std.proofs.Common.{◌≡◌, ◌≢◌, ℕ, zero, suc, ◌+◌, ◌<◌, ◌≤◌, Bool, true, false, cond, inl, inr, ◌⊎◌, List, [], ◌∷◌, ◌++◌, length, take, get_or, refl, sym, ap, subst, ◌∙◌, arith}
+use Rattle.std.specs.Prelude.{Contains, slice_index_or, slice_set}
+use Rattle.std.specs.List.{sum_by}
+use Rattle.std.proofs.lemmas.Bool.{cases_lt, cases_eq, false_from_ne_true}
+use Rattle.std.proofs.lemmas.List.{get_or-set_same, get_or-set_other, get_or_past, get_or_default, length-set, length_push, take_more, get_or_push, get_or_append_left}
+use Rattle.std.proofs.lemmas.List.Sums.{sum_by-set, sum_by-cons, count_by-le-length}
+use Rattle.std.proofs.lemmas.List.Elements.{Contains-push, Contains-push_cases, Contains-append_left}
+use Rattle.unit_step.specs.declared.part.HeldPart.{HeldPart}
+use Rattle.unit_step.specs.Machines.{IsMarked, count_marked, marked_sum}
+use Rattle.unit_step.specs.Marking.{AreOnce, IsAgenda, MarksAll}
+
+-- a marked part is one of the parts
+pub marked_inside : (marks : List Bool) (k : ℕ) → IsMarked marks k → k < length marks
+marked_inside marks k marked =
+    elim (cases_lt k (length marks)) [
+      | inl inside ↦ inside
+      | inr past ↦ let none = get_or_past marks k false past in absurd (cc)
+    ]
+
+-- a mark that is set is set
+pub marked-set : (marks : List Bool) (k : ℕ) → k < length marks → IsMarked (slice_set marks k true) k
+marked-set marks k inside = get_or-set_same marks k true false inside
+
+-- and one that is cleared isn't
+pub marked-cleared : (marks : List Bool) (k : ℕ) → ¬ IsMarked (slice_set marks k false) k
+marked-cleared marks k marked =
+    let inside : k < length marks = omega (arith, marked_inside (slice_set marks k false) k marked, length-set marks k false) in
+    let clear = get_or-set_same marks k false false inside in
+    absurd (cc)
+
+-- any other part is marked as before
+pub marked-other : (marks : List Bool) (k l : ℕ) (mark : Bool) → l ≢ k → IsMarked (slice_set marks k mark) l → IsMarked marks l
+marked-other marks k l mark differs marked = sym (get_or-set_other marks k l mark false differs) ∙ marked
+
+pub marked-kept : (marks : List Bool) (k l : ℕ) (mark : Bool) → l ≢ k → IsMarked marks l → IsMarked (slice_set marks k mark) l
+marked-kept marks k l mark differs marked = get_or-set_other marks k l mark false differs ∙ marked
+
+-- setting a mark keeps all others
+pub marked-stays : (marks : List Bool) (k l : ℕ) → IsMarked marks l → IsMarked (slice_set marks k true) l
+marked-stays marks k l marked =
+    elim (cases_eq l k) [
+      | inl same ↦ subst (IsMarked (slice_set marks k true)) (sym same) (marked-set marks k (subst (λ n. n < length marks) same (marked_inside marks l marked)))
+      | inr differs ↦ marked-kept marks k l true differs marked
+    ]
+
+-- and makes one more at most
+pub marked-set_cases : (marks : List Bool) (k l : ℕ) → IsMarked (slice_set marks k true) l → IsMarked marks l ⊎ (l ≡ k)
+marked-set_cases marks k l marked =
+    elim (cases_eq l k) [
+      | inl same ↦ inr same
+      | inr differs ↦ inl (marked-other marks k l true differs marked)
+    ]
+
+-- clearing a mark keeps all others
+pub marked-cleared_was : (marks : List Bool) (k l : ℕ) → IsMarked (slice_set marks k false) l → IsMarked marks l
+marked-cleared_was marks k l marked =
+    elim (cases_eq l k) [
+      | inl same ↦ absurd (marked-cleared marks k (subst (IsMarked (slice_set marks k false)) same marked))
+      | inr differs ↦ marked-other marks k l false differs marked
+    ]
+
+pub marked-cleared_cases : (marks : List Bool) (k l : ℕ) → IsMarked marks l → IsMarked (slice_set marks k false) l ⊎ (l ≡ k)
+marked-cleared_cases marks k l marked =
+    elim (cases_eq l k) [
+      | inl same ↦ inr same
+      | inr differs ↦ inl (marked-kept marks k l false differs marked)
+    ]
+
+-- one mark more
+pub count_marked-set : (marks : List Bool) (k : ℕ) → k < length marks → ¬ IsMarked marks k → count_marked (slice_set marks k true) ≡ count_marked marks + 1
+count_marked-set marks k inside unmarked =
+    let one : Bool → ℕ = λ mark. cond mark 1 0 in
+    let clear = false_from_ne_true (get_or marks k false) unmarked in
+    let worth : one (get_or marks k false) ≡ 0 = ap one clear in
+    omega (arith, sum_by-set one marks k true false inside, worth)
+
+-- there is room for it
+pub count_marked-below : (marks : List Bool) (k : ℕ) → k < length marks → ¬ IsMarked marks k → count_marked marks < length marks
+count_marked-below marks k inside unmarked =
+    omega (arith, count_marked-set marks k inside unmarked, count_by-le-length (λ mark. mark) (slice_set marks k true), length-set marks k true)
+
+-- one mark less
+pub count_marked-cleared : (marks : List Bool) (k : ℕ) → IsMarked marks k → count_marked (slice_set marks k false) + 1 ≡ count_marked marks
+count_marked-cleared marks k marked =
+    let one : Bool → ℕ = λ mark. cond mark 1 0 in
+    let worth : one (get_or marks k false) ≡ 1 = ap one marked in
+    omega (arith, sum_by-set one marks k false false (marked_inside marks k marked), worth)
+
+-- a sum over the marked parts falls by a part whose mark is cleared
+pub marked_sum-cleared : (f : HeldPart → ℕ) (parts : List HeldPart) (marks : List Bool) (k : ℕ) (part : HeldPart) → k < length parts →
+    slice_index_or parts k part ≡ part → IsMarked marks k → marked_sum f parts (slice_set marks k false) + f part ≡ marked_sum f parts marks
+marked_sum-cleared f [] marks k part inside here marked = absurd (omega (arith, inside))
+marked_sum-cleared f (first ∷ parts) [] k part inside here marked = absurd (cc)
+marked_sum-cleared f (first ∷ parts) (true ∷ marks) zero part inside here marked =
+    let same : f first ≡ f part = ap f here in
+    omega arith
+marked_sum-cleared f (first ∷ parts) (false ∷ marks) zero part inside here marked = absurd (cc)
+marked_sum-cleared f (first ∷ parts) (true ∷ marks) (suc k) part inside here marked =
+    let rest = marked_sum-cleared f parts marks k part (omega (arith, inside)) here marked in
+    omega arith
+marked_sum-cleared f (first ∷ parts) (false ∷ marks) (suc k) part inside here marked =
+    marked_sum-cleared f parts marks k part (omega (arith, inside)) here marked
+
+-- and is at most the sum over all parts
+pub marked_sum-within : (f : HeldPart → ℕ) (parts : List HeldPart) (marks : List Bool) → marked_sum f parts marks ≤ sum_by f parts
+marked_sum-within f [] marks = omega arith
+marked_sum-within f (part ∷ parts) [] = omega arith
+marked_sum-within f (part ∷ parts) (true ∷ marks) = omega (arith, sum_by-cons f part parts, marked_sum-within f parts marks)
+marked_sum-within f (part ∷ parts) (false ∷ marks) = omega (arith, sum_by-cons f part parts, marked_sum-within f parts marks)
+
+-- a new number behind numbers that stand once
+AreOnce-push : (xs : List ℕ) (x : ℕ) → AreOnce xs → ¬ Contains xs x → AreOnce (xs ++ x ∷ [])
+AreOnce-push xs x once new i j before inside same =
+    let length_is = length_push xs x in
+    let first = get_or_append_left xs (x ∷ []) 0 i (omega (arith, length_is)) in
+    elim (cases_lt j (length xs)) [
+      | inl within ↦ once i j before within (sym first ∙ (same ∙ get_or_append_left xs (x ∷ []) 0 j within))
+      | inr past ↦
+          let last : length xs ≡ j = omega (arith, length_is) in
+          let here : get_or xs i 0 ≡ x = sym first ∙ (same ∙ get_or_push xs x 0 j last) in
+          let i_inside : i < length xs = omega arith in
+          new (i, i_inside, get_or_default xs i x 0 i_inside ∙ here)
+    ]
+
+-- the front of numbers that stand once, and the last of them isn't in it
+AreOnce-front : (xs : List ℕ) (x : ℕ) → AreOnce (xs ++ x ∷ []) → AreOnce xs
+AreOnce-front xs x once i j before inside same =
+    once i j before (omega (arith, length_push xs x))
+    (get_or_append_left xs (x ∷ []) 0 i (omega arith) ∙ (same ∙ sym (get_or_append_left xs (x ∷ []) 0 j inside)))
+
+AreOnce-last : (xs : List ℕ) (x : ℕ) → AreOnce (xs ++ x ∷ []) → ¬ Contains xs x
+AreOnce-last xs x once (i, inside, here) =
+    once i (length xs) inside (omega (arith, length_push xs x))
+    (get_or_append_left xs (x ∷ []) 0 i inside ∙ (get_or_default xs i 0 x inside ∙ (here ∙ sym (get_or_push xs x 0 (length xs) refl))))
+
+-- one part more is marked
+pub IsAgenda-marked : (marks : List Bool) (work waiting : List ℕ) (capacity k : ℕ) → k < length marks → ¬ IsMarked marks k →
+    IsAgenda marks work waiting capacity → IsAgenda (slice_set marks k true) (work ++ k ∷ []) waiting capacity
+IsAgenda-marked marks work waiting capacity k inside unmarked agenda = record {
+  listed = λ l marked.
+      elim (marked-set_cases marks k l marked) [
+        | inl before ↦
+            elim (agenda.listed l before) [
+              | inl works ↦ inl (Contains-append_left work (k ∷ []) l works)
+              | inr waits ↦ inr waits
+            ]
+        | inr same ↦ inl (subst (Contains (work ++ k ∷ [])) (sym same) (Contains-push work k))
+      ];
+  marked = λ l there.
+      elim (Contains-push_cases work k l there) [
+        | inl before ↦ marked-stays marks k l (agenda.marked l before)
+        | inr same ↦ subst (IsMarked (slice_set marks k true)) same (marked-set marks k inside)
+      ];
+  ready = λ l there waits.
+      elim (Contains-push_cases work k l there) [
+        | inl before ↦ agenda.ready l before waits
+        | inr same ↦ unmarked (subst (IsMarked marks) (sym same) (agenda.waits l waits))
+      ];
+  waits = λ l waits. marked-stays marks k l (agenda.waits l waits);
+  once = AreOnce-push work k agenda.once (λ there. unmarked (agenda.marked k there));
+  number = omega (arith, agenda.number, count_marked-set marks k inside unmarked, length_push work k);
+  room = omega (arith, agenda.room, length-set marks k true);
+}
+
+-- the last listed part is taken out
+pub IsAgenda-popped : (marks : List Bool) (work waiting : List ℕ) (capacity k : ℕ) →
+    IsAgenda marks (work ++ k ∷ []) waiting capacity → IsAgenda (slice_set marks k false) work waiting capacity
+IsAgenda-popped marks work waiting capacity k agenda =
+    let last = Contains-push work k in
+    let marked = agenda.marked k last in
+    record {
+      listed = λ l marked_now.
+          let before = marked-cleared_was marks k l marked_now in
+          elim (agenda.listed l before) [
+            | inl works ↦
+                elim (Contains-push_cases work k l works) [
+                  | inl there ↦ inl there
+                  | inr same ↦ absurd (marked-cleared marks k (subst (IsMarked (slice_set marks k false)) (sym same) marked_now))
+                ]
+            | inr waits ↦ inr waits
+          ];
+      marked = λ l there.
+          let differs : l ≢ k = λ same. AreOnce-last work k agenda.once (subst (Contains work) same there) in
+          marked-kept marks k l false differs (agenda.marked l (Contains-append_left work (k ∷ []) l there));
+      ready = λ l there. agenda.ready l (Contains-append_left work (k ∷ []) l there);
+      waits = λ l waits.
+          let differs : l ≢ k = λ same. agenda.ready k last (subst (Contains waiting) same waits) in
+          marked-kept marks k l false differs (agenda.waits l waits);
+      once = AreOnce-front work k agenda.once;
+      number = omega (arith, agenda.number, count_marked-cleared marks k marked, length_push work k);
+      room = omega (arith, agenda.room, length-set marks k false);
+    }
+
+-- a mark that was read and isn't set
+pub unmarked_read : (marks : List Bool) (k : ℕ) (mark : Bool) → k < length marks → mark ≡ slice_index_or marks k mark → mark ≡ false →
+    ¬ IsMarked marks k
+unmarked_read marks k mark inside here clear marked =
+    let read : mark ≡ true = here ∙ (get_or_default marks k mark false inside ∙ marked) in
+    absurd (cc)
+
+-- one part more of those that are to be marked
+MarksAll-push : (xs : List ℕ) (k : ℕ) (old mid : List Bool) → k < length mid → MarksAll (Contains xs) old mid →
+    MarksAll (Contains (xs ++ k ∷ [])) old (slice_set mid k true)
+MarksAll-push xs k old mid inside all = record {
+  count = length-set mid k true ∙ all.count;
+  stays = λ l marked. marked-stays mid k l (all.stays l marked);
+  set = λ l there.
+      elim (Contains-push_cases xs k l there) [
+        | inl before ↦ marked-stays mid k l (all.set l before)
+        | inr same ↦ subst (IsMarked (slice_set mid k true)) same (marked-set mid k inside)
+      ];
+  only = λ l marked.
+      elim (marked-set_cases mid k l marked) [
+        | inl before ↦
+            elim (all.only l before) [
+              | inl was ↦ inl was
+              | inr there ↦ inr (Contains-append_left xs (k ∷ []) l there)
+            ]
+        | inr same ↦ inr (subst (Contains (xs ++ k ∷ [])) (sym same) (Contains-push xs k))
+      ];
+}
+
+pub MarksAll-more : (parts : List ℕ) (i k : ℕ) (old mid : List Bool) → i < length parts → k ≡ get_or parts i 0 → k < length mid →
+    MarksAll (Contains (take i parts)) old mid → MarksAll (Contains (take (i + 1) parts)) old (slice_set mid k true)
+MarksAll-more parts i k old mid i_inside is inside all =
+    let more : take (i + 1) parts ≡ take i parts ++ k ∷ [] = take_more parts i 0 i_inside ∙ ap (λ x. take i parts ++ x ∷ []) (sym is) in
+    subst (λ xs. MarksAll (Contains xs) old (slice_set mid k true)) (sym more) (MarksAll-push (take i parts) k old mid inside all)

@@ -1,0 +1,57 @@
+-- Parts of machines and their members.
+use Rattle.std.proofs.Common.{◌≡◌, ℕ, ◌<◌, List, length, take, sym, ap, ◌∙◌, arith}
+use Rattle.std.specs.Prelude.{slice_index, Contains}
+use Rattle.std.proofs.lemmas.List.{get_or_default, get_or-take, length-take}
+use Rattle.std.proofs.lemmas.List.Elements.{Contains-get_or}
+use Rattle.ternary.specs.declared.tern.Tern.{Tern}
+use Rattle.path_meaning.specs.Graphs.{GraphData}
+use Rattle.group_meaning.specs.Groups.{Group}
+use Rattle.unit_step.specs.declared.part.HeldPart.{HeldPart}
+use Rattle.unit_step.specs.Parts.{Stands, IsMemberAt, HasMember}
+use Rattle.unit_step.specs.Stepping.{Gives}
+use Rattle.unit_step.specs.Fitting.{IsPartOf}
+
+-- one part has a number
+pub same_part : (parts : List HeldPart) (k : ℕ) (part other : HeldPart) → Stands parts k part → Stands parts k other → part ≡ other
+same_part parts k part other one two = sym one.here ∙ (get_or_default parts k part other one.inside ∙ two.here)
+
+-- a node that a part gives a value is its member
+pub HasMember-from_Gives : (parts : List HeldPart) (state : List Tern) (k node : ℕ) (value : Tern) → Gives parts state k node value →
+    HasMember parts k node
+HasMember-from_Gives parts state k node value gives = record {
+  part = gives.part;
+  stands = gives.stands;
+  place = gives.place;
+  member = gives.member;
+}
+
+module _ (g : GraphData) (group : Group) (part : HeldPart) (is_part : IsPartOf g group part) where
+  -- the member of the part at a place is that of the group
+  pub member_from_part : (place node : ℕ) → IsMemberAt part place node → slice_index group.members place ≡ node
+  member_from_part place node member =
+      ap (λ xs. slice_index xs place) (sym is_part.members) ∙ (get_or-take part.members part.map.items place 0 member.inside ∙ member.here)
+
+  -- and there is such a place in the group
+  pub place_in_group : (place node : ℕ) → IsMemberAt part place node → place < length group.members
+  place_in_group place node member = omega (arith, is_part.count, member.inside)
+
+  -- so a member of the part is a member of the group
+  pub member_in_group : (place node : ℕ) → IsMemberAt part place node → Contains group.members node
+  member_in_group place node member =
+      rw (member_from_part place node member) at (Contains-get_or group.members place 0 (place_in_group place node member))
+
+  -- and a member of the group is one of the part
+  pub member_of_part : (node : ℕ) → Contains group.members node → (place : ℕ) × IsMemberAt part place node
+  member_of_part node (place, inside, here) =
+      let first : place < part.members = omega (arith, is_part.count) in
+      let within : place < length part.map.items =
+      omega (arith, length-take part.members part.map.items, ap length is_part.members, first) in
+      let there : slice_index (take part.members part.map.items) place ≡ slice_index group.members place =
+      ap (λ xs. slice_index xs place) is_part.members in (
+        place,
+        record {
+          inside = first;
+          within = within;
+          here = sym (get_or-take part.members part.map.items place 0 first) ∙ (there ∙ (get_or_default group.members place 0 node inside ∙ here));
+        },
+      )

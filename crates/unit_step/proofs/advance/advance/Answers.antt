@@ -1,0 +1,166 @@
+-- A step, from what was noted of it.
+use Rattle.std.proofs.Common.{◌≡◌, ◌<◌, true, length, sym, subst, ◌∙◌, arith}
+use Rattle.std.specs.Prelude.{Contains, slice_index_or, vec_len}
+use Rattle.std.proofs.lemmas.Bool.{not-true, not-false, eqb-true, eqb-false, OnTrue_from, OnFalse_from}
+use Rattle.std.proofs.lemmas.List.Elements.{Contains-get_or}
+use Rattle.std.proofs.lemmas.List.Sums.{count_by-le-length}
+use Rattle.ternary.specs.declared.tern.Tern.TheVariants.{Zero}
+use Rattle.unit_step.specs.declared.evaluation.Change.{Change}
+use Rattle.unit_step.specs.Machines.{members_of}
+use Rattle.unit_step.specs.Marking.{MarksAll}
+use Rattle.unit_step.specs.Evaluating.{rooms, IsSeated}
+use Rattle.unit_step.specs.Running.{AreAgreed, IsTaken, ReadsAny}
+use Rattle.unit_step.proofs.MarkLemmas.{marked_inside, marked_sum-within}
+use Rattle.unit_step.proofs.AdvanceLemmas.{AreChanges-from_Evaluated, changes_inside, changes_agree, Moves-taken, some_change, no_change, becomes_x, Remarks-taken, cleared_rooms}
+use Rattle.unit_step.proofs.advance.advance.Goals as goal
+
+pub evaluate_all-requires : goal.evaluate_all-requires
+evaluate_all-requires g c =
+    let runs = c.requires.runnable in
+    let parts = c.args.parts.now in
+    let marks = c.args.agenda.now.marks in
+    let same = cleared_rooms c.args.desk.now c.clear.new.self c.clear-2.new.self c.clear.ensures.capacity c.clear-2.ensures.capacity in
+    record {
+      counted = runs.counted;
+      seated = λ k d inside. subst (λ room. IsSeated (length c.args.state.now) room (slice_index_or parts k d)) (sym same) (runs.seated k d inside);
+      changes = c.clear.ensures.items;
+      done = c.clear-2.ensures.items;
+      changes_room = omega (arith, marked_sum-within members_of parts marks, runs.changes_room, c.clear.ensures.capacity);
+      done_room = omega (arith, count_by-le-length (λ mark. mark) marks, runs.counted, runs.parts_room, c.clear-2.ensures.capacity);
+    }
+
+pub mark_again-requires : goal.mark_again-requires
+mark_again-requires g c = λ k there.
+    let done = subst (λ xs. Contains xs k) c.deref.ensures.value there in
+    let marked = c.evaluate_all.ensures.evaluated.marked k done in
+    omega (arith, marked_inside c.args.agenda.now.marks k marked, c.evaluate_all.ensures.count)
+
+pub take_over-requires : goal.take_over-requires
+take_over-requires g c =
+    let joining = c.args.joining in
+    let parts = c.args.parts.now in
+    let marks = c.args.agenda.now.marks in
+    let waiting = c.args.agenda.now.waiting in
+    let old = c.args.state.now in
+    let readers = c.args.readers.now in
+    let room = rooms c.args.desk.now in
+    let runs = c.requires.runnable in
+    let e = c.evaluate_all.ensures in
+    let changes = c.evaluate_all.new.desk.changes.items in
+    let are = AreChanges-from_Evaluated joining parts marks waiting old readers room runs c.evaluate_all.new.agenda.marks changes
+    c.evaluate_all.new.desk.done.items e.evaluated e.rest in
+    record {
+      inside = λ change there.
+          changes_inside joining parts marks waiting old readers room runs changes are change (subst (λ xs. Contains xs change) c.deref-2.ensures.value there);
+      agreed = subst AreAgreed (sym c.deref-2.ensures.value) (changes_agree joining parts marks waiting old readers room runs changes are);
+      readers = runs.readers_counted;
+      parts = λ node k there.
+          let reads = runs.reads node k there in
+          omega (arith, reads.stands.inside, runs.counted, e.count, c.mark_again.ensures.marks.count);
+    }
+
+pub returns-clause-moves : goal.returns-clause-moves
+returns-clause-moves g c =
+    let joining = c.args.joining in
+    let parts = c.args.parts.now in
+    let marks = c.args.agenda.now.marks in
+    let waiting = c.args.agenda.now.waiting in
+    let old = c.args.state.now in
+    let readers = c.args.readers.now in
+    let room = rooms c.args.desk.now in
+    let runs = c.requires.runnable in
+    let e = c.evaluate_all.ensures in
+    let changes = c.evaluate_all.new.desk.changes.items in
+    let new = c.take_over.new.state in
+    let are = AreChanges-from_Evaluated joining parts marks waiting old readers room runs c.evaluate_all.new.agenda.marks changes
+    c.evaluate_all.new.desk.done.items e.evaluated e.rest in
+    let taken = subst (λ xs. IsTaken xs old new) c.deref-2.ensures.value c.take_over.ensures.taken in
+    Moves-taken joining parts marks waiting old readers room runs changes are new taken
+
+pub returns-clause-marks : goal.returns-clause-marks
+returns-clause-marks g c =
+    let joining = c.args.joining in
+    let parts = c.args.parts.now in
+    let marks = c.args.agenda.now.marks in
+    let waiting = c.args.agenda.now.waiting in
+    let old = c.args.state.now in
+    let readers = c.args.readers.now in
+    let room = rooms c.args.desk.now in
+    let runs = c.requires.runnable in
+    let e = c.evaluate_all.ensures in
+    let changes = c.evaluate_all.new.desk.changes.items in
+    let done = c.evaluate_all.new.desk.done.items in
+    let first = c.evaluate_all.new.agenda.marks in
+    let second = c.mark_again.new.agenda.marks in
+    let third = c.take_over.new.agenda.marks in
+    let new = c.take_over.new.state in
+    let are = AreChanges-from_Evaluated joining parts marks waiting old readers room runs first changes done e.evaluated e.rest in
+    let taken = subst (λ xs. IsTaken xs old new) c.deref-2.ensures.value c.take_over.ensures.taken in
+    let again = subst (λ xs. MarksAll (λ k. (joining ≡ true) × Contains xs k) first second) c.deref.ensures.value c.mark_again.ensures.marks in
+    let read = subst (λ xs. MarksAll (ReadsAny readers xs) second third) c.deref-2.ensures.value c.take_over.ensures.marks in
+    Remarks-taken joining parts marks waiting old readers room runs changes are new taken first second third done e.evaluated e.rest e.count again read
+
+pub returns-clause-rooms : goal.returns-clause-rooms
+returns-clause-rooms g c =
+    c.evaluate_all.ensures.rooms
+    ∙ cleared_rooms c.args.desk.now c.clear.new.self c.clear-2.new.self c.clear.ensures.capacity c.clear-2.ensures.capacity
+
+pub returns-clause-changed : goal.returns-clause-changed
+returns-clause-changed g c =
+    let joining = c.args.joining in
+    let parts = c.args.parts.now in
+    let marks = c.args.agenda.now.marks in
+    let waiting = c.args.agenda.now.waiting in
+    let old = c.args.state.now in
+    let readers = c.args.readers.now in
+    let room = rooms c.args.desk.now in
+    let runs = c.requires.runnable in
+    let e = c.evaluate_all.ensures in
+    let changes = c.evaluate_all.new.desk.changes.items in
+    let new = c.take_over.new.state in
+    let are = AreChanges-from_Evaluated joining parts marks waiting old readers room runs c.evaluate_all.new.agenda.marks changes
+    c.evaluate_all.new.desk.done.items e.evaluated e.rest in
+    let taken = subst (λ xs. IsTaken xs old new) c.deref-2.ensures.value c.take_over.ensures.taken in
+    let none : Change = record { node = 0; value = Zero } in
+    OnTrue_from _ _ (λ set.
+    let some = eqb-false (vec_len c.evaluate_all.new.desk.changes) 0 (sym c.is_empty.ensures ∙ not-true c.is_empty.result set) in
+    let inside : 0 < length changes = omega (arith, some) in
+    some_change joining parts marks waiting old readers room runs changes are new taken (slice_index_or changes 0 none) (Contains-get_or changes 0 none inside))
+
+pub returns-clause-same : goal.returns-clause-same
+returns-clause-same g c =
+    let joining = c.args.joining in
+    let parts = c.args.parts.now in
+    let marks = c.args.agenda.now.marks in
+    let waiting = c.args.agenda.now.waiting in
+    let old = c.args.state.now in
+    let readers = c.args.readers.now in
+    let room = rooms c.args.desk.now in
+    let runs = c.requires.runnable in
+    let e = c.evaluate_all.ensures in
+    let changes = c.evaluate_all.new.desk.changes.items in
+    let new = c.take_over.new.state in
+    let are = AreChanges-from_Evaluated joining parts marks waiting old readers room runs c.evaluate_all.new.agenda.marks changes
+    c.evaluate_all.new.desk.done.items e.evaluated e.rest in
+    let taken = subst (λ xs. IsTaken xs old new) c.deref-2.ensures.value c.take_over.ensures.taken in
+    OnFalse_from _ _ (λ unset.
+    let none = eqb-true (vec_len c.evaluate_all.new.desk.changes) 0 (sym c.is_empty.ensures ∙ not-false c.is_empty.result unset) in
+    no_change joining parts marks waiting old readers room runs changes are new taken (omega (arith, none)))
+
+pub returns-clause-unknown : goal.returns-clause-unknown
+returns-clause-unknown g c = λ is.
+    let joining = c.args.joining in
+    let parts = c.args.parts.now in
+    let marks = c.args.agenda.now.marks in
+    let waiting = c.args.agenda.now.waiting in
+    let old = c.args.state.now in
+    let readers = c.args.readers.now in
+    let room = rooms c.args.desk.now in
+    let runs = c.requires.runnable in
+    let e = c.evaluate_all.ensures in
+    let changes = c.evaluate_all.new.desk.changes.items in
+    let new = c.take_over.new.state in
+    let are = AreChanges-from_Evaluated joining parts marks waiting old readers room runs c.evaluate_all.new.agenda.marks changes
+    c.evaluate_all.new.desk.done.items e.evaluated e.rest in
+    let taken = subst (λ xs. IsTaken xs old new) c.deref-2.ensures.value c.take_over.ensures.taken in
+    becomes_x joining parts marks waiting old readers room runs changes are new taken is

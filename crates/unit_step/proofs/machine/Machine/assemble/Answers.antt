@@ -1,0 +1,34 @@
+-- All that was made is of these parts, so the machine can run.
+use Rattle.std.proofs.Common.{◌≡◌, ℕ, true, length, ap, sym, subst, ◌∙◌, arith}
+use Rattle.std.specs.Prelude.{Contains, replicate, count_by}
+use Rattle.unit_step.specs.Parts.{ReadsAt, AreApart, has_members}
+use Rattle.unit_step.specs.Evaluating.{rooms}
+use Rattle.unit_step.specs.Running.{readers_of, AreOwners}
+use Rattle.unit_step.specs.Making.{HasRoomFor}
+use Rattle.unit_step.proofs.MakingLemmas.{IsMachine-started}
+use Rattle.unit_step.proofs.machine.Machine.assemble.Goals as goal
+
+pub all_owners-requires-clause-apart : goal.all_owners-requires-clause-apart
+all_owners-requires-clause-apart c = subst AreApart (sym c.deref-3.ensures.value) c.requires.apart
+
+pub invariant_of-result : goal.invariant_of-result
+invariant_of-result c =
+    let parts = c.args.parts.items in
+    let nodes = length c.args.state.items in
+    let lists = c.in_ok-readers.readers.items in
+    let owners = c.in_ok-owners.owners.items in
+    let room = rooms c.in_ok-desk.desk in
+    let count : c.len.result ≡ length parts = omega (arith, c.len.ensures, c.args.parts.ok.0) in
+    let nodes_are : c.len-nodes.result ≡ nodes = omega (arith, c.len-nodes.ensures, c.args.state.ok.0) in
+    let marks : c.in_ok-agenda.agenda.marks ≡ replicate (length parts) true = c.in_ok-agenda.ensures.marks ∙ ap (λ n. replicate n true) count in
+    let readers = subst (λ list. (node k : ℕ) → ReadsAt list k node → Contains (readers_of lists node) k) c.deref-2.ensures.value
+    c.in_ok-readers.ensures.readers in
+    let reads = subst (λ list. (node k : ℕ) → Contains (readers_of lists node) k → ReadsAt list k node) c.deref-2.ensures.value
+    c.in_ok-readers.ensures.reads in
+    let own = subst (λ list. AreOwners list nodes owners) c.deref-3.ensures.value
+    (subst (λ n. AreOwners c.deref-3.result.now n owners) nodes_are c.in_ok-owners.ensures) in
+    let number = c.count_held-held.ensures ∙ ap (count_by has_members) c.deref.ensures.value in
+    let fits = subst (λ list. HasRoomFor list room) c.deref-4.ensures.value c.in_ok-desk.ensures in
+    rw (marks, c.in_ok-agenda.ensures.waiting)
+    (IsMachine-started parts nodes lists owners c.count_held-held.result room c.requires.formed c.requires.apart
+    (c.in_ok-readers.ensures.count ∙ nodes_are) readers reads own number fits)

@@ -1,0 +1,89 @@
+-- A step of the machine, by its parts.
+use Rattle.std.proofs.Common.{◌≡◌, ◌≢◌, ◌+◌, ◌≤◌, length, refl, sym, ap, subst, ◌∙◌, arith}
+use Rattle.std.specs.Bool.{OnTrue, OnFalse}
+use Rattle.std.proofs.lemmas.List.{with_items_is}
+use Rattle.oscillation_x.specs.Settling.{StaysOrBecomesX}
+use Rattle.unit_step.specs.Machines.{marked_sum, instructions_of}
+use Rattle.unit_step.specs.Stepping.{Moves, Remarks}
+use Rattle.unit_step.specs.Evaluating.{rooms}
+use Rattle.unit_step.proofs.MachineLemmas.{IsMachine-again}
+use Rattle.unit_step.proofs.machine.Machine.take.Goals as goal
+
+pub advance-changed-requires : goal.advance-changed-requires
+advance-changed-requires g c =
+    rw (c.deref.ensures.value, c.deref-2.ensures.value, c.deref_mut.ensures.value) (record { runnable = c.self.invariant.runs })
+
+pub invariant_of-self : goal.invariant_of-self
+invariant_of-self g c =
+    let i = c.self.inside in
+    let n = c.advance-changed.new.state in
+    let step = c.advance-changed.ensures in
+    let final = with_items_is i.state n (omega (arith, c.advance-changed.auto.state, c.deref_mut.ensures.len)) in
+    let nodes = ap length final ∙ (c.advance-changed.auto.state ∙ ap length c.deref_mut.ensures.value) in
+    IsMachine-again i.parts.items i.agenda.marks c.advance-changed.new.agenda.marks i.agenda.waiting c.advance-changed.new.agenda.waiting
+    (length i.state.items) _ i.readers.items i.owners.items i.held (rooms i.desk) (rooms c.advance-changed.new.desk)
+    step.marks.count step.waiting nodes step.rooms c.self.invariant
+
+pub returns-clause-advances : goal.returns-clause-advances
+returns-clause-advances g c =
+    let i = c.self.inside in
+    let joining = c.args.joining in
+    let n = c.advance-changed.new.state in
+    let marks = i.agenda.marks in
+    let new_marks = c.advance-changed.new.agenda.marks in
+    let parts = c.deref.result.now in
+    let old = c.deref_mut.result.now in
+    let step = c.advance-changed.ensures in
+    let final = with_items_is i.state n (omega (arith, c.advance-changed.auto.state, c.deref_mut.ensures.len)) in
+    rw (← c.self.view_is) (record {
+      moves = subst (Moves joining i.parts.items marks i.state.items) (sym final)
+          (subst (λ state. Moves joining i.parts.items marks state n) c.deref_mut.ensures.value
+          (subst (λ list. Moves joining list marks old n) c.deref.ensures.value step.moves));
+      marks = subst (λ state. Remarks joining i.parts.items marks i.state.items state new_marks) (sym final)
+          (subst (λ state. Remarks joining i.parts.items marks state n new_marks) c.deref_mut.ensures.value
+          (subst (λ list. Remarks joining list marks old n new_marks) c.deref.ensures.value step.marks));
+      groups = refl;
+      parts = refl;
+      texts = refl;
+      placed = refl;
+    })
+
+pub returns-clause-ticks : goal.returns-clause-ticks
+returns-clause-ticks g c =
+    let i = c.self.inside in
+    rw (← c.self.view_is)
+    (subst (λ parts. c.advance-changed.new.steps ≤ c.args.steps.now + marked_sum instructions_of parts i.agenda.marks)
+    c.deref.ensures.value c.advance-changed.ensures.steps)
+
+pub returns-clause-unknown : goal.returns-clause-unknown
+returns-clause-unknown g c =
+    let i = c.self.inside in
+    let n = c.advance-changed.new.state in
+    let final = with_items_is i.state n (omega (arith, c.advance-changed.auto.state, c.deref_mut.ensures.len)) in
+    rw (← c.self.view_is) (λ is.
+    subst (StaysOrBecomesX i.state.items) (sym final)
+    (subst (λ state. StaysOrBecomesX state n) c.deref_mut.ensures.value (c.advance-changed.ensures.unknown is)))
+
+pub returns-clause-changed : goal.returns-clause-changed
+returns-clause-changed g c =
+    let i = c.self.inside in
+    let n = c.advance-changed.new.state in
+    let final = with_items_is i.state n (omega (arith, c.advance-changed.auto.state, c.deref_mut.ensures.len)) in
+    rw (← c.self.view_is)
+    (subst (λ state. OnTrue c.advance-changed.result (state ≢ i.state.items)) (sym final)
+    (subst (λ state. OnTrue c.advance-changed.result (n ≢ state)) c.deref_mut.ensures.value c.advance-changed.ensures.changed))
+
+pub returns-clause-same : goal.returns-clause-same
+returns-clause-same g c =
+    let i = c.self.inside in
+    let n = c.advance-changed.new.state in
+    let final = with_items_is i.state n (omega (arith, c.advance-changed.auto.state, c.deref_mut.ensures.len)) in
+    rw (← c.self.view_is)
+    (subst (λ state. OnFalse c.advance-changed.result (state ≡ i.state.items)) (sym final)
+    (subst (λ state. OnFalse c.advance-changed.result (n ≡ state)) c.deref_mut.ensures.value c.advance-changed.ensures.same))
+
+pub returns-clause-moved : goal.returns-clause-moved
+returns-clause-moved g c = rw (← c.self.view_is) c.moves_after-self-inside.ensures.moved
+
+pub returns-clause-rested : goal.returns-clause-rested
+returns-clause-rested g c = rw (← c.self.view_is) c.moves_after-self-inside.ensures.rested

@@ -1,0 +1,9 @@
+pub mod Parts
+pub mod Machines
+pub mod Stepping
+pub mod Fitting
+pub mod Laws
+pub mod Marking
+pub mod Evaluating
+pub mod Running
+pub mod Making

@@ -1,0 +1,57 @@
+-- What lets a machine run, and how the changes of a step are taken over.
+use Rattle.std.specs.Prelude.{◌≡◌, ◌≢◌, ℕ, ◌≤◌, Bool, List, [], length, map, count_by, All, Contains, Option, None, Some, slice_index_or}
+use Rattle.std.specs.List.{sum_by}
+use Rattle.smallvec.specs.SmallVec.{SmallVec}
+use Rattle.ternary.specs.declared.tern.Tern.{Tern}
+use Rattle.path_meaning.specs.Switching.{state_at}
+use Rattle.unit_step.specs.declared.part.HeldPart.{HeldPart}
+use Rattle.unit_step.specs.declared.evaluation.Change.{Change}
+use Rattle.unit_step.specs.Parts.{HasMember, ReadsAt, IsStale, AreApart, has_members}
+use Rattle.unit_step.specs.Machines.{members_of}
+use Rattle.unit_step.specs.Evaluating.{Rooms, IsSeated}
+
+-- the parts that are listed as readers of a node
+abbrev pub readers_of : List (SmallVec ℕ) → ℕ → List ℕ
+readers_of readers node = slice_index_or (map (λ parts. parts.items) readers) node []
+
+-- the parts are seated, share no members, and have marks; the stale ones wait; each node has its readers; and there is room for a step
+pub record IsRunnable (parts : List HeldPart) (marks : List Bool) (waiting : List ℕ) (count : ℕ) (lists : List (SmallVec ℕ)) (room : Rooms) : Type 0 where
+  pub counted : length marks ≡ length parts
+  pub seated : All (IsSeated count room) parts
+  pub apart : AreApart parts
+  pub waits : (k : ℕ) → Contains waiting k → IsStale parts k
+  pub stale : (k : ℕ) → IsStale parts k → Contains waiting k
+  pub readers_counted : length lists ≡ count
+  pub readers : (node k : ℕ) → ReadsAt parts k node → Contains (readers_of lists node) k
+  pub reads : (node k : ℕ) → Contains (readers_of lists node) k → ReadsAt parts k node
+  pub changes_room : sum_by members_of parts ≤ room.changes
+  pub parts_room : length parts ≤ room.parts
+
+-- each node has the part that it is a member of, if there is one
+pub record AreOwners (parts : List HeldPart) (count : ℕ) (owners : List (Option ℕ)) : Type 0 where
+  pub counted : length owners ≡ count
+  pub owner : (node k : ℕ) → HasMember parts k node → slice_index_or owners node None ≡ Some k
+  pub member : (node k : ℕ) → slice_index_or owners node None ≡ Some k → HasMember parts k node
+
+-- changes of one node agree
+abbrev pub AreAgreed : List Change → Type 0
+AreAgreed changes = (one two : Change) → Contains changes one → Contains changes two → one.node ≡ two.node → one.value ≡ two.value
+
+-- each node that is to change has its new state, and every other node stays
+pub record IsTaken (changes : List Change) (old new : List Tern) : Type 0 where
+  pub count : length new ≡ length old
+  pub taken : (change : Change) → Contains changes change → state_at new change.node ≡ change.value
+  pub stays : (node : ℕ) → ((change : Change) → Contains changes change → change.node ≢ node) → state_at new node ≡ state_at old node
+
+-- the part with this number is listed as a reader of some node that changes
+pub record ReadsAny (readers : List (SmallVec ℕ)) (changes : List Change) (k : ℕ) : Type 0 where
+  pub change : Change
+  pub changes_it : Contains changes change
+  pub reads : Contains (readers_of readers change.node) k
+
+-- the machine can run, knows the owners of its nodes, and counts the parts with members
+pub record IsMachine (parts : List HeldPart) (marks : List Bool) (waiting : List ℕ) (count : ℕ) (lists : List (SmallVec ℕ)) (owners : List (Option ℕ))
+    (held : ℕ) (room : Rooms) : Type 0 where
+  pub runs : IsRunnable parts marks waiting count lists room
+  pub own : AreOwners parts count owners
+  pub number : held ≡ count_by has_members parts

@@ -1,0 +1,22 @@
+//! Laws of a machine's steps, over all machines and all graphs.
+//!
+//! Each function here does nothing: its contract is the law, and its proof proves it. So a law can be
+//! cited like any other contract.
+ghost use Rattle.unit_step.specs.Laws.{StepsAreUnitSteps, JoiningStepsAreJoinSteps, PlacingKeepsCover, PlacingKeepsFit};
+
+/// A step of a machine that fits a graph is the unit step of the graph, and the machine fits the graph
+/// afterwards; `joining` says the same of joining steps.
+///
+/// It rests on the law that a group rests where its members took their steady states and no node that it
+/// reads changed.
+pub fn steps_are_unit_steps()
+    ensures plain { StepsAreUnitSteps }
+    ensures joining { JoiningStepsAreJoinSteps }
+{}
+
+/// A machine that covers or fits a graph does so after a node was placed: the parts that have the node as
+/// a member or read it are marked.
+pub fn placing_keeps_fits()
+    ensures covers { PlacingKeepsCover }
+    ensures fits { PlacingKeepsFit }
+{}

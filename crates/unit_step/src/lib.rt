@@ -1,0 +1,28 @@
+//! The compiled machine: the code of each group, run only where something touched the group.
+//!
+//! The main type is `Machine`: parts, for each of them the nodes that it reads and whether it is marked,
+//! and a state. It is a `Stepper`. The layer above uses that on a graph that the machine fits a step is
+//! the unit step of the graph, and that the machine fits the graph again: in each part that isn't marked
+//! every member's state is its steady state, so such a part needs no evaluation until a node that it
+//! reads changes.
+//!
+//! ```text
+//! an inverter a -> out, both 0, not marked       a is placed at 0 again: the part is marked
+//! a step runs its code: out takes 1              the part is not marked, until a is placed anew
+//! ```
+//!
+//! After Bryant, Beatty, Brace, Cho and Sheffler, "COSMOS: A Compiled Simulator for MOS Circuits",
+//! 1987.
+#![tactic(auto)]
+
+mod advance;
+mod agenda;
+mod evaluation;
+mod laws;
+mod machine;
+mod making;
+mod part;
+
+pub use laws::{placing_keeps_fits, steps_are_unit_steps};
+pub use machine::Machine;
+pub use part::HeldPart;

@@ -1,0 +1,281 @@
+//! The machine.
+ghost use Rattle.std.specs.Prelude.{◌≡◌, ◌≢◌, ℕ, ◌+◌, ◌^◌, ◌<◌, ◌≤◌, true, false, length, map, zip, count_by, option_map, All, None, Some, IfSome, IfNone, IfOk};
+ghost use Rattle.std.specs.Bool.{OnTrue, OnFalse};
+ghost use Rattle.ternary.specs.Counts.{raised};
+ghost use Rattle.path_meaning.specs.declared.TheConstants.{RAILS};
+ghost use Rattle.path_meaning.specs.Step.{IsStep};
+ghost use Rattle.oscillation_x.specs.Settling.{IsJoinStep, StaysOrBecomesX};
+ghost use Rattle.straight_code.specs.Parts.{IsPart};
+ghost use Rattle.unit_step.specs.Parts.{HasMember, AreApart, has_members};
+ghost use Rattle.unit_step.specs.Making.{ShareNone, held, started, IsFormed};
+ghost use Rattle.unit_step.specs.Machines.{count_marked, marked_sum, instructions_of};
+ghost use Rattle.unit_step.specs.Stepping.{Advances, Places};
+ghost use Rattle.unit_step.specs.Marking.{MarksAll};
+ghost use Rattle.unit_step.specs.Fitting.{Covers, FitsGraph};
+
+use crate::advance::advance;
+use crate::agenda::{Agenda, mark_all};
+use crate::evaluation::Desk;
+use crate::making::{all_owners, all_readers, count_held, desk_for, held_parts};
+use crate::part::{HeldPart, Readers};
+use channel_groups::Groups;
+use oscillation_x::Stepper;
+use path_meaning::{Graph, graphs_are_wired};
+use std::alloc::Global;
+use std::marker::Model;
+use std::sync::ledger::Ledger;
+use straight_code::Part;
+use ternary::{NoMemory, Steps, Tern};
+
+/// A compiled circuit: the parts of its groups, which of them are marked, and a state.
+///
+/// A step runs the code of the marked parts alone. All its room is taken when the machine is made.
+#[derive(Drop)]
+pub struct Machine {
+    // the groups that the machine was built for, if it was
+    groups: Option<Groups>,
+    parts: Vec<HeldPart>,
+    // how many parts have a member
+    held: usize,
+    agenda: Agenda,
+    // for each node the parts that read it, and the part that it is a member of
+    readers: Vec<Readers>,
+    owners: Vec<Option<usize>>,
+    state: Vec<Tern>,
+    desk: Desk,
+    texts: usize,
+    moves: u64,
+    placed: u64,
+}
+
+impl Model for Machine {
+    ghost use Rattle.std.specs.Prelude.{length, option_map};
+    ghost use Rattle.unit_step.specs.Machines.{MachineData};
+    ghost use Rattle.unit_step.specs.Evaluating.{rooms};
+    ghost use Rattle.unit_step.specs.Running.{IsMachine};
+
+    ghost Value = { MachineData };
+
+    ghost view = { λ m. record { groups = option_map (λ held. held.groups) m.groups; parts = m.parts.items; marks = m.agenda.marks; state = m.state.items; texts = m.texts; moves = m.moves; placed = m.placed } };
+
+    ghost invariant = { λ m. IsMachine m.parts.items m.agenda.marks m.agenda.waiting (length m.state.items) m.readers.items m.owners.items m.held (rooms m.desk) };
+}
+
+impl Machine {
+    /// A machine of these parts, in this state: part k reads the nodes of list k.
+    ///
+    /// The codes may be any codes. Every part is marked, and there are no groups and no texts.
+    pub fn of_parts(
+        alloc: Global,
+        parts: Vec<Part>,
+        reads: Vec<Vec<usize>>,
+        state: &[Tern],
+    ) -> Result<Machine, NoMemory>
+        requires fit { All (IsPart (length state.now)) parts.items }
+        requires apart { ShareNone parts.items }
+        requires counted { length reads.items ≡ length parts.items }
+        requires below { All (λ nodes. All (λ node. node < length state.now) nodes.items) reads.items }
+        ensures { IfOk result (λ machine. machine ≡ started None (map held (zip parts.items reads.items)) state.now 0) }
+    {
+        let held = held_parts(alloc, parts, reads)?;
+        let copy = Vec::from_slice(alloc, state)?;
+        Machine::assemble(alloc, None, held, copy, 0)
+    }
+
+    // A machine of these parts, which have code, in this state.
+    fn assemble(
+        alloc: Global,
+        groups: Option<Groups>,
+        parts: Vec<HeldPart>,
+        state: Vec<Tern>,
+        texts: usize,
+    ) -> Result<Machine, NoMemory>
+        requires formed { All (IsFormed (length state.items)) parts.items }
+        requires apart { AreApart parts.items }
+        requires reads { All (λ part. All (λ node. node < length state.items) part.reads.items) parts.items }
+        ensures { IfOk result (λ machine. machine ≡ started (option_map (λ found. found.groups) groups) parts.items state.items texts) }
+    {
+        let nodes = state.len();
+        let held = count_held(&parts);
+        let agenda = Agenda::all(alloc, parts.len())?;
+        let readers = all_readers(alloc, &parts, nodes)?;
+        let owners = all_owners(alloc, &parts, nodes)?;
+        let desk = desk_for(alloc, &parts)?;
+        Ok(Machine {
+            groups,
+            parts,
+            held,
+            agenda,
+            readers,
+            owners,
+            state,
+            desk,
+            texts,
+            moves: 0,
+            placed: 0,
+        })
+    }
+
+    /// The state of each node.
+    pub fn state(&self) -> &[Tern]
+        ensures { result.now ≡ self.now.state }
+    {
+        &self.state
+    }
+
+    /// How many groups it has: how many of its parts have a member.
+    pub fn groups(&self) -> usize
+        ensures { result ≡ count_by has_members self.now.parts }
+    {
+        self.held
+    }
+
+    /// How many distinct texts its groups have; 0 where it wasn't built for groups.
+    pub fn texts(&self) -> usize
+        ensures { result ≡ self.now.texts }
+    {
+        self.texts
+    }
+
+    /// How often a step changed the state. It stays at `u64::MAX` once it is there.
+    pub fn moves(&self) -> u64
+        ensures { result ≡ self.now.moves }
+    {
+        self.moves
+    }
+
+    /// How often a member of a part was placed. It stays at `u64::MAX` once it is there.
+    pub fn placed(&self) -> u64
+        ensures { result ≡ self.now.placed }
+    {
+        self.placed
+    }
+
+    /// How many parts are marked.
+    pub fn marked(&self) -> usize
+        ensures { result ≡ count_marked self.now.marks }
+    {
+        self.agenda.marked()
+    }
+
+    /// Gives a node that is no rail this state, and marks the parts that have it as a member or read
+    /// it; all other nodes stay.
+    ///
+    /// The graph is meant that is handed in: the machine covers and fits it afterwards where it did
+    /// before. `placed` counts the node where it is a member of a part. It takes no memory.
+    pub fn set_node(&mut self, graph: &Graph, node: usize, value: Tern)
+        requires inside { node < length self.old.state }
+        requires no_rail { RAILS ≤ node }
+        ensures places { Places node value self.old self.new }
+        ensures covers { Covers graph.now self.old → Covers graph.now self.new }
+        ensures fits { FitsGraph graph.now self.old → FitsGraph graph.now self.new }
+        ensures member { (k : ℕ) → HasMember self.old.parts k node → self.new.placed ≡ raised self.old.placed 1 }
+        ensures no_member { ((k : ℕ) → ¬ HasMember self.old.parts k node) → self.new.placed ≡ self.old.placed }
+    {
+        graphs_are_wired(graph);
+        self.state[node] = value;
+        let owner = self.owners[node];
+        mark_owner(owner, &mut self.agenda);
+        mark_all(&self.readers[node], &mut self.agenda);
+        self.placed = placed_after(self.placed, owner);
+    }
+
+    // Takes a step, plain or joining, and answers whether it changes the state.
+    fn take<L: Ledger>(&mut self, joining: bool, steps: &mut Steps<L>) -> bool
+        ensures advances { Advances joining self.old self.new }
+        ensures ticks { steps.new ≤ steps.old + marked_sum instructions_of self.old.parts self.old.marks }
+        ensures unknown { joining ≡ true → StaysOrBecomesX self.old.state self.new.state }
+        ensures few { length self.new.state < 2 ^ 63 }
+        ensures changed { OnTrue result (self.new.state ≢ self.old.state) }
+        ensures same { OnFalse result (self.new.state ≡ self.old.state) }
+        ensures moved { OnTrue result (self.new.moves ≡ raised self.old.moves 1) }
+        ensures rested { OnFalse result (self.new.moves ≡ self.old.moves) }
+    {
+        let changed = advance(
+            joining,
+            &self.parts,
+            &self.readers,
+            &mut self.state,
+            &mut self.agenda,
+            &mut self.desk,
+            steps,
+        );
+        self.moves = moves_after(self.moves, changed);
+        changed
+    }
+}
+
+impl Stepper for Machine {
+    ghost state = { λ machine. machine.state };
+
+    ghost fits = { λ machine g. FitsGraph g machine };
+
+    ghost moves = { λ machine. machine.moves };
+
+    ghost placed = { λ machine. machine.placed };
+
+    fn step<L: Ledger>(&mut self, graph: &Graph, steps: &mut Steps<L>) -> bool
+        ensures advances { Advances false self.old self.new }
+        ensures ticks { steps.new ≤ steps.old + marked_sum instructions_of self.old.parts self.old.marks }
+        ensures step { FitsGraph graph.now self.old → IsStep graph.now self.old.state self.new.state }
+        ensures fits { FitsGraph graph.now self.old → FitsGraph graph.now self.new }
+        ensures nodes { length self.new.state ≡ length self.old.state }
+        ensures few { length self.new.state < 2 ^ 63 }
+        ensures changed { OnTrue result (self.new.state ≢ self.old.state) }
+        ensures same { OnFalse result (self.new.state ≡ self.old.state) }
+        ensures moved { OnTrue result (self.new.moves ≡ raised self.old.moves 1) }
+        ensures rested { OnFalse result (self.new.moves ≡ self.old.moves) }
+        ensures placed { self.new.placed ≡ self.old.placed }
+    {
+        graphs_are_wired(graph);
+        self.take(false, steps)
+    }
+
+    fn join_step<L: Ledger>(&mut self, graph: &Graph, steps: &mut Steps<L>) -> bool
+        ensures advances { Advances true self.old self.new }
+        ensures ticks { steps.new ≤ steps.old + marked_sum instructions_of self.old.parts self.old.marks }
+        ensures step { FitsGraph graph.now self.old → IsJoinStep graph.now self.old.state self.new.state }
+        ensures fits { FitsGraph graph.now self.old → FitsGraph graph.now self.new }
+        ensures unknown { StaysOrBecomesX self.old.state self.new.state }
+        ensures nodes { length self.new.state ≡ length self.old.state }
+        ensures few { length self.new.state < 2 ^ 63 }
+        ensures changed { OnTrue result (self.new.state ≢ self.old.state) }
+        ensures same { OnFalse result (self.new.state ≡ self.old.state) }
+        ensures moved { OnTrue result (self.new.moves ≡ raised self.old.moves 1) }
+        ensures rested { OnFalse result (self.new.moves ≡ self.old.moves) }
+        ensures placed { self.new.placed ≡ self.old.placed }
+    {
+        graphs_are_wired(graph);
+        self.take(true, steps)
+    }
+}
+
+// The number of moves after a step that changed the state, or didn't.
+fn moves_after(moves: u64, changed: bool) -> u64
+    ensures moved { OnTrue changed (result ≡ raised moves 1) }
+    ensures rested { OnFalse changed (result ≡ moves) }
+{
+    moves.saturating_add(u64::from(changed))
+}
+
+// The number of placed members after a node was placed that this part owns, if one does.
+fn placed_after(placed: u64, owner: Option<usize>) -> u64
+    ensures some { IfSome owner (λ _. result ≡ raised placed 1) }
+    ensures none { IfNone owner (result ≡ placed) }
+{
+    match owner {
+        Some(_) => placed.saturating_add(1),
+        None => placed,
+    }
+}
+
+// Marks the part that owns a node, if one does.
+fn mark_owner(owner: Option<usize>, agenda: &mut Agenda)
+    requires { IfSome owner (λ k. k < length agenda.old.marks) }
+    ensures marks { MarksAll (λ k. owner ≡ Some k) agenda.old.marks agenda.new.marks }
+    ensures waiting { agenda.new.waiting ≡ agenda.old.waiting }
+{
+    if let Some(k) = owner {
+        agenda.mark(k);
+    }
+}

@@ -1,0 +1,197 @@
+//! What a machine is made of: its parts, who owns and who reads a node, and room for its steps.
+ghost use Rattle.std.specs.Prelude.{◌≡◌, ℕ, ◌+◌, ◌*◌, ◌<◌, ◌≤◌, length, vec_capacity, map, zip, count_by, All, Contains, Some, IfOk, IfSome, OnOk};
+ghost use Rattle.std.specs.List.{sum_by};
+ghost use Rattle.unit_step.specs.Parts.{HasMember, ReadsAt, AreApart, has_members};
+ghost use Rattle.unit_step.specs.Machines.{members_of};
+ghost use Rattle.unit_step.specs.Evaluating.{rooms};
+ghost use Rattle.unit_step.specs.Running.{readers_of, AreOwners};
+ghost use Rattle.unit_step.specs.Making.{held, Lists, Owns, HasRoomFor, IsCodeRoom};
+
+use crate::evaluation::Desk;
+use crate::part::{HeldPart, Readers};
+use smallvec::SmallVec;
+use std::alloc::{AllocError, Global};
+use straight_code::{Code, Part};
+use ternary::{NoMemory, Tern};
+
+// The parts, each with the nodes that it reads.
+pub(crate) fn held_parts(
+    alloc: Global,
+    parts: Vec<Part>,
+    reads: Vec<Vec<usize>>,
+) -> Result<Vec<HeldPart>, AllocError>
+    requires { length reads.items ≡ length parts.items }
+    ensures { IfOk result (λ made. made.items ≡ map held (zip parts.items reads.items)) }
+{
+    let mut made = Vec::new(alloc);
+    for (part, nodes) in parts.into_iter().zip(reads) {
+        made.push(held(part, nodes))?;
+    }
+    Ok(made)
+}
+
+// A part that reads these nodes.
+fn held(part: Part, reads: Vec<usize>) -> HeldPart
+    ensures { result ≡ held (part, reads) }
+{
+    HeldPart {
+        code: Some(part.code),
+        map: part.map,
+        members: part.members,
+        reads,
+    }
+}
+
+// How many parts have a member.
+pub(crate) fn count_held(parts: &[HeldPart]) -> usize
+    ensures { result ≡ count_by has_members parts.now }
+{
+    let mut count = 0;
+    for part in parts {
+        if part.members > 0 {
+            count += 1;
+        }
+    }
+    count
+}
+
+// For each of so many nodes the parts that read it.
+pub(crate) fn all_readers(
+    alloc: Global,
+    parts: &[HeldPart],
+    nodes: usize,
+) -> Result<Vec<Readers>, NoMemory>
+    requires { All (λ part. All (λ node. node < nodes) part.reads.items) parts.now }
+    ensures count { IfOk result (λ lists. length lists.items ≡ nodes) }
+    ensures readers { IfOk result (λ lists. (node k : ℕ) → ReadsAt parts.now k node → Contains (readers_of lists.items node) k) }
+    ensures reads { IfOk result (λ lists. (node k : ℕ) → Contains (readers_of lists.items node) k → ReadsAt parts.now k node) }
+{
+    let mut readers = no_readers(alloc, nodes)?;
+    for (k, part) in parts.iter().enumerate() {
+        list_reader(k, &part.reads, &mut readers)?;
+    }
+    Ok(readers)
+}
+
+// No readers for each of so many nodes.
+fn no_readers(alloc: Global, nodes: usize) -> Result<Vec<Readers>, AllocError>
+    ensures count { IfOk result (λ lists. length lists.items ≡ nodes) }
+    ensures none { IfOk result (λ lists. (node k : ℕ) → ¬ Contains (readers_of lists.items node) k) }
+{
+    let mut readers = Vec::new(alloc);
+    for _ in 0..nodes {
+        readers.push(SmallVec::new(alloc))?;
+    }
+    Ok(readers)
+}
+
+// Lists a part as a reader of these nodes.
+fn list_reader(k: usize, nodes: &[usize], readers: &mut [Readers]) -> Result<(), NoMemory>
+    requires { All (λ node. node < length readers.old) nodes.now }
+    ensures { OnOk result (Lists k nodes.now readers.old readers.new) }
+{
+    for node in nodes {
+        readers[*node].push(k).map_err(|_| NoMemory)?;
+    }
+    Ok(())
+}
+
+// For each of so many nodes the part that it is a member of, if there is one.
+pub(crate) fn all_owners(
+    alloc: Global,
+    parts: &[HeldPart],
+    nodes: usize,
+) -> Result<Vec<Option<usize>>, AllocError>
+    requires below { All (λ part. All (λ node. node < nodes) part.map.items) parts.now }
+    requires members { All (λ part. part.members ≤ length part.map.items) parts.now }
+    requires apart { AreApart parts.now }
+    ensures { IfOk result (λ owners. AreOwners parts.now nodes owners.items) }
+{
+    let mut owners = vec![in alloc; None; nodes]?;
+    for (k, part) in parts.iter().enumerate() {
+        own(k, &part.map[..part.members], &mut owners);
+    }
+    Ok(owners)
+}
+
+// Makes a part the owner of these nodes.
+fn own(k: usize, members: &[usize], owners: &mut [Option<usize>])
+    requires { All (λ node. node < length owners.old) members.now }
+    ensures { Owns k members.now owners.old owners.new }
+{
+    for node in members {
+        owners[*node] = Some(k);
+    }
+}
+
+// How much room the steps of these parts take.
+#[derive(Clone, Copy)]
+struct Needs {
+    // the most that a code reads, and the most members of a part
+    values: usize,
+    outs: usize,
+    // the members of all parts
+    changes: usize,
+}
+
+// Room for the steps of these parts.
+pub(crate) fn desk_for(alloc: Global, parts: &[HeldPart]) -> Result<Desk, NoMemory>
+    ensures { IfOk result (λ desk. HasRoomFor parts.now (rooms desk)) }
+{
+    match needs_of(parts) {
+        Some(needs) => Ok(desk_of(alloc, needs, parts.len())?),
+        None => Err(NoMemory),
+    }
+}
+
+// How much room these parts need; None where it is more than there can be.
+fn needs_of(parts: &[HeldPart]) -> Option<Needs>
+    ensures values { IfSome result (λ needs. All (IsCodeRoom needs.values) parts.now) }
+    ensures outs { IfSome result (λ needs. All (λ part. part.members ≤ needs.outs) parts.now) }
+    ensures changes { IfSome result (λ needs. sum_by members_of parts.now ≤ needs.changes) }
+{
+    let mut needs = Needs {
+        values: 0,
+        outs: 0,
+        changes: 0,
+    };
+    for part in parts {
+        needs.values = needs.values.max(values_of(part)?);
+        needs.outs = needs.outs.max(part.members);
+        needs.changes = needs.changes.checked_add(part.members)?;
+    }
+    Some(needs)
+}
+
+// How many values the code of a part reads.
+fn values_of(part: &HeldPart) -> Option<usize>
+    ensures { IfSome result (λ count. IsCodeRoom count part.now) }
+{
+    match &part.code {
+        Some(code) => count_values(code),
+        None => Some(0),
+    }
+}
+
+// How many values code reads: both constants, both rails of each input, and the results.
+fn count_values(code: &Code) -> Option<usize>
+    ensures { IfSome result (λ count. 2 + 2 * code.now.inputs + length code.now.instructions ≡ count) }
+{
+    let rails = code.inputs().checked_mul(2)?;
+    rails.checked_add(2)?.checked_add(code.len())
+}
+
+// Room for so much, and so many parts.
+fn desk_of(alloc: Global, needs: Needs, parts: usize) -> Result<Desk, AllocError>
+    ensures values { IfOk result (λ desk. length desk.values.items ≡ needs.values) }
+    ensures outs { IfOk result (λ desk. length desk.out.items ≡ needs.outs) }
+    ensures changes { IfOk result (λ desk. needs.changes ≤ vec_capacity desk.changes) }
+    ensures parts { IfOk result (λ desk. parts ≤ vec_capacity desk.done) }
+{
+    Ok(Desk {
+        values: vec![in alloc; false; needs.values]?,
+        out: vec![in alloc; Tern::Unk; needs.outs]?,
+        changes: Vec::with_capacity(alloc, needs.changes)?,
+        done: Vec::with_capacity(alloc, parts)?,
+    })
+}
