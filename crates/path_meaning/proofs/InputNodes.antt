@@ -14,7 +14,7 @@ use Rattle.path_meaning.proofs.PathLemmas.{switch_fits, level_fits, Leads-weaker
 module _ (g : GraphData) (wired : IsWired g) (state : List Tern) (node : ℕ) (in_range : node < nodes g)
     (input : level_of g node ≡ INPUT_LEVEL) where
   -- nothing is stronger than an input node
-  unbeaten : ¬ IsBeaten g state node (level_of g node)
+  pub unbeaten : ¬ IsBeaten g state node (level_of g node)
   unbeaten beaten =
       let weaker = Leads-weaker g state beaten.hops (at_root g beaten.root) beaten.there beaten.path.leads in
       let level = level_fits g wired beaten.root beaten.path.in_range in

@@ -122,7 +122,7 @@ module _ (g : GraphData) (wired : IsWired g) (state : List Tern) (widths : List 
 -- what the first table says of a strength: that it is at least as great as that of each definite path to the node
 module _ (g : GraphData) (state : List Tern) (best : List ℕ) (are_strongest : AreStrongest g state best) where
   -- then it isn't beaten there
-  unbeaten : (node strength : ℕ) → slice_index best node ≤ strength → ¬ IsBeaten g state node strength
+  pub unbeaten : (node strength : ℕ) → slice_index best node ≤ strength → ¬ IsBeaten g state node strength
   unbeaten node strength most beaten =
       absurd (omega (
         arith,
@@ -133,7 +133,7 @@ module _ (g : GraphData) (state : List Tern) (best : List ℕ) (are_strongest : 
       ))
 
   -- and what isn't beaten is as great
-  most_unbeaten : (node strength : ℕ) → node < nodes g → (¬ IsBeaten g state node strength) → slice_index best node ≤ strength
+  pub most_unbeaten : (node strength : ℕ) → node < nodes g → (¬ IsBeaten g state node strength) → slice_index best node ≤ strength
   most_unbeaten node strength in_range free =
       let way = are_strongest.found node in_range in
       elim (cases_lt strength (slice_index best node)) [

@@ -1,4 +1,4 @@
-ghost use Rattle.std.specs.Prelude.{◌≡◌, ◌+◌, ◌<◌, [], ◌∷◌, ◌++◌, length, replicate, Some, IfOk, OnErr, slice_set};
+ghost use Rattle.std.specs.Prelude.{◌≡◌, ◌+◌, ◌<◌, [], ◌∷◌, ◌++◌, length, replicate, Some, IfOk, OnOk, OnErr, slice_set};
 ghost use Rattle.strength_order.specs.Levels.{IsLevel};
 ghost use Rattle.path_meaning.specs.Graphs.{nodes, level_of, place_at, Fits, FitsPlace, IsWired};
 
@@ -147,12 +147,20 @@ impl Graph {
         ensures err { OnErr result (self.new ≡ self.old) }
     {
         let place = self.places.len();
-        self.levels.reserve(count)?;
-        self.places.push(Some(switch)).map_err(AllocError::from)?;
-        for _ in 0..count {
-            self.levels.push_reserved(level);
-        }
+        self.places.reserve(1)?;
+        push_levels(&mut self.levels, count, level)?;
+        self.places.push_reserved(Some(switch));
         Ok(place)
+    }
+
+    /// Adds so many nodes of this level, from 1 to 16. At want of memory it adds nothing.
+    pub fn add_nodes(&mut self, count: usize, level: u8) -> Result<(), NoMemory>
+        requires { IsLevel level }
+        ensures ok { OnOk result
+            (self.new ≡ record self.old { levels = self.old.levels ++ replicate count level }) }
+        ensures err { OnErr result (self.new ≡ self.old) }
+    {
+        push_levels(&mut self.levels, count, level)
     }
 
     /// Puts a switch, or nothing, at a place; all else stays.
@@ -163,4 +171,16 @@ impl Graph {
     {
         self.places[place] = switch;
     }
+}
+
+// Puts this level behind the others so many times, or not at all.
+fn push_levels(levels: &mut Vec<u8>, count: usize, level: u8) -> Result<(), NoMemory>
+    ensures ok { OnOk result (levels.new.items ≡ levels.old.items ++ replicate count level) }
+    ensures err { OnErr result (levels.new.items ≡ levels.old.items) }
+{
+    levels.reserve(count)?;
+    for _ in 0..count {
+        levels.push_reserved(level);
+    }
+    Ok(())
 }

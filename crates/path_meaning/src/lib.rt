@@ -4,7 +4,8 @@
 //! states are defined in `specs/` by all live paths over the whole graph, with no table, loop or
 //! mark: a path is blocked where a stronger definite path meets some prefix of it, and a node's
 //! steady state has each rail that the root of some unblocked path to it has. `plain_step` computes
-//! that step; its contract, `IsStep`, is what every faster step is compared with.
+//! that step; its contract, `IsStep`, is what every faster step is compared with. `strongest` gives the
+//! strengths that block, and `Graph::after_hop` leads a path on.
 //!
 //! ```text
 //! graph: nodes Gnd Vdd a out, a p-channel switch Vdd-out and an n-channel switch Gnd-out, gate a
@@ -12,7 +13,7 @@
 //! ```
 //!
 //! For the proofs of crates above: `PathLemmas`, paths as walks that are cut, joined and raised;
-//! `StrongestPaths`, the strengths of the strongest definite paths; `ReachedNodes`, `ExistingSteps`,
+//! `StrongestPaths`, the strengths of the strongest definite paths; `TableMeaning`, what a table of them says; `ReachedNodes`, `ExistingSteps`,
 //! `UniqueSteps` and `InputNodes`, the laws of `laws` that other proofs start from.
 //!
 //! After Bryant, "A Switch-Level Model and Simulator for MOS Digital Systems", 1984, and "Boolean
@@ -36,7 +37,7 @@ pub use laws::{
     cycles_can_be_cut, every_node_is_reached, graphs_are_wired, input_nodes_keep_their_states,
     reaches_on, roots_reach_themselves, step_exists, step_is_unique, steps_join, steps_rest,
 };
-pub use plain::{PlainRoom, plain_step, plain_step_into};
+pub use plain::{PlainRoom, plain_step, plain_step_into, strongest};
 pub use switching::{Switch, SwitchKind, SwitchState, switch_state};
 pub use walks::{Walk, WalkFacts};
 

@@ -94,6 +94,23 @@ pub fn plain_step_into(graph: &Graph, state: &[Tern], room: &mut PlainRoom, out:
     put_responses(&room.one, &room.zero, out);
 }
 
+/// For each node the strength of the strongest definite path to it.
+///
+/// `state` has one state for each node of the graph. No node is without such a path, since its own
+/// empty one is definite.
+///
+/// Bryant, "Boolean Analysis of MOS Circuits", 1987.
+pub fn strongest(alloc: Global, graph: &Graph, state: &[Tern]) -> Result<Vec<u8>, NoMemory>
+    requires { length state.now ≡ nodes graph.now }
+    ensures strongest { IfOk result (λ best. AreStrongest graph.now state.now best.items) }
+    ensures count { IfOk result (λ best. length best.items ≡ nodes graph.now) }
+{
+    let mut widths = vec![in alloc; 0; graph.places()]?;
+    let mut best = vec![in alloc; 0; graph.nodes()]?;
+    put_strongest(graph, state, &mut widths, &mut best);
+    Ok(best)
+}
+
 // Writes the strength of the strongest definite path to each node, and what closed switches let through.
 fn put_strongest(graph: &Graph, state: &[Tern], widths: &mut [u8], best: &mut [u8])
     requires state { length state.now ≡ nodes graph.now }

@@ -1,6 +1,6 @@
 //! What is known of a walk over the switches of a graph.
 
-ghost use Rattle.std.specs.Prelude.{◌≡◌, length};
+ghost use Rattle.std.specs.Prelude.{◌≡◌, ◌<◌, length, IfSome};
 ghost use Rattle.path_meaning.specs.Graphs.{nodes};
 ghost use Rattle.path_meaning.specs.Walks.{AreFacts, AreFactsAfter, stand_of};
 
@@ -54,10 +54,16 @@ impl Graph {
         Some(facts)
     }
 
-    // The facts of a path after one hop more, or `None` where no hop leads on over this place.
-    fn after_hop(&self, state: &[Tern], facts: WalkFacts, place: usize) -> Option<WalkFacts>
+    /// The facts of a path after one hop more, under this state, which has one entry for each node.
+    ///
+    /// `None` exactly where no hop leads on: the place is none that holds a switch, its switch has no
+    /// end where the path stands, or it is open.
+    ///
+    /// Bryant, "Boolean Analysis of MOS Circuits", 1987.
+    pub fn after_hop(&self, state: &[Tern], facts: WalkFacts, place: usize) -> Option<WalkFacts>
         requires { length state.now ≡ nodes self.now }
-        ensures { AreFactsAfter self.now state.now (stand_of facts) place result }
+        ensures facts { AreFactsAfter self.now state.now (stand_of facts) place result }
+        ensures inside { IfSome result (λ after. after.end < nodes self.now) }
     {
         if place >= self.places() {
             return None;

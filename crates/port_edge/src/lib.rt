@@ -5,7 +5,7 @@
 //! and at no other.
 //! `HonestFiles` and `HonestSink` are ports in memory that tell everything and never fail. `MemFiles` and
 //! `MemSink` tell everything too; their calls are numbered, those of some numbers fail, and each moves a few
-//! bytes at most. `SinkOver` and `FilesOver` are ports over any writer, and over anything that opens readers:
+//! bytes at most. `DropSink` takes every piece and keeps nothing. `SinkOver` and `FilesOver` are ports over any writer, and over anything that opens readers:
 //! what they do to the writer and the readers is proved. `real_sink` and `real_files` make them of standard
 //! output and of the system's files: only the opening of a file, and what the system does, is trusted.
 //!
@@ -21,6 +21,7 @@
 #![tactic(auto)]
 
 mod calls;
+mod drop_sink;
 mod files_over;
 mod honest_files;
 mod honest_sink;
@@ -32,6 +33,7 @@ mod real_ports;
 mod sending;
 mod sink_over;
 
+pub use drop_sink::DropSink;
 pub use files_over::{FilesOver, Open};
 pub use honest_files::HonestFiles;
 pub use honest_sink::HonestSink;

@@ -10,7 +10,7 @@ returns-in_err-facts c =
     let state = c.args.state.now in
     let nowhere = AreFactsFrom-stopped g state (stand_of c.loop-place.facts) c.deref-place-items.result.now
     c.loop-place.place-index
-    (omega arith) c.in_err-facts.ensures in
+    (omega arith) c.in_err-facts.ensures.facts in
     rw c.from_residual.ensures
     (AreFacts-from_root g state c.args.walk.now.root c.args.walk.now.hops.items None (omega arith)
     (c.loop-place.invariant None nowhere))
@@ -20,7 +20,7 @@ loop-place-preserved c = λ answer known.
     c.loop-place.invariant answer
     (AreFactsFrom-next c.args.self.now c.args.state.now
     (stand_of c.loop-place.facts) c.deref-place-items.result.now c.loop-place.place-index
-    c.in_ok-facts.facts answer (omega arith) c.in_ok-facts.ensures known)
+    c.in_ok-facts.facts answer (omega arith) c.in_ok-facts.ensures.facts known)
 
 pub returns : goal.returns
 returns c =
