@@ -43,7 +43,7 @@ IsLevel-size One size accepted = by (nat_le 1 size) (nat_le size 3) refl refl ac
     by false high low is_high both = absurd (cc)
 
 -- the level of a strength that a profile accepts is a switch's
-switch_level : (profile : Profile) (strength : ℕ) → is_strength profile strength ≡ true →
+pub switch_level : (profile : Profile) (strength : ℕ) → is_strength profile strength ≡ true →
     (LEAST_SWITCH_LEVEL ≤ level_of_strength strength) × (level_of_strength strength ≤ GREATEST_SWITCH_LEVEL)
 switch_level One strength accepted = by (nat_le 1 strength) (nat_le strength 4) refl refl accepted
   where
@@ -117,7 +117,7 @@ node_of-within c name is = by (rail_of name) (held c.names name) (rail_of-within
     by None named low within = within
 
 -- and the node of a name is one of the circuit's
-node_named-within : (c : CircuitData) (name : List ℕ) → IsCircuit c → node_named c name < nodes c.graph
+pub node_named-within : (c : CircuitData) (name : List ℕ) → IsCircuit c → node_named c name < nodes c.graph
 node_named-within c name is = by (node_of c.names name) (node_of-within c name is)
   where
     by : (found : Option ℕ) → IfSome found (λ node. node < nodes c.graph) → unwrap_or found 0 < nodes c.graph

@@ -1,7 +1,8 @@
 -- A circuit is a graph with names: it is well formed where both are, and its edits are those of the graph and of the names.
 -- The circuit's names come into use one after the other, each with its node; the names do so by themselves, and the graph gets all
 -- new nodes at once. `with_nodes-circuit_of` says that both come to the same.
-use Rattle.std.proofs.Common.{◌≡◌, ℕ, ◌+◌, ◌-◌, ◌<◌, List, [], ◌∷◌, ◌++◌, length, replicate, Option, Some, is_some, true, false, Bool, nat_le, unwrap_or, if◌then◌else◌, ap, ◌∙◌, arith, subst, sym, All, append_assoc, length-append}
+use Rattle.std.proofs.Common.{◌≡◌, ℕ, ◌+◌, ◌-◌, ◌<◌, List, [], ◌∷◌, ◌++◌, length, replicate, option_map, Option, Some, is_some, true, false, Bool, nat_le, unwrap_or, if◌then◌else◌, ap, ◌∙◌, arith, subst, sym, All, append_assoc, length-append}
+use Rattle.std.specs.Prelude.{slice_set}
 use Rattle.std.proofs.lemmas.Bool.{and_from, cond-true, le-leb}
 use Rattle.std.proofs.lemmas.List.{append-nil, replicate-append-replicate, length-replicate}
 use Rattle.strength_order.specs.declared.TheConstants.{LEAST_SIZE_LEVEL}
@@ -11,10 +12,11 @@ use Rattle.path_meaning.specs.declared.switching.Switch.{Switch}
 use Rattle.path_meaning.specs.declared.switching.SwitchKind.{SwitchKind}
 use Rattle.path_meaning.specs.Graphs.{GraphData, IsWired, nodes}
 use Rattle.netlist.specs.declared.names.Terminals.{Terminals}
+use Rattle.netlist.specs.declared.fault.EditFault.TheVariants as fault
 use Rattle.netlist.specs.Names.{node_of}
 use Rattle.netlist.specs.Naming.{NamesData, AreTerminals, Extends, IsNaming, IsNamedBy, node_count, with_first, with_name, with_names}
 use Rattle.netlist.specs.Circuits.{CircuitData, IsCircuit}
-use Rattle.netlist.specs.Edits.{add_fault, is_strength, limit_fault, switch_between, with_new_node, with_node, with_nodes, with_switch, with_transistor}
+use Rattle.netlist.specs.Edits.{add_fault, count_fault, is_strength, limit_fault, node_named, switch_between, switch_numbered, wire_fault, with_changed, with_new_node, with_node, with_nodes, with_place, with_switch, with_transistor, with_wires}
 use Rattle.netlist.proofs.NamingLemmas.{is_some-name_at, node_count-Extends, Extends-with_name, Extends-with_names}
 
 -- the circuit of a graph and the names of its nodes
@@ -120,6 +122,15 @@ with_nodes-HasTerminals {c} {g} {earlier} {later} {profile} {gate} {source} {dra
     ∙ with_nodes-circuit_with g.places profile g.levels earlier (gate ∷ source ∷ drain ∷ []) has.counted
     ∙ ap (λ names. circuit_with g.places profile (grown g.levels earlier names) names) (sym has.made)
 
+-- and so many nodes
+nodes-HasTerminals : {c : CircuitData} {g : GraphData} {earlier later : NamesData} {profile : Profile} {gate source drain : List ℕ} {terminals : Terminals}
+    (count : ℕ) → HasTerminals c g earlier later profile gate source drain terminals → count ≡ node_count later →
+    nodes (with_nodes c (gate ∷ source ∷ drain ∷ [])).graph ≡ count
+nodes-HasTerminals {c} {g} {earlier} {later} {profile} {gate} {source} {drain} {terminals} count has counts =
+    let more : Extends earlier later =
+    subst (Extends earlier) (sym has.made) (Extends-with_names earlier (gate ∷ source ∷ drain ∷ [])) in
+    ap (λ (d : CircuitData). nodes d.graph) (with_nodes-HasTerminals has) ∙ length-grown g.levels earlier later has.counted more ∙ sym counts
+
 -- the transistor whose switch is wired between them was added
 pub with_transistor-wired : {c : CircuitData} {g : GraphData} {earlier later : NamesData} {profile : Profile} {gate source drain : List ℕ} {terminals : Terminals}
     (wired : GraphData) (kind : SwitchKind) (strength level count : ℕ) →
@@ -155,13 +166,50 @@ pub add_fault-HasTerminals : {c : CircuitData} {g : GraphData} {earlier later : 
     (strength count : ℕ) → HasTerminals c g earlier later profile gate source drain terminals → IsStrength profile strength →
     count ≡ node_count later → add_fault c strength gate source drain ≡ limit_fault count (length g.places)
 add_fault-HasTerminals {c} {g} {earlier} {later} {profile} {gate} {source} {drain} {terminals} strength count has is counts =
-    let more : Extends earlier later =
-    subst (Extends earlier) (sym has.made) (Extends-with_names earlier (gate ∷ source ∷ drain ∷ [])) in
     let accepted : is_strength c.profile strength ≡ true =
     ap (λ (d : CircuitData). is_strength d.profile strength) (sym has.whole)
     ∙ and_from (nat_le 1 strength) (nat_le strength (greatest_strength profile)) (le-leb _ _ is.0) (le-leb _ _ is.1) in
-    let all : nodes (with_nodes c (gate ∷ source ∷ drain ∷ [])).graph ≡ count =
-    ap (λ (d : CircuitData). nodes d.graph) (with_nodes-HasTerminals has) ∙ length-grown g.levels earlier later has.counted more ∙ sym counts in
     cond-true (is_strength c.profile strength) _ _ accepted
-    ∙ ap (λ n. limit_fault n (length c.graph.places)) all
+    ∙ ap (λ n. limit_fault n (length c.graph.places)) (nodes-HasTerminals count has counts)
     ∙ ap (λ (d : CircuitData). limit_fault count (length d.graph.places)) (sym has.whole)
+
+-- a transistor that is there was wired between them
+pub with_wires-wired : {c : CircuitData} {g : GraphData} {earlier later : NamesData} {profile : Profile} {gate source drain : List ℕ} {terminals : Terminals}
+    (wired : GraphData) (number count : ℕ) (switch : Switch) →
+    HasTerminals c g earlier later profile gate source drain terminals → Some switch ≡ switch_numbered c number → count ≡ node_count later →
+    wired ≡ record {
+      levels = g.levels ++ replicate (count - nodes g) LEAST_SIZE_LEVEL;
+      places = slice_set g.places (number - 1)
+          (Some (record switch { gate = terminals.gate; a = terminals.source; b = terminals.drain }));
+    } →
+    circuit_of wired later profile ≡ with_wires c number gate source drain
+with_wires-wired {c} {g} {earlier} {later} {profile} {gate} {source} {drain} {terminals} wired number count switch has there counts is =
+    let missing : count - nodes g ≡ node_count later - node_count earlier = omega (arith, counts, has.counted) in
+    let node : (name : List ℕ) (k : ℕ) → node_of later.entries name ≡ Some k → k ≡ unwrap_or (node_of later.entries name) 0 =
+    λ name k found. sym (ap (λ o. unwrap_or o 0) found) in
+    let wires = λ (d : CircuitData) (s : Switch). record s { gate = node_named d gate; a = node_named d source; b = node_named d drain } in
+    let named : CircuitData = circuit_with g.places profile (grown g.levels earlier later) later in
+    let at : Some switch ≡ switch_numbered named number = there ∙ ap (λ (d : CircuitData). switch_numbered d number) (sym has.whole) in
+    ap (λ w. circuit_of w later profile) is
+    ∙ (λ j. record {
+      graph = record {
+        levels = g.levels ++ replicate (missing j) LEAST_SIZE_LEVEL;
+        places = slice_set g.places (number - 1) (Some (record switch {
+          gate = node gate terminals.gate has.nodes.gate.found j;
+          a = node source terminals.source has.nodes.source.found j;
+          b = node drain terminals.drain has.nodes.drain.found j;
+        }));
+      };
+      names = later.entries;
+      profile = profile;
+    })
+    ∙ ap (λ s. with_place named number (option_map (wires named) s)) at
+    ∙ ap (λ d. with_changed d number (wires d)) (sym (with_nodes-HasTerminals has))
+
+-- and it is refused by the number of nodes alone
+pub wire_fault-HasTerminals : {c : CircuitData} {g : GraphData} {earlier later : NamesData} {profile : Profile} {gate source drain : List ℕ} {terminals : Terminals}
+    (number count : ℕ) (switch : Switch) → HasTerminals c g earlier later profile gate source drain terminals →
+    Some switch ≡ switch_numbered c number → count ≡ node_count later → wire_fault c number gate source drain ≡ count_fault count
+wire_fault-HasTerminals {c} {g} {earlier} {later} {profile} {gate} {source} {drain} {terminals} number count switch has there counts =
+    ap (λ s. if is_some s then count_fault (nodes (with_nodes c (gate ∷ source ∷ drain ∷ [])).graph) else Some fault.NoSuchSwitch) (sym there)
+    ∙ ap count_fault (nodes-HasTerminals count has counts)

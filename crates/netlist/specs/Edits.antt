@@ -1,20 +1,27 @@
 -- What each edit makes of a circuit, and when it is refused.
 -- After Bryant, "A Switch-Level Model and Simulator for MOS Digital Systems", 1984; the limits and refusals are this project's own.
-use Rattle.std.specs.Prelude.{ℕ, ◌==◌, ◌&&◌, Bool, List, [], ◌∷◌, ◌++◌, length, nat_le, nat_lt, is_some, unwrap_or, slice_set, Option, Some, None, Result, Ok, Err, if◌then◌else◌}
+use Rattle.std.specs.Prelude.{ℕ, ◌==◌, ◌&&◌, Bool, List, [], ◌∷◌, ◌++◌, length, nat_le, nat_lt, is_some, unwrap_or, option_map, slice_set, ◌-◌, Option, Some, None, Result, Ok, Err, if◌then◌else◌}
 use Rattle.strength_order.specs.declared.TheConstants.{INPUT_LEVEL, LEAST_SIZE_LEVEL}
 use Rattle.strength_order.specs.declared.Profile.{Profile}
 use Rattle.strength_order.specs.Levels.{greatest_size, greatest_strength, level_of_size, level_of_strength}
 use Rattle.path_meaning.specs.declared.switching.Switch.{Switch}
 use Rattle.path_meaning.specs.declared.switching.SwitchKind.{SwitchKind}
-use Rattle.path_meaning.specs.Graphs.{nodes}
+use Rattle.path_meaning.specs.declared.switching.SwitchKind.TheVariants.{NChan, PChan, Always}
+use Rattle.path_meaning.specs.Graphs.{nodes, place_at}
 use Rattle.netlist.specs.declared.TheConstants.{MOST_NODES, MOST_SWITCHES}
 use Rattle.path_meaning.specs.declared.TheConstants.{RAILS}
 use Rattle.netlist.specs.declared.fault.EditFault.{EditFault}
-use Rattle.netlist.specs.declared.fault.EditFault.TheVariants.{Rail, BadSize}
+use Rattle.netlist.specs.declared.fault.EditFault.TheVariants as fault
 use Rattle.netlist.specs.Faults.{MakingFault}
 use Rattle.netlist.specs.Faults.MakingFault.{BadStrength, AliasTaken, TooManyNodes, TooManySwitches}
 use Rattle.netlist.specs.Names.{node_of}
 use Rattle.netlist.specs.Circuits.{CircuitData}
+
+-- the strength of a transistor that nothing sets: 1 for depletion, 2 for the others
+abbrev pub usual_strength : SwitchKind → ℕ
+usual_strength NChan = 2
+usual_strength PChan = 2
+usual_strength Always = 1
 
 -- the profile accepts the strength
 abbrev pub is_strength : Profile → ℕ → Bool
@@ -127,12 +134,69 @@ with_store c node size = with_level c node (level_of_size size)
 
 -- when a node can't be made an input node: it is a rail
 abbrev pub rail_fault : ℕ → Option EditFault
-rail_fault node = if nat_lt node RAILS then Some Rail else None
+rail_fault node = if nat_lt node RAILS then Some fault.Rail else None
 
 -- when a node can't be made a storage node: it is a rail, else the size is none
 abbrev pub store_fault : Profile → ℕ → ℕ → Option EditFault
 store_fault profile node size =
-    if nat_lt node RAILS then Some Rail else (if is_size profile size then None else Some BadSize)
+    if nat_lt node RAILS then Some fault.Rail else (if is_size profile size then None else Some fault.BadSize)
+
+-- the switch of the transistor with this number, where there is one: numbers begin at 1
+abbrev pub switch_numbered : CircuitData → ℕ → Option Switch
+switch_numbered c number = if nat_lt 0 number then place_at c.graph.places (number - 1) else None
+
+-- the circuit with this at the place of the transistor with this number
+abbrev pub with_place : CircuitData → ℕ → Option Switch → CircuitData
+with_place c number place = record c { graph = record c.graph { places = slice_set c.graph.places (number - 1) place } }
+
+-- the circuit without a transistor: its place is empty, and is never filled again
+abbrev pub without_switch : CircuitData → ℕ → CircuitData
+without_switch c number = with_place c number None
+
+-- the circuit with a transistor's switch changed
+abbrev pub with_changed : CircuitData → ℕ → (Switch → Switch) → CircuitData
+with_changed c number change = with_place c number (option_map change (switch_numbered c number))
+
+-- the circuit with a transistor of this kind; its strength and terminals stay
+abbrev pub with_kind : CircuitData → ℕ → SwitchKind → CircuitData
+with_kind c number kind = with_changed c number (λ switch. record switch { kind = kind })
+
+-- the circuit with a transistor of this strength; its kind and terminals stay
+abbrev pub with_strength : CircuitData → ℕ → ℕ → CircuitData
+with_strength c number strength = with_changed c number (λ switch. record switch { level = level_of_strength strength })
+
+-- the circuit with a transistor between the nodes of these names: first those that are new, in the order gate, source, drain; its
+-- kind and strength stay
+abbrev pub with_wires : CircuitData → ℕ → List ℕ → List ℕ → List ℕ → CircuitData
+with_wires c number gate source drain =
+    let named = with_nodes c (gate ∷ source ∷ drain ∷ []) in
+    with_changed named number (λ switch. record switch {
+      gate = node_named named gate;
+      a = node_named named source;
+      b = node_named named drain;
+    })
+
+-- when a transistor can't be removed, nor its kind be set: there is none with this number
+abbrev pub number_fault : CircuitData → ℕ → Option EditFault
+number_fault c number = if is_some (switch_numbered c number) then None else Some fault.NoSuchSwitch
+
+-- when a transistor's strength can't be set: there is none with this number, else the profile doesn't accept the strength
+abbrev pub strength_fault : CircuitData → ℕ → ℕ → Option EditFault
+strength_fault c number strength =
+    if is_some (switch_numbered c number)
+    then (if is_strength c.profile strength then None else Some fault.BadStrength)
+    else Some fault.NoSuchSwitch
+
+-- the fault of a circuit that would have so many nodes
+abbrev pub count_fault : ℕ → Option EditFault
+count_fault count = if nat_lt MOST_NODES count then Some fault.TooManyNodes else None
+
+-- when a transistor's terminals can't be set: there is none with this number, else its new names make too many nodes
+abbrev pub wire_fault : CircuitData → ℕ → List ℕ → List ℕ → List ℕ → Option EditFault
+wire_fault c number gate source drain =
+    if is_some (switch_numbered c number)
+    then count_fault (nodes (with_nodes c (gate ∷ source ∷ drain ∷ [])).graph)
+    else Some fault.NoSuchSwitch
 
 -- what an edit that takes no memory answers: its fault where it has one
 abbrev pub answer_of : Option EditFault → Result (Unit {0}) EditFault

@@ -3,3 +3,4 @@ pub mod Naming
 pub mod Circuits
 pub mod Faults
 pub mod Edits
+pub mod Laws

@@ -1,11 +1,11 @@
 //! The circuit, and its edits.
-ghost use Rattle.std.specs.Prelude.{◌≡◌, ◌-◌, ◌<◌, ◌≤◌, ◌⊎◌, [], ◌∷◌, ◌++◌, length, replicate, IfOk, IfErr, IfSome, OnOk, OnErr, None, Some};
+ghost use Rattle.std.specs.Prelude.{◌≡◌, ◌-◌, ◌<◌, ◌≤◌, ◌⊎◌, [], ◌∷◌, ◌++◌, length, replicate, slice_set, IfOk, IfErr, IfSome, OnOk, OnErr, None, Some};
 ghost use Rattle.path_meaning.specs.Graphs.{nodes, Fits};
 ghost use Rattle.netlist.specs.Names.{name_at, node_of};
 ghost use Rattle.netlist.specs.Naming.{node_count, with_first, with_name_of, Extends};
 ghost use Rattle.netlist.specs.Circuits.{IsCircuit, rails_alone};
 ghost use Rattle.netlist.specs.Faults.{IsAnswered};
-ghost use Rattle.netlist.specs.Edits.{add_fault, alias_fault, answer_of, full_fault, limit_fault, node_fault, rail_fault, store_fault, with_alias, with_alias_by, with_input, with_node, with_store, with_transistor};
+ghost use Rattle.netlist.specs.Edits.{add_fault, alias_fault, answer_of, count_fault, full_fault, limit_fault, node_fault, number_fault, rail_fault, store_fault, strength_fault, switch_numbered, wire_fault, with_alias, with_alias_by, with_input, with_kind, with_node, with_store, with_strength, with_transistor, with_wires, without_switch};
 
 use crate::fault::EditFault;
 use crate::names::Names;
@@ -192,6 +192,120 @@ impl Circuit {
         }
     }
 
+    /// Removes the transistor with this number, which no transistor gets again; all others keep
+    /// theirs.
+    ///
+    /// `NoSuchSwitch` exactly where no transistor has the number.
+    pub fn del(&mut self, number: u64) -> Result<(), EditFault>
+        ensures answer { result ≡ answer_of (number_fault self.old number) }
+        ensures ok { OnOk result (self.new ≡ without_switch self.old number) }
+        ensures err { OnErr result (self.new ≡ self.old) }
+    {
+        if self.numbered(number).is_none() {
+            return Err(EditFault::NoSuchSwitch);
+        }
+        self.graph.put_switch(number as usize - 1, None);
+        Ok(())
+    }
+
+    /// Sets the strength of the transistor with this number; its kind and terminals stay.
+    ///
+    /// `NoSuchSwitch` exactly where no transistor has the number; else `BadStrength` exactly where
+    /// the profile doesn't accept the strength.
+    pub fn set_strength(&mut self, number: u64, strength: u64) -> Result<(), EditFault>
+        ensures answer { result ≡ answer_of (strength_fault self.old number strength) }
+        ensures ok { OnOk result (self.new ≡ with_strength self.old number strength) }
+        ensures err { OnErr result (self.new ≡ self.old) }
+    {
+        let Some(switch) = self.numbered(number) else {
+            return Err(EditFault::NoSuchSwitch);
+        };
+        match switch_level(self.profile, strength) {
+            Some(level) => {
+                let place = number as usize - 1;
+                self.graph
+                    .put_switch(place, Some(Switch { level, ..switch }));
+                Ok(())
+            }
+            None => Err(EditFault::BadStrength),
+        }
+    }
+
+    /// Sets the kind of the transistor with this number; its strength and terminals stay.
+    ///
+    /// `NoSuchSwitch` exactly where no transistor has the number.
+    pub fn set_kind(&mut self, number: u64, kind: SwitchKind) -> Result<(), EditFault>
+        ensures answer { result ≡ answer_of (number_fault self.old number) }
+        ensures ok { OnOk result (self.new ≡ with_kind self.old number kind) }
+        ensures err { OnErr result (self.new ≡ self.old) }
+    {
+        let Some(switch) = self.numbered(number) else {
+            return Err(EditFault::NoSuchSwitch);
+        };
+        let place = number as usize - 1;
+        self.graph
+            .put_switch(place, Some(Switch { kind, ..switch }));
+        Ok(())
+    }
+
+    /// Sets the gate, source and drain of the transistor with this number; its kind and strength
+    /// stay. Names that are new become storage nodes of size 1, in the order gate, source, drain.
+    ///
+    /// `NoSuchSwitch` exactly where no transistor has the number; else `TooManyNodes` exactly where
+    /// the new names would make more than `MOST_NODES` nodes. A refusal changes nothing.
+    pub fn rewire(
+        &mut self,
+        number: u64,
+        gate: &[u8],
+        source: &[u8],
+        drain: &[u8],
+    ) -> Result<(), EditFault>
+        ensures ok { OnOk result
+            (self.new ≡ with_wires self.old number gate.now source.now drain.now) }
+        ensures allowed { OnOk result
+            (wire_fault self.old number gate.now source.now drain.now ≡ None) }
+        ensures refused { IfErr result (λ fault. (fault ≡ EditFault.NoMemory)
+            ⊎ (wire_fault self.old number gate.now source.now drain.now ≡ Some fault)) }
+        ensures err { OnErr result (self.new ≡ self.old) }
+    {
+        let Some(switch) = self.numbered(number) else {
+            return Err(EditFault::NoSuchSwitch);
+        };
+        let mark = self.names.mark();
+        let nodes = self.names.terminals(gate, source, drain)?;
+        let switch = Switch {
+            gate: nodes.gate,
+            a: nodes.source,
+            b: nodes.drain,
+            ..switch
+        };
+        match put_wired(
+            &mut self.graph,
+            self.names.nodes(),
+            number as usize - 1,
+            switch,
+        ) {
+            Ok(()) => Ok(()),
+            Err(fault) => {
+                self.names.cut(mark);
+                Err(fault)
+            }
+        }
+    }
+
+    // The switch of the transistor with this number, where there is one.
+    fn numbered(&self, number: u64) -> Option<Switch>
+        ensures value { result ≡ switch_numbered self.now number }
+        ensures first { IfSome result (λ _. 1 ≤ number) }
+        ensures inside { IfSome result (λ _. number - 1 < length self.now.graph.places) }
+        ensures fits { IfSome result (Fits (nodes self.now.graph)) }
+    {
+        if number == 0 || number > self.graph.places() as u64 {
+            return None;
+        }
+        self.graph.switch_at(number as usize - 1)
+    }
+
     /// Makes two names names of one node.
     ///
     /// If only one is in use, the other becomes a name of its node. If neither is, the first gets
@@ -294,6 +408,29 @@ fn wire(graph: &mut Graph, count: usize, switch: Switch) -> Result<u64, EditFaul
     }
     let place = graph.add_wired(count - graph.nodes(), LEAST_SIZE_LEVEL, switch)?;
     Ok(place as u64 + 1)
+}
+
+// Adds the nodes that are missing up to this count, and then puts the switch at the place; or
+// changes nothing.
+fn put_wired(graph: &mut Graph, count: usize, place: usize, switch: Switch) -> Result<(), EditFault>
+    requires grows { nodes graph.old ≤ count }
+    requires there { place < length graph.old.places }
+    requires fits { Fits count switch }
+    ensures ok { OnOk result (graph.new ≡ record {
+      levels = graph.old.levels ++ replicate (count - nodes graph.old) LEAST_SIZE_LEVEL;
+      places = slice_set graph.old.places place (Some switch);
+    }) }
+    ensures allowed { OnOk result (count_fault count ≡ None) }
+    ensures refused { IfErr result (λ fault.
+        (fault ≡ EditFault.NoMemory) ⊎ (count_fault count ≡ Some fault)) }
+    ensures err { OnErr result (graph.new ≡ graph.old) }
+{
+    if MOST_NODES < count {
+        return Err(EditFault::TooManyNodes);
+    }
+    graph.add_nodes(count - graph.nodes(), LEAST_SIZE_LEVEL)?;
+    graph.put_switch(place, Some(switch));
+    Ok(())
 }
 
 // Gives a new storage node of size 1 a name that isn't in use and, unless it is the same, another.

@@ -4,7 +4,7 @@ use thiserror::Error;
 /// Why an edit of a circuit is refused.
 #[derive(Clone, Copy, Debug, Drop, Error, PartialEq, Eq)]
 pub enum EditFault {
-    /// No transistor has this number. The edits here name none by its number, and don't answer this.
+    /// No transistor has this number: none ever had it, or that one was removed.
     #[error("no such transistor")]
     NoSuchSwitch,
     /// The node is Gnd or Vdd, which stay input nodes.

@@ -11,26 +11,33 @@
 //! circuit.add_switch(SwitchKind::NChan, 2, b"a", b"Gnd", b"out")?     is 1: nodes a and out are made
 //! circuit.find(b"GND!")                                               is Some(0)
 //! circuit.alias(b"out", b"y")?                                        y is one more name of out
+//! circuit.rewire(1, b"a", b"Gnd", b"y2")?                             its drain is now a new node
+//! circuit.del(1)?                                                     1 is never a number again
 //! ```
 //!
 //! A circuit whose names come from a text is made by `Circuit::with_keys`, so that the text's author
 //! can't choose names that all fall into one place of the table of names.
 //!
-//! For the proofs of crates above: `KeptLemmas` says that each edit keeps a circuit well formed, and
-//! `NameLemmas` which node a name stands for as names are added.
+//! For the proofs of crates above: `KeptLemmas` and `EditLemmas` say that each edit keeps a circuit
+//! well formed, `EditLemmas` also which nodes and places an edit of transistors makes and that the
+//! nodes' names stay visible, and `NameLemmas` which node a name stands for as names are added.
 //!
 //! After Bryant, "A Switch-Level Model and Simulator for MOS Digital Systems", 1984.
 #![tactic(auto)]
 
 mod circuit;
 mod fault;
+mod laws;
 mod names;
+mod strengths;
 #[cfg(test)]
 mod tests;
 
 pub use circuit::Circuit;
 pub use fault::EditFault;
+pub use laws::removed_numbers_stay_free;
 pub use path_meaning::{GND, RAILS, VDD};
+pub use strengths::usual_strength;
 
 /// The most nodes of a circuit, the rails included.
 pub const MOST_NODES: usize = 1_000_000;

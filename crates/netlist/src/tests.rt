@@ -1,4 +1,5 @@
 use crate::{Circuit, EditFault, GND, VDD};
+use path_meaning::Switch;
 use path_meaning::SwitchKind::{self, Always, NChan, PChan};
 use std::test::Fail;
 use strength_order::Profile;
@@ -10,6 +11,11 @@ enum Edit {
     Alias(&'static [u8], &'static [u8]),
     Input(&'static [u8]),
     Store(&'static [u8], u64),
+    Del(u64),
+    Strength(u64, u64),
+    Kind(u64, SwitchKind),
+    // number, gate, source and drain
+    Wire(u64, &'static [u8], &'static [u8], &'static [u8]),
 }
 
 // Each edit of a new circuit in turn, with what it answers: the node, or the transistor's number.
@@ -89,6 +95,64 @@ fn edits_make_and_name_nodes(rt: HostRuntime) -> Result<(), Fail> {
     Ok(())
 }
 
+// Edits of an inverter's transistors in turn; the number counts before the strength or the names.
+const REWIRED: [(Edit, Result<u64, EditFault>); 18] = [
+    (Edit::Switch(PChan, 2, b"a", b"Vdd", b"out"), Ok(1)),
+    (Edit::Switch(NChan, 2, b"a", b"Gnd", b"out"), Ok(2)),
+    (Edit::Wire(2, b"a", b"Gnd", b"out"), Ok(0)),
+    (Edit::Wire(2, b"c", b"b", b"c"), Ok(0)),
+    (Edit::Strength(2, 4), Ok(0)),
+    (Edit::Strength(2, 5), Err(EditFault::BadStrength)),
+    (Edit::Strength(2, 0), Err(EditFault::BadStrength)),
+    (Edit::Strength(3, 5), Err(EditFault::NoSuchSwitch)),
+    (Edit::Kind(2, Always), Ok(0)),
+    (Edit::Kind(0, Always), Err(EditFault::NoSuchSwitch)),
+    (Edit::Del(1), Ok(0)),
+    (Edit::Del(1), Err(EditFault::NoSuchSwitch)),
+    (Edit::Kind(1, NChan), Err(EditFault::NoSuchSwitch)),
+    (Edit::Strength(1, 1), Err(EditFault::NoSuchSwitch)),
+    (
+        Edit::Wire(1, b"x", b"y", b"z"),
+        Err(EditFault::NoSuchSwitch),
+    ),
+    (Edit::Del(3), Err(EditFault::NoSuchSwitch)),
+    (Edit::Del(u64::MAX), Err(EditFault::NoSuchSwitch)),
+    (Edit::Switch(NChan, 1, b"a", b"b", b"d"), Ok(3)),
+];
+
+// What stands at each place then: a is node 2, out 3, c 4, b 5 and d 6.
+const PLACES: [Option<Switch>; 3] = [
+    None,
+    Some(Switch {
+        kind: Always,
+        level: 12,
+        gate: 4,
+        a: 5,
+        b: 4,
+    }),
+    Some(Switch {
+        kind: NChan,
+        level: 9,
+        gate: 2,
+        a: 5,
+        b: 6,
+    }),
+];
+
+#[test]
+fn a_transistor_is_edited_by_its_number(rt: HostRuntime) -> Result<(), Fail> {
+    let mut circuit = Circuit::new(rt.alloc(), Profile::One)?;
+    for (edit, answer) in &REWIRED {
+        assert_eq!(rt; apply(&mut circuit, edit), *answer);
+    }
+    assert_eq!(rt; circuit.graph().nodes(), 7);
+    assert_eq!(rt; circuit.graph().places(), PLACES.len());
+    for (place, switch) in PLACES.iter().enumerate() {
+        assert_eq!(rt; circuit.graph().switch_at(place), *switch);
+    }
+    Ok(())
+}
+
 fn apply(circuit: &mut Circuit, edit: &Edit) -> Result<u64, EditFault> {
     match *edit {
         Edit::Node(name) => Ok(circuit.node_or_new(name)? as u64),
@@ -108,6 +172,13 @@ fn apply(circuit: &mut Circuit, edit: &Edit) -> Result<u64, EditFault> {
             let node = circuit.node_or_new(name)?;
             circuit.make_store(node, size)?;
             Ok(node as u64)
+        }
+        Edit::Del(number) => circuit.del(number).map(|()| 0),
+        Edit::Strength(number, strength) => circuit.set_strength(number, strength).map(|()| 0),
+        Edit::Kind(number, kind) => circuit.set_kind(number, kind).map(|()| 0),
+        Edit::Wire(number, gate, source, drain) => {
+            circuit.rewire(number, gate, source, drain)?;
+            Ok(0)
         }
     }
 }
