@@ -17,12 +17,12 @@ use Rattle.script_lang.specs.declared.TheConstants.{MOST_TIMES}
 use Rattle.script_lang.specs.declared.verb.Verb.{Verb}
 use Rattle.script_lang.specs.declared.verb.Verb.TheVariants as verb
 use Rattle.script_lang.specs.declared.command.Command.{Command}
-use Rattle.script_lang.specs.declared.command.Command.TheVariants.{Input, Store, Set, Charge, Watch, Limit, Step, Phase, Clock, Cycle, Expect}
+use Rattle.script_lang.specs.declared.command.Command.TheVariants.{Input, Store, Set, Charge, Watch, Limit, Step, Phase, Clock, Cycle, Expect, Add, Del, Strength, Kind, Wire, Report}
 use Rattle.script_lang.specs.declared.command.ScriptFault.{ScriptFault}
 use Rattle.script_lang.specs.declared.command.ScriptFault.TheVariants.{BadValue, BadNumber}
 use Rattle.script_lang.specs.Parts.{all_of, assignment_of, beats_of, is_equals, parts_of, state_of, states_of, times_of, times_within}
-use Rattle.script_lang.specs.Commands.{alone, assignments_given, clocks_given, command_by, commanded, names_given, reading_of_words, some_command, store_by, times_given, verb_of}
-use Rattle.script_lang.specs.Forms.{AreAssignments, AreBeats, AreNames, IsFormed, IsTimes}
+use Rattle.script_lang.specs.Commands.{add_by, alone, assignments_given, clocks_given, command_by, commanded, commanded_by, del_by, kind_by, kind_given, names_given, number_given, reading_of_words, some_command, store_by, strength_by, times_given, verb_of, wire_by}
+use Rattle.script_lang.specs.Forms.{AreAssignments, AreBeats, AreNames, AreTerminalNames, IsFormed, IsTimes}
 use Rattle.line_words.specs.Visible.{IsVisibleName}
 
 -- ---- what words give
@@ -157,6 +157,66 @@ formed_store (name ∷ size ∷ []) made are is =
     let stored = mapped (Store name) (decimal_of size) made (given_some (option_map (Store name) (decimal_of size)) BadNumber made is) in
     subst IsFormed stored.2 (All-head IsVisibleName name (size ∷ []) are)
 
+-- what a command was made of in two parts is well formed, and so it is
+formed_of_two : {X Y : Type 0} (command : X → Y → Command) (first : Result X ScriptFault) (second : Result Y ScriptFault) (made : Command) →
+    ((x : X) (y : Y) → IsFormed (command x y)) → commanded_by command first second ≡ Ok made → IsFormed made
+formed_of_two command (Ok x) (Ok y) made each is = subst IsFormed (let same : command x y ≡ made = cc in same) (each x y)
+formed_of_two command (Ok x) (Err fault) made each is = cc
+formed_of_two command (Err fault) second made each is = cc
+
+-- three words are the names of terminals
+terminals_of : (gate source drain : List ℕ) (words : List (List ℕ)) → All IsVisibleName (gate ∷ source ∷ drain ∷ words) →
+    AreTerminalNames gate source drain
+terminals_of gate source drain words are =
+    let later = All-tail IsVisibleName gate (source ∷ drain ∷ words) are in (
+      All-head IsVisibleName gate (source ∷ drain ∷ words) are,
+      All-head IsVisibleName source (drain ∷ words) later,
+      All-head IsVisibleName drain words (All-tail IsVisibleName source (drain ∷ words) later),
+    )
+
+-- the terminals of `add` are words
+formed_add : (words : List (List ℕ)) (made : Command) → All IsVisibleName words → add_by words ≡ Ok made → IsFormed made
+formed_add [] made are is = cc
+formed_add (kind ∷ []) made are is = cc
+formed_add (kind ∷ gate ∷ []) made are is = cc
+formed_add (kind ∷ gate ∷ source ∷ []) made are is = cc
+formed_add (kind ∷ gate ∷ source ∷ drain ∷ []) made are is =
+    let names = terminals_of gate source drain [] (All-tail IsVisibleName kind (gate ∷ source ∷ drain ∷ []) are) in
+    formed_of (λ k. Add k gate source drain None) (kind_given kind) made (λ _ _. names) is
+formed_add (kind ∷ gate ∷ source ∷ drain ∷ strength ∷ []) made are is =
+    let names = terminals_of gate source drain (strength ∷ []) (All-tail IsVisibleName kind (gate ∷ source ∷ drain ∷ strength ∷ []) are) in
+    formed_of_two (λ k s. Add k gate source drain (Some s)) (kind_given kind) (number_given strength) made (λ _ _. names) is
+formed_add (kind ∷ gate ∷ source ∷ drain ∷ strength ∷ other ∷ words) made are is = cc
+
+-- numbers and kinds are well formed, whatever they are
+formed_del : (words : List (List ℕ)) (made : Command) → del_by words ≡ Ok made → IsFormed made
+formed_del [] made is = cc
+formed_del (number ∷ []) made is = formed_of Del (number_given number) made (λ _ _. tt) is
+formed_del (number ∷ other ∷ words) made is = cc
+
+formed_strength : (words : List (List ℕ)) (made : Command) → strength_by words ≡ Ok made → IsFormed made
+formed_strength [] made is = cc
+formed_strength (number ∷ []) made is = cc
+formed_strength (number ∷ strength ∷ []) made is = formed_of_two Strength (number_given number) (number_given strength) made (λ _ _. tt) is
+formed_strength (number ∷ strength ∷ other ∷ words) made is = cc
+
+formed_kind : (words : List (List ℕ)) (made : Command) → kind_by words ≡ Ok made → IsFormed made
+formed_kind [] made is = cc
+formed_kind (number ∷ []) made is = cc
+formed_kind (number ∷ kind ∷ []) made is = formed_of_two Kind (number_given number) (kind_given kind) made (λ _ _. tt) is
+formed_kind (number ∷ kind ∷ other ∷ words) made is = cc
+
+-- the terminals of `wire` are words
+formed_wire : (words : List (List ℕ)) (made : Command) → All IsVisibleName words → wire_by words ≡ Ok made → IsFormed made
+formed_wire [] made are is = cc
+formed_wire (number ∷ []) made are is = cc
+formed_wire (number ∷ gate ∷ []) made are is = cc
+formed_wire (number ∷ gate ∷ source ∷ []) made are is = cc
+formed_wire (number ∷ gate ∷ source ∷ drain ∷ []) made are is =
+    let names = terminals_of gate source drain [] (All-tail IsVisibleName number (gate ∷ source ∷ drain ∷ []) are) in
+    formed_of (λ n. Wire n gate source drain) (number_given number) made (λ _ _. names) is
+formed_wire (number ∷ gate ∷ source ∷ drain ∷ other ∷ words) made are is = cc
+
 -- the command of a verb with names after it is well formed
 formed_by : (verb : Option Verb) (words : List (List ℕ)) (made : Command) → All IsVisibleName words → command_by verb words ≡ Ok made → IsFormed made
 formed_by None words made are is = cc
@@ -171,6 +231,12 @@ formed_by (Some verb.Phase) words made are is = formed_alone Phase words made tt
 formed_by (Some verb.Clock) words made are is = formed_of Clock (clocks_given words) made (λ list given. formed_clocks words list are given) is
 formed_by (Some verb.Cycle) words made are is = formed_of Cycle (times_given words) made (formed_times words) is
 formed_by (Some verb.Expect) words made are is = formed_of Expect (assignments_given words) made (λ list given. formed_assignments words list are given) is
+formed_by (Some verb.Add) words made are is = formed_add words made are is
+formed_by (Some verb.Del) words made are is = formed_del words made is
+formed_by (Some verb.Strength) words made are is = formed_strength words made is
+formed_by (Some verb.Kind) words made are is = formed_kind words made is
+formed_by (Some verb.Wire) words made are is = formed_wire words made are is
+formed_by (Some verb.Report) words made are is = formed_alone Report words made tt is
 
 -- what the words of a line ask for is well formed, where they are names
 formed_line : (words : List (List ℕ)) (found : Option Command) → All IsVisibleName words → reading_of_words words ≡ Ok found → IfSome found IsFormed

@@ -3,6 +3,7 @@
 use Rattle.std.specs.Prelude.{ℕ, List, [], ◌∷◌, codes, bytes_eq, Option, Some, None, option_map, Result, Ok, Err, if◌then◌else◌}
 use Rattle.std.specs.Option.{ok_or}
 use Rattle.ternary.specs.declared.tern.Tern.{Tern}
+use Rattle.path_meaning.specs.declared.switching.SwitchKind.{SwitchKind}
 use Rattle.line_words.specs.declared.line_check.LineFault.{LineFault}
 use Rattle.line_words.specs.declared.line_check.LineFault.TheVariants as of_line
 use Rattle.line_words.specs.Decimals.{decimal_of}
@@ -11,10 +12,10 @@ use Rattle.line_words.specs.Words.{words_of}
 use Rattle.script_lang.specs.declared.verb.Verb.{Verb}
 use Rattle.script_lang.specs.declared.verb.Verb.TheVariants as verb
 use Rattle.script_lang.specs.declared.command.Command.{Command}
-use Rattle.script_lang.specs.declared.command.Command.TheVariants.{Input, Store, Set, Charge, Watch, Limit, Step, Phase, Clock, Cycle, Expect}
+use Rattle.script_lang.specs.declared.command.Command.TheVariants.{Input, Store, Set, Charge, Watch, Limit, Step, Phase, Clock, Cycle, Expect, Add, Del, Strength, Kind, Wire, Report}
 use Rattle.script_lang.specs.declared.command.ScriptFault.{ScriptFault}
 use Rattle.script_lang.specs.declared.command.ScriptFault.TheVariants.{LineTooLong, BadByte, BadCommand, FewWords, ManyWords, BadValue, BadNumber}
-use Rattle.script_lang.specs.Parts.{all_of, assignment_of, beats_of, times_of}
+use Rattle.script_lang.specs.Parts.{all_of, assignment_of, beats_of, kind_of, times_of}
 
 -- the verb that a word is, compared byte by byte
 abbrev pub verb_of : List ℕ → Option Verb
@@ -29,7 +30,13 @@ verb_of word =
     else (if bytes_eq word (codes "phase") then Some verb.Phase
     else (if bytes_eq word (codes "clock") then Some verb.Clock
     else (if bytes_eq word (codes "cycle") then Some verb.Cycle
-    else (if bytes_eq word (codes "expect") then Some verb.Expect else None))))))))))
+    else (if bytes_eq word (codes "expect") then Some verb.Expect
+    else (if bytes_eq word (codes "add") then Some verb.Add
+    else (if bytes_eq word (codes "del") then Some verb.Del
+    else (if bytes_eq word (codes "strength") then Some verb.Strength
+    else (if bytes_eq word (codes "type") then Some verb.Kind
+    else (if bytes_eq word (codes "wire") then Some verb.Wire
+    else (if bytes_eq word (codes "report") then Some verb.Report else None))))))))))))))))
 
 -- one name or more
 abbrev pub names_given : List (List ℕ) → Result (List (List ℕ)) ScriptFault
@@ -52,10 +59,24 @@ times_given [] = Err FewWords
 times_given (word ∷ []) = ok_or (times_of word) BadNumber
 times_given (word ∷ other ∷ words) = Err ManyWords
 
+-- a word that is a transistor's kind
+abbrev pub kind_given : List ℕ → Result SwitchKind ScriptFault
+kind_given word = ok_or (kind_of word) BadValue
+
+-- a word that is a number
+abbrev pub number_given : List ℕ → Result ℕ ScriptFault
+number_given word = ok_or (decimal_of word) BadNumber
+
 -- the command of what was given, or the fault
 abbrev pub commanded : {X : Type 0} → (X → Command) → Result X ScriptFault → Result Command ScriptFault
 commanded command (Ok given) = Ok (command given)
 commanded command (Err fault) = Err fault
+
+-- the command of two things that were given, or the fault of the first that wasn't
+abbrev pub commanded_by : {X Y : Type 0} → (X → Y → Command) → Result X ScriptFault → Result Y ScriptFault → Result Command ScriptFault
+commanded_by command (Ok first) (Ok second) = Ok (command first second)
+commanded_by command (Ok first) (Err fault) = Err fault
+commanded_by command (Err fault) second = Err fault
 
 -- a command that is given nothing
 abbrev pub alone : Command → List (List ℕ) → Result Command ScriptFault
@@ -68,6 +89,46 @@ store_by [] = Err FewWords
 store_by (name ∷ []) = Err FewWords
 store_by (name ∷ size ∷ []) = ok_or (option_map (Store name) (decimal_of size)) BadNumber
 store_by (name ∷ size ∷ other ∷ words) = Err ManyWords
+
+-- `add`, which is given a kind, three names and perhaps a strength
+abbrev pub add_by : List (List ℕ) → Result Command ScriptFault
+add_by [] = Err FewWords
+add_by (kind ∷ []) = Err FewWords
+add_by (kind ∷ gate ∷ []) = Err FewWords
+add_by (kind ∷ gate ∷ source ∷ []) = Err FewWords
+add_by (kind ∷ gate ∷ source ∷ drain ∷ []) = commanded (λ kind. Add kind gate source drain None) (kind_given kind)
+add_by (kind ∷ gate ∷ source ∷ drain ∷ strength ∷ []) =
+    commanded_by (λ kind strength. Add kind gate source drain (Some strength)) (kind_given kind) (number_given strength)
+add_by (kind ∷ gate ∷ source ∷ drain ∷ strength ∷ other ∷ words) = Err ManyWords
+
+-- `del`, which is given a number
+abbrev pub del_by : List (List ℕ) → Result Command ScriptFault
+del_by [] = Err FewWords
+del_by (number ∷ []) = commanded Del (number_given number)
+del_by (number ∷ other ∷ words) = Err ManyWords
+
+-- `strength`, which is given a number and a strength
+abbrev pub strength_by : List (List ℕ) → Result Command ScriptFault
+strength_by [] = Err FewWords
+strength_by (number ∷ []) = Err FewWords
+strength_by (number ∷ strength ∷ []) = commanded_by Strength (number_given number) (number_given strength)
+strength_by (number ∷ strength ∷ other ∷ words) = Err ManyWords
+
+-- `type`, which is given a number and a kind
+abbrev pub kind_by : List (List ℕ) → Result Command ScriptFault
+kind_by [] = Err FewWords
+kind_by (number ∷ []) = Err FewWords
+kind_by (number ∷ kind ∷ []) = commanded_by Kind (number_given number) (kind_given kind)
+kind_by (number ∷ kind ∷ other ∷ words) = Err ManyWords
+
+-- `wire`, which is given a number and three names
+abbrev pub wire_by : List (List ℕ) → Result Command ScriptFault
+wire_by [] = Err FewWords
+wire_by (number ∷ []) = Err FewWords
+wire_by (number ∷ gate ∷ []) = Err FewWords
+wire_by (number ∷ gate ∷ source ∷ []) = Err FewWords
+wire_by (number ∷ gate ∷ source ∷ drain ∷ []) = commanded (λ number. Wire number gate source drain) (number_given number)
+wire_by (number ∷ gate ∷ source ∷ drain ∷ other ∷ words) = Err ManyWords
 
 -- the command of a verb with the words after it
 abbrev pub command_by : Option Verb → List (List ℕ) → Result Command ScriptFault
@@ -83,6 +144,12 @@ command_by (Some verb.Phase) words = alone Phase words
 command_by (Some verb.Clock) words = commanded Clock (clocks_given words)
 command_by (Some verb.Cycle) words = commanded Cycle (times_given words)
 command_by (Some verb.Expect) words = commanded Expect (assignments_given words)
+command_by (Some verb.Add) words = add_by words
+command_by (Some verb.Del) words = del_by words
+command_by (Some verb.Strength) words = strength_by words
+command_by (Some verb.Kind) words = kind_by words
+command_by (Some verb.Wire) words = wire_by words
+command_by (Some verb.Report) words = alone Report words
 
 -- a line's command, where it has words
 abbrev pub some_command : Result Command ScriptFault → Result (Option Command) ScriptFault

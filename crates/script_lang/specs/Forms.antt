@@ -3,7 +3,7 @@ use Rattle.std.specs.Prelude.{ℕ, ◌<◌, ◌≤◌, List, length, All}
 use Rattle.ternary.specs.declared.tern.Tern.{Tern}
 use Rattle.script_lang.specs.declared.TheConstants.{MOST_TIMES}
 use Rattle.script_lang.specs.declared.command.Command.{Command}
-use Rattle.script_lang.specs.declared.command.Command.TheVariants.{Input, Store, Set, Charge, Watch, Limit, Step, Phase, Clock, Cycle, Expect}
+use Rattle.script_lang.specs.declared.command.Command.TheVariants.{Input, Store, Set, Charge, Watch, Limit, Step, Phase, Clock, Cycle, Expect, Add, Del, Strength, Kind, Wire, Report}
 use Rattle.line_words.specs.Visible.{IsVisibleName}
 
 -- one name or more
@@ -17,6 +17,10 @@ AreAssignments list = (0 < length list) × All (λ item. IsVisibleName item.0) l
 -- one clock or more, each with one state or more
 abbrev pub AreBeats : List (List ℕ × List Tern) → Type 0
 AreBeats list = (0 < length list) × All (λ item. IsVisibleName item.0 × (0 < length item.1)) list
+
+-- the names of a transistor's gate, source and drain
+abbrev pub AreTerminalNames : List ℕ → List ℕ → List ℕ → Type 0
+AreTerminalNames gate source drain = IsVisibleName gate × IsVisibleName source × IsVisibleName drain
 
 -- a number from 1 to `MOST_TIMES`
 abbrev pub IsTimes : ℕ → Type 0
@@ -35,3 +39,9 @@ IsFormed Phase = Unit {0}
 IsFormed (Clock list) = AreBeats list
 IsFormed (Cycle number) = IsTimes number
 IsFormed (Expect list) = AreAssignments list
+IsFormed (Add kind gate source drain strength) = AreTerminalNames gate source drain
+IsFormed (Del number) = Unit {0}
+IsFormed (Strength number strength) = Unit {0}
+IsFormed (Kind number kind) = Unit {0}
+IsFormed (Wire number gate source drain) = AreTerminalNames gate source drain
+IsFormed Report = Unit {0}

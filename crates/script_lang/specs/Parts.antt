@@ -1,9 +1,11 @@
 -- The parts of a script's words: names, assignments, letters of clocks, numbers.
-use Rattle.std.specs.Prelude.{◌≡◌, ◌≢◌, ◌<◌, ℕ, Bool, ◌==◌, ◌&&◌, List, [], ◌∷◌, length, slice_index, nat_le, Option, Some, None, option_map, if◌then◌else◌}
+use Rattle.std.specs.Prelude.{◌≡◌, ◌≢◌, ◌<◌, ℕ, Bool, ◌==◌, ◌&&◌, ◌||◌, List, [], ◌∷◌, length, codes, bytes_eq, slice_index, nat_le, Option, Some, None, option_map, if◌then◌else◌}
 use Rattle.std.specs.List.{before_last, after_last}
 use Rattle.std.specs.Option.{option_and_then}
 use Rattle.ternary.specs.declared.tern.Tern.{Tern}
 use Rattle.ternary.specs.Tern.{of_letter}
+use Rattle.path_meaning.specs.declared.switching.SwitchKind.{SwitchKind}
+use Rattle.path_meaning.specs.declared.switching.SwitchKind.TheVariants.{NChan, PChan, Always}
 use Rattle.line_words.specs.Decimals.{decimal_of}
 use Rattle.line_words.specs.Words.{is_word}
 use Rattle.script_lang.specs.declared.TheConstants.{MOST_TIMES}
@@ -53,6 +55,13 @@ times_within number = if nat_le 1 number && nat_le number MOST_TIMES then Some n
 -- a number from 1 to `MOST_TIMES`
 abbrev pub times_of : List ℕ → Option ℕ
 times_of word = option_and_then times_within (decimal_of word)
+
+-- the kind of a transistor that a word names: `n` or `e` n-channel, `p` p-channel, `d` depletion
+abbrev pub kind_of : List ℕ → Option SwitchKind
+kind_of word =
+    if bytes_eq word (codes "n") || bytes_eq word (codes "e") then Some NChan
+    else (if bytes_eq word (codes "p") then Some PChan
+    else (if bytes_eq word (codes "d") then Some Always else None))
 
 -- no byte of the word is `=`
 abbrev pub HasNoEquals : List ℕ → Type 0

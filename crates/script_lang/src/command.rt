@@ -1,4 +1,5 @@
 use crate::lists::{AssignList, ClockList, Name, NameList};
+use path_meaning::SwitchKind;
 use ternary::NoMemory;
 use thiserror::Error;
 
@@ -27,6 +28,32 @@ pub enum Command {
     Cycle(u64),
     /// `expect NAME=V..`: a line for each node that isn't in this state.
     Expect(AssignList),
+    /// `add KIND GATE SOURCE DRAIN [STRENGTH]`: adds a transistor, whose strength is the usual one
+    /// of its kind where none is given. New names make storage nodes of size 1.
+    Add {
+        kind: SwitchKind,
+        gate: Name,
+        source: Name,
+        drain: Name,
+        strength: Option<u64>,
+    },
+    /// `del NUMBER`: removes the transistor of this number.
+    Del(u64),
+    /// `strength NUMBER STRENGTH`: sets a transistor's strength; its kind and terminals stay.
+    Strength(u64, u64),
+    /// `type NUMBER KIND`: sets a transistor's kind; its strength and terminals stay.
+    Kind(u64, SwitchKind),
+    /// `wire NUMBER GATE SOURCE DRAIN`: sets a transistor's terminals; its kind and strength stay.
+    /// New names make storage nodes of size 1.
+    Wire {
+        number: u64,
+        gate: Name,
+        source: Name,
+        drain: Name,
+    },
+    /// `report`: a line with the numbers of groups, of distinct texts, and of texts analysed since
+    /// the last one.
+    Report,
 }
 
 /// Why a line of a script is no command. Where several causes stand together, the first here wins;
@@ -48,7 +75,7 @@ pub enum ScriptFault {
     /// There are too many words after the first.
     #[error("too many words")]
     ManyWords,
-    /// A word that should be an assignment is none.
+    /// A word that should be an assignment or a transistor's kind is none.
     #[error("the value isn't one")]
     BadValue,
     /// A word that should be a number is none, or is out of range.

@@ -13,6 +13,7 @@
 #![tactic(auto)]
 
 mod command;
+mod edits;
 mod laws;
 mod lists;
 mod parts;

@@ -1,10 +1,11 @@
 //! The parts of a script's words: assignments, letters of clocks, numbers.
 ghost use Rattle.std.specs.Prelude.{◌≡◌, IfOk, MatchOption, option_map};
-ghost use Rattle.script_lang.specs.Parts.{assignment_of, beats_of, parts_of, state_of, states_of, times_of, HasNoEquals, IsLastEquals};
+ghost use Rattle.script_lang.specs.Parts.{assignment_of, beats_of, kind_of, parts_of, state_of, states_of, times_of, HasNoEquals, IsLastEquals};
 
 use crate::MOST_TIMES;
 use crate::lists::{Name, StateList};
 use line_words::decimal;
+use path_meaning::SwitchKind;
 use std::alloc::Global;
 use ternary::{NoMemory, Tern};
 
@@ -39,6 +40,18 @@ pub(crate) fn times(word: &[u8]) -> Option<u64>
     ensures { result ≡ times_of word.now }
 {
     decimal(word).filter(|&times| 1 <= times && times <= MOST_TIMES)
+}
+
+/// The kind of a transistor that a word names.
+pub(crate) fn kind_named(word: &[u8]) -> Option<SwitchKind>
+    ensures { result ≡ kind_of word.now }
+{
+    match word {
+        b"n" | b"e" => Some(SwitchKind::NChan),
+        b"p" => Some(SwitchKind::PChan),
+        b"d" => Some(SwitchKind::Always),
+        _ => None,
+    }
 }
 
 // The state that a letter alone stands for.

@@ -5,6 +5,7 @@ ghost use Rattle.script_lang.specs.Commands.{alone, assignments_given, clocks_gi
 ghost use Rattle.script_lang.specs.Forms.{IsFormed};
 
 use crate::command::{Command, ScriptFault};
+use crate::edits::{read_add, read_del, read_kind, read_strength, read_wire};
 use crate::lists::{AssignList, ClockList, Name, NameList};
 use crate::parts::{assignment, beats, times};
 use crate::verb::{Verb, verb_named};
@@ -62,6 +63,12 @@ fn read_verb(
         Some(Verb::Clock) => Ok(read_clocks(alloc, words)?.map(Command::Clock)),
         Some(Verb::Cycle) => Ok(read_times(words).map(Command::Cycle)),
         Some(Verb::Expect) => Ok(read_assignments(alloc, words)?.map(Command::Expect)),
+        Some(Verb::Add) => read_add(alloc, words),
+        Some(Verb::Del) => Ok(read_del(words)),
+        Some(Verb::Strength) => Ok(read_strength(words)),
+        Some(Verb::Kind) => Ok(read_kind(words)),
+        Some(Verb::Wire) => read_wire(alloc, words),
+        Some(Verb::Report) => Ok(read_alone(Command::Report, words)),
         None => Ok(Err(ScriptFault::BadCommand)),
     }
 }

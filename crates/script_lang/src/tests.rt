@@ -3,7 +3,7 @@ use std::test::Fail;
 
 #[test]
 fn lines_are_commands_or_refused(rt: HostRuntime) -> Result<(), Fail> {
-    const ROWS: [(&[u8], Result<&str, ScriptFault>); 40] = [
+    const ROWS: [(&[u8], Result<&str, ScriptFault>); 61] = [
         // Each command; the bytes of a name are printed as numbers: a is 97, b is 98.
         (b"input a b", Ok("Some(Input([[97], [98]]))")),
         (b"\tstore  a 2 ", Ok("Some(Store([97], 2))")),
@@ -22,6 +22,27 @@ fn lines_are_commands_or_refused(rt: HostRuntime) -> Result<(), Fail> {
         ),
         (b"cycle 0001", Ok("Some(Cycle(1))")),
         (b"expect a=1", Ok("Some(Expect([([97], One)]))")),
+        (
+            b"add n a Gnd b",
+            Ok(
+                "Some(Add { kind: NChan, gate: [97], source: [71, 110, 100], drain: [98], strength: None })",
+            ),
+        ),
+        (
+            b"add e a b b 0",
+            Ok(
+                "Some(Add { kind: NChan, gate: [97], source: [98], drain: [98], strength: Some(0) })",
+            ),
+        ),
+        (b"del 0", Ok("Some(Del(0))")),
+        (b"strength 1 9", Ok("Some(Strength(1, 9))")),
+        (b"type 007 p", Ok("Some(Kind(7, PChan))")),
+        (b"type 1 d", Ok("Some(Kind(1, Always))")),
+        (
+            b"wire 3 a b a",
+            Ok("Some(Wire { number: 3, gate: [97], source: [98], drain: [97] })"),
+        ),
+        (b"report", Ok("Some(Report)")),
         // Nothing to do.
         (b"", Ok("None")),
         (b" \t ", Ok("None")),
@@ -57,6 +78,20 @@ fn lines_are_commands_or_refused(rt: HostRuntime) -> Result<(), Fail> {
         (b"cycle -1", Err(ScriptFault::BadNumber)),
         (b"store a two", Err(ScriptFault::BadNumber)),
         (b"store a 18446744073709551616", Err(ScriptFault::BadNumber)),
+        // Words are counted first, and then the first bad one tells.
+        (b"add n a b", Err(ScriptFault::FewWords)),
+        (b"add q a b", Err(ScriptFault::FewWords)),
+        (b"add n a b c 2 3", Err(ScriptFault::ManyWords)),
+        (b"add q a b c x", Err(ScriptFault::BadValue)),
+        (b"add n a b c x", Err(ScriptFault::BadNumber)),
+        (b"add N a b c", Err(ScriptFault::BadValue)),
+        (b"del", Err(ScriptFault::FewWords)),
+        (b"del -1", Err(ScriptFault::BadNumber)),
+        (b"strength 1", Err(ScriptFault::FewWords)),
+        (b"type x q", Err(ScriptFault::BadNumber)),
+        (b"type 1 np", Err(ScriptFault::BadValue)),
+        (b"wire x a b c d", Err(ScriptFault::ManyWords)),
+        (b"report 1", Err(ScriptFault::ManyWords)),
     ];
     for (line, wanted) in ROWS {
         match read_command(rt.alloc(), line) {

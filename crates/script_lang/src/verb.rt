@@ -15,6 +15,12 @@ pub(crate) enum Verb {
     Clock,
     Cycle,
     Expect,
+    Add,
+    Del,
+    Strength,
+    Kind,
+    Wire,
+    Report,
 }
 
 /// The verb that a word is, compared byte by byte.
@@ -33,6 +39,12 @@ pub(crate) fn verb_named(word: &[u8]) -> Option<Verb>
         b"clock" => Some(Verb::Clock),
         b"cycle" => Some(Verb::Cycle),
         b"expect" => Some(Verb::Expect),
+        b"add" => Some(Verb::Add),
+        b"del" => Some(Verb::Del),
+        b"strength" => Some(Verb::Strength),
+        b"type" => Some(Verb::Kind),
+        b"wire" => Some(Verb::Wire),
+        b"report" => Some(Verb::Report),
         _ => None,
     }
 }

@@ -9,3 +9,9 @@ returns-in-charge c = ap verb_of (sym (text_from_reads c.args.word.now (codes "c
 
 pub returns-in-expect : goal.returns-in-expect
 returns-in-expect c = ap verb_of (sym (text_from_reads c.args.word.now (codes "expect") (omega arith) (search rules)))
+
+pub returns-in-strength : goal.returns-in-strength
+returns-in-strength c = ap verb_of (sym (text_from_reads c.args.word.now (codes "strength") (omega arith) (search rules)))
+
+pub returns-in-report : goal.returns-in-report
+returns-in-report c = ap verb_of (sym (text_from_reads c.args.word.now (codes "report") (omega arith) (search rules)))

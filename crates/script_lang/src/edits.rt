@@ -1,0 +1,150 @@
+//! Reading the words of the commands that edit the circuit's transistors.
+ghost use Rattle.std.specs.Prelude.{◌≡◌, IfOk};
+ghost use Rattle.script_lang.specs.Commands.{add_by, del_by, kind_by, strength_by, wire_by};
+
+use crate::command::{Command, ScriptFault};
+use crate::lists::Name;
+use crate::parts::kind_named;
+use line_words::{Words, decimal};
+use std::alloc::Global;
+use ternary::NoMemory;
+
+/// Reads the kind, the terminals and, where it is there, the strength of `add`.
+pub(crate) fn read_add(
+    alloc: Global,
+    mut words: Words<'_>,
+) -> Result<Result<Command, ScriptFault>, NoMemory>
+    ensures { IfOk result (λ answer. answer ≡ add_by words.entry) }
+{
+    let Some(kind) = words.next() else {
+        return Ok(Err(ScriptFault::FewWords));
+    };
+    let Some(gate) = words.next() else {
+        return Ok(Err(ScriptFault::FewWords));
+    };
+    let Some(source) = words.next() else {
+        return Ok(Err(ScriptFault::FewWords));
+    };
+    let Some(drain) = words.next() else {
+        return Ok(Err(ScriptFault::FewWords));
+    };
+    let strength = words.next();
+    if words.next().is_some() {
+        return Ok(Err(ScriptFault::ManyWords));
+    }
+    let Some(kind) = kind_named(kind) else {
+        return Ok(Err(ScriptFault::BadValue));
+    };
+    let strength = match strength {
+        Some(strength) => {
+            let Some(strength) = decimal(strength) else {
+                return Ok(Err(ScriptFault::BadNumber));
+            };
+            Some(strength)
+        }
+        None => None,
+    };
+    let gate = Name::from_slice(alloc, gate)?;
+    let source = Name::from_slice(alloc, source)?;
+    let drain = Name::from_slice(alloc, drain)?;
+    Ok(Ok(Command::Add {
+        kind,
+        gate,
+        source,
+        drain,
+        strength,
+    }))
+}
+
+/// Reads the number of `del`.
+pub(crate) fn read_del(mut words: Words<'_>) -> Result<Command, ScriptFault>
+    ensures { result ≡ del_by words.entry }
+{
+    let Some(number) = words.next() else {
+        return Err(ScriptFault::FewWords);
+    };
+    if words.next().is_some() {
+        return Err(ScriptFault::ManyWords);
+    }
+    match decimal(number) {
+        Some(number) => Ok(Command::Del(number)),
+        None => Err(ScriptFault::BadNumber),
+    }
+}
+
+/// Reads the number and the strength of `strength`.
+pub(crate) fn read_strength(mut words: Words<'_>) -> Result<Command, ScriptFault>
+    ensures { result ≡ strength_by words.entry }
+{
+    let Some(number) = words.next() else {
+        return Err(ScriptFault::FewWords);
+    };
+    let Some(strength) = words.next() else {
+        return Err(ScriptFault::FewWords);
+    };
+    if words.next().is_some() {
+        return Err(ScriptFault::ManyWords);
+    }
+    match (decimal(number), decimal(strength)) {
+        (Some(number), Some(strength)) => Ok(Command::Strength(number, strength)),
+        _ => Err(ScriptFault::BadNumber),
+    }
+}
+
+/// Reads the number and the kind of `type`.
+pub(crate) fn read_kind(mut words: Words<'_>) -> Result<Command, ScriptFault>
+    ensures { result ≡ kind_by words.entry }
+{
+    let Some(number) = words.next() else {
+        return Err(ScriptFault::FewWords);
+    };
+    let Some(kind) = words.next() else {
+        return Err(ScriptFault::FewWords);
+    };
+    if words.next().is_some() {
+        return Err(ScriptFault::ManyWords);
+    }
+    let Some(number) = decimal(number) else {
+        return Err(ScriptFault::BadNumber);
+    };
+    match kind_named(kind) {
+        Some(kind) => Ok(Command::Kind(number, kind)),
+        None => Err(ScriptFault::BadValue),
+    }
+}
+
+/// Reads the number and the terminals of `wire`.
+pub(crate) fn read_wire(
+    alloc: Global,
+    mut words: Words<'_>,
+) -> Result<Result<Command, ScriptFault>, NoMemory>
+    ensures { IfOk result (λ answer. answer ≡ wire_by words.entry) }
+{
+    let Some(number) = words.next() else {
+        return Ok(Err(ScriptFault::FewWords));
+    };
+    let Some(gate) = words.next() else {
+        return Ok(Err(ScriptFault::FewWords));
+    };
+    let Some(source) = words.next() else {
+        return Ok(Err(ScriptFault::FewWords));
+    };
+    let Some(drain) = words.next() else {
+        return Ok(Err(ScriptFault::FewWords));
+    };
+    if words.next().is_some() {
+        return Ok(Err(ScriptFault::ManyWords));
+    }
+    let Some(number) = decimal(number) else {
+        return Ok(Err(ScriptFault::BadNumber));
+    };
+    let gate = Name::from_slice(alloc, gate)?;
+    let source = Name::from_slice(alloc, source)?;
+    let drain = Name::from_slice(alloc, drain)?;
+    Ok(Ok(Command::Wire {
+        number,
+        gate,
+        source,
+        drain,
+    }))
+}
