@@ -31,7 +31,7 @@ count_by-ended line rest none =
     omega (arith, parts, after, before)
 
 -- a text that has no LF before its last byte is one line
-length-lines_of-one : (text : List ℕ) (byte : ℕ) → HasNoFeed text → length (lines_of (text ++ byte ∷ [])) ≡ 1
+pub length-lines_of-one : (text : List ℕ) (byte : ℕ) → HasNoFeed text → length (lines_of (text ++ byte ∷ [])) ≡ 1
 length-lines_of-one text byte none =
     elim (cases_Bool (is_line_feed byte)) [
       | inl feed ↦

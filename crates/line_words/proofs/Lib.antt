@@ -6,3 +6,4 @@ pub mod LineLemmas
 pub mod WordLemmas
 pub mod FileLemmas
 pub mod VisibleLemmas
+pub mod PieceLemmas

@@ -6,12 +6,14 @@
 //! seen as the list of the words that are left. So a loop `for line in lines(text)` has as its
 //! invariant one equation on that list. [`check_line`] tells the two faults that a line of any
 //! text may have, and [`decimal`] is the one way in which numbers are read. [`front`] is what is
-//! read of a file, and [`cut_line`] is the number of the line at which a file is too long.
+//! read of a file, and [`cut_line`] is the number of the line at which a file is too long. A text that
+//! comes in pieces is cut by [`line_end`], the place of the first LF of a piece.
 //!
 //! The layer above rests on the contract of [`lines`]: it gives `lines_of` of the text, numbered
 //! from 1. For the proofs of crates above: `VisibleLemmas` says that the words of a line without a
 //! fault are visible names, `FileLemmas` that a file goes by its front alone, `CutLemmas` how a list
-//! is cut at the first byte that passes a test, and `WordLemmas` that words are those of the grammar.
+//! is cut at the first byte that passes a test, `WordLemmas` that words are those of the grammar, and
+//! `PieceLemmas` which lines a text has that goes on from lines that have ended.
 //!
 //! ```text
 //! for line in lines(b"set in=1\r\nphase 2\n") {
@@ -30,6 +32,7 @@ mod decimals;
 mod files;
 mod line_check;
 mod line_cursor;
+mod pieces;
 #[cfg(test)]
 mod tests;
 mod word_cursor;
@@ -38,5 +41,6 @@ pub use cuts::{lines, words};
 pub use decimals::decimal;
 pub use files::{MOST_FILE_BYTES, cut_line, front};
 pub use line_check::{LONGEST_LINE, LineFault, check_line, is_comment};
-pub use line_cursor::{Line, Lines};
+pub use line_cursor::{Line, Lines, without_return};
+pub use pieces::line_end;
 pub use word_cursor::Words;

@@ -1,11 +1,11 @@
 //! The iterator over the lines of a text.
 
-ghost use Rattle.std.specs.Prelude.{◌≡◌, ◌∷◌, ◌<◌, length, position};
+ghost use Rattle.std.specs.Prelude.{◌≡◌, ◌∷◌, ◌<◌, length};
 ghost use Rattle.std.specs.Iterator.{YieldsFirstBy, item_count};
 ghost use Rattle.std.specs.List.{enumerate_from};
-ghost use Rattle.line_words.specs.Bytes.{is_line_feed};
 ghost use Rattle.line_words.specs.Lines as spec;
 
+use crate::pieces::line_end;
 use std::marker::Model;
 
 /// A line of a text, with its number.
@@ -80,21 +80,14 @@ fn cut_line(text: &[u8]) -> (&[u8], &[u8])
         ≡ spec.without_return result.0.now ∷ spec.lines_of result.1.now }
     ensures shorter { length result.1.now < length text.now }
 {
-    match first_feed(text) {
+    match line_end(text) {
         Some(at) => (&text[..at], &text[at + 1..]),
         None => (text, &[]),
     }
 }
 
-// The place of the first LF.
-fn first_feed(text: &[u8]) -> Option<usize>
-    ensures { result ≡ position is_line_feed text.now }
-{
-    text.iter().position(|&byte| byte == b'\n')
-}
-
-// The line without its last byte, if that is CR.
-fn without_return(line: &[u8]) -> &[u8]
+/// The line without its last byte, if that is CR.
+pub fn without_return(line: &[u8]) -> &[u8]
     ensures { result.now ≡ spec.without_return line.now }
 {
     match line {

@@ -21,10 +21,11 @@ use Rattle.line_words.specs.Words.{words_of}
 use Rattle.path_meaning.specs.declared.TheConstants.{RAILS}
 use Rattle.netlist.specs.Faults.{MakingFault}
 use Rattle.netlist.specs.Names.{node_of}
-use Rattle.netlist.specs.Circuits.{CircuitData, HasVisibleNames, IsCircuit, rails_alone}
-use Rattle.netlist.specs.Edits.{add_fault, alias_fault, is_size, node_fault, node_named, with_alias, with_new_node, with_node, with_transistor}
+use Rattle.netlist.specs.Circuits.{CircuitData, HasVisibleNames, IsCircuit}
+use Rattle.netlist.specs.Edits.{add_fault, alias_fault, is_size, node_fault, node_named, usual_strength, with_alias, with_new_node, with_node, with_transistor}
 use Rattle.netlist.proofs.NameLemmas.{node_of-added}
 use Rattle.netlist.proofs.KeptLemmas.{IsLevel-input, IsLevel-size, IsCircuit-rails_alone, IsCircuit-with_alias, IsCircuit-with_level, IsCircuit-with_node, IsCircuit-with_transistor}
+use Rattle.sim_read.specs.Drafts.{DraftData, circuit_of, drafted, rails_draft}
 use Rattle.sim_read.specs.declared.fault.NetRefusal.{NetRefusal}
 use Rattle.sim_read.specs.declared.fault.NetWhat.{NetWhat}
 use Rattle.sim_read.specs.declared.header.TheConstants.{HEADER_LINE}
@@ -36,7 +37,7 @@ use Rattle.sim_read.specs.declared.items.Setting.TheVariants.{Unset, Input, Size
 use Rattle.sim_read.specs.Header.{is_header}
 use Rattle.sim_read.specs.Items.{IsAccepted, after_prefix, items_of, setting_after, setting_after_item, setting_by, setting_of, size_setting, strength_of}
 use Rattle.sim_read.specs.Meaning.{alias_meaning, attributes_meaning, checked_meaning, comment_meaning, edited, is_rail, known_meaning, line_meaning, lines_meaning, netlist_of, record_meaning, transistor_meaning, with_setting, words_meaning}
-use Rattle.sim_read.specs.Records.{record_of, usual_strength}
+use Rattle.sim_read.specs.Records.{record_of}
 use Rattle.line_words.specs.Visible.{IsVisibleName}
 use Rattle.line_words.proofs.VisibleLemmas.{words_of-visible}
 use Rattle.sim_read.proofs.VisibleLemmas.{HasVisibleEntries, nodes-visible, with_alias-visible, with_node-visible, with_nodes-visible, with_setting-visible}
@@ -168,57 +169,78 @@ record-named c Attributes (name ∷ words) is visible = of_rail (is_rail c name)
 record-named c Attributes [] is visible = tt
 record-named c Passed words is visible = is
 
+-- ---- drafts
+
+-- a draft of such a circuit, or a refusal
+abbrev Drafts : {E : Type 0} → Result DraftData E → Type 0
+Drafts meaning = IfOk meaning (λ draft. IsNamed draft.circuit)
+
+-- a draft with the circuit that an entry gives
+drafted-named : (d : DraftData) (meaning : Result CircuitData NetWhat) → Gives meaning → Drafts (drafted d meaning)
+drafted-named d (Ok circuit) is = is
+drafted-named d (Err what) is = tt
+
 -- the words of a line
-words-named : (c : CircuitData) (words : List (List ℕ)) → IsNamed c → All IsVisibleName words → Gives (words_meaning c words)
-words-named c [] is visible = is
-words-named c (word ∷ words) is visible = of_record (record_of word) where
-  of_record : (begun : Option Record) → Gives (known_meaning c begun words)
+words-named : (d : DraftData) (words : List (List ℕ)) → IsNamed d.circuit → All IsVisibleName words → Drafts (words_meaning d words)
+words-named d [] is visible = is
+words-named d (word ∷ words) is visible = of_record (record_of word) where
+  of_record : (begun : Option Record) → Drafts (known_meaning d begun words)
   of_record None = tt
-  of_record (Some begun) = record-named c begun words is (All-tail IsVisibleName word words visible)
+  of_record (Some begun) =
+      drafted-named d (record_meaning d.circuit begun words)
+      (record-named d.circuit begun words is (All-tail IsVisibleName word words visible))
 
 -- a comment
-comment-named : (c : CircuitData) (line : ℕ × List ℕ) → IsNamed c → Gives (comment_meaning c line)
-comment-named c line is = by_format ((line.0 == HEADER_LINE) && not (is_header line.1)) where
-  by_format : (unknown : Bool) → Gives (cond unknown (Err Format) (Ok c))
+comment-named : (d : DraftData) (line : ℕ × List ℕ) → IsNamed d.circuit → Drafts (comment_meaning d line)
+comment-named d line is = by_format ((line.0 == HEADER_LINE) && not (is_header line.1)) where
+  by_format : (unknown : Bool) → Drafts (cond unknown (Err Format) (Ok d))
   by_format true = tt
   by_format false = is
 
 -- a line, by its fault as a line of any text
-checked-named : (c : CircuitData) (line : ℕ × List ℕ) (fault : Option LineFault) → line_fault line.1 ≡ fault → IsNamed c
-    → Gives (checked_meaning c line fault)
-checked-named c line (Some of_line.TooLong) same is = tt
-checked-named c line (Some of_line.BadByte) same is = tt
-checked-named c line None same is = of_comment (is_comment line.1) refl where
-  of_comment : (comment : Bool) → is_comment line.1 ≡ comment → Gives (cond comment (comment_meaning c line) (words_meaning c (words_of line.1)))
-  of_comment true begins = comment-named c line is
-  of_comment false other = words-named c (words_of line.1) is (words_of-visible line.1 same other)
+checked-named : (d : DraftData) (line : ℕ × List ℕ) (fault : Option LineFault) → line_fault line.1 ≡ fault → IsNamed d.circuit
+    → Drafts (checked_meaning d line fault)
+checked-named d line (Some of_line.TooLong) same is = tt
+checked-named d line (Some of_line.BadByte) same is = tt
+checked-named d line None same is = of_comment (is_comment line.1) refl where
+  of_comment : (comment : Bool) → is_comment line.1 ≡ comment → Drafts (cond comment (comment_meaning d line) (words_meaning d (words_of line.1)))
+  of_comment true begins = comment-named d line is
+  of_comment false other = words-named d (words_of line.1) is (words_of-visible line.1 same other)
 
 -- a line of a text, which may hold the first byte too many
-line-named : (cut : Option ℕ) (c : CircuitData) (line : ℕ × List ℕ) → IsNamed c → Gives (line_meaning cut c line)
-line-named cut c line is = of_cut (is_cut cut line.0) where
-  of_cut : (last : Bool) → Gives (cond last (Err TooLong) (checked_meaning c line (line_fault line.1)))
+line-named : (cut : Option ℕ) (d : DraftData) (line : ℕ × List ℕ) → IsNamed d.circuit → Drafts (line_meaning cut d line)
+line-named cut d line is = of_cut (is_cut cut line.0) where
+  of_cut : (last : Bool) → Drafts (cond last (Err TooLong) (checked_meaning d line (line_fault line.1)))
   of_cut true = tt
-  of_cut false = checked-named c line (line_fault line.1) refl is
+  of_cut false = checked-named d line (line_fault line.1) refl is
 
 -- lines
-lines-named : (cut : Option ℕ) (c : CircuitData) (lines : List (ℕ × List ℕ)) → IsNamed c → Gives (lines_meaning cut c lines)
-lines-named cut c [] is = is
-lines-named cut c (line ∷ lines) is =
-    onward (line_meaning cut c line) (line-named cut c line is) (λ next made. lines-named cut next lines made) where
-      onward : (meaning : Result CircuitData NetWhat) → Gives meaning → ((next : CircuitData) → IsNamed next → Gives (lines_meaning cut next lines))
-          → Gives (elim meaning as (λ _. Result CircuitData NetRefusal) [ Err what ↦ Err (record { line = line.0; what = what }) | Ok next ↦ lines_meaning cut next lines ])
+lines-named : (cut : Option ℕ) (d : DraftData) (lines : List (ℕ × List ℕ)) → IsNamed d.circuit → Drafts (lines_meaning cut d lines)
+lines-named cut d [] is = is
+lines-named cut d (line ∷ lines) is =
+    onward (line_meaning cut d line) (line-named cut d line is) (λ next made. lines-named cut next lines made) where
+      onward : (meaning : Result DraftData NetWhat) → Drafts meaning
+          → ((next : DraftData) → IsNamed next.circuit → Drafts (lines_meaning cut next lines))
+          → Drafts (elim meaning as (λ _. Result DraftData NetRefusal) [ Err what ↦ Err (record { line = line.0; what = what }) | Ok next ↦ lines_meaning cut next lines ])
       onward (Ok next) made more = more next made
       onward (Err what) made more = tt
 
 -- ---- texts
 
+-- the circuit of a draft
+circuit_of-named : (meaning : Result DraftData NetRefusal) → Drafts meaning → Gives (circuit_of meaning)
+circuit_of-named (Ok draft) is = is
+circuit_of-named (Err refusal) is = tt
+
 -- what a text means is such a circuit, where it isn't refused
 netlist_of-named : (text : List ℕ) (circuit : CircuitData) → netlist_of text ≡ Ok circuit → IsNamed circuit
 netlist_of-named text circuit same =
-    subst Gives same (lines-named (cut_line text) (rails_alone One) (lines_in text) (record {
+    subst Gives same
+    (circuit_of-named (lines_meaning (cut_line text) rails_draft (lines_in text))
+    (lines-named (cut_line text) rails_draft (lines_in text) (record {
       circuit = IsCircuit-rails_alone One;
       visible = All-nil (λ (e : List ℕ × ℕ). IsVisibleName e.0);
-    }))
+    })))
 
 -- so it is a circuit
 pub netlist_of-netlist : (text : List ℕ) (circuit : CircuitData) → netlist_of text ≡ Ok circuit → IsCircuit circuit

@@ -2,7 +2,6 @@
 -- The .sim format is that of the MIT and Berkeley extractors; the profile is this project's own.
 use Rattle.std.specs.Prelude.{ℕ, Bool, false, ◌==◌, ◌&&◌, not, List, [], ◌∷◌, nat_lt, Option, Some, None, Result, Ok, Err, if◌then◌else◌}
 use Rattle.std.specs.Option.{option_map_or}
-use Rattle.strength_order.specs.declared.Profile.TheVariants.{One}
 use Rattle.path_meaning.specs.declared.switching.SwitchKind.{SwitchKind}
 use Rattle.line_words.specs.declared.line_check.LineFault.{LineFault}
 use Rattle.line_words.specs.declared.line_check.LineFault.TheVariants as of_line
@@ -12,8 +11,9 @@ use Rattle.line_words.specs.Words.{words_of}
 use Rattle.path_meaning.specs.declared.TheConstants.{RAILS}
 use Rattle.netlist.specs.Faults.{MakingFault}
 use Rattle.netlist.specs.Names.{node_of}
-use Rattle.netlist.specs.Circuits.{CircuitData, rails_alone}
-use Rattle.netlist.specs.Edits.{add_fault, alias_fault, node_fault, node_named, with_alias, with_input, with_node, with_store, with_transistor}
+use Rattle.netlist.specs.Circuits.{CircuitData}
+use Rattle.netlist.specs.Edits.{add_fault, alias_fault, node_fault, node_named, usual_strength, with_alias, with_input, with_node, with_store, with_transistor}
+use Rattle.sim_read.specs.Drafts.{DraftData, rails_draft, circuit_of, drafted}
 use Rattle.sim_read.specs.declared.fault.NetRefusal.{NetRefusal}
 use Rattle.sim_read.specs.declared.fault.NetWhat.{NetWhat}
 use Rattle.sim_read.specs.declared.fault.NetWhat.TheVariants.{LineTooLong, BadByte, BadRecord, FewWords, Format, TooLong, BadStrength, BadSize, AliasTaken, TooManyNodes, TooManySwitches}
@@ -22,7 +22,7 @@ use Rattle.sim_read.specs.declared.records.Record.{Record}
 use Rattle.sim_read.specs.declared.records.Record.TheVariants.{Transistor, Alias, Attributes, Passed}
 use Rattle.sim_read.specs.declared.items.Setting.{Setting}
 use Rattle.sim_read.specs.declared.items.Setting.TheVariants.{Unset, Input, Size}
-use Rattle.sim_read.specs.Records.{record_of, usual_strength}
+use Rattle.sim_read.specs.Records.{record_of}
 use Rattle.sim_read.specs.Items.{strength_of, setting_of}
 use Rattle.sim_read.specs.Header.{is_header}
 
@@ -79,37 +79,37 @@ record_meaning c Attributes (name ∷ words) =
 record_meaning c Attributes [] = Err FewWords
 record_meaning c Passed words = Ok c
 
--- a record, where the first word begins one
-abbrev pub known_meaning : CircuitData → Option Record → List (List ℕ) → Result CircuitData NetWhat
-known_meaning c None words = Err BadRecord
-known_meaning c (Some begun) words = record_meaning c begun words
+-- a record, where the first word begins one: its effect is on the circuit
+abbrev pub known_meaning : DraftData → Option Record → List (List ℕ) → Result DraftData NetWhat
+known_meaning d None words = Err BadRecord
+known_meaning d (Some begun) words = drafted d (record_meaning d.circuit begun words)
 
 -- the words of a line; a line without words has no entry
-abbrev pub words_meaning : CircuitData → List (List ℕ) → Result CircuitData NetWhat
-words_meaning c [] = Ok c
-words_meaning c (word ∷ words) = known_meaning c (record_of word) words
+abbrev pub words_meaning : DraftData → List (List ℕ) → Result DraftData NetWhat
+words_meaning d [] = Ok d
+words_meaning d (word ∷ words) = known_meaning d (record_of word) words
 
 -- a comment; on the first line it is the header
-abbrev pub comment_meaning : CircuitData → (ℕ × List ℕ) → Result CircuitData NetWhat
-comment_meaning c line = if (line.0 == HEADER_LINE) && not (is_header line.1) then Err Format else Ok c
+abbrev pub comment_meaning : DraftData → (ℕ × List ℕ) → Result DraftData NetWhat
+comment_meaning d line = if (line.0 == HEADER_LINE) && not (is_header line.1) then Err Format else Ok d
 
 -- a line, by its fault as a line of any text
-abbrev pub checked_meaning : CircuitData → (ℕ × List ℕ) → Option LineFault → Result CircuitData NetWhat
-checked_meaning c line (Some of_line.TooLong) = Err LineTooLong
-checked_meaning c line (Some of_line.BadByte) = Err BadByte
-checked_meaning c line None = if is_comment line.1 then comment_meaning c line else words_meaning c (words_of line.1)
+abbrev pub checked_meaning : DraftData → (ℕ × List ℕ) → Option LineFault → Result DraftData NetWhat
+checked_meaning d line (Some of_line.TooLong) = Err LineTooLong
+checked_meaning d line (Some of_line.BadByte) = Err BadByte
+checked_meaning d line None = if is_comment line.1 then comment_meaning d line else words_meaning d (words_of line.1)
 
--- a line in a circuit: the circuit after it, or the cause of its refusal. The cases stand in the order in which one cause wins over
+-- a line after a draft: the draft after it, or the cause of its refusal. The cases stand in the order in which one cause wins over
 -- another; first comes that the line holds the first byte too many of the text
-abbrev pub line_meaning : Option ℕ → CircuitData → (ℕ × List ℕ) → Result CircuitData NetWhat
-line_meaning cut c line = if is_cut cut line.0 then Err TooLong else checked_meaning c line (line_fault line.1)
+abbrev pub line_meaning : Option ℕ → DraftData → (ℕ × List ℕ) → Result DraftData NetWhat
+line_meaning cut d line = if is_cut cut line.0 then Err TooLong else checked_meaning d line (line_fault line.1)
 
--- the circuit that the lines give, one after the other, or the refusal of the first that has one
-abbrev pub lines_meaning : Option ℕ → CircuitData → List (ℕ × List ℕ) → Result CircuitData NetRefusal
-lines_meaning cut c [] = Ok c
-lines_meaning cut c (line ∷ lines) =
-    elim (line_meaning cut c line) [ Err what ↦ Err (record { line = line.0; what = what }) | Ok next ↦ lines_meaning cut next lines ]
+-- the draft that the lines give, one after the other, or the refusal of the first that has one
+abbrev pub lines_meaning : Option ℕ → DraftData → List (ℕ × List ℕ) → Result DraftData NetRefusal
+lines_meaning cut d [] = Ok d
+lines_meaning cut d (line ∷ lines) =
+    elim (line_meaning cut d line) [ Err what ↦ Err (record { line = line.0; what = what }) | Ok next ↦ lines_meaning cut next lines ]
 
--- the meaning of a netlist: what its lines give from the rails alone
+-- the meaning of a netlist: the circuit of what its lines give from the rails alone
 abbrev pub netlist_of : List ℕ → Result CircuitData NetRefusal
-netlist_of text = lines_meaning (cut_line text) (rails_alone One) (lines_in text)
+netlist_of text = circuit_of (lines_meaning (cut_line text) rails_draft (lines_in text))

@@ -14,6 +14,6 @@ IsFault meaning (fault.Refused refusal) = meaning ≡ Err refusal
 IsFault meaning fault.NoMemory = ⊤
 
 -- why the reading stops at a line with this meaning: the cause of its refusal, where it means one, or want of memory
-abbrev pub IsStop : Result CircuitData NetWhat → LineStop → Type 0
+abbrev pub IsStop : {T : Type 0} → Result T NetWhat → LineStop → Type 0
 IsStop meaning (stop.Refused what) = meaning ≡ Err what
 IsStop meaning stop.NoMemory = ⊤

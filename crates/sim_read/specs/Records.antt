@@ -16,9 +16,3 @@ record_of word =
     else (if bytes_eq word (codes "A") then Some Attributes
     else (if bytes_eq word (codes "C") || bytes_eq word (codes "c") || bytes_eq word (codes "R") || bytes_eq word (codes "r")
     || bytes_eq word (codes "N") then Some Passed else None)))))
-
--- the strength of a transistor that no item sets: 1 for depletion, 2 for the others
-abbrev pub usual_strength : SwitchKind → ℕ
-usual_strength NChan = 2
-usual_strength PChan = 2
-usual_strength Always = 1

@@ -6,6 +6,10 @@
 //! one, and that each line before it has its effect, is a law, stated line by line beside the
 //! definition: `netlists_are_circuits_or_refused_lines`.
 //!
+//! `Reader` reads the same from pieces, wherever they fall, and never holds more than one line: it
+//! stands for the text so far, `feed` makes it stand for the text followed by the piece, and
+//! `finish` answers what `read_netlist` answers for that text. `read_netlist` is one `feed`.
+//!
 //! ```text
 //! read_netlist(alloc, keys, b"p a Vdd out\nn a Gnd out\n")      is a circuit with nodes Gnd, Vdd, a, out
 //! read_netlist(alloc, keys, b"n a Gnd out\nq a b c\n")          is refused at line 2: BadRecord
@@ -15,13 +19,15 @@
 //! profile: docs/FORMATS.md has it whole.
 //!
 //! For the proofs of crates above: `CircuitLemmas` says that a netlist that isn't refused is a circuit
-//! with visible names, and `MeaningLemmas` that it goes by the front of the text alone.
+//! with visible names, `MeaningLemmas` that it goes by the front of the text alone, and
+//! `StandingLemmas` how what readers stand for is joined, piece by piece.
 #![tactic(auto)]
 
 mod fault;
 mod header;
 mod items;
 mod laws;
+mod pieces;
 mod reader;
 mod records;
 #[cfg(test)]
@@ -29,4 +35,4 @@ mod tests;
 
 pub use fault::{NetFault, NetRefusal, NetWhat};
 pub use laws::{netlists_are_circuits_or_refused_lines, the_last_strength_counts};
-pub use reader::read_netlist;
+pub use pieces::{MOST_HELD, Reader, read_netlist};

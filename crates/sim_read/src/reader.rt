@@ -1,76 +1,81 @@
-//! The readers of a netlist: of its text, of a line, and of each kind of record.
+//! The readers of a line of a netlist, and of each kind of record.
 
 ghost use Rattle.std.specs.Prelude.{◌≡◌, ◌<◌, ◌≤◌, false, Ok, Err, Some, None, IfOk, IfErr, OnOk};
 ghost use Rattle.path_meaning.specs.Graphs.{nodes};
-ghost use Rattle.netlist.specs.Circuits.{HasVisibleNames};
+ghost use Rattle.sim_read.specs.Drafts.{drafted, rails_draft};
 ghost use Rattle.sim_read.specs.Items.{IsAccepted};
 ghost use Rattle.sim_read.specs.Meaning as spec;
-ghost use Rattle.sim_read.specs.Reading.{IsFault, IsStop};
+ghost use Rattle.sim_read.specs.Reading.{IsStop};
 
-use crate::fault::{LineStop, NetFault, NetRefusal, NetWhat, edit_stop};
+use crate::fault::{LineStop, NetWhat, edit_stop};
 use crate::header::{HEADER_LINE, is_header};
 use crate::items::{Setting, setting_by_words, strength_by_words};
-use crate::records::{Record, record_named, usual_strength};
-use line_words::{Line, LineFault, Words, check_line, cut_line, front, is_comment, lines, words};
-use netlist::{Circuit, RAILS};
+use crate::records::{Record, record_named};
+use line_words::{LineFault, Words, check_line, is_comment, words};
+use netlist::{Circuit, RAILS, usual_strength};
 use path_meaning::SwitchKind;
 use std::alloc::Global;
+use std::marker::Model;
 use strength_order::Profile;
 use table_keys::TableKeys;
+use ternary::NoMemory;
 
-/// Reads a netlist: the circuit of its lines in order, or the first line that is refused. Names are
-/// hashed from the keys, which the text's author must not know.
-///
-/// Within a line the first of these causes wins: the line holds the first byte too many of the
-/// text; it is too long; it has a bad byte; line 1 names a format that isn't known; its first word
-/// begins no record; it has too few words; a strength or size isn't accepted; then what the edit
-/// itself refuses.
-pub fn read_netlist(alloc: Global, keys: TableKeys, text: &[u8]) -> Result<Circuit, NetFault>
-    ensures ok { IfOk result (λ circuit. spec.netlist_of text.now ≡ Ok circuit) }
-    ensures refused { IfErr result (IsFault (spec.netlist_of text.now)) }
-    ensures visible { IfOk result HasVisibleNames }
-{
-    let cut = cut_line(text);
-    let mut circuit = Circuit::with_keys(alloc, Profile::One, keys)?;
-    for line in lines(front(text)) {
-        let number = line.number;
-        match read_line(&mut circuit, cut, line) {
-            Ok(()) => {}
-            Err(LineStop::NoMemory) => return Err(NetFault::NoMemory),
-            Err(LineStop::Refused(what)) => return Err(NetFault::Refused(NetRefusal {
-                line: number,
-                what,
-            })),
-        }
-    }
-    Ok(circuit)
+/// What the lines of a netlist gave so far.
+#[derive(Drop)]
+pub(crate) struct Draft {
+    circuit: Circuit,
 }
 
-// Reads one line into the circuit.
-fn read_line(circuit: &mut Circuit, cut: Option<u64>, line: Line<'_>) -> Result<(), LineStop>
-    ensures ok { OnOk result
-        (spec.line_meaning cut circuit.old (line.entry.number, line.entry.bytes.now) ≡ Ok circuit.new) }
-    ensures refused { IfErr result
-        (IsStop (spec.line_meaning cut circuit.old (line.entry.number, line.entry.bytes.now))) }
-{
-    if cut == Some(line.number) {
-        return refuse(NetWhat::TooLong);
+impl Model for Draft {
+    ghost use Rattle.sim_read.specs.Drafts.{DraftData};
+
+    ghost Value = { DraftData };
+
+    ghost view = { λ draft. record { circuit = draft.circuit } };
+}
+
+impl Draft {
+    /// What is there before the first line. Names are hashed from these keys.
+    pub(crate) fn new(alloc: Global, keys: TableKeys) -> Result<Draft, NoMemory>
+        ensures { IfOk result (λ draft. draft ≡ rails_draft) }
+    {
+        Ok(Draft {
+            circuit: Circuit::with_keys(alloc, Profile::One, keys)?,
+        })
     }
-    match check_line(line.bytes) {
-        Ok(()) => read_checked(circuit, line.number, line.bytes),
+
+    /// The circuit that the lines gave.
+    pub(crate) fn into_circuit(self) -> Circuit
+        ensures { result ≡ self.circuit }
+    {
+        self.circuit
+    }
+}
+
+/// Reads one line, with this number, into the draft.
+///
+/// The first of these causes wins: the line is too long; it has a bad byte; line 1 names a format
+/// that isn't known; its first word begins no record; it has too few words; a strength or size
+/// isn't accepted; then what the edit itself refuses.
+pub(crate) fn read_line(draft: &mut Draft, number: u64, line: &[u8]) -> Result<(), LineStop>
+    ensures ok { OnOk result (spec.line_meaning None draft.old (number, line.now) ≡ Ok draft.new) }
+    ensures refused { IfErr result (IsStop (spec.line_meaning None draft.old (number, line.now))) }
+{
+    match check_line(line) {
+        Ok(()) => read_checked(draft, number, line),
         Err(LineFault::TooLong) => refuse(NetWhat::LineTooLong),
         Err(LineFault::BadByte) => refuse(NetWhat::BadByte),
     }
 }
 
 // Reads a line that has no fault as a line.
-fn read_checked(circuit: &mut Circuit, number: u64, line: &[u8]) -> Result<(), LineStop>
+fn read_checked(draft: &mut Draft, number: u64, line: &[u8]) -> Result<(), LineStop>
     ensures ok { OnOk result
-        (spec.checked_meaning circuit.old (number, line.now) None ≡ Ok circuit.new) }
-    ensures refused { IfErr result (IsStop (spec.checked_meaning circuit.old (number, line.now) None)) }
+        (spec.checked_meaning draft.old (number, line.now) None ≡ Ok draft.new) }
+    ensures refused { IfErr result (IsStop (spec.checked_meaning draft.old (number, line.now) None)) }
 {
     if !is_comment(line) {
-        return read_words(circuit, words(line));
+        return read_words(draft, words(line));
     }
     if number == HEADER_LINE && !is_header(line) {
         return refuse(NetWhat::Format);
@@ -79,19 +84,39 @@ fn read_checked(circuit: &mut Circuit, number: u64, line: &[u8]) -> Result<(), L
 }
 
 // Reads the words of a line.
-fn read_words(circuit: &mut Circuit, mut words: Words<'_>) -> Result<(), LineStop>
-    ensures ok { OnOk result (spec.words_meaning circuit.old words.entry ≡ Ok circuit.new) }
-    ensures refused { IfErr result (IsStop (spec.words_meaning circuit.old words.entry)) }
+fn read_words(draft: &mut Draft, mut words: Words<'_>) -> Result<(), LineStop>
+    ensures ok { OnOk result (spec.words_meaning draft.old words.entry ≡ Ok draft.new) }
+    ensures refused { IfErr result (IsStop (spec.words_meaning draft.old words.entry)) }
 {
     let Some(first) = words.next() else {
         return Ok(());
     };
     match record_named(first) {
-        Some(Record::Transistor(kind)) => read_transistor(circuit, kind, words),
-        Some(Record::Alias) => read_alias(circuit, words),
-        Some(Record::Attributes) => read_attributes(circuit, words),
-        Some(Record::Passed) => Ok(()),
+        Some(begun) => read_entry(draft, begun, words),
         None => refuse(NetWhat::BadRecord),
+    }
+}
+
+// Reads a record, by the words after its first, into the draft.
+fn read_entry(draft: &mut Draft, begun: Record, words: Words<'_>) -> Result<(), LineStop>
+    ensures ok { OnOk result
+        (drafted draft.old (spec.record_meaning draft.old.circuit begun words.entry) ≡ Ok draft.new) }
+    ensures refused { IfErr result
+        (IsStop (drafted draft.old (spec.record_meaning draft.old.circuit begun words.entry))) }
+{
+    read_record(&mut draft.circuit, begun, words)
+}
+
+// Reads a record, by the words after its first, into the circuit.
+fn read_record(circuit: &mut Circuit, begun: Record, words: Words<'_>) -> Result<(), LineStop>
+    ensures ok { OnOk result (spec.record_meaning circuit.old begun words.entry ≡ Ok circuit.new) }
+    ensures refused { IfErr result (IsStop (spec.record_meaning circuit.old begun words.entry)) }
+{
+    match begun {
+        Record::Transistor(kind) => read_transistor(circuit, kind, words),
+        Record::Alias => read_alias(circuit, words),
+        Record::Attributes => read_attributes(circuit, words),
+        Record::Passed => Ok(()),
     }
 }
 

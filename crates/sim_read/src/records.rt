@@ -30,13 +30,3 @@ pub(crate) fn record_named(word: &[u8]) -> Option<Record>
         _ => None,
     }
 }
-
-/// The strength of a transistor that no item sets.
-pub(crate) fn usual_strength(kind: SwitchKind) -> u64
-    ensures { result ≡ spec.usual_strength kind }
-{
-    match kind {
-        SwitchKind::NChan | SwitchKind::PChan => 2,
-        SwitchKind::Always => 1,
-    }
-}

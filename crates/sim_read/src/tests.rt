@@ -2,18 +2,12 @@
 
 use super::*;
 use netlist::Circuit;
+use std::alloc::Global;
 use std::test::Fail;
 use table_keys::TableKeys;
 
-// The nodes, transistors and names of a circuit.
-fn sizes_of(circuit: &Circuit) -> (usize, usize, usize) {
-    let graph = circuit.graph();
-    (graph.nodes(), graph.places(), circuit.names())
-}
-
-#[test]
-fn netlists_give_circuits(rt: HostRuntime) {
-    const EXTRACTED: &[u8] = b"| units: 100 tech: scmos format: SU
+// Two inverters, as an extractor writes them.
+const EXTRACTED: &[u8] = b"| units: 100 tech: scmos format: SU
 p a_12_34# Vdd! out 2 8 100 200 g=S_Vdd! s=A_40,P_28 d=A_40,P_28
 n a_12_34# GND! out 2 4 100 150 s=A_20,P_18 d=A_20,P_18
 p out q Vdd! 2 8 140 200 s=A_40,P_28 d=A_40,P_28
@@ -25,6 +19,15 @@ R out 120
 = a_12_34# in
 = Vdd! vdd
 ";
+
+// The nodes, transistors and names of a circuit.
+fn sizes_of(circuit: &Circuit) -> (usize, usize, usize) {
+    let graph = circuit.graph();
+    (graph.nodes(), graph.places(), circuit.names())
+}
+
+#[test]
+fn netlists_give_circuits(rt: HostRuntime) {
     const ROWS: [(&[u8], (usize, usize, usize)); 12] = [
         (b"", (2, 0, 0)),
         (b"p a Vdd out\nn a Gnd out\n", (4, 2, 2)),
@@ -106,5 +109,39 @@ fn the_last_strength_and_the_last_size_count(rt: HostRuntime) -> Result<(), Fail
         assert!(rt; graph.nodes() > 2);
         assert_eq!(rt; graph.level(2), node);
     }
+    Ok(())
+}
+
+// What a text gives that comes in pieces of this size.
+fn read_in_pieces(alloc: Global, text: &[u8], size: usize) -> Result<Circuit, NetFault> {
+    let mut reader = Reader::new(alloc, TableKeys::fixed())?;
+    for piece in text.chunks(size.max(1)) {
+        reader.feed(piece)?;
+    }
+    reader.finish()
+}
+
+#[test]
+fn pieces_of_any_size_give_what_the_text_gives(rt: HostRuntime) {
+    let refusal = NetRefusal {
+        line: 2,
+        what: NetWhat::FewWords,
+    };
+    for size in [1, 2, 7, 4_096] {
+        let whole = read_in_pieces(rt.alloc(), EXTRACTED, size);
+        assert_eq!(rt; whole.map(|circuit| sizes_of(&circuit)), Ok((5, 4, 5)));
+        let cut = read_in_pieces(rt.alloc(), b"p a Vdd out\r\nn a G", size);
+        assert_eq!(rt; cut.err(), Some(NetFault::Refused(refusal)));
+    }
+}
+
+#[test]
+fn a_return_may_come_a_piece_after_its_line(rt: HostRuntime) -> Result<(), Fail> {
+    let mut reader = Reader::new(rt.alloc(), TableKeys::fixed())?;
+    reader.feed(&[b'|'; 65_536])?;
+    reader.feed(b"\r")?;
+    assert_eq!(rt; reader.held(), 65_537);
+    reader.feed(b"\nn a Gnd out")?;
+    assert_eq!(rt; sizes_of(&reader.finish()?), (4, 1, 2));
     Ok(())
 }
