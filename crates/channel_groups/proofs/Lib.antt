@@ -1,5 +1,13 @@
-pub mod ForestLemmas
-pub mod NumberLemmas
-pub mod GroupingLemmas
-pub mod CollectingLemmas
+pub mod FloodLemmas
+pub mod CountLemmas
+pub mod ChangeLemmas
+pub mod UntouchedLemmas
 pub mod HeldLemmas
+pub mod RegroupedLemmas
+pub mod WritingLemmas
+pub mod SearchLemmas
+pub mod ListingLemmas
+pub mod StoreLemmas
+pub mod TickLemmas
+pub mod KeptLemmas
+pub mod EditLemmas

@@ -1,4 +1,7 @@
+pub mod Listing
+pub mod Flood
+pub mod Changes
 pub mod Grouping
-pub mod Forest
-pub mod Numbers
-pub mod Collecting
+pub mod Search
+pub mod Writing
+pub mod Laws

@@ -1,7 +1,8 @@
 //! A group and its id.
 
-ghost use Rattle.std.specs.Prelude.{◌≡◌, [], ◌∷◌, ◌++◌, IfOk, OnOk};
+ghost use Rattle.std.specs.Prelude.{◌≡◌, ◌<◌, length, IfOk};
 ghost use Rattle.group_meaning.specs.Groups.{id_of};
+ghost use Rattle.channel_groups.specs.Flood.{IsSortedFrom};
 
 use std::alloc::{AllocError, Global};
 use std::marker::Model;
@@ -40,30 +41,20 @@ impl Model for Group {
 }
 
 impl Group {
-    /// A group with this one member, and without switches.
-    pub(crate) fn new(alloc: Global, least: usize) -> Result<Group, AllocError>
-        ensures { IfOk result (λ group. group ≡ record { members = least ∷ []; switches = [] }) }
+    /// The group with these members and switches, which may stand in any order and more than once.
+    pub(crate) fn sorted(
+        alloc: Global,
+        members: &[usize],
+        switches: &[usize],
+    ) -> Result<Group, AllocError>
+        requires { 0 < length members.now }
+        ensures members { IfOk result (λ group. IsSortedFrom members.now group.members) }
+        ensures switches { IfOk result (λ group. IsSortedFrom switches.now group.switches) }
     {
         Ok(Group {
-            members: vec![in alloc; least]?,
-            switches: Vec::new(alloc),
+            members: ascending(Vec::from_slice(alloc, members)?),
+            switches: ascending(Vec::from_slice(alloc, switches)?),
         })
-    }
-
-    /// Adds a member.
-    pub(crate) fn add_member(&mut self, node: usize) -> Result<(), AllocError>
-        ensures { OnOk result (self.new ≡ record self.old { members = self.old.members ++ node ∷ [] }) }
-    {
-        self.members.push(node)?;
-        Ok(())
-    }
-
-    /// Adds the place of a switch.
-    pub(crate) fn add_switch(&mut self, place: usize) -> Result<(), AllocError>
-        ensures { OnOk result (self.new ≡ record self.old { switches = self.old.switches ++ place ∷ [] }) }
-    {
-        self.switches.push(place)?;
-        Ok(())
     }
 
     /// The group's id: its least node.
@@ -88,4 +79,13 @@ impl Group {
     {
         &self.switches
     }
+}
+
+/// These numbers in ascending order, each once.
+fn ascending(mut numbers: Vec<usize>) -> Vec<usize>
+    ensures { IsSortedFrom numbers.items result.items }
+{
+    numbers.sort_unstable();
+    numbers.dedup();
+    numbers
 }

@@ -1,37 +1,46 @@
 //! The groups of a graph, and how they are looked up.
 
-ghost use Rattle.std.specs.Prelude.{◌≡◌, ◌<◌, Some, find, length, nat_le, option_map, IfOk, IfSome};
-ghost use Rattle.path_meaning.specs.Graphs.{nodes};
+ghost use Rattle.std.specs.Prelude.{◌≡◌, ◌≢◌, ℕ, ◌+◌, ◌*◌, ◌<◌, ◌≤◌, ◌∷◌, [], ◌++◌, Some, None, count_by, is_some, find, length, map, nat_le, nat_eq, option_map, All, Contains, IfOk, IfSome, OnOk, OnErr};
+ghost use Rattle.path_meaning.specs.Graphs.{nodes, IsStorage};
 ghost use Rattle.group_meaning.specs.Groups.{AreGroups, id_of};
-ghost use Rattle.channel_groups.specs.Grouping.{has_member, group_with, IsId};
+ghost use Rattle.channel_groups.specs.Listing.{AreListed, places_of};
+ghost use Rattle.channel_groups.specs.Changes.{undo, touched_size};
+ghost use Rattle.channel_groups.specs.Grouping.{has_member, group_with, held as groups_in, slot_at, class_at, IsId, AreOf};
+ghost use Rattle.channel_groups.specs.Search.{AreFound};
 
-use crate::collecting::collect_groups;
-use crate::forest::forest_of;
+use crate::change::Change;
+use crate::ends::{Ends, ends_of};
 use crate::group::{Group, GroupId};
-use crate::numbers::numbers_of;
-use path_meaning::Graph;
-use std::alloc::Global;
-use std::marker::Model;
-use ternary::NoMemory;
+use crate::held::{Held, group_of, no_groups, put_all, slot};
+use crate::regroup::{prepare, relist, write};
+use crate::search::{Found, try_root};
+use indexmap::IndexSet;
+use path_meaning::{Graph, graphs_are_wired};
+use std::alloc::{AllocError, Global};
+use std::marker::{Brand, Model};
+use std::sync::ledger::{Blank, Ledger};
+use ternary::{NoMemory, Steps};
 
 /// The channel-connected groups of a graph.
+///
+/// They are held by their nodes, so that an edit of the graph costs as much as the groups that it
+/// touches.
 #[derive(Drop)]
 pub struct Groups {
-    // for each node the number of its group, if it is in one
-    numbers: Vec<Option<usize>>,
-    // the groups by their numbers, in the order of their least nodes
-    groups: Vec<Group>,
+    // how many nodes the graph has: the lists may be longer, with nothing past the last node
+    nodes: usize,
+    held: Held,
+    ends: Ends,
 }
 
 impl Model for Groups {
-    ghost use Rattle.std.specs.Prelude.{length};
-    ghost use Rattle.channel_groups.specs.Grouping.{GroupsData, IsHeld};
+    ghost use Rattle.channel_groups.specs.Grouping.{GroupsData, AreStored, first_lists, held as groups_in};
 
     ghost Value = { GroupsData };
 
-    ghost view = { λ held. record { nodes = length held.numbers.items; groups = held.groups.items } };
+    ghost view = { λ g. record { nodes = g.nodes; groups = groups_in g.held.slots.items; firsts = first_lists g.nodes g.ends.firsts.items; seconds = first_lists g.nodes g.ends.seconds.items } };
 
-    ghost invariant = { λ held. IsHeld held.numbers.items held.groups.items };
+    ghost invariant = { λ g. AreStored g.nodes g.held.classes.items g.held.slots.items g.ends.firsts.items g.ends.seconds.items };
 }
 
 impl Groups {
@@ -42,30 +51,79 @@ impl Groups {
     /// After Bryant, Beatty, Brace, Cho and Sheffler, "COSMOS: A Compiled Simulator for MOS
     /// Circuits", 1987.
     pub fn of(alloc: Global, graph: &Graph) -> Result<Groups, NoMemory>
+        ensures are { IfOk result (AreOf graph.now) }
         ensures groups { IfOk result (λ found. AreGroups graph.now found.groups) }
         ensures nodes { IfOk result (λ found. found.nodes ≡ nodes graph.now) }
     {
-        let parents = forest_of(alloc, graph)?;
-        let numbers = numbers_of(alloc, graph, &parents)?;
-        let groups = collect_groups(alloc, graph, &numbers)?;
+        let groups = Groups::counted::<Brand>(alloc, graph, Blank::new(1))?;
+        Ok(groups)
+    }
+
+    /// The groups of a graph, found with a counter that nobody reads.
+    fn counted<L: Ledger>(alloc: Global, graph: &Graph, blank: Blank) -> Result<Groups, AllocError>
+        requires name { blank.name ≡ L.name }
+        requires parts { blank.parts ≡ L.parts }
+        requires some { blank.parts ≢ 0 }
+        ensures { IfOk result (AreOf graph.now) }
+    {
+        graphs_are_wired(graph);
+        let mut steps: Steps<L> = Steps::new(blank);
+        let ends = ends_of(alloc, graph)?;
+        let found = find_all(alloc, graph, &ends, &mut steps)?;
+        let mut held = no_groups(alloc, graph.nodes())?;
+        put_all(&mut held, found.fresh, &mut steps);
         Ok(Groups {
-            numbers: numbers.of_nodes,
-            groups,
+            nodes: graph.nodes(),
+            held,
+            ends,
         })
     }
 
-    /// All groups, in the order of their least nodes.
-    pub fn list(&self) -> &[Group]
-        ensures { result.now ≡ self.now.groups }
+    /// Makes them the groups of the graph after an edit, where they are those of the graph before
+    /// it. At want of memory they are as before.
+    ///
+    /// The work is that of the groups that the edit touches: an old group is touched where an end of
+    /// the changed place's old switch, or the node whose level changed, is a member of it; a new one
+    /// where a member of a touched old group, an end of the place's present switch, the node whose
+    /// level changed, or a new node is. It takes at most 8 steps for each member and each switch of
+    /// these groups: one at each look at a node or a switch, and at each node that is written. A sort of
+    /// a found group's numbers, and an input node among the roots, take none.
+    pub fn regroup<L: Ledger>(
+        &mut self,
+        graph: &Graph,
+        change: &Change,
+        steps: &mut Steps<L>,
+    ) -> Result<(), NoMemory>
+        requires before { AreOf (undo graph.now change.now) self.old }
+        ensures ok { OnOk result (AreOf graph.now self.new) }
+        ensures err { OnErr result (self.new ≡ self.old) }
+        ensures step { OnOk result (steps.new ≤ steps.old + 8 * touched_size graph.now change.now self.old.groups self.new.groups) }
     {
-        &self.groups
+        graphs_are_wired(graph);
+        let plan = prepare(&mut self.held, &mut self.ends, graph, change, steps)?;
+        relist(&mut self.ends, graph, change);
+        write(&mut self.held, plan, graph, change, steps);
+        self.nodes = graph.nodes();
+        Ok(())
+    }
+
+    /// The ids of all groups, in ascending order.
+    pub fn ids(&self, alloc: Global) -> Result<Vec<GroupId>, NoMemory>
+        ensures ids { IfOk result (λ ids. map (λ id. id.node) ids.items ≡ map id_of self.now.groups) }
+        ensures all { IfOk result (λ ids. All (λ id. IsId self.now.groups id.node) ids.items) }
+    {
+        let mut ids = Vec::new(alloc);
+        for node in 0..self.held.slots.len() {
+            add_id(slot(&self.held, node), &mut ids)?;
+        }
+        Ok(ids)
     }
 
     /// How many groups there are.
     pub fn count(&self) -> usize
         ensures { result ≡ length self.now.groups }
     {
-        self.groups.len()
+        count_some(&self.held.slots)
     }
 
     /// The id of the group that has this node as a member, or `None` exactly where none has it: at an
@@ -75,8 +133,8 @@ impl Groups {
         ensures value { option_map (λ id. id.node) result ≡ option_map id_of (find (has_member node) self.now.groups) }
         ensures id { IfSome result (λ id. IsId self.now.groups id.node) }
     {
-        let number = self.numbers[node]?;
-        Some(self.groups[number].id())
+        let group = group_of(&self.held, node)?;
+        Some(group.id())
     }
 
     /// The least id that is at least `from`, or `None` exactly where there is none.
@@ -84,12 +142,9 @@ impl Groups {
         ensures value { option_map (λ id. id.node) result ≡ option_map id_of (find (λ group. nat_le from (id_of group)) self.now.groups) }
         ensures id { IfSome result (λ id. IsId self.now.groups id.node) }
     {
-        for node in from..self.numbers.len() {
-            if let Some(number) = self.numbers[node] {
-                let id = self.groups[number].id();
-                if id.node() == node {
-                    return Some(id);
-                }
+        for node in from..self.held.slots.len() {
+            if let Some(group) = slot(&self.held, node) {
+                return Some(group.id());
             }
         }
         None
@@ -112,109 +167,54 @@ impl Groups {
     }
 
     /// The group with this id.
-    fn group(&self, id: GroupId) -> &Group
+    pub fn group(&self, id: GroupId) -> &Group
         requires { IsId self.now.groups id.node }
         ensures { group_with self.now.groups id.node ≡ Some result.now }
     {
-        match self.numbers[id.node()] {
-            Some(number) => &self.groups[number],
+        match slot(&self.held, id.node()) {
+            Some(group) => group,
             None => unreachable!(),
         }
     }
 }
 
-#[cfg(test)]
-mod tests {
-    use super::*;
-    use path_meaning::{Switch, SwitchKind};
-    use std::test::Fail;
+/// How many slots hold a group.
+fn count_some(slots: &[Option<Group>]) -> usize
+    ensures { result ≡ count_by is_some slots.now }
+{
+    slots.iter().filter(|slot| slot.is_some()).count()
+}
 
-    struct Row {
-        name: &'static str,
-        // the level of each node; Gnd and Vdd come first
-        levels: &'static [u8],
-        // the gate and the two ends of each switch
-        switches: &'static [(usize, usize, usize)],
-        // the members and the switches of each group
-        groups: &'static [(&'static [usize], &'static [usize])],
+/// Adds the id of a group, if there is one.
+fn add_id(group: Option<&Group>, ids: &mut Vec<GroupId>) -> Result<(), AllocError>
+    ensures { OnOk result (map (λ id. id.node) ids.new.items
+        ≡ map (λ id. id.node) ids.old.items ++ map id_of (groups_in (option_map (λ group. group.now) group.entry ∷ []))) }
+{
+    let Some(group) = group else {
+        return Ok(());
+    };
+    ids.push(group.id())?;
+    Ok(())
+}
+
+/// All groups of a graph.
+fn find_all<L: Ledger>(
+    alloc: Global,
+    graph: &Graph,
+    ends: &Ends,
+    steps: &mut Steps<L>,
+) -> Result<Found, AllocError>
+    requires firsts { AreListed (λ switch. switch.a) graph.now None (places_of ends.now.firsts.items) }
+    requires seconds { AreListed (λ switch. switch.b) graph.now None (places_of ends.now.seconds.items) }
+    ensures found { IfOk result (λ found. AreFound graph.now found.seen.keys found.fresh.items) }
+    ensures rooted { IfOk result (λ found. (n : ℕ) → n < nodes graph.now → IsStorage graph.now n → Contains found.seen.keys n) }
+{
+    let mut found = Found {
+        seen: IndexSet::new(alloc),
+        fresh: Vec::new(alloc),
+    };
+    for node in 0..graph.nodes() {
+        try_root(alloc, graph, ends, None, node, &mut found, steps)?;
     }
-
-    const ROWS: [Row; 5] = [
-        Row {
-            name: "no storage node",
-            levels: &[16, 16],
-            switches: &[(0, 0, 1)],
-            groups: &[],
-        },
-        Row {
-            name: "an inverter and a pass switch behind it",
-            levels: &[16, 16, 16, 1, 1],
-            switches: &[(2, 1, 3), (2, 0, 3), (2, 4, 3)],
-            groups: &[(&[3, 4], &[0, 1, 2])],
-        },
-        Row {
-            name: "an input node between two storage nodes",
-            levels: &[16, 16, 1, 16, 1],
-            switches: &[(0, 2, 3), (0, 3, 4), (0, 1, 3)],
-            groups: &[(&[2], &[0]), (&[4], &[1])],
-        },
-        Row {
-            name: "two groups, the one across the other, and a node alone",
-            levels: &[16, 16, 1, 1, 1, 2, 2, 3],
-            switches: &[(0, 6, 4), (0, 5, 3), (0, 4, 2), (7, 3, 3)],
-            groups: &[(&[2, 4, 6], &[0, 2]), (&[3, 5], &[1, 3]), (&[7], &[])],
-        },
-        Row {
-            name: "trees that are joined by their tops",
-            levels: &[16, 16, 1, 1, 1, 1],
-            switches: &[(0, 5, 4), (0, 3, 2), (0, 4, 3)],
-            groups: &[(&[2, 3, 4, 5], &[0, 1, 2])],
-        },
-    ];
-
-    #[test]
-    fn a_group_has_all_that_is_linked(rt: HostRuntime) -> Result<(), Fail> {
-        for row in &ROWS {
-            let graph = drawn(rt.alloc(), row)?;
-            let groups = Groups::of(rt.alloc(), &graph)?;
-            assert_eq!(rt; groups.count(), row.groups.len(), "{}", row.name);
-            let mut from = 0usize;
-            for (group, (members, switches)) in groups.list().iter().zip(row.groups) {
-                assert_eq!(rt; group.members(), *members, "{}", row.name);
-                assert_eq!(rt; group.switches(), *switches, "{}", row.name);
-                assert_eq!(rt; groups.next_id(from), Some(group.id()), "{}", row.name);
-                from = group.id().node().saturating_add(1);
-                for member in *members {
-                    let inside = *member < graph.nodes();
-                    assert!(rt; inside);
-                    assert_eq!(rt; groups.group_of(*member), Some(group.id()), "{}", row.name);
-                }
-            }
-            assert_eq!(rt; groups.next_id(from), None, "{}", row.name);
-        }
-        Ok(())
-    }
-
-    fn drawn(alloc: Global, row: &Row) -> Result<Graph, Fail> {
-        let mut graph = Graph::new(alloc);
-        for level in row.levels {
-            if (1..=16).contains(level) {
-                graph.add_node(*level)?;
-            }
-        }
-        for (gate, a, b) in row.switches {
-            let (gate, a, b) = (*gate, *a, *b);
-            let nodes = graph.nodes();
-            if gate < nodes && a < nodes && b < nodes {
-                graph.add_switch(Switch {
-                    kind: SwitchKind::NChan,
-                    level: 10,
-                    gate,
-                    a,
-                    b,
-                })?;
-            }
-        }
-        Ok(graph)
-    }
+    Ok(found)
 }

@@ -3,22 +3,38 @@
 //! Two storage nodes are linked where switches join them, end to end, through storage nodes alone;
 //! the classes are the groups, which can be analysed one by one. The main type is `Groups`. The
 //! layers above use that `Groups::of` finds the groups of a graph, `AreGroups`: each storage node is
-//! in one of them, and they stand in the order of their least nodes, which are their ids.
+//! in one of them, and they stand in the order of their least nodes, which are their ids. And that
+//! after an edit `Groups::regroup` makes them those of the graph as it is then, `AreOf`, from the
+//! members of the groups that had a changed node and from the changed nodes alone.
 //!
 //! ```text
 //! Gnd, Vdd, an inverter's input in and output a, and a pass switch from a to b with gate in:
 //! one group, with the id a, the members a and b and all three switches
 //! ```
 //!
+//! For the proofs of crates above: `ChangeLemmas`, that a graph differs from the graph before an edit
+//! at the changed nodes alone; `UntouchedLemmas` and `KeptLemmas`, that a group which the edit doesn't
+//! touch is a group of both graphs, with the same switches and levels; `EditLemmas`, the graph before
+//! each kind of edit; `HeldLemmas`, which group an id finds.
+//!
 //! After Bryant, Beatty, Brace, Cho and Sheffler, "COSMOS: A Compiled Simulator for MOS Circuits",
 //! 1987.
 #![tactic(auto)]
 
-mod collecting;
-mod forest;
+mod change;
+mod ends;
+mod flood;
 mod group;
 mod groups;
-mod numbers;
+mod held;
+mod laws;
+mod regroup;
+mod search;
 
+pub use change::Change;
 pub use group::{Group, GroupId};
 pub use groups::Groups;
+pub use laws::untouched_groups_are_kept;
+
+#[cfg(test)]
+mod tests;

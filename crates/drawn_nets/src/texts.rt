@@ -7,7 +7,8 @@ use std::alloc::Global;
 pub fn texts_of(alloc: Global, graph: &Graph) -> Result<Vec<(GroupText, Vec<usize>)>, TextFault> {
     let groups = Groups::of(alloc, graph)?;
     let mut texts = Vec::new(alloc);
-    for group in groups.list() {
+    for &id in &groups.ids(alloc)? {
+        let group = groups.group(id);
         let text = text_of(alloc, graph, group.members(), group.switches())?;
         texts.push(text).map_err(|_| TextFault::NoMemory)?;
     }

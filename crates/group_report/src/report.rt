@@ -3,13 +3,14 @@ ghost use Rattle.std.specs.Io.KnownBytes.{append_known};
 ghost use Rattle.port_edge.specs.Ports.{RefusedOnce, faults_after};
 ghost use Rattle.port_edge.specs.Sending.{WritesPart};
 ghost use Rattle.path_meaning.specs.Graphs.{nodes};
-ghost use Rattle.group_meaning.specs.Groups.{AreGroups, IsGroup};
+ghost use Rattle.group_meaning.specs.Groups.{AreGroups, IsGroup, id_of};
+ghost use Rattle.channel_groups.specs.Grouping.{IsId};
 ghost use Rattle.wave_print.specs.Lines.{names_after};
 ghost use Rattle.group_report.specs.Report.{Reports, line_with, lines_of};
 ghost use Rattle.netlist.specs.Circuits.{called};
 ghost use Rattle.group_report.specs.Noted.{NotesGroup, NotesText, noted_number, number_at};
 
-use channel_groups::{Group, Groups};
+use channel_groups::{Group, GroupId, Groups};
 use group_text::{GroupText, TextFault, text_of};
 use indexmap::IndexMap;
 use netlist::Circuit;
@@ -37,31 +38,46 @@ pub fn report_groups<S: Sink>(
     ensures cause { S.faults out.new ≡ faults_after (S.faults out.old) result }
     ensures memory { RefusedOnce (S.refusals out.old) (S.refusals out.new) result }
 {
-    match Groups::of(alloc, circuit.graph()) {
-        Ok(groups) => write_lines(alloc, circuit, groups.list(), keys, out),
+    match groups_of(alloc, circuit.graph()) {
+        Ok((groups, ids)) => write_lines(alloc, circuit, &groups, &ids, keys, out),
         Err(want) => Err(memory_fault(want)),
     }
+}
+
+// The groups of a graph, and their ids in order.
+fn groups_of(alloc: Global, graph: &Graph) -> Result<(Groups, Vec<GroupId>), NoMemory>
+    ensures groups { IfOk result (λ found. AreGroups graph.now found.0.groups) }
+    ensures ids { IfOk result (λ found. map (λ id. id.node) found.1.items ≡ map id_of found.0.groups) }
+    ensures all { IfOk result (λ found. All (λ id. IsId found.0.groups id.node) found.1.items) }
+{
+    let groups = Groups::of(alloc, graph)?;
+    let ids = groups.ids(alloc)?;
+    Ok((groups, ids))
 }
 
 // Writes the lines of all groups of a circuit.
 fn write_lines<S: Sink>(
     alloc: Global,
     circuit: &Circuit,
-    groups: &[Group],
+    groups: &Groups,
+    ids: &[GroupId],
     keys: TableKeys,
     out: &mut S,
 ) -> Result<(), PortFault>
-    requires { AreGroups circuit.now.graph groups.now }
+    requires groups { AreGroups circuit.now.graph groups.now.groups }
+    requires ids { map (λ id. id.node) ids.now ≡ map id_of groups.now.groups }
+    requires all { All (λ id. IsId groups.now.groups id.node) ids.now }
     ensures ok { OnOk result
-        (S.written out.new ≡ append_known (S.written out.old) (lines_of circuit.now groups.now)) }
+        (S.written out.new ≡ append_known (S.written out.old) (lines_of circuit.now groups.now.groups)) }
     ensures part { OnErr result
-        (WritesPart (S.written out.old) (S.written out.new) (lines_of circuit.now groups.now)) }
+        (WritesPart (S.written out.old) (S.written out.new) (lines_of circuit.now groups.now.groups)) }
     ensures cause { S.faults out.new ≡ faults_after (S.faults out.old) result }
     ensures memory { RefusedOnce (S.refusals out.old) (S.refusals out.new) result }
 {
     let mut noted = IndexMap::with_hasher(alloc, keys);
     let mut line = LineBuf::new(alloc, GROUP_START_ROOM).map_err(memory_fault)?;
-    for (place, group) in groups.iter().enumerate() {
+    for (place, id) in ids.iter().enumerate() {
+        let group = groups.group(*id);
         let number = place as u64 + 1;
         make_line(alloc, circuit, group, number, &mut noted, &mut line).map_err(memory_fault)?;
         send(out, line.bytes())?;

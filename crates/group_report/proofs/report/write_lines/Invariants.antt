@@ -7,9 +7,9 @@ use Rattle.group_report.proofs.report.write_lines.Given as goal
 
 abbrev pub invariant-loop-place : goal.invariant-loop-place
 invariant-loop-place g l = record {
-  sent : Sends (g.S.Sink.written l.fn.out) (g.S.Sink.written l.out) (lines_of l.circuit l.groups)
-      (lines_from l.circuit l.groups (l.place + 1) (drop l.place l.groups));
-  noted : AreNoted l.circuit.graph (take l.place l.groups) l.noted;
+  sent : Sends (g.S.Sink.written l.fn.out) (g.S.Sink.written l.out) (lines_of l.circuit l.groups.groups)
+      (lines_from l.circuit l.groups.groups (l.place + 1) (drop l.place l.groups.groups));
+  noted : AreNoted l.circuit.graph (take l.place l.groups.groups) l.noted;
   faults : g.S.Sink.faults l.out ≡ g.S.Sink.faults l.fn.out;
   refusals : g.S.Sink.refusals l.out ≡ g.S.Sink.refusals l.fn.out;
 }

@@ -1,71 +1,51 @@
--- The node is an id, or no id is left.
-use Rattle.std.proofs.Common.{◌≡◌, ◌<◌, ◌≤◌, [], inl, inr, length, get_or, Some, None, refl, sym, ap, ◌∙◌, arith, rules}
-use Rattle.std.specs.Prelude.{find, nat_le}
+-- The slot holds a group, or no id is left.
+use Rattle.std.proofs.Common.{◌≡◌, inl, inr, Some, None, sym, ap, subst, ◌∙◌, arith}
+use Rattle.std.specs.Prelude.{find, nat_le, option_map}
 use Rattle.std.proofs.lemmas.Bool.{cases_lt}
-use Rattle.std.proofs.lemmas.List.{get_or_read}
-use Rattle.group_meaning.specs.Groups.{Group, id_of}
-use Rattle.channel_groups.specs.Numbers.{number_at}
-use Rattle.channel_groups.proofs.HeldLemmas.{IsId-of_group, next_id_found, no_next_id, id_inside}
+use Rattle.std.proofs.lemmas.List.{get_or_past}
+use Rattle.group_meaning.specs.Groups.{id_of}
+use Rattle.channel_groups.specs.Grouping.{GroupsData, IsId, held, slot_at}
+use Rattle.channel_groups.proofs.HeldLemmas.{next_id_found, no_next_id, IsId-slot}
 use Rattle.channel_groups.proofs.groups.Groups.next_id.Goals as goal
 
-pub index-requires-in-Some : goal.index-requires-in-Some
-index-requires-in-Some c =
-    let numbers = c.self.inside.numbers.items in
-    let groups = c.self.inside.groups.items in
-    let node = c.loop-node.node in
-    let within : node < length numbers = search rules in
-    let number : number_at numbers node ≡ Some c.in-Some.number =
-    sym (get_or_read numbers node c.index.result.now within c.index.ensures None) ∙ c.in-Some.is in
-    let inside : c.in-Some.number < length groups = c.self.invariant.inside node c.in-Some.number number in
-    search rules
+pub loop-node-preserved : goal.loop-node-preserved
+loop-node-preserved c = λ j low below.
+    let slots = c.self.inside.held.slots.items in
+    elim (cases_lt j c.loop-node.node) [
+      | inl before ↦ c.loop-node.invariant j low before
+      | inr last ↦
+          let same : j ≡ c.loop-node.node = omega arith in
+          ap (slot_at slots) same ∙ sym c.slot.ensures ∙ ap (option_map (λ group. group.now)) c.in_default.is
+    ]
 
-pub returns-then-node-clause-value : goal.returns-then-node-clause-value
-returns-then-node-clause-value c =
-    let numbers = c.self.inside.numbers.items in
-    let groups = c.self.inside.groups.items in
+pub returns-in-Some : goal.returns-in-Some
+returns-in-Some c =
+    let classes = c.self.inside.held.classes.items in
+    let slots = c.self.inside.held.slots.items in
     let node = c.loop-node.node in
-    let k = c.in-Some.number in
-    let group = c.index-in-Some.result.now in
-    let within : node < length numbers = search rules in
-    let number : number_at numbers node ≡ Some k =
-    sym (get_or_read numbers node c.index.result.now within c.index.ensures None) ∙ c.in-Some.is in
-    let inside : k < length groups = c.self.invariant.inside node k number in
-    let id : id_of (get_or groups k group) ≡ node =
-    ap id_of (sym c.index-in-Some.ensures) ∙ sym c.id-id.ensures ∙ sym c.node.ensures ∙ c.if-node.true in
-    let found : find (λ group. nat_le c.args.from (id_of group)) groups ≡ Some group =
-    next_id_found numbers groups c.self.invariant c.args.from k group inside (omega arith)
-    (λ j below after. let least = c.loop-node.invariant j group below after in omega arith)
-    ∙ ap Some (sym c.index-in-Some.ensures) in
-    rw (← c.self.view_is) (rw found (ap Some c.id-id.ensures))
+    let group = c.in-Some.group.now in
+    let held_now = c.self.invariant.held in
+    let at : slot_at slots node ≡ Some group = sym c.slot.ensures ∙ ap (option_map (λ group. group.now)) c.in-Some.is in
+    let found = ap (λ (m : GroupsData). find (λ group. nat_le c.args.from (id_of group)) m.groups) (sym c.self.view_is)
+    ∙ next_id_found classes slots held_now c.args.from node group at c.loop-node.auto.node c.loop-node.invariant in
+    let id = c.id.ensures ∙ (held_now.own node group at).0 in
+    record {
+      value = ap Some c.id.ensures ∙ sym (ap (option_map id_of) found);
+      id =
+          subst (λ (m : GroupsData). IsId m.groups c.id.result.node) c.self.view_is
+          (subst (IsId (held slots)) (sym id) (IsId-slot classes slots held_now node group at));
+    }
 
-pub returns-clause-value : goal.returns-clause-value
-returns-clause-value c =
-    let numbers = c.self.inside.numbers.items in
-    let groups = c.self.inside.groups.items in
-    let none : Group = record { members = []; switches = [] } in
-    let all : length numbers ≤ c.loop-node.node = search rules in
-    let found : find (λ group. nat_le c.args.from (id_of group)) groups ≡ None =
-    no_next_id numbers groups c.self.invariant c.args.from none
-    (λ j inside.
-    elim (cases_lt (id_of (get_or groups j none)) c.args.from) [
-      | inl before ↦ before
-      | inr after ↦
-          let least = c.loop-node.invariant j none inside after in
-          let within = id_inside numbers groups c.self.invariant j none inside in
-          absurd (omega arith)
+pub returns : goal.returns
+returns c =
+    let classes = c.self.inside.held.classes.items in
+    let slots = c.self.inside.held.slots.items in
+    let found = ap (λ (m : GroupsData). find (λ group. nat_le c.args.from (id_of group)) m.groups) (sym c.self.view_is)
+    ∙ no_next_id classes slots c.self.invariant.held c.args.from
+    (λ j low.
+    elim (cases_lt j c.loop-node.node) [
+      | inl before ↦ c.loop-node.invariant j low before
+      | inr past ↦
+          get_or_past slots j None (omega (arith, past, c.loop-node-test.false, c.len-node-end.ensures, c.self.inside.held.slots.ok))
     ]) in
-    rw (← c.self.view_is) (rw found refl)
-
-pub returns-then-node-clause-id : goal.returns-then-node-clause-id
-returns-then-node-clause-id c =
-    let numbers = c.self.inside.numbers.items in
-    let groups = c.self.inside.groups.items in
-    let node = c.loop-node.node in
-    let k = c.in-Some.number in
-    let group = c.index-in-Some.result.now in
-    let within : node < length numbers = search rules in
-    let number : number_at numbers node ≡ Some k =
-    sym (get_or_read numbers node c.index.result.now within c.index.ensures None) ∙ c.in-Some.is in
-    let inside : k < length groups = c.self.invariant.inside node k number in
-    let id : c.id-id.result.node ≡ id_of (get_or groups k group) = c.id-id.ensures ∙ ap id_of c.index-in-Some.ensures in
-    rw (← c.self.view_is, id) (IsId-of_group numbers groups c.self.invariant k group inside)
+    record { value = sym (ap (option_map id_of) found); id = tt }

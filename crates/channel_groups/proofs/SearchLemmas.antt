@@ -1,0 +1,166 @@
+-- The search: a found group more, and a root more.
+use Rattle.std.proofs.Common.{◌≡◌, ℕ, ◌+◌, ◌<◌, inl, inr, true, nat_lt, List, [], ◌∷◌, ◌++◌, length, map, get_or, take, nat_eq, Contains, sym, subst, arith, refl}
+use Rattle.std.specs.List.{IsDistinct, list_any}
+use Rattle.std.proofs.lemmas.Bool.{cases_Bool, eqb-true, and_parts, and_from, ltb-true, lt-ltb}
+use Rattle.std.proofs.lemmas.Cmp.{nat_eq_equiv}
+use Rattle.std.proofs.lemmas.List.{take_more, map_push}
+use Rattle.std.proofs.lemmas.List.Elements.{Contains-push, Contains-push_cases, Contains-append_left}
+use Rattle.std.proofs.lemmas.Map.Keys.{IsDistinct-push}
+use Rattle.list_facts.proofs.ContainsLemmas.{Contains-cons_cases, Contains-cons_first}
+use Rattle.indexmap.specs.IndexSet.{insert_key}
+use Rattle.indexmap.proofs.CallerLemmas.{Contains-insert_key, Contains-list_any}
+use Rattle.strength_order.specs.declared.TheConstants.{INPUT_LEVEL}
+use Rattle.path_meaning.specs.Graphs.{GraphData, nodes, level_of, is_storage_level, IsStorage}
+use Rattle.group_meaning.specs.Groups.{Group, id_of, IsGroup}
+use Rattle.group_meaning.proofs.UniqueGroups.{same_by_id}
+use Rattle.group_meaning.proofs.MappedLists.{contains-from_map}
+use Rattle.channel_groups.specs.Search.{AreFound, Finds, Notes, is_storage, AreFoundFrom}
+use Rattle.channel_groups.proofs.FloodLemmas.{insert_key-grown, insert_key-cases}
+
+-- the test for a storage node
+pub IsStorage-from_test : (g : GraphData) (node : ℕ) → is_storage g node ≡ true → IsStorage g node
+IsStorage-from_test g node passes =
+    let parts = and_parts (nat_lt node (nodes g)) (is_storage_level (level_of g node)) passes in
+    record { inside = ltb-true node (nodes g) parts.0; below = ltb-true (level_of g node) INPUT_LEVEL parts.1 }
+
+pub test-from_IsStorage : (g : GraphData) (node : ℕ) → IsStorage g node → is_storage g node ≡ true
+test-from_IsStorage g node storage =
+    and_from (nat_lt node (nodes g)) (is_storage_level (level_of g node)) (lt-ltb node (nodes g) storage.inside) (lt-ltb (level_of g node) INPUT_LEVEL storage.below)
+
+-- nothing is noted yet
+pub Notes-none : (nodes seen : List ℕ) → Notes (take 0 nodes) seen seen
+Notes-none nodes seen = record { kept = λ n there. there; noted = λ n there. absurd (omega (arith, there.1)); only = λ n there. inl there }
+
+-- one node more is noted
+pub Notes-more : (nodes : List ℕ) (i : ℕ) (old seen new : List ℕ) → i < length nodes → new ≡ insert_key nat_eq seen (get_or nodes i 0) →
+    Notes (take i nodes) old seen → Notes (take (i + 1) nodes) old new
+Notes-more nodes i old seen new inside is so_far =
+    let node = get_or nodes i 0 in
+    let more : take (i + 1) nodes ≡ take i nodes ++ node ∷ [] = take_more nodes i 0 inside in
+    let grown = insert_key-grown seen node in
+    let kept : (n : ℕ) → Contains seen n → Contains new n = λ n there. rw (is, grown.1) (Contains-append_left seen grown.0 n there) in
+    record {
+      kept = λ n there. kept n (so_far.kept n there);
+      noted = λ n there.
+          elim (Contains-push_cases (take i nodes) node n (rw more at there)) [
+            | inl before ↦ kept n (so_far.noted n before)
+            | inr same ↦ rw (is, ← same) (Contains-insert_key nat_eq (λ a b e. eqb-true a b e) seen node)
+          ];
+      only = λ n there.
+          elim (insert_key-cases seen node n (rw is at there)) [
+            | inl before ↦ elim (so_far.only n before) [
+              | inl old ↦ inl old
+              | inr noted ↦ inr (rw more (Contains-append_left (take i nodes) (node ∷ []) n noted))
+            ]
+            | inr same ↦ inr (rw (more, ← same) (Contains-push (take i nodes) node))
+          ];
+    }
+
+-- at first nothing is found
+pub AreFound-none : (g : GraphData) → AreFound g [] []
+unfolding IsDistinct
+AreFound-none g = record {
+  each = λ group there. absurd (omega (arith, there.1));
+  all = λ group node there member. absurd (omega (arith, there.1));
+  only = λ node there. absurd (omega (arith, there.1));
+  apart = tt;
+  once = tt;
+}
+
+-- one group more is found
+pub AreFound-more : (g : GraphData) (root : ℕ) (seen new : List ℕ) (fresh : List Group) (group : Group) → AreFound g seen fresh →
+    IsGroup g group → Contains group.members root → (¬ Contains seen root) → Notes group.members seen new →
+    IsDistinct nat_eq new → AreFound g new (fresh ++ group ∷ [])
+AreFound-more g root seen new fresh group so_far is in_root unseen notes once = record {
+  once = once;
+  each = λ one there.
+      elim (Contains-push_cases fresh group one there) [ inl before ↦ so_far.each one before | inr same ↦ subst (IsGroup g) same is ];
+  all = λ one node there member.
+      elim (Contains-push_cases fresh group one there) [
+        | inl before ↦ notes.kept node (so_far.all one node before member)
+        | inr same ↦ notes.noted node (subst (λ (one : Group). Contains one.members node) (sym same) member)
+      ];
+  only = λ node there.
+      elim (notes.only node there) [
+        | inl before ↦ let found = so_far.only node before in (found.0, Contains-append_left fresh (group ∷ []) found.0 found.1, found.2)
+        | inr member ↦ (group, Contains-push fresh group, member)
+      ];
+  apart =
+      rw (map_push id_of fresh group)
+      (IsDistinct-push nat_eq_equiv (map id_of fresh) (id_of group) so_far.apart
+      (elim (cases_Bool (list_any (nat_eq (id_of group)) (map id_of fresh))) [
+        | inl there ↦
+            let any = contains-from_map id_of fresh (id_of group) (Contains-list_any nat_eq (λ a b e. eqb-true a b e) (map id_of fresh) (id_of group) there) in
+            let in_fresh : Contains fresh any.1 = (any.0, any.2, any.3) in
+            let same = same_by_id g any.1 group (so_far.each any.1 in_fresh) is any.4 in
+            absurd (unseen (so_far.all any.1 root in_fresh (subst (λ (one : Group). Contains one.members root) (sym same) in_root)))
+        | inr none ↦ none
+      ]));
+}
+
+-- a root alone
+pub Finds-one : (g : GraphData) (root : ℕ) (old new : List ℕ) → ((n : ℕ) → Contains old n → Contains new n) → (IsStorage g root → Contains new root) →
+    Finds g (root ∷ []) old new
+Finds-one g root old new kept rooted = record {
+  kept = kept;
+  rooted = λ n there storage.
+      elim (Contains-cons_cases root [] n there) [
+        | inl same ↦ subst (Contains new) same (rooted (subst (IsStorage g) (sym same) storage))
+        | inr none ↦ absurd (omega (arith, none.1))
+      ];
+}
+
+-- no root yet
+pub Finds-none : (g : GraphData) (roots seen : List ℕ) → Finds g (take 0 roots) seen seen
+Finds-none g roots seen = record { kept = λ n there. there; rooted = λ n there. absurd (omega (arith, there.1)) }
+
+-- one root more
+pub Finds-more : (g : GraphData) (roots : List ℕ) (i : ℕ) (old seen new : List ℕ) → i < length roots → Finds g (take i roots) old seen →
+    Finds g (get_or roots i 0 ∷ []) seen new → Finds g (take (i + 1) roots) old new
+Finds-more g roots i old seen new inside so_far one =
+    let root = get_or roots i 0 in
+    let more : take (i + 1) roots ≡ take i roots ++ root ∷ [] = take_more roots i 0 inside in
+    record {
+      kept = λ n there. one.kept n (so_far.kept n there);
+      rooted = λ n there storage.
+          elim (Contains-push_cases (take i roots) root n (rw more at there)) [
+            | inl before ↦ one.kept n (so_far.rooted n before storage)
+            | inr same ↦ one.rooted n (Contains-cons_first root [] n same) storage
+          ];
+    }
+
+-- where no group came in
+pub AreFoundFrom-none : (roots : List ℕ) (fresh : List Group) → AreFoundFrom roots fresh fresh
+AreFoundFrom-none roots fresh = record { from = λ group there. inl there }
+
+-- the group of a root came in
+pub AreFoundFrom-one : (root : ℕ) (fresh : List Group) (group : Group) → Contains group.members root → AreFoundFrom (root ∷ []) fresh (fresh ++ group ∷ [])
+AreFoundFrom-one root fresh group member = record {
+  from = λ one there.
+      elim (Contains-push_cases fresh group one there) [
+        | inl before ↦ inl before
+        | inr same ↦ inr (root, Contains-cons_first root [] root refl, subst (λ (g : Group). Contains g.members root) same member)
+      ];
+}
+
+-- one root more
+pub AreFoundFrom-more : (roots : List ℕ) (i : ℕ) (old fresh new : List Group) → i < length roots → AreFoundFrom (take i roots) old fresh →
+    AreFoundFrom (get_or roots i 0 ∷ []) fresh new → AreFoundFrom (take (i + 1) roots) old new
+AreFoundFrom-more roots i old fresh new inside so_far one =
+    let root = get_or roots i 0 in
+    let more : take (i + 1) roots ≡ take i roots ++ root ∷ [] = take_more roots i 0 inside in
+    record {
+      from = λ group there.
+          elim (one.from group there) [
+            | inl before ↦
+                elim (so_far.from group before) [
+                  | inl older ↦ inl older
+                  | inr (n, in_roots, member) ↦ inr (n, rw more (Contains-append_left (take i roots) (root ∷ []) n in_roots), member)
+                ]
+            | inr (n, last, member) ↦
+                elim (Contains-cons_cases root [] n last) [
+                  | inl same ↦ inr (n, rw (more, ← same) (Contains-push (take i roots) root), member)
+                  | inr none ↦ absurd (omega (arith, none.1))
+                ]
+          ];
+    }

@@ -1,0 +1,61 @@
+-- A flood begins at its root and looks from one node more, until it has looked from all.
+use Rattle.std.proofs.Common.{◌≡◌, ℕ, ◌<◌, List, [], ◌∷◌, length, take, nat_eq, sym, ap, subst, ◌∙◌, arith}
+use Rattle.std.specs.Prelude.{slice_index}
+use Rattle.std.proofs.lemmas.List.{take_all}
+use Rattle.indexmap.specs.IndexSet.{insert_key}
+use Rattle.channel_groups.specs.Flood.{IsFlooding}
+use Rattle.channel_groups.specs.Listing.{places_of, others_at}
+use Rattle.channel_groups.proofs.FloodLemmas.{IsFlooding-start, IsFlooding-visit, Sees-longer, count_within, ticks-visit}
+use Rattle.channel_groups.proofs.flood.flood_from.Goals as goal
+
+pub loop-count-init : goal.loop-count-init
+loop-count-init g c =
+    let keys : c.insert.new.self.keys ≡ c.args.root ∷ [] =
+    c.in_ok-insert.ensures.keys ∙ ap (λ old. insert_key nat_eq old c.args.root) c.new.ensures.empty in
+    record {
+      flooding =
+          rw (keys, c.new-2.ensures.items) (IsFlooding-start c.args.graph.now c.args.root c.requires.root);
+      within = omega arith;
+      steps = omega arith;
+    }
+
+pub overflow_add-count : goal.overflow_add-count
+overflow_add-count g c = omega (arith, c.loop-count-test.true, c.len.ensures.small)
+
+pub loop-count-smaller : goal.loop-count-smaller
+loop-count-smaller g c =
+    let most = count_within c.args.graph.now c.args.root c.loop-count.count c.loop-count.flood.nodes.keys c.loop-count.flood.places.items
+    c.loop-count.invariant.flooding c.as_slice-nodes.ensures.unique in
+    omega (arith, most, c.loop-count-test.true, c.len.ensures.len)
+
+pub loop-count-preserved : goal.loop-count-preserved
+loop-count-preserved g c =
+    let graph = c.args.graph.now in
+    let found = c.loop-count.flood.nodes.keys in
+    let count = c.loop-count.count in
+    let so_far = c.loop-count.invariant in
+    let sees = c.in_ok-visit.ensures.sees in
+    let inside : count < length found = omega (arith, c.loop-count-test.true, c.len.ensures.len) in
+    let node = slice_index c.as_slice-nodes.result.now count in
+    let is : slice_index found count ≡ node = ap (λ (xs : List ℕ). slice_index xs count) (sym c.as_slice-nodes.ensures.keys) in
+    record {
+      flooding = IsFlooding-visit graph c.args.root count node found c.visit.new.flood.nodes.keys
+          c.loop-count.flood.places.items c.visit.new.flood.places.items so_far.flooding inside is sees;
+      within = omega (arith, inside, Sees-longer graph node _ found c.visit.new.flood.nodes.keys _ _ sees);
+      steps =
+          ticks-visit (others_at c.args.changed (places_of c.args.ends.now.firsts.items)) (others_at c.args.changed (places_of c.args.ends.now.seconds.items))
+          found c.visit.new.flood.nodes.keys sees.grown.0 sees.grown.1 count node c.args.steps.now c.loop-count.steps c.visit.new.steps
+          inside is so_far.steps c.in_ok-visit.ensures.steps;
+    }
+
+pub returns : goal.returns
+returns g c =
+    let found = c.loop-count.flood.nodes.keys in
+    let so_far = c.loop-count.invariant in
+    let all : c.loop-count.count ≡ length found = omega (arith, so_far.within, c.loop-count-test.false, c.len.ensures.len) in
+    let whole : take c.loop-count.count found ≡ found = take_all c.loop-count.count found (omega arith) in
+    record {
+      flooded = subst (λ n. IsFlooding c.args.graph.now c.args.root n found c.loop-count.flood.places.items) all so_far.flooding;
+      unique = c.len.ensures.unique;
+      steps = omega (arith, rw whole at so_far.steps, all);
+    }

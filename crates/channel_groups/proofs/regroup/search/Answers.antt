@@ -1,0 +1,88 @@
+-- But for the changed place the lists are those of the graph now, and the roots are the members of the touched groups
+-- and the changed nodes.
+use Rattle.std.proofs.Common.{◌+◌, ◌≤◌, inl, inr, length, filter, arith, ◌≡◌, ℕ, List, Contains, sym, subst, ◌∙◌, ap}
+use Rattle.channel_groups.specs.Listing.{places_of}
+use Rattle.channel_groups.specs.Changes.{nodes_before, nodes_after}
+use Rattle.path_meaning.specs.Graphs.{IsStorage}
+use Rattle.std.specs.List.{sum_by}
+use Rattle.channel_groups.specs.Grouping.{group_at_node}
+use Rattle.channel_groups.specs.Search.{is_storage, search_cost}
+use Rattle.channel_groups.specs.Writing.{AreTouched, members_in}
+use Rattle.channel_groups.proofs.TickLemmas.{few_roots, few_new_roots}
+use Rattle.channel_groups.proofs.StoreLemmas.{AreListed-undone}
+use Rattle.channel_groups.proofs.regroup.search.Goals as goal
+
+pub try_roots-requires-clause-firsts : goal.try_roots-requires-clause-firsts
+try_roots-requires-clause-firsts g c =
+    rw c.changed_place-changed.ensures
+    (AreListed-undone (λ switch. switch.a) c.args.graph.now c.args.change.now (places_of c.args.ends.now.firsts.items) c.requires.firsts)
+
+pub try_roots-requires-clause-seconds : goal.try_roots-requires-clause-seconds
+try_roots-requires-clause-seconds g c =
+    rw c.changed_place-changed.ensures
+    (AreListed-undone (λ switch. switch.b) c.args.graph.now c.args.change.now (places_of c.args.ends.now.seconds.items) c.requires.seconds)
+
+pub try_roots-requires-2-clause-firsts : goal.try_roots-requires-2-clause-firsts
+try_roots-requires-2-clause-firsts g c =
+    rw c.changed_place-changed.ensures
+    (AreListed-undone (λ switch. switch.a) c.args.graph.now c.args.change.now (places_of c.args.ends.now.firsts.items) c.requires.firsts)
+
+pub try_roots-requires-2-clause-seconds : goal.try_roots-requires-2-clause-seconds
+try_roots-requires-2-clause-seconds g c =
+    rw c.changed_place-changed.ensures
+    (AreListed-undone (λ switch. switch.b) c.args.graph.now c.args.change.now (places_of c.args.ends.now.seconds.items) c.requires.seconds)
+
+pub returns : goal.returns
+returns g c =
+    let graph = c.args.graph.now in
+    let before : c.deref.result.now ≡ nodes_before c.args.change.now = c.deref.ensures.value ∙ c.in_ok-before.ensures in
+    let after : c.deref-2.result.now ≡ nodes_after graph c.args.change.now = c.deref-2.ensures.value ∙ c.in_ok-nodes.ensures in
+    let gone = c.in_ok-gone.gone.keys in
+    let later = c.in_ok-after.after.keys in
+    let seen = c.try_roots-2.new.found.seen.keys in
+    let one = c.in_ok-try_roots.ensures in
+    let two = c.in_ok-try_roots-2.ensures in
+    let first_roots : c.as_slice.result.now ≡ gone = c.as_slice.ensures.keys in
+    let second_roots : c.as_slice-2.result.now ≡ later = c.as_slice-2.ensures.keys in
+    let noted = c.in_ok-after.ensures.notes in
+    let rooted_late : (n : ℕ) → Contains later n → IsStorage graph n → Contains seen n =
+    λ n there storage. two.finds.rooted n (subst (λ (nodes : List ℕ). Contains nodes n) (sym second_roots) there) storage in
+    record {
+      plan = record {
+        touched =
+            subst (λ (nodes : List ℕ). AreTouched c.args.held.now.classes.items c.args.held.now.slots.items nodes gone) before c.in_ok-gone.ensures.touched;
+        found = two.found;
+        gone_rooted = λ n there storage.
+            two.finds.kept n (one.finds.rooted n (subst (λ (nodes : List ℕ). Contains nodes n) (sym first_roots) there) storage);
+        new_rooted = λ n there storage.
+            rooted_late n (noted.noted n (subst (λ (nodes : List ℕ). Contains nodes n) (sym after) there)) storage;
+        gone_once = c.in_ok-gone.ensures.unique;
+        from = λ group there.
+            elim (two.from.from group there) [
+              | inl earlier ↦
+                  elim (one.from.from group earlier) [
+                    | inl none ↦ let nothing = rw c.new-2.ensures.items at none in absurd (omega (arith, nothing.1))
+                    | inr (n, root, member) ↦ (n, member, inl (subst (λ (nodes : List ℕ). Contains nodes n) first_roots root))
+                  ]
+              | inr (n, root, member) ↦ (
+                n,
+                member,
+                elim (noted.only n (subst (λ (nodes : List ℕ). Contains nodes n) second_roots root)) [
+                  | inl none ↦ absurd (omega (arith, none.1))
+                  | inr listed ↦ inr (subst (λ (nodes : List ℕ). Contains nodes n) after listed)
+                ],
+              )
+            ];
+      };
+      steps =
+          let none : search_cost c.new-2.result.items ≡ 0 = ap search_cost c.new-2.ensures.items in
+          let first_few = few_roots graph gone c.in_ok-gone.ensures.unique in
+          let second_few = few_new_roots graph later seen c.in_ok-after.ensures.unique rooted_late in
+          let ticked_one = subst (λ (nodes : List ℕ). c.try_roots.new.steps + search_cost c.new-2.result.items
+          ≤ c.members_touched.new.steps + length (filter (is_storage graph) nodes) + search_cost c.try_roots.new.found.fresh.items) first_roots one.steps in
+          let ticked_two = subst (λ (nodes : List ℕ). c.try_roots-2.new.steps + search_cost c.try_roots.new.found.fresh.items
+          ≤ c.try_roots.new.steps + length (filter (is_storage graph) nodes) + search_cost c.try_roots-2.new.found.fresh.items) second_roots two.steps in
+          let looked = subst (λ (nodes : List ℕ). c.members_touched.new.steps ≤ c.args.steps.now
+          + sum_by (λ node. members_in (group_at_node c.args.held.now.classes.items c.args.held.now.slots.items node)) nodes) before c.in_ok-gone.ensures.steps in
+          omega (arith, none, first_few, second_few, ticked_one, ticked_two, looked);
+    }
