@@ -1,2 +1,3 @@
 pub mod ReadNodes
 pub mod RestingGroups
+pub mod AlikeGroups

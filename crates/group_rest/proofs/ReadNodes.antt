@@ -13,7 +13,7 @@ use Rattle.group_text.proofs.LocalNodes.{Contains-from_firsts, member-first}
 use Rattle.group_rest.specs.Rest.{Reads}
 
 -- what stands in the whole stands in some piece
-piece_of : (f : ℕ → List ℕ) (xs : List ℕ) (y : ℕ) → Contains (flat_map f xs) y → (x : ℕ) × Contains xs x × Contains (f x) y
+pub piece_of : (f : ℕ → List ℕ) (xs : List ℕ) (y : ℕ) → Contains (flat_map f xs) y → (x : ℕ) × Contains xs x × Contains (f x) y
 piece_of f [] y (k, inside, is) = absurd (omega arith)
 piece_of f (x ∷ xs) y there =
     elim (Contains-append_cases (f x) (flat_map f xs) y there) [

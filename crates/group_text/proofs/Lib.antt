@@ -7,3 +7,4 @@ pub mod LocalPaths
 pub mod Locality
 pub mod FirstsLemmas
 pub mod GroupLemmas
+pub mod LocalRanges

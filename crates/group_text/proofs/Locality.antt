@@ -29,11 +29,11 @@ use Rattle.group_text.proofs.LocalPaths.{local_best-most, local_best-least}
 
 -- an unblocked path of the whole graph, from this stand to that, has a copy in the local graph, and its first
 -- node the level of its local node
-record IsCopied (g : GraphData) (group : Group) (state : List Tern) (here there : Stand) : Type 0 where
-  near : Contains (local_nodes g group) here.node
-  alike : IsAlike g group (local_of (local_nodes g group) here.node)
-  hops : List ℕ
-  goes : Goes (local_graph g group) (local_state (local_nodes g group) state) (local_stand (local_nodes g group) here) hops
+pub record IsCopied (g : GraphData) (group : Group) (state : List Tern) (here there : Stand) : Type 0 where
+  pub near : Contains (local_nodes g group) here.node
+  pub alike : IsAlike g group (local_of (local_nodes g group) here.node)
+  pub hops : List ℕ
+  pub goes : Goes (local_graph g group) (local_state (local_nodes g group) state) (local_stand (local_nodes g group) here) hops
       (local_stand (local_nodes g group) there)
 
 -- a fact that holds exactly where a second one does, which holds exactly where a third one does
@@ -56,7 +56,7 @@ module _ (g : GraphData) (wired : IsWired g) (group : Group) (is_group : IsGroup
   local_states = local_state (local_nodes g group) state
 
   -- an unblocked path over the local graph that leads to a member starts at a node with the level of what it stands for
-  alike_start : (hops : List ℕ) (here there : Stand) → Goes text_graph local_states here hops there →
+  pub alike_start : (hops : List ℕ) (here there : Stand) → Goes text_graph local_states here hops there →
       there.node < length group.members →
       IsAlike g group here.node
   alike_start [] here there goes first =
@@ -113,7 +113,7 @@ module _ (g : GraphData) (wired : IsWired g) (group : Group) (is_group : IsGroup
         (omega (arith, most, least, ap best stands))
 
     -- so an unblocked path over the local graph is one over switches of the group
-    goes_whole : (hops : List ℕ) (here there : Stand) → Goes text_graph local_states here hops there →
+    pub goes_whole : (hops : List ℕ) (here there : Stand) → Goes text_graph local_states here hops there →
         IsAlike g group here.node →
         Goes g state (whole_stand locals here) (map (slice_index group.switches) hops) (whole_stand locals there)
     goes_whole [] here there goes alike = (unbeaten_whole here.node here.strength alike goes.0, ap (whole_stand locals) goes.1)
@@ -126,7 +126,7 @@ module _ (g : GraphData) (wired : IsWired g) (group : Group) (is_group : IsGroup
         )
 
     -- and an unblocked path of the whole graph that leads to a member has its copy in the local graph
-    goes_local : (hops : List ℕ) (here there : Stand) → Goes g state here hops there → Contains group.members there.node →
+    pub goes_local : (hops : List ℕ) (here there : Stand) → Goes g state here hops there → Contains group.members there.node →
         IsCopied g group state here there
     goes_local [] here there goes member =
         let local = local_of locals here.node in
