@@ -1,12 +1,14 @@
 -- The entries of the map, and what is kept by them.
-use Rattle.std.proofs.Common.{◌≡◌, Bool, true, false, not, cond, ◌||◌, List, [], ◌∷◌, ◌++◌, map, Option, None, Some, is_none, refl, sym, ap, subst, ◌∙◌, true≢false, Global}
-use Rattle.std.specs.Prelude.{All, option_map}
+use Rattle.std.proofs.Common.{◌≡◌, ℕ, Bool, length, get_or, is_some, true, false, not, cond, ◌||◌, List, [], ◌∷◌, ◌++◌, map, Option, None, Some, is_none, refl, sym, ap, subst, ◌∙◌, true≢false, Global}
+use Rattle.std.specs.Prelude.{All, option_map, position, slice_get}
 use Rattle.std.specs.List.{IsDistinct}
 use Rattle.std.specs.Map.{keys_of, lookup}
 use Rattle.std.specs.Borrow.{Bor}
 use Rattle.std.specs.Option.{IfSome, option_copied}
 use Rattle.std.specs.declared.rc.Rc.{Rc}
 use Rattle.std.proofs.lemmas.List.{map-append}
+use Rattle.std.proofs.lemmas.List.Quantifiers.{position-Some}
+use Rattle.std.proofs.lemmas.Option.{slice_get_read}
 use Rattle.std.proofs.lemmas.List.Elements.{All-head, All-tail, All-push}
 use Rattle.indexmap.specs.IndexMap.{IndexMap, get, insert_entry}
 use Rattle.indexmap.proofs.CallerLemmas.{insert_entry-new}
@@ -31,7 +33,7 @@ abbrev pub kept_by : List (GroupTextData × Shared) → KeptData
 kept_by entries = map (λ entry. (entry.0, entry.1.value)) entries
 
 -- the texts that are kept are the keys
-texts_of-kept_by : (entries : List (GroupTextData × Shared)) → texts_of (kept_by entries) ≡ keys_of entries
+pub texts_of-kept_by : (entries : List (GroupTextData × Shared)) → texts_of (kept_by entries) ≡ keys_of entries
 texts_of-kept_by [] = refl
 texts_of-kept_by (entry ∷ entries) = ap (λ texts. entry.0 ∷ texts) (texts_of-kept_by entries)
 
@@ -115,3 +117,18 @@ pub IfSome-lent : {T : Type 0} (lent : Option (Bor T)) (has : Option T) (P : T �
     IfSome lent (λ one. P one.now)
 IfSome-lent None has P is holds = tt
 IfSome-lent (Some one) has P is holds = subst (λ found. IfSome found P) (sym is) holds
+
+-- where a text is found, it stands
+pub position-text : (texts : List GroupTextData) (text : GroupTextData) (found : Option ℕ) → found ≡ position (same_text text) texts →
+    IfSome found (λ place. slice_get texts place ≡ Some text)
+position-text texts text None is = tt
+position-text texts text (Some place) is =
+    let (inside, same, first) = position-Some (same_text text) texts place text (sym is) in
+    slice_get_read texts (length texts) place text refl inside ((same_text_decides text (get_or texts place text)).0 same)
+
+-- where one of two is there exactly where the other is, so is it missing
+pub both_none : {X Y : Type 0} (one : Option X) (other : Option Y) → is_some one ≡ is_some other → is_none one ≡ is_none other
+both_none None None same = refl
+both_none None (Some other) same = absurd (cc)
+both_none (Some one) None same = absurd (cc)
+both_none (Some one) (Some other) same = refl

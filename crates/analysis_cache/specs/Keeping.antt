@@ -26,6 +26,11 @@ pub record IsKept (kept : KeptData) : Type 0 where
   pub apart : IsDistinct same_text (texts_of kept)
   pub means : All (λ entry. MeansText entry.0 entry.1) kept
 
+-- what was kept is kept, with its code, and what is new stands behind it
+pub record IsGrown (old new : KeptData) : Type 0 where
+  pub more : KeptData
+  pub grown : new ≡ old ++ more
+
 -- the new ones of these texts were analysed, in order, and are kept behind what was kept; the count is their number
 pub record KeepsAll (old new : KeptData) (before after : List GroupTextData) (texts : List GroupTextData) (count : ℕ) : Type 0 where
   pub more : KeptData

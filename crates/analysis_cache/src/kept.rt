@@ -1,7 +1,7 @@
-ghost use Rattle.std.specs.Prelude.{◌≡◌, length, [], option_map, All, IsTrue, false, IfOk, IfSome, OnOk, OnErr, is_none, not};
+ghost use Rattle.std.specs.Prelude.{◌≡◌, length, [], option_map, All, Some, IsTrue, false, slice_get, IfOk, IfSome, OnOk, OnErr, is_none, not};
 ghost use Rattle.group_analysis.specs.Meaning.{MeansText};
 ghost use Rattle.group_text.specs.FirstTexts.{is_among};
-ghost use Rattle.analysis_cache.specs.Keeping.{code_in, KeepsAll, KeepsSome, texts_of};
+ghost use Rattle.analysis_cache.specs.Keeping.{code_in, IsKept, KeepsAll, KeepsSome, texts_of};
 ghost use Rattle.analysis_cache.specs.Adding.{AddsText, LacksText};
 
 use group_analysis::Analyst;
@@ -65,6 +65,16 @@ impl Kept {
         ensures none { is_none result ≡ not (is_among (texts_of self.now) text.now) }
     {
         self.codes.get(text)
+    }
+
+    /// The place of a text among those that are kept, None exactly where the text isn't kept. It takes no
+    /// memory.
+    pub fn place(&self, text: &GroupText) -> Option<usize>
+        ensures place { IfSome result (λ place. slice_get (texts_of self.now) place ≡ Some text.now) }
+        ensures none { is_none result ≡ not (is_among (texts_of self.now) text.now) }
+        ensures kept { IsKept self.now }
+    {
+        self.codes.get_index_of(text)
     }
 
     /// Has the new ones of these texts analysed, and keeps their codes: afterwards all of the texts are

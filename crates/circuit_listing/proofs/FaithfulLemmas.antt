@@ -1,50 +1,23 @@
 -- What is built of the parts of a circuit's groups is a faithful listing of it.
-use Rattle.std.proofs.Common.{◌≡◌, ℕ, ◌<◌, ◌≤◌, List, [], ◌∷◌, length, map, get_or, All, None, sym, ap, subst, ◌∙◌, arith}
-use Rattle.std.specs.Prelude.{sum, zip}
+use Rattle.std.proofs.Common.{◌≡◌, ℕ, ◌<◌, ◌≤◌, List, [], length, map, get_or, All, None, sym, ap, subst, ◌∙◌, arith}
+use Rattle.std.specs.Prelude.{sum}
 use Rattle.std.specs.List.{AllZip, range_with_len}
 use Rattle.std.proofs.lemmas.List.{get_or-map, length-map}
 use Rattle.std.proofs.lemmas.List.FromFn.{length-map-range_with_len, get_or-map-range_with_len}
-use Rattle.std.proofs.lemmas.Option.{slice_get-get_or, slice_get_within, get_or_from_slice_get}
+use Rattle.std.proofs.lemmas.Option.{slice_get_within, get_or_from_slice_get}
 use Rattle.path_meaning.specs.Graphs.{GraphData, IsWired, nodes}
 use Rattle.netlist.specs.Circuits.{CircuitData, called, HasVisibleNames}
 use Rattle.group_meaning.specs.Groups.{Group, AreGroups}
 use Rattle.group_meaning.proofs.UniqueGroups.{unique}
-use Rattle.group_text.specs.Texts.{GroupTextData, local_nodes, text_of_group}
 use Rattle.straight_code.specs.declared.part.Part.{Part}
 use Rattle.linear_code.specs.Listing.{ListingData}
 use Rattle.line_words.specs.Visible.{IsVisibleName}
-use Rattle.straight_code.specs.Parts.{IsPart}
 use Rattle.linear_code.specs.Built.{IsBuilt}
 use Rattle.circuit_listing.specs.Faithful.{group_bound, IsFaithful}
-use Rattle.circuit_texts.specs.Parts.{IsMadeOf, IsPartOf}
+use Rattle.circuit_texts.specs.Parts.{IsPartOf}
 use Rattle.circuit_texts.specs.Sizes.{fault_in, AllFit}
-use Rattle.circuit_texts.proofs.MemberLemmas.{group_at}
-use Rattle.circuit_texts.proofs.PairedLists.{partner_first, sum_within}
-use Rattle.circuit_texts.proofs.PartLemmas.{IsPart-from_group}
+use Rattle.circuit_texts.proofs.PairedLists.{sum_within}
 use Rattle.circuit_listing.proofs.StepLemmas.{IsStep-from_listing}
-
--- parts that are made of the groups' texts, over the nodes that the local nodes stand for, are parts of the groups
-parts_of_pairs : (g : GraphData) (groups : List Group) (parts : List Part) →
-    AllZip (λ made part. IsMadeOf made.0 made.1 part) (zip (map (text_of_group g) groups) (map (local_nodes g) groups)) parts →
-    AllZip (IsPartOf g) groups parts
-parts_of_pairs g [] [] made = made
-parts_of_pairs g [] (part ∷ parts) made = absurd made
-parts_of_pairs g (group ∷ groups) [] made = absurd made
-parts_of_pairs g (group ∷ groups) (part ∷ parts) made = (made.0, parts_of_pairs g groups parts made.1)
-
-pub parts_of_groups : (g : GraphData) (groups : List Group) (texts : List GroupTextData) (maps : List (List ℕ)) (parts : List Part) →
-    texts ≡ map (text_of_group g) groups → maps ≡ map (local_nodes g) groups →
-    AllZip (λ made part. IsMadeOf made.0 made.1 part) (zip texts maps) parts → AllZip (IsPartOf g) groups parts
-parts_of_groups g groups texts maps parts texts_are maps_are made =
-    parts_of_pairs g groups parts (rw (texts_are, maps_are) at made)
-
--- each part of a group fits the graph
-pub parts_fit : (g : GraphData) → IsWired g → (groups : List Group) → AreGroups g groups → (parts : List Part) → AllZip (IsPartOf g) groups parts →
-    All (IsPart (nodes g)) parts
-parts_fit g wired groups are parts made = λ k d inside.
-    let part = get_or parts k d in
-    let partner = partner_first (IsPartOf g) groups parts k part made (slice_get-get_or parts k d inside) in
-    IsPart-from_group g wired partner.0 (group_at g groups are parts made k partner.0 partner.1) part partner.2
 
 -- what the nodes of a circuit are called can be a name of a listing
 pub names_visible : {X : Type 0} (bytes : X → List ℕ) (c : CircuitData) (names : List X) → HasVisibleNames c →

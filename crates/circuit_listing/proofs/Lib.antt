@@ -1,4 +1,3 @@
-pub mod PairLemmas
 pub mod AnalysedLemmas
 pub mod StepLemmas
 pub mod FaithfulLemmas

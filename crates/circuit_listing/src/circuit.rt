@@ -1,11 +1,9 @@
-ghost use Rattle.std.specs.Prelude.{◌≡◌, ◌⊎◌, ◌++◌, List, length, map, zip, All, IsTrue, IfOk, IfErr, OnOk, OnErr};
-ghost use Rattle.std.specs.List.{AllZip, range_with_len};
+ghost use Rattle.std.specs.Prelude.{◌≡◌, ◌⊎◌, ◌++◌, List, map, IfOk, IfErr, OnOk, OnErr};
+ghost use Rattle.std.specs.List.{range_with_len};
 ghost use Rattle.path_meaning.specs.Graphs.{nodes};
 ghost use Rattle.group_meaning.specs.Groups.{Group, AreGroups};
 ghost use Rattle.group_text.specs.Texts.{text_of_group};
-ghost use Rattle.group_text.specs.FirstTexts.{first_texts, is_among};
-ghost use Rattle.analysis_cache.specs.Keeping.{texts_of};
-ghost use Rattle.circuit_texts.specs.Parts.{IsMadeOf};
+ghost use Rattle.group_text.specs.FirstTexts.{first_texts};
 ghost use Rattle.circuit_texts.specs.Sizes.{AllFit, TellsTooLarge};
 ghost use Rattle.circuit_listing.specs.Analysed.{AnalysesFront};
 ghost use Rattle.circuit_listing.specs.Faithful.{IsFaithful};
@@ -15,12 +13,10 @@ use analysis_cache::Kept;
 use channel_groups::Groups;
 use circuit_texts::{BuildFault, GroupTexts, texts_of};
 use group_analysis::Analyst;
-use group_text::GroupText;
+use kept_parts::parts_of;
 use linear_code::Listing;
 use netlist::Circuit;
 use std::alloc::{AllocError, Global};
-use std::rc::Rc;
-use straight_code::Part;
 use table_keys::TableKeys;
 use ternary::NoMemory;
 
@@ -53,40 +49,6 @@ pub fn list_circuit<A: Analyst>(
     let parts = parts_of(alloc, &kept, &texts, maps)?;
     let names = names_of(alloc, circuit)?;
     Ok(Listing::build(alloc, circuit.graph(), names, &parts)?)
-}
-
-// The parts of the listing: for each text its code over the nodes that its local nodes stand for.
-fn parts_of(
-    alloc: Global,
-    kept: &Kept,
-    texts: &[GroupText],
-    maps: Vec<Vec<usize>>,
-) -> Result<Vec<Part>, AllocError>
-    requires maps { length maps.items ≡ length texts.now }
-    requires kept { All (λ text. IsTrue (is_among (texts_of kept.now) text)) texts.now }
-    ensures { IfOk result (λ parts. AllZip (λ made part. IsMadeOf made.0 made.1 part) (zip texts.now (map (λ nodes. nodes.items) maps.items)) parts.items) }
-{
-    let mut parts = Vec::new(alloc);
-    for map in maps {
-        let text = &texts[parts.len()];
-        parts.push(part_of(kept, text, map)?)?;
-    }
-    Ok(parts)
-}
-
-// The part with the code of a text that is kept, over these nodes.
-fn part_of(kept: &Kept, text: &GroupText, map: Vec<usize>) -> Result<Part, AllocError>
-    requires { IsTrue (is_among (texts_of kept.now) text.now) }
-    ensures { IfOk result (IsMadeOf text.now map.items) }
-{
-    match kept.code(text) {
-        Some(code) => Ok(Part {
-            code: code.clone()?,
-            map,
-            members: text.members(),
-        }),
-        None => unreachable!(),
-    }
 }
 
 // What the nodes of a circuit are called.

@@ -2,3 +2,4 @@ pub mod SizeLemmas
 pub mod PairedLists
 pub mod PartLemmas
 pub mod MemberLemmas
+pub mod ReadLemmas

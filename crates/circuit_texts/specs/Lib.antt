@@ -1,2 +1,4 @@
 pub mod Sizes
 pub mod Parts
+pub mod Building
+pub mod Reading

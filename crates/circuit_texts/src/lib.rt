@@ -15,6 +15,8 @@
 //! After Beatty and Bryant, "Fast Incremental Circuit Analysis Using Extracted Hierarchy", 1988.
 #![tactic(auto)]
 
+mod reads;
 mod texts;
 
+pub use reads::reads_of;
 pub use texts::{BuildFault, GroupTexts, texts_of};

@@ -61,8 +61,9 @@ pub fn texts_of(alloc: Global, graph: &Graph, groups: &Groups) -> Result<GroupTe
 {
     let mut texts = Vec::new(alloc);
     let mut maps = Vec::new(alloc);
-    let list = groups.list();
-    for group in list {
+    let ids = groups.ids(alloc)?;
+    for &id in &ids {
+        let group = groups.group(id);
         match text_of(alloc, graph, group.members(), group.switches()) {
             Ok((text, nodes)) => {
                 texts.push(text).map_err(AllocError::from)?;

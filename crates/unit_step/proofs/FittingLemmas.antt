@@ -82,7 +82,7 @@ module _ (g : GraphData) (wired : IsWired g) (old : MachineData) (fits : FitsGra
     reads_no_change : (k : ℕ) (part : HeldPart) → Stands old.parts k part → 0 < part.members → (¬ IsMarked marks k) → (group : Group) →
         IsPartOf g group part → ReadsNoChange g group old.state new
     reads_no_change k part stands some unmarked group is_part node reads =
-        let (code, is) = something part.code (fits.coded k part stands some) in
+        let (code, is) = something part.code (fits.coded k part stands) in
         let contained = ((is_part.coded code is).reads node).1 reads in
         elim (same_or_not (state_at new node) (state_at old.state node)) [
           | inl same ↦ same
@@ -126,7 +126,7 @@ module _ (g : GraphData) (wired : IsWired g) (old : MachineData) (fits : FitsGra
         whole = fits.covers.whole;
         apart = fits.covers.apart;
         number = fits.covers.number;
-        waits = λ k part stands some none. absurd (fits.coded k part stands some none);
+        waits = λ k part stands some none. absurd (fits.coded k part stands none);
         rests = part_rests;
       };
       coded = fits.coded;

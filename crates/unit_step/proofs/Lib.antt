@@ -9,3 +9,5 @@ pub mod TakingLemmas
 pub mod AdvanceLemmas
 pub mod MachineLemmas
 pub mod MakingLemmas
+pub mod BuildLemmas
+pub mod AlikeParts

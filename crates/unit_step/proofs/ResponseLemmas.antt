@@ -105,7 +105,7 @@ module _ (g : GraphData) (wired : IsWired g) (m : MachineData) (fits : FitsGraph
     MovesTo-marked k node has marked =
         let part = has.part in
         let some : 0 < part.members = omega (arith, has.member.inside) in
-        let (code, is) = something part.code (fits.coded k part has.stands some) in
+        let (code, is) = something part.code (fits.coded k part has.stands) in
         let given : IsGiven m.parts m.marks m.state node (state_at (code_value code.value (map (state_at m.state) part.map.items)) has.place) = record {
           k = k;
           marked = marked;

@@ -50,10 +50,10 @@ pub record Covers (g : GraphData) (m : MachineData) : Type 0 where
   pub rests : (k : ℕ) (part : HeldPart) → Stands m.parts k part → ¬ IsMarked m.marks k →
       Rests g m.state (take part.members part.map.items)
 
--- a machine fits a graph: it covers it, no part with a member is stale, the rails are held, and it counts the distinct texts
+-- a machine fits a graph: it covers it, no part is stale, the rails are held, and it counts the distinct texts
 pub record FitsGraph (g : GraphData) (m : MachineData) : Type 0 where
   pub covers : Covers g m
-  pub coded : (k : ℕ) (part : HeldPart) → Stands m.parts k part → 0 < part.members → part.code ≢ None
+  pub coded : (k : ℕ) (part : HeldPart) → Stands m.parts k part → part.code ≢ None
   pub railed : IsRailed g
   pub sound : IsSound m.state
   pub texts : (groups : List Group) → AreGroups g groups → m.texts ≡ length (first_texts (map (text_of_group g) groups))

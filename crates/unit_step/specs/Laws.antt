@@ -6,9 +6,12 @@ use Rattle.path_meaning.specs.declared.TheConstants.{RAILS}
 use Rattle.path_meaning.specs.Graphs.{GraphData, IsWired}
 use Rattle.path_meaning.specs.Step.{IsStep}
 use Rattle.oscillation_x.specs.Settling.{IsJoinStep}
+use Rattle.group_meaning.specs.Groups.{Group}
+use Rattle.group_rest.specs.Alike.{IsAlike}
+use Rattle.unit_step.specs.declared.part.HeldPart.{HeldPart}
 use Rattle.unit_step.specs.Machines.{MachineData}
 use Rattle.unit_step.specs.Stepping.{Advances, Places}
-use Rattle.unit_step.specs.Fitting.{Covers, FitsGraph}
+use Rattle.unit_step.specs.Fitting.{IsPartOf, Covers, FitsGraph}
 
 -- a step of a machine that fits a graph is the graph's unit step, and the machine fits the graph afterwards
 abbrev pub StepsAreUnitSteps : Type 0
@@ -32,3 +35,9 @@ abbrev pub PlacingKeepsFit : Type 0
 PlacingKeepsFit =
     (g : GraphData) (node : ℕ) (value : Tern) (old new : MachineData) → IsWired g → RAILS ≤ node → FitsGraph g old → Places node value old new →
     FitsGraph g new
+
+-- the part of a group that two graphs share, with the same switches and the same levels of its members, is its part in both
+abbrev pub AlikeGroupsKeepTheirParts : Type 0
+AlikeGroupsKeepTheirParts =
+    (g h : GraphData) (group : Group) (part : HeldPart) → IsWired g → IsWired h → IsAlike g h group → IsPartOf g group part →
+    IsPartOf h group part

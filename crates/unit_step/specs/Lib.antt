@@ -7,3 +7,4 @@ pub mod Marking
 pub mod Evaluating
 pub mod Running
 pub mod Making
+pub mod Planning

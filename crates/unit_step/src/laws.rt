@@ -2,7 +2,7 @@
 //!
 //! Each function here does nothing: its contract is the law, and its proof proves it. So a law can be
 //! cited like any other contract.
-ghost use Rattle.unit_step.specs.Laws.{StepsAreUnitSteps, JoiningStepsAreJoinSteps, PlacingKeepsCover, PlacingKeepsFit};
+ghost use Rattle.unit_step.specs.Laws.{StepsAreUnitSteps, JoiningStepsAreJoinSteps, PlacingKeepsCover, PlacingKeepsFit, AlikeGroupsKeepTheirParts};
 
 /// A step of a machine that fits a graph is the unit step of the graph, and the machine fits the graph
 /// afterwards; `joining` says the same of joining steps.
@@ -19,4 +19,12 @@ pub fn steps_are_unit_steps()
 pub fn placing_keeps_fits()
     ensures covers { PlacingKeepsCover }
     ensures fits { PlacingKeepsFit }
+{}
+
+/// The part of a group is its part in each graph that shares the group, with the same switches at the same
+/// places and the same levels of its members.
+///
+/// So a change of a graph that leaves a group as it is leaves its part.
+pub fn alike_groups_keep_their_parts()
+    ensures { AlikeGroupsKeepTheirParts }
 {}

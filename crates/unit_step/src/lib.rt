@@ -1,7 +1,8 @@
 //! The compiled machine: the code of each group, run only where something touched the group.
 //!
 //! The main type is `Machine`: parts, for each of them the nodes that it reads and whether it is marked,
-//! and a state. It is a `Stepper`. The layer above uses that on a graph that the machine fits a step is
+//! and a state. `Machine::build` makes one that fits a graph: each distinct text of a group that isn't kept
+//! is analysed, once. It is a `Stepper`. The layer above uses that on a graph that the machine fits a step is
 //! the unit step of the graph, and that the machine fits the graph again: in each part that isn't marked
 //! every member's state is its steady state, so such a part needs no evaluation until a node that it
 //! reads changes.
@@ -22,7 +23,8 @@ mod laws;
 mod machine;
 mod making;
 mod part;
+mod planning;
 
-pub use laws::{placing_keeps_fits, steps_are_unit_steps};
+pub use laws::{alike_groups_keep_their_parts, placing_keeps_fits, steps_are_unit_steps};
 pub use machine::Machine;
 pub use part::HeldPart;

@@ -1,11 +1,19 @@
 //! The machine.
-ghost use Rattle.std.specs.Prelude.{◌≡◌, ◌≢◌, ℕ, ◌+◌, ◌^◌, ◌<◌, ◌≤◌, true, false, length, map, zip, count_by, option_map, All, None, Some, IfSome, IfNone, IfOk};
+ghost use Rattle.std.specs.Prelude.{◌≡◌, ◌≢◌, ℕ, ◌+◌, ◌^◌, ◌<◌, ◌≤◌, ◌⊎◌, true, false, length, map, zip, count_by, option_map, All, None, Some, Err, IsTrue, IfSome, IfNone, IfOk, IfErr, OnOk};
 ghost use Rattle.std.specs.Bool.{OnTrue, OnFalse};
 ghost use Rattle.ternary.specs.Counts.{raised};
 ghost use Rattle.path_meaning.specs.declared.TheConstants.{RAILS};
+ghost use Rattle.path_meaning.specs.Graphs.{nodes};
+ghost use Rattle.path_meaning.specs.Rails.{IsRailed, IsSound};
 ghost use Rattle.path_meaning.specs.Step.{IsStep};
 ghost use Rattle.oscillation_x.specs.Settling.{IsJoinStep, StaysOrBecomesX};
 ghost use Rattle.straight_code.specs.Parts.{IsPart};
+ghost use Rattle.analysis_cache.specs.Keeping.{texts_of, IsGrown};
+ghost use Rattle.group_text.specs.FirstTexts.{is_among};
+ghost use Rattle.kept_parts.specs.Uses.{used};
+ghost use Rattle.unit_step.specs.Planning.{IsPlan};
+ghost use Rattle.circuit_texts.specs.Sizes.{TellsTooLarge};
+ghost use Rattle.circuit_texts.specs.Building.{Builds, IsCutOff};
 ghost use Rattle.unit_step.specs.Parts.{HasMember, AreApart, has_members};
 ghost use Rattle.unit_step.specs.Making.{ShareNone, held, started, IsFormed};
 ghost use Rattle.unit_step.specs.Machines.{count_marked, marked_sum, instructions_of};
@@ -18,7 +26,11 @@ use crate::agenda::{Agenda, mark_all};
 use crate::evaluation::Desk;
 use crate::making::{all_owners, all_readers, count_held, desk_for, held_parts};
 use crate::part::{HeldPart, Readers};
+use crate::planning::{Plan, plan_of};
+use analysis_cache::{Analyst, Kept};
 use channel_groups::Groups;
+use circuit_texts::BuildFault;
+use kept_parts::{TextUses, parts_of};
 use oscillation_x::Stepper;
 use path_meaning::{Graph, graphs_are_wired};
 use std::alloc::Global;
@@ -43,25 +55,79 @@ pub struct Machine {
     owners: Vec<Option<usize>>,
     state: Vec<Tern>,
     desk: Desk,
-    texts: usize,
+    // how often each kept text is that of a part
+    uses: TextUses,
     moves: u64,
     placed: u64,
 }
 
 impl Model for Machine {
     ghost use Rattle.std.specs.Prelude.{length, option_map};
+    ghost use Rattle.kept_parts.specs.Uses.{used};
     ghost use Rattle.unit_step.specs.Machines.{MachineData};
     ghost use Rattle.unit_step.specs.Evaluating.{rooms};
     ghost use Rattle.unit_step.specs.Running.{IsMachine};
 
     ghost Value = { MachineData };
 
-    ghost view = { λ m. record { groups = option_map (λ held. held.groups) m.groups; parts = m.parts.items; marks = m.agenda.marks; state = m.state.items; texts = m.texts; moves = m.moves; placed = m.placed } };
+    ghost view = { λ m. record { groups = option_map (λ held. held.groups) m.groups; parts = m.parts.items; marks = m.agenda.marks; state = m.state.items; texts = used m.uses; moves = m.moves; placed = m.placed } };
 
     ghost invariant = { λ m. IsMachine m.parts.items m.agenda.marks m.agenda.waiting (length m.state.items) m.readers.items m.owners.items m.held (rooms m.desk) };
 }
 
 impl Machine {
+    /// The machine of a graph, in this state: a part for each group, with the code of the group's text.
+    ///
+    /// Code comes from what is kept; texts that aren't kept are analysed first, each once, in the order
+    /// of the groups, and kept. Every part is marked. Where some group is too large, the first such group
+    /// is told and nothing is analysed. At want of memory nothing was analysed, or a front of what is new.
+    pub fn build<A: Analyst>(
+        alloc: Global,
+        graph: &Graph,
+        state: &[Tern],
+        kept: &mut Kept,
+        analyst: &mut A,
+    ) -> Result<Machine, BuildFault>
+        requires counted { length state.now ≡ nodes graph.now }
+        requires railed { IsRailed graph.now }
+        requires sound { IsSound state.now }
+        ensures fits { IfOk result (λ machine. FitsGraph graph.now machine) }
+        ensures fresh { IfOk result (λ machine. (machine.state ≡ state.now) × (machine.moves ≡ 0) × (machine.placed ≡ 0)) }
+        ensures builds { OnOk result (Builds graph.now (texts_of kept.old) (texts_of kept.new) (A.analysed analyst.old) (A.analysed analyst.new)) }
+        ensures cut_off { result ≡ Err BuildFault.NoMemory → IsCutOff graph.now (texts_of kept.old) (texts_of kept.new) (A.analysed analyst.old) (A.analysed analyst.new) }
+        ensures refused { IfErr result (λ fault. (fault ≡ BuildFault.NoMemory)
+            ⊎ (TellsTooLarge graph.now fault × (kept.new ≡ kept.old) × (A.analysed analyst.new ≡ A.analysed analyst.old))) }
+        ensures grown { IsGrown kept.old kept.new }
+    {
+        let plan = plan_of(alloc, graph, state)?;
+        kept.ensure(&plan.texts, analyst)?;
+        Ok(Machine::of_plan(alloc, graph, plan, kept)?)
+    }
+
+    // The machine of a plan whose texts are kept.
+    fn of_plan(alloc: Global, graph: &Graph, plan: Plan, kept: &Kept) -> Result<Machine, NoMemory>
+        requires plan { IsPlan graph.now plan.state.items plan }
+        requires kept { All (λ text. IsTrue (is_among (texts_of kept.now) text)) plan.texts.items }
+        requires counted { length plan.state.items ≡ nodes graph.now }
+        requires railed { IsRailed graph.now }
+        requires sound { IsSound plan.state.items }
+        ensures fits { IfOk result (FitsGraph graph.now) }
+        ensures fresh { IfOk result (λ machine. (machine.state ≡ plan.state.items) × (machine.moves ≡ 0) × (machine.placed ≡ 0)) }
+    {
+        graphs_are_wired(graph);
+        let Plan {
+            groups,
+            texts,
+            maps,
+            reads,
+            state,
+        } = plan;
+        let uses = TextUses::of_texts(alloc, kept, &texts)?;
+        let parts = parts_of(alloc, kept, &texts, maps)?;
+        let held = held_parts(alloc, parts, reads)?;
+        Machine::assemble(alloc, Some(groups), held, state, uses)
+    }
+
     /// A machine of these parts, in this state: part k reads the nodes of list k.
     ///
     /// The codes may be any codes. Every part is marked, and there are no groups and no texts.
@@ -79,7 +145,7 @@ impl Machine {
     {
         let held = held_parts(alloc, parts, reads)?;
         let copy = Vec::from_slice(alloc, state)?;
-        Machine::assemble(alloc, None, held, copy, 0)
+        Machine::assemble(alloc, None, held, copy, TextUses::new(alloc))
     }
 
     // A machine of these parts, which have code, in this state.
@@ -88,12 +154,12 @@ impl Machine {
         groups: Option<Groups>,
         parts: Vec<HeldPart>,
         state: Vec<Tern>,
-        texts: usize,
+        uses: TextUses,
     ) -> Result<Machine, NoMemory>
         requires formed { All (IsFormed (length state.items)) parts.items }
         requires apart { AreApart parts.items }
         requires reads { All (λ part. All (λ node. node < length state.items) part.reads.items) parts.items }
-        ensures { IfOk result (λ machine. machine ≡ started (option_map (λ found. found.groups) groups) parts.items state.items texts) }
+        ensures { IfOk result (λ machine. machine ≡ started (option_map (λ found. found.groups) groups) parts.items state.items (used uses)) }
     {
         let nodes = state.len();
         let held = count_held(&parts);
@@ -110,7 +176,7 @@ impl Machine {
             owners,
             state,
             desk,
-            texts,
+            uses,
             moves: 0,
             placed: 0,
         })
@@ -121,6 +187,13 @@ impl Machine {
         ensures { result.now ≡ self.now.state }
     {
         &self.state
+    }
+
+    /// The state of each node, for what goes on without the machine.
+    pub fn into_state(self) -> Vec<Tern>
+        ensures { result.items ≡ self.state }
+    {
+        self.state
     }
 
     /// How many groups it has: how many of its parts have a member.
@@ -134,7 +207,7 @@ impl Machine {
     pub fn texts(&self) -> usize
         ensures { result ≡ self.now.texts }
     {
-        self.texts
+        self.uses.distinct()
     }
 
     /// How often a step changed the state. It stays at `u64::MAX` once it is there.

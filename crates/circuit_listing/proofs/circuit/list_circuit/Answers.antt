@@ -3,8 +3,9 @@
 use Rattle.std.proofs.Common.{map, ◌∙◌}
 use Rattle.group_meaning.specs.Groups.{AreGroups}
 use Rattle.circuit_listing.proofs.AnalysedLemmas.{at_err, all_analysed, front_some, front_of_groups, all_of_groups, whole_front}
-use Rattle.circuit_listing.proofs.FaithfulLemmas.{parts_of_groups, parts_fit, names_visible, names_counted, AllFit-from_groups, IsFaithful-from_parts}
+use Rattle.circuit_listing.proofs.FaithfulLemmas.{names_visible, names_counted, AllFit-from_groups, IsFaithful-from_parts}
 use Rattle.circuit_texts.proofs.MemberLemmas.{AreMembers-from_groups}
+use Rattle.kept_parts.proofs.GroupParts.{parts_of_groups, parts_fit}
 use Rattle.circuit_listing.proofs.circuit.list_circuit.Goals as goal
 
 pub returns-in_err-ensure-clause-front : goal.returns-in_err-ensure-clause-front

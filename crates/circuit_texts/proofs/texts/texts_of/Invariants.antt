@@ -4,9 +4,9 @@ use Rattle.group_text.specs.Texts.{local_nodes, text_of_group}
 use Rattle.circuit_texts.specs.Sizes.{fault_in}
 use Rattle.circuit_texts.proofs.texts.texts_of.Given as goal
 
-abbrev pub invariant-loop-group : goal.invariant-loop-group
-invariant-loop-group l = record {
-  texts : l.texts.items ≡ map (text_of_group l.graph) (take l.group-index l.list);
-  maps : map (λ nodes. nodes.items) l.maps.items ≡ map (local_nodes l.graph) (take l.group-index l.list);
-  fits : All (λ group. fault_in group ≡ None) (take l.group-index l.list);
+abbrev pub invariant-loop-id : goal.invariant-loop-id
+invariant-loop-id l = record {
+  texts : l.texts.items ≡ map (text_of_group l.graph) (take l.id-index l.groups.groups);
+  maps : map (λ nodes. nodes.items) l.maps.items ≡ map (local_nodes l.graph) (take l.id-index l.groups.groups);
+  fits : All (λ group. fault_in group ≡ None) (take l.id-index l.groups.groups);
 }

@@ -15,4 +15,4 @@ assemble-requires c =
     })
 
 pub returns : goal.returns
-returns c = rw (c.in_ok-held.ensures, c.in_ok-copy.ensures.items) at c.assemble.ensures
+returns c = rw (c.in_ok-held.ensures, c.in_ok-copy.ensures.items, c.new.ensures) at c.assemble.ensures

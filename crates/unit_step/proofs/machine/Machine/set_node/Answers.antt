@@ -4,6 +4,7 @@ use Rattle.std.specs.Prelude.{Contains, slice_index_or, option_map}
 use Rattle.std.proofs.lemmas.List.{get_or_default, length-set}
 use Rattle.channel_groups.specs.Grouping.{GroupsData}
 use Rattle.ternary.specs.Counts.{raised}
+use Rattle.kept_parts.specs.Uses.{used}
 use Rattle.unit_step.specs.Machines.{MachineData}
 use Rattle.unit_step.specs.Evaluating.{rooms}
 use Rattle.unit_step.specs.Running.{readers_of}
@@ -54,7 +55,7 @@ returns-clause-places c =
       parts = i.parts.items;
       marks = i.agenda.marks;
       state = i.state.items;
-      texts = i.texts;
+      texts = used i.uses;
       moves = i.moves;
       placed = i.placed;
     } in
@@ -77,7 +78,7 @@ returns-clause-covers c =
       parts = i.parts.items;
       marks = i.agenda.marks;
       state = i.state.items;
-      texts = i.texts;
+      texts = used i.uses;
       moves = i.moves;
       placed = i.placed;
     } in
@@ -100,7 +101,7 @@ returns-clause-fits c =
       parts = i.parts.items;
       marks = i.agenda.marks;
       state = i.state.items;
-      texts = i.texts;
+      texts = used i.uses;
       moves = i.moves;
       placed = i.placed;
     } in

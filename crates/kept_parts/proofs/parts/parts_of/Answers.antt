@@ -2,8 +2,8 @@
 use Rattle.std.proofs.Common.{◌≡◌, ◌<◌, [], ◌∷◌, ◌++◌, length, map, sym, ap, ◌∙◌, rules, arith}
 use Rattle.std.proofs.lemmas.List.{length-map, map-append, length_push}
 use Rattle.circuit_texts.specs.Parts.{IsMadeOf}
-use Rattle.circuit_listing.proofs.PairLemmas.{all_paired_more}
-use Rattle.circuit_listing.proofs.circuit.parts_of.Goals as goal
+use Rattle.kept_parts.proofs.PairLemmas.{all_paired_more}
+use Rattle.kept_parts.proofs.parts.parts_of.Goals as goal
 
 pub loop-map-preserved : goal.loop-map-preserved
 loop-map-preserved c =

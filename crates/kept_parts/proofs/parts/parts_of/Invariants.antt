@@ -3,7 +3,7 @@ use Rattle.std.proofs.Common.{◌≡◌, ◌+◌, map, take, length}
 use Rattle.std.specs.Prelude.{zip}
 use Rattle.std.specs.List.{AllZip}
 use Rattle.circuit_texts.specs.Parts.{IsMadeOf}
-use Rattle.circuit_listing.proofs.circuit.parts_of.Given as goal
+use Rattle.kept_parts.proofs.parts.parts_of.Given as goal
 
 abbrev pub invariant-loop-map : goal.invariant-loop-map
 invariant-loop-map l = record {

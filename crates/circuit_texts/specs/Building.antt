@@ -1,0 +1,44 @@
+-- What a build of a machine has analysed, and what is kept afterwards.
+-- After Beatty and Bryant, "Fast Incremental Circuit Analysis Using Extracted Hierarchy", 1988.
+use Rattle.std.specs.Prelude.{◌≡◌, ◌⊎◌, List, [], ◌++◌, length, map, All, None}
+use Rattle.path_meaning.specs.Graphs.{GraphData}
+use Rattle.group_meaning.specs.Groups.{Group, AreGroups}
+use Rattle.group_text.specs.Texts.{GroupTextData, text_of_group}
+use Rattle.group_text.specs.FirstTexts.{new_texts}
+use Rattle.circuit_texts.specs.Sizes.{fault_in}
+
+-- the texts of the graph's groups, in order; none of the groups is too large
+pub record HasTexts (g : GraphData) (texts : List GroupTextData) : Type 0 where
+  pub groups : List Group
+  pub are : AreGroups g groups
+  pub fit : All (λ group. fault_in group ≡ None) groups
+  pub texts_are : texts ≡ map (text_of_group g) groups
+
+-- a build of the graph over what is kept has these texts analysed: the distinct ones that aren't kept, in order of first appearance
+pub record BuildsFresh (g : GraphData) (kept fresh : List GroupTextData) : Type 0 where
+  pub texts : List GroupTextData
+  pub has : HasTexts g texts
+  pub fresh_are : fresh ≡ new_texts kept texts
+
+-- a build was done: what was new was analysed, in order, and is kept behind what was kept
+pub record Builds (g : GraphData) (old new before after : List GroupTextData) : Type 0 where
+  pub fresh : List GroupTextData
+  pub news : BuildsFresh g old fresh
+  pub kept : new ≡ old ++ fresh
+  pub analysed : after ≡ before ++ fresh
+
+-- a build was cut off: a front of what is new was analysed and is kept, and at most the next one was analysed beside
+pub record BuildsSome (g : GraphData) (old new before after : List GroupTextData) : Type 0 where
+  pub fresh : List GroupTextData
+  pub more : List GroupTextData
+  pub further : List GroupTextData
+  pub rest : List GroupTextData
+  pub news : BuildsFresh g old fresh
+  pub front : fresh ≡ more ++ (further ++ rest)
+  pub kept : new ≡ old ++ more
+  pub analysed : after ≡ before ++ (more ++ further)
+  pub one : (further ≡ []) ⊎ (length further ≡ 1)
+
+-- a build found want of memory: nothing was analysed, or a front of what is new
+abbrev pub IsCutOff : GraphData → List GroupTextData → List GroupTextData → List GroupTextData → List GroupTextData → Type 0
+IsCutOff g old new before after = ((new ≡ old) × (after ≡ before)) ⊎ BuildsSome g old new before after

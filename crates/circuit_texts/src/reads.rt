@@ -1,0 +1,87 @@
+//! The nodes that groups read.
+ghost use Rattle.std.specs.Prelude.{◌≡◌, ◌<◌, length, map, nat_eq, All, IfOk, OnOk};
+ghost use Rattle.std.specs.List.{AllZip, flat_map};
+ghost use Rattle.indexmap.specs.IndexSet.{insert_all};
+ghost use Rattle.path_meaning.specs.Graphs.{nodes, place_at, FitsPlace};
+ghost use Rattle.group_meaning.specs.Groups.{AreGroups, id_of};
+ghost use Rattle.channel_groups.specs.Grouping.{IsId};
+ghost use Rattle.group_text.specs.Texts.{firsts};
+ghost use Rattle.circuit_texts.specs.Reading.{AreReads, inputs_of, reads_at};
+
+use channel_groups::{GroupId, Groups};
+use indexmap::IndexSet;
+use path_meaning::{Graph, Switch};
+use std::alloc::{AllocError, Global};
+use strength_order::INPUT_LEVEL;
+use ternary::NoMemory;
+
+/// The nodes that each group of a graph reads, each once, in the groups' order: the gates of the
+/// group's switches, and the input nodes at their ends.
+pub fn reads_of(alloc: Global, graph: &Graph, groups: &Groups) -> Result<Vec<Vec<usize>>, NoMemory>
+    requires { AreGroups graph.now groups.now.groups }
+    ensures { IfOk result (λ lists. AllZip (λ group list. AreReads graph.now group list.items) groups.now.groups lists.items) }
+{
+    let ids = groups.ids(alloc)?;
+    Ok(reads_by(alloc, graph, groups, &ids)?)
+}
+
+// The nodes that the groups with these ids, which are all of them, read.
+fn reads_by(
+    alloc: Global,
+    graph: &Graph,
+    groups: &Groups,
+    ids: &[GroupId],
+) -> Result<Vec<Vec<usize>>, AllocError>
+    requires groups { AreGroups graph.now groups.now.groups }
+    requires ids { map (λ id. id.node) ids.now ≡ map id_of groups.now.groups }
+    requires each { All (λ id. IsId groups.now.groups id.node) ids.now }
+    ensures { IfOk result (λ lists. AllZip (λ group list. AreReads graph.now group list.items) groups.now.groups lists.items) }
+{
+    let mut lists = Vec::new(alloc);
+    for &id in ids {
+        let group = groups.group(id);
+        lists.push(reads_in(alloc, graph, group.switches())?)?;
+    }
+    Ok(lists)
+}
+
+// The nodes that the switches at these places read, each once.
+fn reads_in(alloc: Global, graph: &Graph, switches: &[usize]) -> Result<Vec<usize>, AllocError>
+    requires { All (λ place. place < length graph.now.places) switches.now }
+    ensures { IfOk result (λ list.
+        list.items ≡ firsts (flat_map (λ place. reads_at graph.now (place_at graph.now.places place)) switches.now)) }
+{
+    let mut reads = IndexSet::new(alloc);
+    for &place in switches {
+        insert_reads(graph, graph.switch_at(place), &mut reads)?;
+    }
+    Vec::from_slice(alloc, reads.as_slice())
+}
+
+// Inserts the nodes that what stands at a place reads.
+fn insert_reads(
+    graph: &Graph,
+    place: Option<Switch>,
+    reads: &mut IndexSet<usize>,
+) -> Result<(), AllocError>
+    requires { FitsPlace (nodes graph.now) place }
+    ensures { OnOk result (reads.new.keys ≡ insert_all nat_eq reads.old.keys (reads_at graph.now place)) }
+{
+    if let Some(switch) = place {
+        reads.insert(switch.gate)?;
+        insert_input(graph, switch.a, reads)?;
+        insert_input(graph, switch.b, reads)?;
+    }
+    Ok(())
+}
+
+// Inserts a node where it is an input node.
+fn insert_input(graph: &Graph, node: usize, reads: &mut IndexSet<usize>) -> Result<(), AllocError>
+    requires { node < nodes graph.now }
+    ensures { OnOk result (reads.new.keys ≡ insert_all nat_eq reads.old.keys (inputs_of graph.now node)) }
+{
+    if graph.level(node) == INPUT_LEVEL {
+        reads.insert(node)?;
+    }
+    Ok(())
+}

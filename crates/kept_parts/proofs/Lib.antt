@@ -1,0 +1,3 @@
+pub mod PairLemmas
+pub mod GroupParts
+pub mod UseLemmas

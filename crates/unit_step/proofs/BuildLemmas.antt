@@ -1,0 +1,182 @@
+-- A machine that starts with the parts of a graph's groups fits the graph: all its parts are marked, so none of them has to rest.
+use Rattle.std.proofs.Common.{◌≡◌, ◌≢◌, ℕ, ◌<◌, true, false, inl, inr, List, [], ◌∷◌, ◌++◌, length, map, take, All, Some, None, Result, Ok, Err, IfOk, Vec, Global, refl, sym, ap, subst, ◌∙◌, append-nil, arith}
+use Rattle.std.specs.Prelude.{cond, Contains, slice_get, zip, count_by}
+use Rattle.std.specs.List.{AllZip}
+use Rattle.std.specs.declared.rc.Rc.{Rc}
+use Rattle.std.proofs.lemmas.Bool.{lt-ltb}
+use Rattle.std.proofs.lemmas.List.{map-append, get_or-replicate, take-append-le, take_all}
+use Rattle.std.proofs.lemmas.List.Elements.{All-nil, All-cons, All-head, All-tail, All-weaker, All-contains_itself}
+use Rattle.std.proofs.lemmas.List.Sums.{sum_by-cons}
+use Rattle.std.proofs.lemmas.Option.{slice_get_within, get_or_from_slice_get, slice_get_read}
+use Rattle.ternary.specs.declared.tern.Tern.{Tern}
+use Rattle.path_meaning.specs.Graphs.{GraphData, IsWired, nodes}
+use Rattle.path_meaning.specs.Rails.{IsRailed, IsSound}
+use Rattle.group_meaning.specs.Groups.{Group, IsGroup, AreGroups}
+use Rattle.group_meaning.proofs.UniqueGroups.{unique}
+use Rattle.group_text.specs.Texts.{GroupTextData, text_of_group}
+use Rattle.group_text.specs.FirstTexts.{first_texts, new_texts}
+use Rattle.group_text.proofs.LocalNodes.{members_begin}
+use Rattle.straight_code.specs.Code.{CodeData}
+use Rattle.straight_code.specs.declared.part.Part.{Part}
+use Rattle.circuit_texts.specs.Parts as made
+use Rattle.analysis_cache.specs.Keeping.{KeptData, KeepsAll, KeepsSome, texts_of}
+use Rattle.circuit_texts.specs.Building.{BuildsFresh, IsCutOff}
+use Rattle.circuit_texts.specs.Reading.{AreReads}
+use Rattle.circuit_texts.proofs.PairedLists.{partner_first, partner_second}
+use Rattle.circuit_texts.proofs.ReadLemmas.{read_inside}
+use Rattle.unit_step.specs.declared.part.HeldPart.{HeldPart}
+use Rattle.unit_step.specs.Parts.{Stands, AreApart, has_members}
+use Rattle.unit_step.specs.Making.{held, started}
+use Rattle.unit_step.specs.declared.planning.Plan.{Plan}
+use Rattle.unit_step.specs.Planning.{IsPlan}
+use Rattle.unit_step.specs.Fitting.{IsCoded, IsPartOf, HasPart, FitsGraph}
+
+-- the part with a code, of the group
+pub record IsFresh (g : GraphData) (group : Group) (part : HeldPart) : Type 0 where
+  pub is_part : IsPartOf g group part
+  pub coded : part.code ≢ None
+
+module _ (g : GraphData) where
+  -- the part that is made of a group's text, and reads what the group reads, is the group's
+  fresh_part : (group : Group) → IsGroup g group → (part : Part) (list : Vec ℕ Global) → made.IsPartOf g group part → AreReads g group list.items →
+      IsFresh g group (held (part, list))
+  fresh_part group is_group part list of reads = record {
+    is_part = record {
+      is_group = is_group;
+      count = of.members;
+      members = members_first;
+      coded = λ code has.
+          let same : part.code ≡ code = cc in
+          subst (λ (shared : Rc CodeData Global). IsCoded g group (held (part, list)) shared.value) same
+          (record { mapped = of.map; means = of.means; reads = reads.each });
+    };
+    coded = λ none. absurd (cc);
+  }
+    where
+      members_first : take part.members part.map.items ≡ group.members
+      members_first =
+          let (rest, begins) = members_begin g group is_group in
+          rw (of.members, of.map, begins) (take-append-le (length group.members) group.members rest (omega arith)
+          ∙ take_all (length group.members) group.members (omega arith))
+
+  -- so are the parts of all groups
+  pub fresh_parts : (groups : List Group) → All (IsGroup g) groups → (parts : List Part) (lists : List (Vec ℕ Global)) →
+      AllZip (made.IsPartOf g) groups parts → AllZip (λ group list. AreReads g group list.items) groups lists →
+      AllZip (IsFresh g) groups (map held (zip parts lists))
+  fresh_parts [] each [] [] of reads = tt
+  fresh_parts [] each [] (list ∷ lists) of reads = absurd reads
+  fresh_parts [] each (part ∷ parts) lists of reads = absurd of
+  fresh_parts (group ∷ groups) each [] lists of reads = absurd of
+  fresh_parts (group ∷ groups) each (part ∷ parts) [] of reads = absurd reads
+  fresh_parts (group ∷ groups) each (part ∷ parts) (list ∷ lists) of reads = (
+    fresh_part group (All-head (IsGroup g) group groups each) part list of.0 reads.0,
+    fresh_parts groups (All-tail (IsGroup g) group groups each) parts lists of.1 reads.1,
+  )
+
+  -- what the groups read is there
+  pub lists_inside : IsWired g → (groups : List Group) (lists : List (Vec ℕ Global)) → AllZip (λ group list. AreReads g group list.items) groups lists →
+      All (λ list. All (λ node. node < nodes g) list.items) lists
+  lists_inside wired [] [] reads = All-nil (λ (list : Vec ℕ Global). All (λ node. node < nodes g) list.items)
+  lists_inside wired [] (list ∷ lists) reads = absurd reads
+  lists_inside wired (group ∷ groups) [] reads = absurd reads
+  lists_inside wired (group ∷ groups) (list ∷ lists) reads =
+      let below : ℕ → Type 0 = λ node. node < nodes g in
+      All-cons (λ (one : Vec ℕ Global). All below one.items) list lists
+      (All-weaker (Contains list.items) below (λ node there. read_inside g group wired node ((reads.0.each node).0 there)) list.items
+      (All-contains_itself list.items))
+      (lists_inside wired groups lists reads.1)
+
+  -- each of the groups has a member, so each part has one
+  fresh_number : (groups : List Group) → All (IsGroup g) groups → (parts : List HeldPart) → AllZip (IsFresh g) groups parts →
+      count_by has_members parts ≡ length groups
+  fresh_number [] each [] fresh = refl
+  fresh_number [] each (part ∷ parts) fresh = absurd fresh
+  fresh_number (group ∷ groups) each [] fresh = absurd fresh
+  fresh_number (group ∷ groups) each (part ∷ parts) fresh =
+      let worth : HeldPart → ℕ = λ one. cond (has_members one) 1 0 in
+      let some = (All-head (IsGroup g) group groups each).some in
+      let here : worth part ≡ 1 = ap (λ b. cond b 1 0) (lt-ltb 0 part.members (omega (arith, some, fresh.0.is_part.count))) in
+      omega (arith, sum_by-cons worth part parts, here, fresh_number groups (All-tail (IsGroup g) group groups each) parts fresh.1)
+
+  module _ (groups : List Group) (parts : List HeldPart) (fresh : AllZip (IsFresh g) groups parts) where
+    -- each group has its part
+    has_part : (i : ℕ) (group : Group) → slice_get groups i ≡ Some group → HasPart g parts group
+    has_part i group stands =
+        let (part, there, is) = partner_second (IsFresh g) groups parts i group fresh stands in
+        record {
+          k = i;
+          part = part;
+          stands = record { inside = slice_get_within parts i part there; here = get_or_from_slice_get parts i part part there };
+          is_part = is.is_part;
+        }
+
+    -- and each part is that of a group, and has a code
+    part_fresh : (k : ℕ) (part : HeldPart) → Stands parts k part → (group : Group) × IsFresh g group part
+    part_fresh k part stands =
+        let there : slice_get parts k ≡ Some part = slice_get_read parts (length parts) k part refl stands.inside (sym stands.here) in
+        let (group, at, is) = partner_first (IsFresh g) groups parts k part fresh there in
+        (group, is)
+
+    -- so a machine that starts with them fits the graph
+    pub FitsGraph-started : AreGroups g groups → AreApart parts → (state : List Tern) → length state ≡ nodes g → IsRailed g → IsSound state →
+        (texts : ℕ) → texts ≡ length (first_texts (map (text_of_group g) groups)) → FitsGraph g (started (Some groups) parts state texts)
+    FitsGraph-started are apart state counted railed sound texts number = record {
+      covers = record {
+        groups = groups;
+        kept = refl;
+        are = are;
+        counted = counted;
+        each = has_part;
+        whole = λ k part stands some. let (group, is) = part_fresh k part stands in (group, is.is_part);
+        apart = apart;
+        number = fresh_number groups are.each parts fresh;
+        waits = λ k part stands some none. absurd ((part_fresh k part stands).1.coded none);
+        rests = λ k part stands unmarked. absurd (unmarked (get_or-replicate (length parts) k true false stands.inside));
+      };
+      coded = λ k part stands. (part_fresh k part stands).1.coded;
+      railed = railed;
+      sound = sound;
+      texts = λ others others_are. number ∙ ap (λ list. length (first_texts (map (text_of_group g) list))) (unique g groups others are others_are);
+    }
+
+-- what is made holds more, where what holds of it does
+pub if_ok : {T E : Type 0} (P Q : T → Type 0) → ((made : T) → P made → Q made) → (result : Result T E) → IfOk result P → IfOk result Q
+if_ok P Q more (Ok made) holds = more made holds
+if_ok P Q more (Err fault) holds = tt
+
+module _ (g : GraphData) (state : List Tern) (plan : Plan) (is_plan : IsPlan g state plan) (old new : KeptData) (before after : List GroupTextData) where
+  -- what a build has analysed: the new ones of the plan's texts
+  fresh_texts : BuildsFresh g (texts_of old) (new_texts (texts_of old) plan.texts.items)
+  fresh_texts = record {
+    texts = plan.texts.items;
+    has = record { groups = plan.groups.groups; are = is_plan.are; fit = is_plan.fit; texts_are = is_plan.texts };
+    fresh_are = refl;
+  }
+
+  -- where not all could be kept, the build was cut off
+  pub cut_off_some : KeepsSome old new before after plan.texts.items → IsCutOff g (texts_of old) (texts_of new) before after
+  cut_off_some keeps = inr (record {
+    fresh = new_texts (texts_of old) plan.texts.items;
+    more = texts_of keeps.more;
+    further = keeps.further;
+    rest = keeps.rest;
+    news = fresh_texts;
+    front = keeps.front;
+    kept = ap texts_of keeps.kept ∙ map-append _ old keeps.more;
+    analysed = keeps.analysed;
+    one = keeps.one;
+  })
+
+  -- and it may be cut off after all were kept
+  pub cut_off_all : (count : ℕ) → KeepsAll old new before after plan.texts.items count → IsCutOff g (texts_of old) (texts_of new) before after
+  cut_off_all count keeps = inr (record {
+    fresh = new_texts (texts_of old) plan.texts.items;
+    more = texts_of keeps.more;
+    further = [];
+    rest = [];
+    news = fresh_texts;
+    front = sym keeps.added ∙ sym (append-nil (texts_of keeps.more));
+    kept = ap texts_of keeps.kept ∙ map-append _ old keeps.more;
+    analysed = keeps.analysed ∙ ap (λ l. before ++ l) (sym keeps.added ∙ sym (append-nil (texts_of keeps.more)));
+    one = inl refl;
+  })
