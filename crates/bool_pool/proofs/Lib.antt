@@ -3,3 +3,5 @@ pub mod GateLemmas
 pub mod ReachLemmas
 pub mod MadeLemmas
 pub mod WithinLemmas
+pub mod CollectLemmas
+pub mod CopyLemmas

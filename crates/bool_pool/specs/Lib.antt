@@ -4,3 +4,5 @@ pub mod Reach
 pub mod Made
 pub mod Choice
 pub mod Pairs
+pub mod Compact
+pub mod Copying

@@ -17,13 +17,17 @@
 //! pool.value(alloc, both, &[true])?             is false: a variable past the end is false
 //! ```
 //!
+//! `compact` gives formulas a pool of their own, which has the gates that they reach and no other.
+//!
 //! For the proofs of crates above: `ValueLemmas` (gates that are added leave the values), `ReachLemmas`,
-//! `WithinLemmas` (how many gates formulas reach) and `MadeLemmas` (formulas that were just made).
+//! `WithinLemmas` (how many gates formulas reach), `MadeLemmas` (formulas that were just made) and
+//! `CollectLemmas` (each root reaches its own place).
 //!
 //! Formulas with shared parts are those of Bryant, "Boolean Analysis of MOS Circuits", 1987.
 #![tactic(auto)]
 
 mod choice;
+mod compact;
 mod gate;
 mod pool;
 

@@ -185,8 +185,13 @@ impl Pool {
         }
     }
 
+    // The keys from which the table's hashes start.
+    pub(crate) fn keys(&self) -> TableKeys {
+        *self.gates.hasher()
+    }
+
     // The formula of a gate: the gate is looked up, and put at the end where it is not there.
-    fn put(&mut self, gate: Gate) -> Result<Id, NoMemory>
+    pub(crate) fn put(&mut self, gate: Gate) -> Result<Id, NoMemory>
         requires { IsOver self.old gate }
         ensures extends { Extends self.old self.new }
         ensures one { length self.new ≤ length self.old + 1 }
