@@ -1,0 +1,5 @@
+pub mod SearchLemmas
+pub mod ReasonLemmas
+pub mod BlockingLemmas
+pub mod LineLemmas
+pub mod NearLemmas

@@ -1,0 +1,13 @@
+-- The walk so far isn't blocked, and what is left of it leads on.
+use Rattle.std.proofs.Common.{◌≡◌, ◌<◌, take, drop}
+use Rattle.path_meaning.specs.Graphs.{nodes}
+use Rattle.path_meaning.specs.Path.{Stand, Leads, at_root}
+use Rattle.path_meaning.specs.Walks.{stand_of}
+use Rattle.path_meaning.proofs.PathLemmas.{Goes}
+use Rattle.why_path.proofs.blocking.is_free.Given as goal
+
+abbrev pub invariant-loop-place : goal.invariant-loop-place
+invariant-loop-place l = record {
+  goes : Goes l.graph l.state (at_root l.graph l.walk.root) (take l.place-index l.place-items) (stand_of l.facts);
+  leads : (there : Stand) × Leads l.graph l.state (stand_of l.facts) (drop l.place-index l.place-items) there;
+}

@@ -1,0 +1,12 @@
+-- The roots so far are in.
+use Rattle.std.proofs.Common.{◌≡◌, ℕ, ◌<◌}
+use Rattle.path_meaning.specs.Spread.{rail_of}
+use Rattle.why_path.specs.Search.{IsSearch, IsRootIn, Keeps}
+use Rattle.why_path.proofs.search.add_roots.Given as goal
+
+abbrev pub invariant-loop-node : goal.invariant-loop-node
+invariant-loop-node l = record {
+  one : l.progress.one ≡ l.initial.progress.one;
+  sound : IsSearch (rail_of l.initial.progress.one) l.graph l.state l.best l.strength l.progress.found.items l.progress.seen.items;
+  roots : (node : ℕ) → node < l.node → IsRootIn (rail_of l.initial.progress.one) l.graph l.state l.best l.strength l.progress.found.items node;
+}

@@ -1,0 +1,4 @@
+pub mod Reasons
+pub mod Search
+pub mod Lines
+pub mod Near

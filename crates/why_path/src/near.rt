@@ -1,0 +1,127 @@
+//! Reasons found near a node, in its group alone.
+
+ghost use Rattle.std.specs.Prelude.{◌≡◌, ◌<◌, length, map, All, Contains, IfOk, slice_index};
+ghost use Rattle.strength_order.specs.declared.TheConstants.{INPUT_LEVEL};
+ghost use Rattle.path_meaning.specs.Switching.{state_at};
+ghost use Rattle.path_meaning.specs.Graphs.{nodes, level_of};
+ghost use Rattle.path_meaning.specs.Spread.{rail_of};
+ghost use Rattle.why_path.specs.Reasons.{Explains};
+ghost use Rattle.why_path.specs.Near.{IsNear};
+
+use crate::reasons::reason;
+use crate::search::has_rail;
+use group_text::{TextFault, text_of};
+use path_meaning::{Graph, Walk, graphs_are_wired};
+use std::alloc::{AllocError, Global};
+use strength_order::INPUT_LEVEL;
+use ternary::{NoMemory, Tern};
+
+/// A reason for a rail of a node, as [`reason`](crate::reason) gives it, found near the node alone.
+///
+/// The caller hands in what is near: the members of the node's group and the places of the group's
+/// switches. For an input node both may be empty. So what is read and the memory that is taken don't
+/// grow with the graph. Only where the group is too large to have a text is the whole graph searched.
+///
+/// After Bryant, Beatty, Brace, Cho and Sheffler, "COSMOS: A Compiled Simulator for MOS Circuits",
+/// 1987, where each group is analysed by itself.
+pub fn near_reason(
+    alloc: Global,
+    graph: &Graph,
+    state: &[Tern],
+    members: &[usize],
+    switches: &[usize],
+    node: usize,
+    one: bool,
+) -> Result<Option<Walk>, NoMemory>
+    requires state { length state.now ≡ nodes graph.now }
+    requires node { node < nodes graph.now }
+    requires near { IsNear graph.now members.now switches.now node }
+    ensures { IfOk result (λ found. Explains (rail_of one) graph.now state.now node found) }
+{
+    graphs_are_wired(graph);
+    if graph.level(node) == INPUT_LEVEL {
+        return Ok(input_reason(alloc, graph, state, node, one));
+    }
+    let (text, locals) = match text_of(alloc, graph, members, switches) {
+        Ok(made) => made,
+        Err(TextFault::NoMemory) => return Err(NoMemory),
+        Err(_) => return reason(alloc, graph, state, node, one),
+    };
+    let local_state = states_at(alloc, state, &locals)?;
+    let local = place_of(members, node);
+    match reason(alloc, text.graph(), &local_state, local, one)? {
+        Some(walk) => Ok(Some(whole_walk(alloc, &walk, &locals, switches)?)),
+        None => Ok(None),
+    }
+}
+
+// The reason for a rail of an input node: its own empty path, where its state has the rail.
+fn input_reason(
+    alloc: Global,
+    graph: &Graph,
+    state: &[Tern],
+    node: usize,
+    one: bool,
+) -> Option<Walk>
+    requires state { length state.now ≡ nodes graph.now }
+    requires node { node < nodes graph.now }
+    requires input { level_of graph.now node ≡ INPUT_LEVEL }
+    ensures { Explains (rail_of one) graph.now state.now node result }
+{
+    graphs_are_wired(graph);
+    if !has_rail(one, state[node]) {
+        return None;
+    }
+    Some(Walk {
+        root: node,
+        hops: Vec::new(alloc),
+    })
+}
+
+// The place of a node among these, where it is one of them.
+fn place_of(members: &[usize], node: usize) -> usize
+    requires { Contains members.now node }
+    ensures inside { result < length members.now }
+    ensures named { slice_index members.now result ≡ node }
+{
+    for place in 0..members.len() {
+        if members[place] == node {
+            return place;
+        }
+    }
+    unreachable!()
+}
+
+// The states of these nodes.
+fn states_at(alloc: Global, state: &[Tern], nodes: &[usize]) -> Result<Vec<Tern>, NoMemory>
+    requires { All (λ node. node < length state.now) nodes.now }
+    ensures { IfOk result (λ states. states.items ≡ map (state_at state.now) nodes.now) }
+{
+    let mut states = Vec::new(alloc);
+    for &node in nodes {
+        states.push(state[node]).map_err(AllocError::from)?;
+    }
+    Ok(states)
+}
+
+// The walk over the whole graph that a walk over a group's local graph stands for.
+fn whole_walk(
+    alloc: Global,
+    walk: &Walk,
+    locals: &[usize],
+    switches: &[usize],
+) -> Result<Walk, NoMemory>
+    requires root { walk.now.root < length locals.now }
+    requires hops { All (λ place. place < length switches.now) walk.now.hops.items }
+    ensures root { IfOk result (λ whole. whole.root ≡ slice_index locals.now walk.now.root) }
+    ensures hops { IfOk result (λ whole. whole.hops.items ≡ map (slice_index switches.now) walk.now.hops.items) }
+{
+    let mut hops = Vec::new(alloc);
+    for &place in &walk.hops {
+        hops.push(switches[place]).map_err(AllocError::from)?;
+    }
+    Ok(Walk {
+        root: locals[walk.root],
+        hops,
+    })
+}
