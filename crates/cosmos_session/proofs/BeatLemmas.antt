@@ -2,8 +2,8 @@
 -- The plan: a loop over the places of a cycle keeps what was done so far, the phases at the places before this one with their lines sent. At
 -- the end these are all phases. After a fault the phases that are left were not done, but what they would have come to exists, since
 -- every state settles: so what was sent is a part of the whole cycle's text.
-use Rattle.std.proofs.Common.{◌≡◌, ℕ, zero, suc, ◌+◌, ◌-◌, ◌*◌, ◌%◌, ◌<◌, ◌≤◌, Bool, true, List, [], ◌∷◌, ◌++◌, length, map, All, Option, Ok, Err, refl, sym, ap, subst, ◌∙◌, arith, append_assoc, append-nil}
-use Rattle.std.specs.Prelude.{Result, ◌==◌}
+use Rattle.std.proofs.Common.{◌≡◌, ℕ, zero, suc, ◌+◌, ◌-◌, ◌*◌, ◌%◌, ◌<◌, ◌≤◌, true, List, [], ◌∷◌, ◌++◌, length, map, All, Option, Ok, Err, refl, sym, ap, subst, ◌∙◌, arith, append_assoc, append-nil}
+use Rattle.std.specs.Prelude.{◌==◌}
 use Rattle.std.specs.List.{range_with_len, list_all}
 use Rattle.std.proofs.Math.Nat.{mul-add-mod_self_right, mod-eq_of_lt}
 use Rattle.std.proofs.lemmas.List.{map-append}
@@ -12,14 +12,13 @@ use Rattle.std.proofs.lemmas.Bool.{and_parts}
 use Rattle.std.proofs.lemmas.Bool.Decides.{nat_tests}
 use Rattle.std.specs.Io.KnownBytes.{append_known}
 use Rattle.port_edge.specs.Sending.{WritesPart}
-use Rattle.port_edge.proofs.SendingLemmas.{append_known-append, sends_part}
+use Rattle.port_edge.proofs.SendingLemmas.{append_known-nil, append_known-append, sends_part}
 use Rattle.ternary.specs.declared.tern.Tern.{Tern}
-use Rattle.oscillation_x.specs.Settling.{Settles}
 use Rattle.cosmos_session.specs.declared.fault.ApplyFault.{ApplyFault}
 use Rattle.cosmos_session.specs.Sessions.{SessionData, ClockData, IsReady, places_of, have_places}
 use Rattle.cosmos_session.specs.Lines.{Line, text_of}
-use Rattle.cosmos_session.specs.Effects.{IsPhase, AreBeats, with_beat, states_with, moved_to, wave_by, places_in}
-use Rattle.cosmos_session.specs.Outcomes.{Sent, FrontDone, BeatsBegun, TakesBeats, IsPhaseSent}
+use Rattle.cosmos_session.specs.Effects.{IsPhase, AreBeats, with_beat, places_in}
+use Rattle.cosmos_session.specs.Outcomes.{FrontDone, BeatsBegun, TakesBeats, IsPhaseSent}
 use Rattle.cosmos_session.proofs.LineLemmas.{text_of-append}
 use Rattle.cosmos_session.proofs.EffectLemmas.{beats-ready, beats_exist}
 
@@ -38,7 +37,7 @@ beats-append (place ∷ first) second session mid new lines more (next, front, b
     (next, front, back ++ more, phase, beats-append first second next mid new back more beats others, rw whole (append_assoc front back more))
 
 -- a phase at one place
-one_beat : (session new : SessionData) (place : ℕ) (lines : List Line) → IsPhase (with_beat session place) new lines →
+pub one_beat : (session new : SessionData) (place : ℕ) (lines : List Line) → IsPhase (with_beat session place) new lines →
     AreBeats session (place ∷ []) new lines
 one_beat session new place lines phase = (new, lines, [], phase, (refl, refl), sym (append-nil lines))
 
@@ -58,6 +57,16 @@ beats_joined start now next done more before mid after lines so_far beats grew =
   grew = grew ∙ ap (λ known. append_known known (text_of lines)) so_far.grew ∙ append_known-append before (text_of so_far.lines) (text_of lines)
       ∙ ap (append_known before) (sym (text_of-append so_far.lines lines));
 }
+
+-- no cycle has no places
+pub no_cycle : (count : ℕ) → places_in count 0 ≡ []
+no_cycle count = let none : 0 * count ≡ 0 = omega arith in ap (λ (n : ℕ). map (λ i. i % count) (range_with_len 0 n)) none
+
+-- at the start nothing is done
+pub beats_done-none : (session : SessionData) (count : ℕ) (before : Option (List ℕ)) → BeatsDone session session (places_in count 0) before before
+beats_done-none session count before =
+    subst (λ (places : List ℕ). BeatsDone session session places before before) (sym (no_cycle count))
+    (record { lines = []; beats = (refl, refl); grew = sym (append_known-nil before) })
 
 -- one more phase was done
 pub beat_done : (start now next : SessionData) (state : List Tern) (done : List ℕ) (place : ℕ) (before mid after : Option (List ℕ)) →
@@ -196,13 +205,6 @@ cycle_stopped start now next cycle times before mid after cause ready inside so_
     ready others.split so_far (subst (λ n. AreBeats now (range_with_len 0 n) begun.end begun.lines) same begun.beats) begun.written
     (subst (λ n. FrontDone (range_with_len 0 n) now next) same begun.done)
 
--- the clocks' states at a place are put where the states of the nodes are
-pub beat_put : (session : SessionData) (place : ℕ) (clocks : List ClockData) (state next : List Tern) → clocks ≡ session.clocks → state ≡ session.state →
-    next ≡ states_with clocks place state → record session { state = next } ≡ with_beat session place
-beat_put session place clocks state next same_clocks same_state put =
-    ap (λ (other : List Tern). record session { state = other })
-    (put ∙ ap (λ others. states_with others place state) same_clocks ∙ ap (λ other. states_with session.clocks place other) same_state)
-
 -- a place of a cycle is within each clock's states
 pub places_within : (clocks : List ClockData) (count place : ℕ) → have_places count clocks ≡ true → place < count →
     All (λ clock. place < length clock.states) clocks
@@ -210,13 +212,3 @@ places_within [] count place even inside = All-nil (λ (clock : ClockData). plac
 places_within (clock ∷ clocks) count place even inside =
     let both = and_parts (length clock.states == count) (list_all (λ (other : ClockData). length other.states == count) clocks) even in
     All-cons (λ (other : ClockData). place < length other.states) clock clocks (grind (arith, nat_tests, both.0)) (places_within clocks count place both.1 inside)
-
--- a state that settled, with its line sent, is a phase
-pub phase_sent : (session new : SessionData) (from next : List Tern) (steps : ℕ) (joined : Bool) (before after : Option (List ℕ))
-    (result : Result (Unit {0}) ApplyFault) → Settles session.circuit.graph from session.limit next steps joined → new ≡ moved_to session next →
-    Sent before after (wave_by new steps joined ∷ []) result → IsPhaseSent (record session { state = from }) new before after result
-phase_sent session new from next steps joined before after result settles moved sent = record {
-  lines = wave_by new steps joined ∷ [];
-  phase = record { next = next; steps = steps; joined = joined; settles = settles; moved = moved; wrote = refl };
-  sent = sent;
-}

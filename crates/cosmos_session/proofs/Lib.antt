@@ -1,8 +1,15 @@
 pub mod RefusalLemmas
 pub mod LineLemmas
+pub mod SizeLemmas
 pub mod OutcomeLemmas
 pub mod StateLemmas
+pub mod EditLemmas
 pub mod EffectLemmas
 pub mod BeatLemmas
 pub mod ClockLemmas
-pub mod StoreLemmas
+pub mod RestLemmas
+pub mod GrownLemmas
+pub mod MachineLemmas
+pub mod BuildLemmas
+pub mod MoveLemmas
+pub mod ReportLemmas

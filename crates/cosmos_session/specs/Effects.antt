@@ -1,7 +1,7 @@
 -- The effect of each command that isn't refused: the new data, and the lines that are written.
 -- A unit step gives every node its steady state by unblocked paths, all at once; a phase settles by such steps.
 -- After Bryant, "A Switch-Level Model and Simulator for MOS Digital Systems", 1984; the commands are this project's own.
-use Rattle.std.specs.Prelude.{◌≡◌, ℕ, Bool, true, false, ◌||◌, ◌+◌, ◌*◌, ◌-◌, ◌%◌, ◌^◌, min, List, [], ◌∷◌, ◌++◌, map, filter_map, slice_set, Option, Some, None, if◌then◌else◌}
+use Rattle.std.specs.Prelude.{◌≡◌, ℕ, Bool, true, false, ◌||◌, ◌+◌, ◌*◌, ◌-◌, ◌%◌, ◌^◌, min, List, [], ◌∷◌, ◌++◌, length, replicate, map, filter_map, slice_set, Option, Some, None, if◌then◌else◌}
 use Rattle.std.specs.List.{range_with_len}
 use Rattle.ternary.specs.declared.tern.Tern.{Tern}
 use Rattle.ternary.specs.declared.tern.Tern.TheVariants.{Zero, One, Unk}
@@ -9,11 +9,16 @@ use Rattle.path_meaning.specs.Switching.{state_at}
 use Rattle.path_meaning.specs.Step.{IsStep}
 use Rattle.oscillation_x.specs.Settling.{Settles}
 use Rattle.netlist.specs.Circuits.{CircuitData}
-use Rattle.netlist.specs.Edits.{node_named, with_input, with_store}
+use Rattle.netlist.specs.Edits.{node_named, with_input, with_store, with_transistor, without_switch, with_strength, with_kind, with_wires}
+use Rattle.path_meaning.specs.Graphs.{nodes}
+use Rattle.group_text.specs.FirstTexts.{first_texts}
+use Rattle.group_text.specs.Texts.{GroupTextData}
+use Rattle.circuit_texts.specs.Building.{HasTexts}
 use Rattle.script_lang.specs.declared.command.Command.{Command}
-use Rattle.script_lang.specs.declared.command.Command.TheVariants.{Input, Store, Set, Charge, Watch, Limit, Step, Phase, Clock, Cycle, Expect}
+use Rattle.script_lang.specs.declared.command.Command.TheVariants.{Input, Store, Set, Charge, Watch, Limit, Step, Phase, Clock, Cycle, Expect, Add, Del, Strength, Kind, Wire, Report}
 use Rattle.cosmos_session.specs.Sessions.{SessionData, ClockData, places_of}
-use Rattle.cosmos_session.specs.Lines.{Line, Wave, Unmet}
+use Rattle.cosmos_session.specs.Refusals.{strength_for}
+use Rattle.cosmos_session.specs.Lines.{Line, Wave, Unmet, Reported}
 
 -- the circuit with the named nodes as input nodes
 abbrev pub with_inputs : CircuitData → List (List ℕ) → CircuitData
@@ -106,6 +111,17 @@ abbrev pub has_lines : List Line → Bool
 has_lines [] = false
 has_lines (line ∷ lines) = true
 
+-- the data with this circuit in place of theirs: each node that is new is X
+abbrev pub with_circuit : SessionData → CircuitData → SessionData
+with_circuit old c = record old { circuit = c; state = old.state ++ replicate (nodes c.graph - length old.state) Unk }
+
+-- a report: how many groups there are, how many distinct texts they have, and how many texts were analysed since the last report
+pub record IsReported (old new : SessionData) (lines : List Line) : Type 0 where
+  pub texts : List GroupTextData
+  pub has : HasTexts old.circuit.graph texts
+  pub moved : new ≡ record old { fresh = 0 }
+  pub wrote : lines ≡ Reported (length texts) (length (first_texts texts)) old.fresh ∷ []
+
 -- the effect of a command: from the data before it, the data after it and its lines
 abbrev pub Effect : SessionData → Command → SessionData → List Line → Type 0
 Effect old (Input names) new lines = (new ≡ record old { circuit = with_inputs old.circuit names }) × (lines ≡ [])
@@ -122,3 +138,12 @@ Effect old (Clock list) new lines = (new ≡ record old { clocks = map (clock_of
 Effect old (Cycle times) new lines = AreBeats old (places_in (places_of old.clocks) times) new lines
 Effect old (Expect list) new lines =
     (new ≡ record old { missed = old.missed || has_lines (unmet_lines old list) }) × (lines ≡ unmet_lines old list)
+Effect old (Add kind gate source drain strength) new lines =
+    (new ≡ with_circuit old (with_transistor old.circuit kind (strength_for kind strength) gate source drain)) × (lines ≡ [])
+Effect old (Del number) new lines = (new ≡ record old { circuit = without_switch old.circuit number }) × (lines ≡ [])
+Effect old (Strength number strength) new lines =
+    (new ≡ record old { circuit = with_strength old.circuit number strength }) × (lines ≡ [])
+Effect old (Kind number kind) new lines = (new ≡ record old { circuit = with_kind old.circuit number kind }) × (lines ≡ [])
+Effect old (Wire number gate source drain) new lines =
+    (new ≡ with_circuit old (with_wires old.circuit number gate source drain)) × (lines ≡ [])
+Effect old Report new lines = IsReported old new lines

@@ -1,6 +1,9 @@
 pub mod Sessions
 pub mod Refusals
+pub mod Preparing
 pub mod Lines
 pub mod Effects
 pub mod Sinks
+pub mod Machines
 pub mod Outcomes
+pub mod Stages

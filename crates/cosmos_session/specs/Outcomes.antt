@@ -1,5 +1,5 @@
 -- What a call of a command comes to: to the data, to the bytes written, and to the count of the sink's refused memory.
-use Rattle.std.specs.Prelude.{◌≡◌, ℕ, ◌⊎◌, List, [], ◌++◌, Option, None, Some, Result, Ok, Err}
+use Rattle.std.specs.Prelude.{◌≡◌, ℕ, ◌⊎◌, true, List, [], ◌++◌, Option, None, Some, Result, Ok, Err}
 use Rattle.std.specs.Io.KnownBytes.{append_known}
 use Rattle.ternary.specs.Counts.{raised}
 use Rattle.port_edge.specs.Sending.{WritesPart}
@@ -7,8 +7,14 @@ use Rattle.script_lang.specs.declared.command.Command.{Command}
 use Rattle.script_lang.specs.declared.command.Command.TheVariants.{Cycle}
 use Rattle.cosmos_session.specs.declared.fault.Refusal.{Refusal}
 use Rattle.cosmos_session.specs.declared.fault.ApplyFault.{ApplyFault}
-use Rattle.cosmos_session.specs.declared.fault.ApplyFault.TheVariants.{Refused, WriteFault, NoMemory}
-use Rattle.cosmos_session.specs.Sessions.{SessionData, places_of}
+use Rattle.cosmos_session.specs.declared.fault.ApplyFault.TheVariants.{Refused, GroupNodes, GroupSwitches, WriteFault, NoMemory}
+use Rattle.group_text.specs.Texts.{GroupTextData}
+use Rattle.circuit_texts.specs.declared.texts.BuildFault.{BuildFault}
+use Rattle.circuit_texts.specs.declared.texts.BuildFault.TheVariants as build
+use Rattle.circuit_texts.specs.Sizes.{TellsTooLarge}
+use Rattle.circuit_texts.specs.Building.{IsCutOff}
+use Rattle.cosmos_session.specs.Preparing.{Prepares, builds}
+use Rattle.cosmos_session.specs.Sessions.{SessionData, HeldSession, places_of}
 use Rattle.cosmos_session.specs.Refusals.{refusal_of}
 use Rattle.cosmos_session.specs.Lines.{Line, text_of}
 use Rattle.cosmos_session.specs.Effects.{Effect, IsPhase, AreBeats, places_in}
@@ -20,21 +26,47 @@ pub record Does (old : SessionData) (command : Command) (new : SessionData) (tex
   pub effect : Effect old command new lines
   pub text_is : text ≡ text_of lines
 
--- the command has its effect, and the sink grew by its lines
-pub record Accepts (old : SessionData) (command : Command) (new : SessionData) (before after : Option (List ℕ)) : Type 0 where
-  pub text : List ℕ
-  pub does : Does old command new text
-  pub grew : after ≡ append_known before text
+-- the circuit is built where the command builds, for which these texts are analysed; and then the command does this
+pub record Performs (old : SessionData) (command : Command) (new : SessionData) (text : List ℕ) (texts : List GroupTextData) : Type 0 where
+  pub mid : SessionData
+  pub prepares : Prepares old command mid texts
+  pub does : Does mid command new text
 
--- all is as before
-pub record Keeps (old new : SessionData) (before after : Option (List ℕ)) : Type 0 where
+-- the command has its effect, the sink grew by its lines, and the analyst's list by the texts that it analysed for it
+pub record Accepts (old : HeldSession) (command : Command) (new : HeldSession) (before after : Option (List ℕ)) (asked told : List GroupTextData) : Type 0 where
+  pub text : List ℕ
+  pub texts : List GroupTextData
+  pub performs : Performs old.core command new.core text texts
+  pub grew : after ≡ append_known before text
+  pub analysed : told ≡ asked ++ texts
+
+-- all is as before, and nothing was analysed
+pub record Keeps (old new : HeldSession) (before after : Option (List ℕ)) (asked told : List GroupTextData) : Type 0 where
   pub same : new ≡ old
   pub unwritten : after ≡ before
+  pub unasked : told ≡ asked
 
 -- the command is refused so, and all is as before
-pub record Refuses (old : SessionData) (command : Command) (new : SessionData) (before after : Option (List ℕ)) (refusal : Refusal) : Type 0 where
-  pub cause : refusal_of old command ≡ Some refusal
-  pub keeps : Keeps old new before after
+pub record Refuses (old : HeldSession) (command : Command) (new : HeldSession) (before after : Option (List ℕ)) (asked told : List GroupTextData)
+    (refusal : Refusal) : Type 0 where
+  pub cause : refusal_of old.core command ≡ Some refusal
+  pub keeps : Keeps old new before after asked told
+
+-- the command has no refusal by the data, but the circuit can't be built for it: the first group that is too large is told, and all is as
+-- before
+pub record RefusesSize (old : HeldSession) (command : Command) (new : HeldSession) (before after : Option (List ℕ)) (asked told : List GroupTextData)
+    (fault : BuildFault) : Type 0 where
+  pub allowed : refusal_of old.core command ≡ None
+  pub building : builds command ≡ true
+  pub first : TellsTooLarge old.core.circuit.graph fault
+  pub keeps : Keeps old new before after asked told
+
+-- all is as before, but that a front of the texts that a build analyses may be kept
+pub record Stays (old new : HeldSession) (before after : Option (List ℕ)) (asked told : List GroupTextData) : Type 0 where
+  pub core : new.core ≡ record old.core { kept = new.core.kept }
+  pub machine : new.machine ≡ old.machine
+  pub cut_off : IsCutOff old.core.circuit.graph old.core.kept new.core.kept asked told
+  pub unwritten : after ≡ before
 
 -- the phases at a front of these places were done, and none of those after it
 pub record FrontDone (places : List ℕ) (old new : SessionData) : Type 0 where
@@ -50,28 +82,39 @@ DoesPart old (Cycle times) new = FrontDone (places_in (places_of old.clocks) tim
 DoesPart old command new = (lines : List Line) × Effect old command new lines
 
 -- the command isn't refused; of the lines of its effect a part was written, from the start, and a whole part of it was done
-pub record Begins (old : SessionData) (command : Command) (new : SessionData) (before after : Option (List ℕ)) : Type 0 where
+pub record Begins (old : HeldSession) (command : Command) (new : HeldSession) (before after : Option (List ℕ)) (asked told : List GroupTextData) : Type 0 where
   pub end : SessionData
   pub text : List ℕ
-  pub does : Does old command end text
+  pub texts : List GroupTextData
+  pub performs : Performs old.core command end text texts
   pub written : WritesPart before after text
-  pub done : DoesPart old command new
+  pub done : DoesPart performs.mid command new.core
+  pub analysed : told ≡ asked ++ texts
 
 -- inside the session: what a command that writes nothing comes to
-abbrev pub Quietly : SessionData → Command → SessionData → Result (Unit {0}) ApplyFault → Type 0
-Quietly old command new (Ok _) = Does old command new []
-Quietly old command new (Err (Refused refusal)) = (refusal_of old command ≡ Some refusal) × (new ≡ old)
+abbrev pub Quietly : HeldSession → Command → HeldSession → Result (Unit {0}) ApplyFault → Type 0
+Quietly old command new (Ok _) = Does old.core command new.core []
+Quietly old command new (Err (Refused refusal)) = (refusal_of old.core command ≡ Some refusal) × (new ≡ old)
+Quietly old command new (Err (GroupNodes node count)) = ⊥
+Quietly old command new (Err (GroupSwitches node count)) = ⊥
 Quietly old command new (Err NoMemory) = new ≡ old
 Quietly old command new (Err WriteFault) = ⊥
 
--- what any command comes to, and how often the sink lacked memory by then: where the command itself wants memory, all is as before
-abbrev pub Obeys : SessionData → Command → SessionData → Option (List ℕ) → Option (List ℕ) → ℕ → ℕ → Result (Unit {0}) ApplyFault → Type 0
-Obeys old command new before after refusals now (Ok _) = Accepts old command new before after × (now ≡ refusals)
-Obeys old command new before after refusals now (Err (Refused refusal)) =
-    Refuses old command new before after refusal × (now ≡ refusals)
-Obeys old command new before after refusals now (Err WriteFault) = Begins old command new before after × (now ≡ refusals)
-Obeys old command new before after refusals now (Err NoMemory) =
-    (Keeps old new before after × (now ≡ refusals)) ⊎ (Begins old command new before after × (now ≡ raised refusals 1))
+-- what any command comes to, and how often the sink lacked memory by then: where the command itself wants memory, all is as before but
+-- for what is kept
+abbrev pub Obeys : HeldSession → Command → HeldSession → Option (List ℕ) → Option (List ℕ) → List GroupTextData → List GroupTextData → ℕ → ℕ →
+    Result (Unit {0}) ApplyFault → Type 0
+Obeys old command new before after asked told refusals now (Ok _) = Accepts old command new before after asked told × (now ≡ refusals)
+Obeys old command new before after asked told refusals now (Err (Refused refusal)) =
+    Refuses old command new before after asked told refusal × (now ≡ refusals)
+Obeys old command new before after asked told refusals now (Err (GroupNodes node count)) =
+    RefusesSize old command new before after asked told (build.GroupNodes node count) × (now ≡ refusals)
+Obeys old command new before after asked told refusals now (Err (GroupSwitches node count)) =
+    RefusesSize old command new before after asked told (build.GroupSwitches node count) × (now ≡ refusals)
+Obeys old command new before after asked told refusals now (Err WriteFault) =
+    Begins old command new before after asked told × (now ≡ refusals)
+Obeys old command new before after asked told refusals now (Err NoMemory) =
+    (Stays old new before after asked told × (now ≡ refusals)) ⊎ (Begins old command new before after asked told × (now ≡ raised refusals 1))
 
 -- the lines of a step or a phase just done were sent, or a part of them from the start
 abbrev pub Sent : Option (List ℕ) → Option (List ℕ) → List Line → Result (Unit {0}) ApplyFault → Type 0

@@ -1,17 +1,21 @@
 -- When a command is refused: the first of these causes, in the order in which they stand for its command.
-use Rattle.std.specs.Prelude.{ℕ, Bool, ◌+◌, ◌==◌, List, [], ◌∷◌, length, nat_lt, Option, Some, None, if◌then◌else◌}
+use Rattle.std.specs.Prelude.{ℕ, Bool, ◌+◌, ◌==◌, List, [], ◌∷◌, length, nat_lt, unwrap_or, Option, Some, None, if◌then◌else◌}
 use Rattle.strength_order.specs.declared.TheConstants.{INPUT_LEVEL}
 use Rattle.ternary.specs.declared.tern.Tern.{Tern}
 use Rattle.path_meaning.specs.Graphs.{level_of}
 use Rattle.path_meaning.specs.declared.TheConstants.{RAILS}
 use Rattle.netlist.specs.Names.{node_of}
 use Rattle.netlist.specs.Circuits.{CircuitData}
-use Rattle.netlist.specs.Edits.{is_size}
+use Rattle.path_meaning.specs.declared.switching.SwitchKind.{SwitchKind}
+use Rattle.netlist.specs.Edits.{is_size, usual_strength, add_fault, number_fault, strength_fault, wire_fault}
+use Rattle.netlist.specs.Faults.{MakingFault}
+use Rattle.netlist.specs.declared.fault.EditFault.{EditFault}
+use Rattle.netlist.specs.declared.fault.EditFault.TheVariants as edit
 use Rattle.script_lang.specs.declared.command.Command.{Command}
-use Rattle.script_lang.specs.declared.command.Command.TheVariants.{Input, Store, Set, Charge, Watch, Limit, Step, Phase, Clock, Cycle, Expect}
+use Rattle.script_lang.specs.declared.command.Command.TheVariants.{Input, Store, Set, Charge, Watch, Limit, Step, Phase, Clock, Cycle, Expect, Add, Del, Strength, Kind, Wire, Report}
 use Rattle.cosmos_session.specs.declared.TheConstants.{MOST_WATCHED}
 use Rattle.cosmos_session.specs.declared.fault.Refusal.{Refusal}
-use Rattle.cosmos_session.specs.declared.fault.Refusal.TheVariants.{UnknownNode, Rail, BadSize, NotInput, NotStore, ClockLength, NoClock, TooManyWatched}
+use Rattle.cosmos_session.specs.declared.fault.Refusal.TheVariants.{UnknownNode, NoSuchSwitch, Rail, BadStrength, BadSize, TooManyNodes, TooManySwitches, NotInput, NotStore, ClockLength, NoClock, TooManyWatched}
 use Rattle.cosmos_session.specs.Sessions.{SessionData, ClockData}
 
 -- one refusal, or else another
@@ -75,6 +79,30 @@ abbrev pub cycle_refusal : CircuitData → List ClockData → Option Refusal
 cycle_refusal c [] = Some NoClock
 cycle_refusal c (clock ∷ clocks) = first_refusal (clock_refusal c) (clock ∷ clocks)
 
+-- the strength that a transistor is added with: the one that is given, else that of its kind
+abbrev pub strength_for : SwitchKind → Option ℕ → ℕ
+strength_for kind strength = unwrap_or strength (usual_strength kind)
+
+-- the refusal of an edit that makes names or a transistor; such an edit gives no node a second name
+abbrev pub making_refusal : Option MakingFault → Option Refusal
+making_refusal None = None
+making_refusal (Some MakingFault.BadStrength) = Some BadStrength
+making_refusal (Some MakingFault.AliasTaken) = None
+making_refusal (Some MakingFault.TooManyNodes) = Some TooManyNodes
+making_refusal (Some MakingFault.TooManySwitches) = Some TooManySwitches
+
+-- the refusal of an edit of a transistor that is there; such an edit gives no node a second name, and its want of memory is no refusal
+abbrev pub edit_refusal : Option EditFault → Option Refusal
+edit_refusal None = None
+edit_refusal (Some edit.NoSuchSwitch) = Some NoSuchSwitch
+edit_refusal (Some edit.Rail) = Some Rail
+edit_refusal (Some edit.BadStrength) = Some BadStrength
+edit_refusal (Some edit.BadSize) = Some BadSize
+edit_refusal (Some edit.AliasTaken) = None
+edit_refusal (Some edit.TooManyNodes) = Some TooManyNodes
+edit_refusal (Some edit.TooManySwitches) = Some TooManySwitches
+edit_refusal (Some edit.NoMemory) = None
+
 -- the refusal of a command, by the data before it
 abbrev pub refusal_of : SessionData → Command → Option Refusal
 refusal_of session (Input names) =
@@ -97,3 +125,10 @@ refusal_of session (Clock list) =
 refusal_of session (Cycle number) = cycle_refusal session.circuit session.clocks
 refusal_of session (Expect list) =
     first_refusal (λ item. known_refusal (node_of session.circuit.names item.0)) list
+refusal_of session (Add kind gate source drain strength) =
+    making_refusal (add_fault session.circuit (strength_for kind strength) gate source drain)
+refusal_of session (Del number) = edit_refusal (number_fault session.circuit number)
+refusal_of session (Strength number strength) = edit_refusal (strength_fault session.circuit number strength)
+refusal_of session (Kind number kind) = edit_refusal (number_fault session.circuit number)
+refusal_of session (Wire number gate source drain) = edit_refusal (wire_fault session.circuit number gate source drain)
+refusal_of session Report = None

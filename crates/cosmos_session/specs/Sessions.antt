@@ -1,11 +1,13 @@
 -- The data of a session: what commands read and change.
-use Rattle.std.specs.Prelude.{◌≡◌, ◌≢◌, ℕ, Bool, true, false, ◌-◌, ◌<◌, ◌≤◌, ◌==◌, List, [], ◌∷◌, length, replicate, All}
+use Rattle.std.specs.Prelude.{◌≡◌, ◌≢◌, ℕ, Bool, true, false, ◌-◌, ◌<◌, ◌≤◌, ◌==◌, List, [], ◌∷◌, length, replicate, All, Option}
 use Rattle.std.specs.List.{list_all}
 use Rattle.ternary.specs.declared.tern.Tern.{Tern}
 use Rattle.ternary.specs.declared.tern.Tern.TheVariants.{Zero, One, Unk}
 use Rattle.path_meaning.specs.Graphs.{nodes}
 use Rattle.path_meaning.specs.Rails.{IsSound}
 use Rattle.path_meaning.specs.declared.TheConstants.{RAILS}
+use Rattle.group_text.specs.Texts.{GroupTextData}
+use Rattle.unit_step.specs.Machines.{MachineData}
 use Rattle.netlist.specs.Circuits.{CircuitData, IsCircuit}
 use Rattle.script_lang.specs.declared.TheConstants.{MOST_TIMES}
 use Rattle.cosmos_session.specs.declared.TheConstants.{MOST_WATCHED, FIRST_LIMIT}
@@ -16,7 +18,7 @@ pub record ClockData : Type 0 where
   pub states : List Tern
 
 -- the circuit, the state of its nodes, the nodes that are watched, the clocks, the limit of a phase, how many waveform lines there
--- were, and whether some `expect` was not met
+-- were, whether some `expect` was not met, the texts of groups whose analyses are kept, and how many were analysed since the last report
 pub record SessionData : Type 0 where
   pub circuit : CircuitData
   pub state : List Tern
@@ -25,8 +27,15 @@ pub record SessionData : Type 0 where
   pub limit : ℕ
   pub count : ℕ
   pub missed : Bool
+  pub kept : List GroupTextData
+  pub fresh : ℕ
 
--- at the start Gnd is 0, Vdd is 1 and every other node X; nothing is watched, there are no clocks, and nothing was missed
+-- a session: its data, and the machine that moves its state, where there is one
+pub record HeldSession : Type 0 where
+  pub core : SessionData
+  pub machine : Option MachineData
+
+-- at the start Gnd is 0, Vdd is 1 and every other node X; nothing is watched, there are no clocks, nothing was missed, and nothing is kept
 abbrev pub start_of : CircuitData → SessionData
 start_of circuit = record {
   circuit = circuit;
@@ -36,6 +45,8 @@ start_of circuit = record {
   limit = FIRST_LIMIT;
   count = 0;
   missed = false;
+  kept = [];
+  fresh = 0;
 }
 
 -- how many places a cycle of these clocks has

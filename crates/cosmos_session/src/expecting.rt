@@ -1,6 +1,7 @@
 //! Expectations, and the lines of those that aren't met.
 
-ghost use Rattle.std.specs.Prelude.{◌≡◌, ◌++◌, [], ◌∷◌, is_some, true, All, IfOk};
+ghost use Rattle.std.specs.Prelude.{◌≡◌, ◌++◌, List, [], ◌∷◌, is_some, true, All, IfOk};
+ghost use Rattle.group_text.specs.Texts.{GroupTextData};
 ghost use Rattle.netlist.specs.Names.{node_of};
 ghost use Rattle.script_lang.specs.declared.command.Command.TheVariants as asked;
 ghost use Rattle.cosmos_session.specs.Effects as effect;
@@ -24,9 +25,10 @@ impl Session {
         list: &AssignList,
         out: &mut S,
     ) -> Result<(), ApplyFault>
-        ensures obeys { Obeys self.old (asked.Expect list.now) self.new (S.written out.old) (S.written out.new)
-            (S.refusals out.old) (S.refusals out.new) result }
+        ensures obeys { (texts : List GroupTextData) → Obeys self.old (asked.Expect list.now) self.new (S.written out.old) (S.written out.new)
+            texts texts (S.refusals out.old) (S.refusals out.new) result }
         ensures faults { S.faults out.new ≡ faults_applied (S.faults out.old) result }
+        ensures machine { self.new.machine ≡ self.old.machine }
     {
         if let Some(refusal) = refusals::expect_refusal(&self.circuit, list.items()) {
             return Err(ApplyFault::Refused(refusal));
@@ -39,9 +41,9 @@ impl Session {
 
     // Puts the line of each assignment that isn't met; true where there is one. The names are in use.
     fn put_unmet(&self, list: &[(Name, Tern)], lines: &mut LineBuf) -> Result<bool, NoMemory>
-        requires { All (λ item. is_some (node_of self.now.circuit.names item.0) ≡ true) list.now }
-        ensures bytes { IfOk result (λ _. lines.new.bytes ≡ lines.old.bytes ++ text_of (effect.unmet_lines self.now list.now)) }
-        ensures any { IfOk result (λ any. any ≡ effect.has_lines (effect.unmet_lines self.now list.now)) }
+        requires { All (λ item. is_some (node_of self.now.core.circuit.names item.0) ≡ true) list.now }
+        ensures bytes { IfOk result (λ _. lines.new.bytes ≡ lines.old.bytes ++ text_of (effect.unmet_lines self.now.core list.now)) }
+        ensures any { IfOk result (λ any. any ≡ effect.has_lines (effect.unmet_lines self.now.core list.now)) }
     {
         let mut any = false;
         for (name, want) in list {
@@ -52,11 +54,11 @@ impl Session {
 
     // Puts the line of an assignment that isn't met; true where it isn't. The name is in use.
     fn put_if_unmet(&self, name: &[u8], want: Tern, lines: &mut LineBuf) -> Result<bool, NoMemory>
-        requires { is_some (node_of self.now.circuit.names name.now) ≡ true }
-        ensures bytes { IfOk result (λ _. lines.new.bytes ≡ lines.old.bytes ++ text_of (effect.unmet_lines self.now ((name.now, want) ∷ []))) }
-        ensures any { IfOk result (λ any. any ≡ effect.has_lines (effect.unmet_lines self.now ((name.now, want) ∷ []))) }
+        requires { is_some (node_of self.now.core.circuit.names name.now) ≡ true }
+        ensures bytes { IfOk result (λ _. lines.new.bytes ≡ lines.old.bytes ++ text_of (effect.unmet_lines self.now.core ((name.now, want) ∷ []))) }
+        ensures any { IfOk result (λ any. any ≡ effect.has_lines (effect.unmet_lines self.now.core ((name.now, want) ∷ []))) }
     {
-        let got = self.state[self.circuit.find(name).unwrap()];
+        let got = self.stage.state()[self.circuit.find(name).unwrap()];
         if got == want {
             return Ok(false);
         }

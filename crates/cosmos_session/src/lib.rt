@@ -2,26 +2,38 @@
 //! do to them.
 //!
 //! The main type is `Session`, and the main call is `Session::apply`. The layer above uses its
-//! contract: an accepted command has its effect, `Effect` in `specs/`, and the sink grew by its
-//! lines; a refused one has the first refusal of its command, `refusal_of`, and changes nothing.
+//! contract: an accepted command has its effect, `Effect` in `specs/`, the sink grew by its lines, and
+//! the analyst's list by the texts of groups that were new; a refused one has the first refusal of its
+//! command, `refusal_of`, or else a group that is too large, and changes nothing.
+//!
+//! Unit steps are the compiled machine's. It is built at the first command that needs it, over the
+//! analyses that are kept, and stays until the circuit is edited; `IsMachineAfter` says what each
+//! command does to it. The state is held once, by the machine where there is one.
 //!
 //! ```text
 //! let mut session = Session::new(alloc, circuit)?;
-//! session.apply(&command, out)?       for `set a=1`, then for `phase`: the line `1 1 10` is written
+//! session.apply(&command, analyst, out)?     for `set a=1`, then for `phase`: `1 1 10` is written
 //! ```
 //!
-//! After Bryant, "A Switch-Level Model and Simulator for MOS Digital Systems", 1984.
+//! For the proofs of crates above: `EffectLemmas`, how each formed command ends, and that what is done
+//! keeps the data ready.
+//!
+//! After Bryant, "A Switch-Level Model and Simulator for MOS Digital Systems", 1984, and Bryant, Beatty,
+//! Brace, Cho and Sheffler, "COSMOS: A Compiled Simulator for MOS Circuits", 1987.
 #![tactic(auto)]
 
 mod clock;
+mod edits;
 mod expecting;
 mod fault;
+mod moving;
+mod preparing;
 mod quiet;
 mod refusals;
+mod reporting;
 mod session;
+mod stage;
 mod stepping;
-#[cfg(test)]
-mod tests;
 mod waves;
 
 pub use fault::{ApplyFault, Refusal};

@@ -1,19 +1,23 @@
 //! The commands that write nothing.
 
-ghost use Rattle.std.specs.Prelude.{◌≡◌, ◌<◌, ◌≤◌, ◌++◌, None, is_some, true, map, length, vec_len, vec_capacity, ◌+◌, All, IfOk};
+ghost use Rattle.std.specs.Prelude.{◌≡◌, ◌<◌, ◌≤◌, ◌++◌, None, is_some, true, map, length, slice_set, vec_len, vec_capacity, ◌+◌, All, IfOk, IfSome, OnOk};
 ghost use Rattle.path_meaning.specs.Graphs.{nodes};
 ghost use Rattle.netlist.specs.Names.{node_of};
 ghost use Rattle.netlist.specs.Circuits.{IsCircuit};
 ghost use Rattle.netlist.specs.Edits.{node_named, with_input};
 ghost use Rattle.script_lang.specs.declared.command.Command.TheVariants as asked;
-ghost use Rattle.script_lang.specs.Forms.{AreBeats};
+ghost use Rattle.path_meaning.specs.declared.TheConstants.{RAILS};
+ghost use Rattle.script_lang.specs.Forms.{AreBeats, IsTimes};
 ghost use Rattle.cosmos_session.specs.Refusals as refusal;
 ghost use Rattle.cosmos_session.specs.Effects as effect;
+ghost use Rattle.cosmos_session.specs.Machines.{IsMachineAfter};
+ghost use Rattle.cosmos_session.specs.Stages.{PutsIn, AssignsIn};
 ghost use Rattle.cosmos_session.specs.Outcomes.{Quietly};
 
 use crate::clock::Clock;
 use crate::fault::{ApplyFault, Refusal};
 use crate::session::Session;
+use crate::stage::Stage;
 use crate::{MOST_WATCHED, refusals};
 use netlist::{Circuit, RAILS};
 use script_lang::{AssignList, ClockList, Name, NameList, StateList};
@@ -23,24 +27,30 @@ use ternary::{NoMemory, Tern};
 impl Session {
     /// `input`: makes the named nodes input nodes.
     pub(crate) fn input(&mut self, names: &NameList) -> Result<(), ApplyFault>
-        ensures { Quietly self.old (asked.Input names.now) self.new result }
+        ensures quiet { Quietly self.old (asked.Input names.now) self.new result }
+        ensures machine { OnOk result (self.new.machine ≡ None) }
     {
         if let Some(refusal) = refusals::input_refusal(&self.circuit, names.items()) {
             return Err(ApplyFault::Refused(refusal));
         }
         make_inputs(&mut self.circuit, names.items());
+        self.stage.unbuild(self.alloc);
         Ok(())
     }
 
     /// `store`: makes the named node a storage node of this size.
     pub(crate) fn store(&mut self, name: &Name, size: u64) -> Result<(), ApplyFault>
-        ensures { Quietly self.old (asked.Store name.now size) self.new result }
+        ensures quiet { Quietly self.old (asked.Store name.now size) self.new result }
+        ensures machine { OnOk result (self.new.machine ≡ None) }
     {
         let Some(node) = self.circuit.find(name.items()) else {
             return Err(ApplyFault::Refused(Refusal::UnknownNode));
         };
         match self.circuit.make_store(node, size) {
-            Ok(()) => Ok(()),
+            Ok(()) => {
+                self.stage.unbuild(self.alloc);
+                Ok(())
+            }
             Err(_) if node < RAILS => Err(ApplyFault::Refused(Refusal::Rail)),
             Err(_) => Err(ApplyFault::Refused(Refusal::BadSize)),
         }
@@ -48,29 +58,32 @@ impl Session {
 
     /// `set`: gives the named input nodes their states, from left to right.
     pub(crate) fn set(&mut self, list: &AssignList) -> Result<(), ApplyFault>
-        ensures { Quietly self.old (asked.Set list.now) self.new result }
+        ensures quiet { Quietly self.old (asked.Set list.now) self.new result }
+        ensures machine { OnOk result (IsMachineAfter self.old (asked.Set list.now) self.new) }
     {
         if let Some(refusal) = refusals::set_refusal(&self.circuit, list.items()) {
             return Err(ApplyFault::Refused(refusal));
         }
-        assign(&self.circuit, list.items(), &mut self.state);
+        assign(&self.circuit, list.items(), &mut self.stage);
         Ok(())
     }
 
     /// `charge`: gives the named storage nodes their states, from left to right.
     pub(crate) fn charge(&mut self, list: &AssignList) -> Result<(), ApplyFault>
-        ensures { Quietly self.old (asked.Charge list.now) self.new result }
+        ensures quiet { Quietly self.old (asked.Charge list.now) self.new result }
+        ensures machine { OnOk result (IsMachineAfter self.old (asked.Charge list.now) self.new) }
     {
         if let Some(refusal) = refusals::charge_refusal(&self.circuit, list.items()) {
             return Err(ApplyFault::Refused(refusal));
         }
-        assign(&self.circuit, list.items(), &mut self.state);
+        assign(&self.circuit, list.items(), &mut self.stage);
         Ok(())
     }
 
     /// `watch`: appends the named nodes to the watch list.
     pub(crate) fn watch(&mut self, names: &NameList) -> Result<(), ApplyFault>
-        ensures { Quietly self.old (asked.Watch names.now) self.new result }
+        ensures quiet { Quietly self.old (asked.Watch names.now) self.new result }
+        ensures machine { self.new.machine ≡ self.old.machine }
     {
         if let Some(refusal) = refusals::known_refusal(&self.circuit, names.items()) {
             return Err(ApplyFault::Refused(refusal));
@@ -83,10 +96,21 @@ impl Session {
         Ok(())
     }
 
+    /// `limit`: sets the limit of a phase.
+    pub(crate) fn set_limit(&mut self, limit: u64) -> Result<(), ApplyFault>
+        requires { IsTimes limit }
+        ensures quiet { Quietly self.old (asked.Limit limit) self.new result }
+        ensures machine { self.new.machine ≡ self.old.machine }
+    {
+        self.limit = limit;
+        Ok(())
+    }
+
     /// `clock`: puts these clocks in place of all others.
     pub(crate) fn set_clocks(&mut self, list: &ClockList) -> Result<(), ApplyFault>
         requires { AreBeats list.now }
-        ensures { Quietly self.old (asked.Clock list.now) self.new result }
+        ensures quiet { Quietly self.old (asked.Clock list.now) self.new result }
+        ensures machine { self.new.machine ≡ self.old.machine }
     {
         if let Some(refusal) = refusals::clocks_refusal(&self.circuit, list.items()) {
             return Err(ApplyFault::Refused(refusal));
@@ -118,16 +142,32 @@ fn make_input(circuit: &mut Circuit, name: &[u8])
     let _made = circuit.make_input(node);
 }
 
-// Gives these named nodes, which are in use, their states, from left to right.
-fn assign(circuit: &Circuit, list: &[(Name, Tern)], state: &mut Vec<Tern>)
-    requires states { vec_len state.old ≡ nodes circuit.now.graph }
+// Gives these named nodes, which are in use and no rails, their states, from left to right.
+fn assign(circuit: &Circuit, list: &[(Name, Tern)], stage: &mut Stage)
+    requires states { length stage.old.state ≡ nodes circuit.now.graph }
     requires known { All (λ item. is_some (node_of circuit.now.names item.0) ≡ true) list.now }
-    ensures { state.new.items ≡ effect.assigned circuit.now state.old.items list.now }
+    requires past { All (λ item. RAILS ≤ node_named circuit.now item.0) list.now }
+    ensures state { stage.new.state ≡ effect.assigned circuit.now stage.old.state list.now }
+    ensures machine { AssignsIn circuit.now (map (λ item. item.0) list.now) stage.old.machine stage.new.machine }
+    ensures same { IfSome stage.new.machine (λ machine. machine.state ≡ stage.new.state) }
 {
     for (name, value) in list {
-        let node = circuit.find(name.items()).unwrap();
-        state[node] = *value;
+        assign_one(circuit, name.items(), *value, stage);
     }
+    stage.is_the_machines();
+}
+
+// Gives a named node, which is in use and no rail, a state.
+fn assign_one(circuit: &Circuit, name: &[u8], value: Tern, stage: &mut Stage)
+    requires states { length stage.old.state ≡ nodes circuit.now.graph }
+    requires known { is_some (node_of circuit.now.names name.now) ≡ true }
+    requires past { RAILS ≤ node_named circuit.now name.now }
+    ensures state { stage.new.state ≡ slice_set stage.old.state (node_named circuit.now name.now) value }
+    ensures machine { PutsIn circuit.now.graph (node_named circuit.now name.now) value stage.old.machine stage.new.machine }
+    ensures netlist { IsCircuit circuit.now }
+{
+    let node = circuit.find(name).unwrap();
+    stage.set_node(circuit.graph(), node, value);
 }
 
 // Appends the nodes of these names, which are in use, in room that is there.

@@ -1,122 +1,165 @@
 //! The data of a session, and what each command does to them.
 
-ghost use Rattle.std.specs.Prelude.{◌≡◌, not, IfOk};
+ghost use Rattle.std.specs.Prelude.{◌≡◌, not, None, option_map, IfOk, IfErr, IfSome, OnOk};
 ghost use Rattle.script_lang.specs.Forms.{IsFormed};
-ghost use Rattle.cosmos_session.specs.Sessions.{start_of, IsSession};
+ghost use Rattle.cosmos_session.specs.Sessions.{start_of, HeldSession};
+ghost use Rattle.cosmos_session.specs.Preparing.{NamesNode};
+ghost use Rattle.cosmos_session.specs.Machines.{IsMachineOf, IsHeldSession, IsMachineAfter};
 ghost use Rattle.cosmos_session.specs.Sinks.{faults_applied};
 ghost use Rattle.cosmos_session.specs.Outcomes.{Obeys};
 
 use crate::FIRST_LIMIT;
 use crate::clock::Clock;
 use crate::fault::ApplyFault;
+use crate::stage::Stage;
+use analysis_cache::{Analyst, Kept};
 use netlist::Circuit;
 use port_edge::Sink;
 use script_lang::Command;
 use std::alloc::Global;
 use std::marker::Model;
 use ternary::{NoMemory, Tern};
+use unit_step::Machine;
 
 /// A simulation session: a circuit, the state of its nodes, the nodes that are watched, the clocks,
-/// the limit of a phase, how many waveform lines there were, and whether some expectation was not
-/// met.
+/// the limit of a phase, how many waveform lines there were, whether some expectation was not met,
+/// the texts whose analyses are kept, and how many were analysed since the last report.
+///
+/// Beside these data contracts see the machine that moves the state, where there is one: it is built
+/// at the first command that wants it, and stays until the circuit is edited.
 #[derive(Drop)]
 pub struct Session {
     pub(crate) alloc: Global,
     pub(crate) circuit: Circuit,
-    pub(crate) state: Vec<Tern>,
+    pub(crate) stage: Stage,
     pub(crate) watched: Vec<usize>,
     pub(crate) clocks: Vec<Clock>,
     pub(crate) limit: u64,
     pub(crate) count: u64,
     pub(crate) missed: bool,
+    pub(crate) kept: Kept,
+    pub(crate) fresh: u64,
 }
 
 impl Model for Session {
-    ghost use Rattle.cosmos_session.specs.Sessions.{SessionData, IsSession};
+    ghost use Rattle.analysis_cache.specs.Keeping.{texts_of};
+    ghost use Rattle.cosmos_session.specs.Sessions.{HeldSession};
+    ghost use Rattle.cosmos_session.specs.Machines.{IsHeldSession};
 
-    ghost Value = { SessionData };
+    ghost Value = { HeldSession };
 
-    ghost view = { λ session. record { circuit = session.circuit; state = session.state.items; watched = session.watched.items; clocks = session.clocks.items; limit = session.limit; count = session.count; missed = session.missed } };
+    ghost view = { λ session. record { core = record { circuit = session.circuit; state = session.stage.state; watched = session.watched.items; clocks = session.clocks.items; limit = session.limit; count = session.count; missed = session.missed; kept = texts_of session.kept; fresh = session.fresh }; machine = session.stage.machine } };
 
-    ghost invariant = { λ session. IsSession (record { circuit = session.circuit; state = session.state.items; watched = session.watched.items; clocks = session.clocks.items; limit = session.limit; count = session.count; missed = session.missed }) };
+    ghost invariant = { λ session. IsHeldSession (record { core = record { circuit = session.circuit; state = session.stage.state; watched = session.watched.items; clocks = session.clocks.items; limit = session.limit; count = session.count; missed = session.missed; kept = texts_of session.kept; fresh = session.fresh }; machine = session.stage.machine }) };
 }
 
 impl Session {
     /// A session at its start: Gnd is 0, Vdd is 1 and every other node X; nothing is watched, there
-    /// are no clocks, and a phase has the limit 100. At want of memory the circuit is dropped.
+    /// are no clocks, a phase has the limit 100, and nothing is kept. At want of memory the circuit is
+    /// dropped.
     pub fn new(alloc: Global, circuit: Circuit) -> Result<Session, NoMemory>
-        ensures { IfOk result (λ session. session ≡ start_of circuit) }
+        ensures { IfOk result (λ session. session ≡ record { core = start_of circuit; machine = None }) }
     {
         let mut state = vec![in alloc; Tern::Unk; circuit.graph().nodes()]?;
         state[0] = Tern::Zero;
         state[1] = Tern::One;
+        let kept = Kept::with_keys(alloc, circuit.keys());
         Ok(Session {
             alloc,
             circuit,
-            state,
+            stage: Stage::still(state),
             watched: Vec::new(alloc),
             clocks: Vec::new(alloc),
             limit: FIRST_LIMIT,
             count: 0,
             missed: false,
+            kept,
+            fresh: 0,
         })
     }
 
     /// The circuit, as edited so far.
     pub fn circuit(&self) -> &Circuit
-        ensures value { result.now ≡ self.now.circuit }
-        ensures session { IsSession self.now }
+        ensures value { result.now ≡ self.now.core.circuit }
+        ensures session { IsHeldSession self.now }
     {
         &self.circuit
     }
 
     /// The state of each node.
     pub fn state(&self) -> &[Tern]
-        ensures { result.now ≡ self.now.state }
+        ensures { result.now ≡ self.now.core.state }
     {
-        &self.state
+        self.stage.state()
     }
 
     /// Whether each expectation so far was met.
     pub fn met(&self) -> bool
-        ensures { result ≡ not self.now.missed }
+        ensures { result ≡ not self.now.core.missed }
     {
         !self.missed
     }
 
+    /// The machine that moves the state, where there is one: it fits the circuit, has the state, and
+    /// no text of the circuit's groups is new.
+    pub fn machine(&self) -> Option<&Machine>
+        ensures value { option_map (λ machine. machine.now) result ≡ self.now.machine }
+        ensures machine { IfSome self.now.machine (IsMachineOf self.now.core) }
+    {
+        self.stage.machine()
+    }
+
     /// Does a command, and writes its lines.
     ///
-    /// A refusal comes exactly where the command has one, the first of its causes, and changes nothing. A
-    /// fault of the sink ends the command: nothing is written after the one call that failed, so its count
+    /// A refusal comes exactly where the command has one, the first of its causes, and changes nothing; a
+    /// command that needs the circuit built is refused last where a group is too large, and the first such
+    /// group is told. Before `step`, `phase`, `cycle` and `report` the circuit is built where it isn't: the
+    /// analyst is given each text of its groups that isn't kept, once, and its code is kept. The machine then
+    /// stays until an edit.
+    ///
+    /// A fault of the sink ends the command: nothing is written after the one call that failed, so its count
     /// rose by one, and at no other answer. Then a front of the command's lines was written, and the data are
     /// as after a whole part of it: its effect, or of a `cycle` the phases at a front of its places. Want of
-    /// memory of the sink is alike. Want of memory of any other kind changes nothing: all memory is taken
-    /// before the first unit step.
-    pub fn apply<S: Sink>(&mut self, command: &Command, out: &mut S) -> Result<(), ApplyFault>
+    /// memory of the sink is alike. Want of memory of any other kind changes nothing but what is kept: all
+    /// memory is taken before the first unit step, a build last of all.
+    pub fn apply<A: Analyst, S: Sink>(
+        &mut self,
+        command: &Command,
+        analyst: &mut A,
+        out: &mut S,
+    ) -> Result<(), ApplyFault>
         requires { IsFormed command.now }
         ensures obeys { Obeys self.old command.now self.new (S.written out.old) (S.written out.new)
-            (S.refusals out.old) (S.refusals out.new) result }
+            (A.analysed analyst.old) (A.analysed analyst.new) (S.refusals out.old) (S.refusals out.new) result }
         ensures faults { S.faults out.new ≡ faults_applied (S.faults out.old) result }
-        ensures session { IsSession self.new }
+        ensures machine { OnOk result (IsMachineAfter self.old command.now self.new) }
+        ensures named { IfErr result (NamesNode self.new.core.circuit.graph) }
+        ensures session { IsHeldSession self.new }
     {
-        let outcome = self.obey(command, out);
+        let outcome = self.obey(command, analyst, out);
         self.is_well_formed();
         outcome
     }
 
     // Each session is well formed: a call of this is for its contract alone.
     fn is_well_formed(&self)
-        ensures { IsSession self.now }
+        ensures { IsHeldSession self.now }
     {
         let _ = &self.alloc;
     }
 
     // Does a command, and writes its lines.
-    fn obey<S: Sink>(&mut self, command: &Command, out: &mut S) -> Result<(), ApplyFault>
+    fn obey<A: Analyst, S: Sink>(
+        &mut self,
+        command: &Command,
+        analyst: &mut A,
+        out: &mut S,
+    ) -> Result<(), ApplyFault>
         requires { IsFormed command.now }
         ensures obeys { Obeys self.old command.now self.new (S.written out.old) (S.written out.new)
-            (S.refusals out.old) (S.refusals out.new) result }
+            (A.analysed analyst.old) (A.analysed analyst.new) (S.refusals out.old) (S.refusals out.new) result }
         ensures faults { S.faults out.new ≡ faults_applied (S.faults out.old) result }
+        ensures machine { OnOk result (IsMachineAfter self.old command.now self.new) }
     {
         match command {
             Command::Input(names) => self.input(names),
@@ -124,15 +167,29 @@ impl Session {
             Command::Set(list) => self.set(list),
             Command::Charge(list) => self.charge(list),
             Command::Watch(names) => self.watch(names),
-            Command::Limit(number) => {
-                self.limit = *number;
-                Ok(())
-            }
-            Command::Step => self.step(out),
-            Command::Phase => self.phase(out),
+            Command::Limit(number) => self.set_limit(*number),
+            Command::Step => self.step(analyst, out),
+            Command::Phase => self.phase(analyst, out),
             Command::Clock(list) => self.set_clocks(list),
-            Command::Cycle(times) => self.cycle(*times, out),
+            Command::Cycle(times) => self.cycle(*times, analyst, out),
             Command::Expect(list) => self.expect(list, out),
+            Command::Add {
+                kind,
+                gate,
+                source,
+                drain,
+                strength,
+            } => self.add(*kind, gate, source, drain, *strength),
+            Command::Del(number) => self.del(*number),
+            Command::Strength(number, strength) => self.set_strength(*number, *strength),
+            Command::Kind(number, kind) => self.set_kind(*number, *kind),
+            Command::Wire {
+                number,
+                gate,
+                source,
+                drain,
+            } => self.rewire(*number, gate, source, drain),
+            Command::Report => self.report(analyst, out),
         }
     }
 }

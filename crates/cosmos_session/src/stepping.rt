@@ -1,16 +1,16 @@
 //! Unit steps, phases and cycles, and their waveform lines.
 
-ghost use Rattle.std.specs.Prelude.{◌≡◌, ◌≢◌, ◌<◌, ◌≤◌, [], ◌∷◌, length, All, IfErr};
+ghost use Rattle.std.specs.Prelude.{◌≡◌, ◌<◌, ◌≤◌, [], ◌∷◌, true, is_some, length, slice_set, All, IfErr, IfSome, OnOk};
 ghost use Rattle.std.specs.List.{range_with_len};
-ghost use Rattle.oscillation_x.specs.Settling.{Settles};
-ghost use Rattle.oscillation_x.specs.PlainStepping.{HasRoom};
-ghost use Rattle.path_meaning.specs.Graphs.{GraphData};
-ghost use Rattle.path_meaning.specs.Rails.{IsSound};
-ghost use Rattle.path_meaning.specs.Step.{IsStep};
+ghost use Rattle.path_meaning.specs.Graphs.{level_of};
+ghost use Rattle.path_meaning.specs.Switching.{state_at};
+ghost use Rattle.path_meaning.specs.declared.TheConstants.{RAILS};
 ghost use Rattle.script_lang.specs.declared.command.Command.TheVariants as asked;
 ghost use Rattle.script_lang.specs.Forms.{IsTimes};
 ghost use Rattle.cosmos_session.specs.Sessions.{places_of, IsReady};
 ghost use Rattle.cosmos_session.specs.Effects as effect;
+ghost use Rattle.cosmos_session.specs.Machines.{StepsMachine, SettlesMachine, moves_of, placed_of};
+ghost use Rattle.cosmos_session.specs.Stages.{IsStepSent, IsUnitStepDone, IsSettled, PhaseMoves, BeatsMove, BeatsMoveOn, PutsIn, TicksIn};
 ghost use Rattle.cosmos_session.specs.Sinks.{IsSinkFault, faults_applied, refusals_sent};
 ghost use Rattle.cosmos_session.specs.Outcomes.{Obeys, TakesBeats, IsPhaseSent, Sent};
 
@@ -18,142 +18,185 @@ use crate::clock::Clock;
 use crate::fault::ApplyFault;
 use crate::refusals;
 use crate::session::Session;
+use crate::stage::Stage;
 use crate::waves::WaveRoom;
-use oscillation_x::{PlainStepper, Settled, Stepper, settle};
-use path_meaning::Graph;
+use analysis_cache::Analyst;
+use oscillation_x::Settled;
+use path_meaning::{Graph, graphs_are_wired};
 use port_edge::Sink;
-use script_lang::MOST_TIMES;
-use std::marker::Brand;
-use std::sync::ledger::{Blank, Ledger};
-use ternary::{Steps, Tern};
+use strength_order::INPUT_LEVEL;
 
 impl Session {
     /// `step`: one unit step, and its waveform line.
-    pub(crate) fn step<S: Sink>(&mut self, out: &mut S) -> Result<(), ApplyFault>
+    pub(crate) fn step<A: Analyst, S: Sink>(
+        &mut self,
+        analyst: &mut A,
+        out: &mut S,
+    ) -> Result<(), ApplyFault>
         ensures obeys { Obeys self.old asked.Step self.new (S.written out.old) (S.written out.new)
-            (S.refusals out.old) (S.refusals out.new) result }
+            (A.analysed analyst.old) (A.analysed analyst.new) (S.refusals out.old) (S.refusals out.new) result }
         ensures faults { S.faults out.new ≡ faults_applied (S.faults out.old) result }
+        ensures machine { OnOk result (StepsMachine self.old self.new) }
     {
         let mut room = WaveRoom::new(self.alloc, self.watched.len())?;
-        let mut stepper = PlainStepper::new(self.alloc, self.circuit.graph(), &self.state)?;
-        step_uncounted::<Brand>(&mut stepper, self.circuit.graph(), Blank::new(1));
-        self.move_to(stepper.state());
-        self.send_wave(1, false, &mut room, out)
+        self.prepare(analyst)?;
+        self.step_and_send(&mut room, out)
     }
 
     /// `phase`: unit steps until nothing changes, past the limit joining ones, and a waveform line.
-    pub(crate) fn phase<S: Sink>(&mut self, out: &mut S) -> Result<(), ApplyFault>
+    pub(crate) fn phase<A: Analyst, S: Sink>(
+        &mut self,
+        analyst: &mut A,
+        out: &mut S,
+    ) -> Result<(), ApplyFault>
         ensures obeys { Obeys self.old asked.Phase self.new (S.written out.old) (S.written out.new)
-            (S.refusals out.old) (S.refusals out.new) result }
+            (A.analysed analyst.old) (A.analysed analyst.new) (S.refusals out.old) (S.refusals out.new) result }
         ensures faults { S.faults out.new ≡ faults_applied (S.faults out.old) result }
+        ensures machine { OnOk result (SettlesMachine self.old asked.Phase self.new) }
     {
         let mut room = WaveRoom::new(self.alloc, self.watched.len())?;
-        let mut stepper = PlainStepper::new(self.alloc, self.circuit.graph(), &self.state)?;
-        self.settle_and_send(&mut stepper, &mut room, out)
+        self.prepare(analyst)?;
+        self.settle_and_send(&mut room, out)
     }
 
     /// `cycle`: so many times, for each place of the clocks in order, sets their nodes and does what
     /// a phase does.
-    pub(crate) fn cycle<S: Sink>(&mut self, times: u64, out: &mut S) -> Result<(), ApplyFault>
+    pub(crate) fn cycle<A: Analyst, S: Sink>(
+        &mut self,
+        times: u64,
+        analyst: &mut A,
+        out: &mut S,
+    ) -> Result<(), ApplyFault>
         requires { IsTimes times }
         ensures obeys { Obeys self.old (asked.Cycle times) self.new (S.written out.old) (S.written out.new)
-            (S.refusals out.old) (S.refusals out.new) result }
+            (A.analysed analyst.old) (A.analysed analyst.new) (S.refusals out.old) (S.refusals out.new) result }
         ensures faults { S.faults out.new ≡ faults_applied (S.faults out.old) result }
+        ensures machine { OnOk result (SettlesMachine self.old (asked.Cycle times) self.new) }
     {
         if let Some(refusal) = refusals::cycle_refusal(&self.circuit, &self.clocks) {
             return Err(ApplyFault::Refused(refusal));
         }
         let mut room = WaveRoom::new(self.alloc, self.watched.len())?;
-        let mut stepper = PlainStepper::new(self.alloc, self.circuit.graph(), &self.state)?;
-        self.run_cycles(times, &mut stepper, &mut room, out)
+        self.prepare(analyst)?;
+        self.run_cycles(times, &mut room, out)
     }
 
-    // Runs the clocks through all their places, so many times.
+    // Runs the clocks through all their places, so many times. The machine is there, and the clocks' nodes
+    // are input nodes.
     fn run_cycles<S: Sink>(
         &mut self,
         times: u64,
-        stepper: &mut PlainStepper,
         room: &mut WaveRoom,
         out: &mut S,
     ) -> Result<(), ApplyFault>
-        requires ready { IsReady self.old }
-        requires state { stepper.old.state ≡ self.old.state }
-        requires fits { HasRoom stepper.old self.old.circuit.graph }
-        requires room { length self.old.watched ≤ room.old }
-        ensures beats { TakesBeats (effect.places_in (places_of self.old.clocks) times) self.old self.new (S.written out.old) (S.written out.new) result }
+        requires there { is_some self.old.machine ≡ true }
+        requires inputs { All (λ clock. level_of self.old.core.circuit.graph clock.node ≡ INPUT_LEVEL) self.old.core.clocks }
+        requires ready { IsReady self.old.core }
+        requires room { length self.old.core.watched ≤ room.old }
+        ensures beats { TakesBeats (effect.places_in (places_of self.old.core.clocks) times) self.old.core self.new.core (S.written out.old) (S.written out.new) result }
+        ensures moves { OnOk result (BeatsMove (effect.places_in (places_of self.old.core.clocks) times) self.old self.new) }
         ensures cause { IfErr result IsSinkFault }
         ensures faults { S.faults out.new ≡ faults_applied (S.faults out.old) result }
         ensures refusals { S.refusals out.new ≡ refusals_sent (S.refusals out.old) result }
     {
         for _cycle in 0..times {
-            self.run_cycle(stepper, room, out)?;
+            self.run_cycle(room, out)?;
         }
         Ok(())
     }
 
-    // Runs the clocks through all their places once.
-    fn run_cycle<S: Sink>(
-        &mut self,
-        stepper: &mut PlainStepper,
-        room: &mut WaveRoom,
-        out: &mut S,
-    ) -> Result<(), ApplyFault>
-        requires state { stepper.old.state ≡ self.old.state }
-        requires fits { HasRoom stepper.old self.old.circuit.graph }
-        requires room { length self.old.watched ≤ room.old }
-        ensures beats { TakesBeats (range_with_len 0 (places_of self.old.clocks)) self.old self.new (S.written out.old) (S.written out.new) result }
-        ensures state { stepper.new.state ≡ self.new.state }
-        ensures fits { HasRoom stepper.new self.new.circuit.graph }
+    // Runs the clocks through all their places once. The machine is there, and the clocks' nodes are input
+    // nodes.
+    fn run_cycle<S: Sink>(&mut self, room: &mut WaveRoom, out: &mut S) -> Result<(), ApplyFault>
+        requires there { is_some self.old.machine ≡ true }
+        requires inputs { All (λ clock. level_of self.old.core.circuit.graph clock.node ≡ INPUT_LEVEL) self.old.core.clocks }
+        requires room { length self.old.core.watched ≤ room.old }
+        ensures beats { TakesBeats (range_with_len 0 (places_of self.old.core.clocks)) self.old.core self.new.core (S.written out.old) (S.written out.new) result }
+        ensures moves { OnOk result (BeatsMoveOn (range_with_len 0 (places_of self.old.core.clocks)) self.old self.new) }
         ensures room { room.new ≡ room.old }
-        ensures watched { self.new.watched ≡ self.old.watched }
+        ensures watched { self.new.core.watched ≡ self.old.core.watched }
+        ensures clocks { self.new.core.clocks ≡ self.old.core.clocks }
+        ensures circuit { self.new.core.circuit ≡ self.old.core.circuit }
+        ensures there { is_some self.new.machine ≡ true }
         ensures cause { IfErr result IsSinkFault }
         ensures faults { S.faults out.new ≡ faults_applied (S.faults out.old) result }
         ensures refusals { S.refusals out.new ≡ refusals_sent (S.refusals out.old) result }
     {
         for place in 0..places(&self.clocks) {
-            put_states(&self.clocks, place, stepper);
-            self.settle_and_send(stepper, room, out)?;
+            self.put_clocks(place);
+            self.settle_and_send(room, out)?;
         }
         Ok(())
     }
 
-    // Does what a phase does from the stepper's state, and sends its waveform line.
+    // Gives each clock's node its state at a place. The machine is there, and the nodes are input nodes.
+    fn put_clocks(&mut self, place: usize)
+        requires there { is_some self.old.machine ≡ true }
+        requires place { place < places_of self.old.core.clocks }
+        requires inputs { All (λ clock. level_of self.old.core.circuit.graph clock.node ≡ INPUT_LEVEL) self.old.core.clocks }
+        ensures beat { self.new.core ≡ effect.with_beat self.old.core place }
+        ensures there { is_some self.new.machine ≡ true }
+        ensures moves { moves_of self.new.machine ≡ moves_of self.old.machine }
+        ensures placed { placed_of self.new.machine ≡ placed_of self.old.machine }
+    {
+        put_states(&self.clocks, place, self.circuit.graph(), &mut self.stage);
+    }
+
+    // Takes a unit step, and sends its waveform line. The machine is there.
+    fn step_and_send<S: Sink>(&mut self, room: &mut WaveRoom, out: &mut S) -> Result<(), ApplyFault>
+        requires there { is_some self.old.machine ≡ true }
+        requires room { length self.old.core.watched ≤ room.old }
+        ensures step { IsStepSent self.old.core self.new.core (S.written out.old) (S.written out.new) result }
+        ensures machine { StepsMachine self.old self.new }
+        ensures cause { IfErr result IsSinkFault }
+        ensures faults { S.faults out.new ≡ faults_applied (S.faults out.old) result }
+        ensures refusals { S.refusals out.new ≡ refusals_sent (S.refusals out.old) result }
+    {
+        self.take_step();
+        self.send_wave(1, false, room, out)
+    }
+
+    // Takes a unit step, and counts its waveform line. The machine is there.
+    fn take_step(&mut self)
+        requires { is_some self.old.machine ≡ true }
+        ensures step { IsUnitStepDone self.old.core self.new.core }
+        ensures machine { StepsMachine self.old self.new }
+    {
+        self.stage.step(self.circuit.graph());
+        self.count = self.count.saturating_add(1);
+    }
+
+    // Does what a phase does, and sends its waveform line. The machine is there.
     fn settle_and_send<S: Sink>(
         &mut self,
-        stepper: &mut PlainStepper,
         room: &mut WaveRoom,
         out: &mut S,
     ) -> Result<(), ApplyFault>
-        requires fits { HasRoom stepper.old self.old.circuit.graph }
-        requires sound { IsSound stepper.old.state }
-        requires room { length self.old.watched ≤ room.old }
-        ensures phase { IsPhaseSent (record self.old { state = stepper.old.state }) self.new (S.written out.old) (S.written out.new) result }
-        ensures watched { self.new.watched ≡ self.old.watched }
-        ensures state { stepper.new.state ≡ self.new.state }
-        ensures fits { HasRoom stepper.new self.new.circuit.graph }
+        requires there { is_some self.old.machine ≡ true }
+        requires room { length self.old.core.watched ≤ room.old }
+        ensures phase { IsPhaseSent self.old.core self.new.core (S.written out.old) (S.written out.new) result }
+        ensures moves { PhaseMoves self.old self.new }
+        ensures there { is_some self.new.machine ≡ true }
+        ensures watched { self.new.core.watched ≡ self.old.core.watched }
+        ensures clocks { self.new.core.clocks ≡ self.old.core.clocks }
+        ensures circuit { self.new.core.circuit ≡ self.old.core.circuit }
         ensures room { room.new ≡ room.old }
         ensures cause { IfErr result IsSinkFault }
         ensures faults { S.faults out.new ≡ faults_applied (S.faults out.old) result }
         ensures refusals { S.refusals out.new ≡ refusals_sent (S.refusals out.old) result }
     {
-        let settled = settle_uncounted::<Brand>(
-            stepper,
-            self.circuit.graph(),
-            self.limit,
-            Blank::new(1),
-        );
-        self.move_to(stepper.state());
+        let settled = self.settle();
         self.send_wave(settled.steps, settled.joined, room, out)
     }
 
-    // Takes over a state that unit steps led to, and counts the waveform line.
-    fn move_to(&mut self, next: &[Tern])
-        requires count { length next.now ≡ length self.old.state }
-        requires sound { IsSound next.now }
-        ensures { self.new ≡ effect.moved_to self.old next.now }
+    // Settles, and counts the waveform line. The machine is there.
+    fn settle(&mut self) -> Settled
+        requires { is_some self.old.machine ≡ true }
+        ensures { IsSettled self.old self.new result.steps result.joined }
     {
-        self.state.copy_from_slice(next);
+        let settled = self.stage.settle(self.circuit.graph(), self.limit);
         self.count = self.count.saturating_add(1);
+        settled
     }
 
     // Sends the waveform line of a step or a phase just done.
@@ -164,14 +207,15 @@ impl Session {
         room: &mut WaveRoom,
         out: &mut S,
     ) -> Result<(), ApplyFault>
-        requires { length self.now.watched ≤ room.old }
-        ensures sent { Sent (S.written out.old) (S.written out.new) (effect.wave_by self.now k mark ∷ []) result }
+        requires { length self.now.core.watched ≤ room.old }
+        ensures sent { Sent (S.written out.old) (S.written out.new) (effect.wave_by self.now.core k mark ∷ []) result }
         ensures room { room.new ≡ room.old }
         ensures cause { IfErr result IsSinkFault }
         ensures faults { S.faults out.new ≡ faults_applied (S.faults out.old) result }
         ensures refusals { S.refusals out.new ≡ refusals_sent (S.refusals out.old) result }
     {
-        room.send(self.count, k, mark, &self.state, &self.watched, out)
+        let state = self.stage.state();
+        room.send(self.count, k, mark, state, &self.watched, out)
     }
 }
 
@@ -183,43 +227,28 @@ fn places(clocks: &[Clock]) -> usize
 }
 
 // Gives each clock's node its state at a place.
-fn put_states(clocks: &[Clock], place: usize, stepper: &mut PlainStepper)
-    requires within { All (λ clock. clock.node < length stepper.old.state) clocks.now }
+fn put_states(clocks: &[Clock], place: usize, graph: &Graph, stage: &mut Stage)
+    requires within { All (λ clock. clock.node < length stage.old.state) clocks.now }
+    requires free { All (λ clock. RAILS ≤ clock.node) clocks.now }
     requires places { All (λ clock. place < length clock.states) clocks.now }
-    ensures state { stepper.new.state ≡ effect.states_with clocks.now place stepper.old.state }
-    ensures fits { (g : GraphData) → HasRoom stepper.old g → HasRoom stepper.new g }
+    ensures state { stage.new.state ≡ effect.states_with clocks.now place stage.old.state }
+    ensures machine { TicksIn graph.now clocks.now stage.old.machine stage.new.machine }
+    ensures same { IfSome stage.new.machine (λ machine. machine.state ≡ stage.new.state) }
 {
+    graphs_are_wired(graph);
     for clock in clocks {
-        stepper.set_node(clock.node, clock.states[place]);
+        put_state(clock, place, graph, stage);
     }
+    stage.is_the_machines();
 }
 
-// One unit step, without counting the steps of the stepper's own work.
-fn step_uncounted<L: Ledger>(stepper: &mut PlainStepper, graph: &Graph, blank: Blank)
-    requires name { blank.name ≡ L.name }
-    requires parts { blank.parts ≡ L.parts }
-    requires some { blank.parts ≢ 0 }
-    requires fits { HasRoom stepper.old graph.now }
-    ensures { IsStep graph.now stepper.old.state stepper.new.state }
+// Gives a clock's node its state at a place.
+fn put_state(clock: &Clock, place: usize, graph: &Graph, stage: &mut Stage)
+    requires within { clock.now.node < length stage.old.state }
+    requires free { RAILS ≤ clock.now.node }
+    requires place { place < length clock.now.states }
+    ensures state { stage.new.state ≡ slice_set stage.old.state clock.now.node (state_at clock.now.states place) }
+    ensures machine { PutsIn graph.now clock.now.node (state_at clock.now.states place) stage.old.machine stage.new.machine }
 {
-    stepper.step(graph, &mut Steps::<L>::new(blank));
-}
-
-// Settles without counting the steps of the stepper's own work.
-fn settle_uncounted<L: Ledger>(
-    stepper: &mut PlainStepper,
-    graph: &Graph,
-    limit: u64,
-    blank: Blank,
-) -> Settled
-    requires name { blank.name ≡ L.name }
-    requires parts { blank.parts ≡ L.parts }
-    requires some { blank.parts ≢ 0 }
-    requires low { 1 ≤ limit }
-    requires high { limit ≤ MOST_TIMES }
-    requires fits { HasRoom stepper.old graph.now }
-    ensures settles { Settles graph.now stepper.old.state limit stepper.new.state result.steps result.joined }
-    ensures fits { HasRoom stepper.new graph.now }
-{
-    settle(stepper, graph, limit, &mut Steps::<L>::new(blank))
+    stage.set_node(graph, clock.node, clock.states[place]);
 }

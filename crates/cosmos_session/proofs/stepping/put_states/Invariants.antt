@@ -1,12 +1,12 @@
+-- The clocks before this one are put.
 use Rattle.std.proofs.Common.{◌≡◌, drop, length}
-use Rattle.path_meaning.specs.Graphs.{GraphData}
-use Rattle.oscillation_x.specs.PlainStepping.{HasRoom}
 use Rattle.cosmos_session.specs.Effects.{states_with}
+use Rattle.cosmos_session.specs.Stages.{TicksIn}
 use Rattle.cosmos_session.proofs.stepping.put_states.Given as goal
 
 abbrev pub invariant-loop-clock : goal.invariant-loop-clock
 invariant-loop-clock l = record {
-  state : states_with (drop l.clock-index l.clocks) l.place l.stepper.state ≡ states_with l.clocks l.place l.initial.stepper.state;
-  nodes : length l.stepper.state ≡ length l.initial.stepper.state;
-  fits : (g : GraphData) → HasRoom l.initial.stepper g → HasRoom l.stepper g;
+  state : states_with (drop l.clock-index l.clocks) l.place l.stage.state ≡ states_with l.clocks l.place l.initial.stage.state;
+  nodes : length l.stage.state ≡ length l.initial.stage.state;
+  machine : TicksIn l.graph l.clocks l.initial.stage.machine l.stage.machine;
 }

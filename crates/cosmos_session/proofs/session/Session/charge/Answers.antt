@@ -1,24 +1,36 @@
-use Rattle.std.proofs.Common.{◌≡◌, refl, sym, ◌∙◌}
+use Rattle.std.proofs.Common.{◌≡◌, ℕ, List, map, refl, sym}
+use Rattle.ternary.specs.declared.tern.Tern.{Tern}
 use Rattle.cosmos_session.specs.Effects.{assigned}
+use Rattle.cosmos_session.specs.Stages.{AssignsIn}
 use Rattle.cosmos_session.specs.contracts.session.Session.{the_view}
 use Rattle.cosmos_session.proofs.RefusalLemmas.{charged_known}
-use Rattle.cosmos_session.proofs.StateLemmas.{length-assigned, charged_past, sound-assigned}
-use Rattle.cosmos_session.proofs.ClockLemmas.{IsSession-state}
+use Rattle.cosmos_session.proofs.StateLemmas.{charged_past}
+use Rattle.cosmos_session.proofs.MachineLemmas.{held-assigned, places-assigned}
 use Rattle.cosmos_session.proofs.session.Session.charge.Goals as goal
 
-pub returns-in-Some : goal.returns-in-Some
-returns-in-Some c = (rw (← c.self.view_is, ← c.items.ensures) (sym c.in-Some.ensures), refl)
+pub returns-in-Some-clause-quiet : goal.returns-in-Some-clause-quiet
+returns-in-Some-clause-quiet c = (rw (← c.self.view_is, ← c.items.ensures) (sym c.in-Some.ensures), refl)
 
 pub assign-requires-clause-known : goal.assign-requires-clause-known
-assign-requires-clause-known c = rw c.items-2.ensures (charged_known c.self.inside.circuit c.args.list.now (sym (rw (c.in_default.is, c.items.ensures) at c.charge_refusal.ensures)))
+assign-requires-clause-known c =
+    rw c.items-2.ensures (charged_known c.self.inside.circuit c.args.list.now (sym (rw (c.in_default.is, c.items.ensures) at c.charge_refusal.ensures)))
+
+pub assign-requires-clause-past : goal.assign-requires-clause-past
+assign-requires-clause-past c =
+    rw c.items-2.ensures (charged_past c.self.inside.circuit c.args.list.now (sym (rw (c.in_default.is, c.items.ensures) at c.charge_refusal.ensures)))
 
 pub invariant_of-self : goal.invariant_of-self
 invariant_of-self c =
-    let circuit = c.self.inside.circuit in
-    let state = c.self.inside.state.items in
+    let session = the_view c.self.inside in
     let list = c.args.list.now in
-    let past = charged_past circuit list (sym (rw (c.in_default.is, c.items.ensures) at c.charge_refusal.ensures)) in
-    let is : c.assign.new.state.items ≡ assigned circuit state list = rw c.items-2.ensures at c.assign.ensures in
-    IsSession-state (the_view c.self.inside) c.assign.new.state.items
-    (rw is (length-assigned circuit list state ∙ c.self.invariant.ready.states))
-    (rw is (sound-assigned circuit list state past c.self.invariant.ready.sound)) c.self.invariant
+    let past = charged_past session.core.circuit list (sym (rw (c.in_default.is, c.items.ensures) at c.charge_refusal.ensures)) in
+    let is : c.assign.new.stage.state ≡ assigned session.core.circuit session.core.state list = rw c.items-2.ensures at c.assign.ensures.state in
+    held-assigned session list c.assign.new.stage past is (rw c.items-2.ensures at c.assign.ensures.machine) c.assign.ensures.same c.self.invariant
+
+pub returns-clause-machine : goal.returns-clause-machine
+returns-clause-machine c =
+    let session = the_view c.self.inside in
+    let list = c.args.list.now in
+    let names : List (List ℕ) = map (λ (item : List ℕ × Tern). item.0) list in
+    let placed : AssignsIn session.core.circuit names session.machine c.assign.new.stage.machine = rw c.items-2.ensures at c.assign.ensures.machine in
+    rw (← c.self.view_is) (places-assigned session.core.circuit names session.machine c.assign.new.stage.machine placed)

@@ -5,12 +5,17 @@ use Rattle.cosmos_session.specs.Lines.{text_of}
 use Rattle.cosmos_session.specs.Effects.{unmet_lines}
 use Rattle.cosmos_session.specs.contracts.session.Session.{the_view}
 use Rattle.cosmos_session.proofs.RefusalLemmas.{expected_known}
-use Rattle.cosmos_session.proofs.OutcomeLemmas.{sent_text, sent_obeys}
+use Rattle.cosmos_session.proofs.OutcomeLemmas.{sent_text, still_obeys}
 use Rattle.cosmos_session.proofs.session.Session.expect.Goals as goal
 
 pub returns-in-Some-clause-obeys : goal.returns-in-Some-clause-obeys
-returns-in-Some-clause-obeys g c =
-    (record { cause = rw (← c.self.view_is, ← c.items.ensures) (sym c.in-Some.ensures); keeps = record { same = refl; unwritten = refl } }, refl)
+returns-in-Some-clause-obeys g c = λ texts. (
+  record {
+    cause = rw (← c.self.view_is, ← c.items.ensures) (sym c.in-Some.ensures);
+    keeps = record { same = refl; unwritten = refl; unasked = refl };
+  },
+  refl,
+)
 
 pub put_unmet-requires : goal.put_unmet-requires
 put_unmet-requires g c =
@@ -18,14 +23,15 @@ put_unmet-requires g c =
     (expected_known c.self.inside.circuit c.args.list.now (sym (rw (c.in_default.is, c.items.ensures) at c.expect_refusal.ensures)))
 
 pub returns-clause-obeys : goal.returns-clause-obeys
-returns-clause-obeys g c =
+returns-clause-obeys g c = λ texts.
     let session = the_view c.self.inside in
-    let allowed : refusal_of session (asked.Expect c.args.list.now) ≡ None = sym (rw (c.in_default.is, c.items.ensures) at c.expect_refusal.ensures) in
-    let text : c.bytes.result.now ≡ text_of (unmet_lines c.args.self.now c.args.list.now) = search rules in
-    let lines = unmet_lines session c.args.list.now in
+    let core = session.core in
+    let allowed : refusal_of core (asked.Expect c.args.list.now) ≡ None = sym (rw (c.in_default.is, c.items.ensures) at c.expect_refusal.ensures) in
+    let text : c.bytes.result.now ≡ text_of (unmet_lines c.args.self.now.core c.args.list.now) = search rules in
+    let lines = unmet_lines core c.args.list.now in
     let any = rw (c.items-2.ensures, ← c.self.view_is) at c.in_ok-unmet.ensures.any in
-    let missed = λ (any : Bool). record session { missed = session.missed || any } in
+    let missed = λ (any : Bool). record core { missed = core.missed || any } in
     rw (← c.self.view_is)
-    (sent_obeys session _ (asked.Expect c.args.list.now) lines _ _ _ _ c.send_text.result allowed (ap missed any, refl) (lines, (ap missed any, refl))
+    (still_obeys session _ (asked.Expect c.args.list.now) lines _ _ texts _ _ c.send_text.result refl allowed (ap missed any, refl) (lines, (ap missed any, refl))
     (sent_text _ _ lines _ c.send_text.result (rw (← c.self.view_is) at text) c.send_text.ensures.ok c.send_text.ensures.part)
     c.send_text.ensures.cause c.send_text.ensures.refusals)

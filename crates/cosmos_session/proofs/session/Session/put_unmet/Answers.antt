@@ -8,8 +8,8 @@ put_if_unmet-requires c =
 
 pub loop-name-preserved : goal.loop-name-preserved
 loop-name-preserved c = record {
-  bytes = unmet_text-next c.args.self.now c.args.list.now c.loop-name.name-index c.loop-name-item.result c.loop-name.lines.bytes
+  bytes = unmet_text-next c.args.self.now.core c.args.list.now c.loop-name.name-index c.loop-name-item.result c.loop-name.lines.bytes
       c.put_if_unmet.new.lines.bytes _ (omega arith) c.loop-name-item.is (rw c.items.ensures at c.in_ok-any.ensures.bytes) c.loop-name.invariant.bytes;
-  any = unmet_any-next c.args.self.now c.args.list.now c.loop-name.name-index c.loop-name-item.result c.loop-name.any
+  any = unmet_any-next c.args.self.now.core c.args.list.now c.loop-name.name-index c.loop-name-item.result c.loop-name.any
       c.in_ok-any.field-0 _ (omega arith) c.loop-name-item.is (rw c.items.ensures at c.in_ok-any.ensures.any) c.loop-name.invariant.any;
 }

@@ -5,6 +5,6 @@ use Rattle.cosmos_session.proofs.session.Session.put_unmet.Given as goal
 
 abbrev pub invariant-loop-name : goal.invariant-loop-name
 invariant-loop-name l = record {
-  bytes : l.lines.bytes ++ text_of (unmet_lines l.self (drop l.name-index l.list)) ≡ l.initial.lines.bytes ++ text_of (unmet_lines l.self l.list);
-  any : l.any || has_lines (unmet_lines l.self (drop l.name-index l.list)) ≡ has_lines (unmet_lines l.self l.list);
+  bytes : l.lines.bytes ++ text_of (unmet_lines l.self.core (drop l.name-index l.list)) ≡ l.initial.lines.bytes ++ text_of (unmet_lines l.self.core l.list);
+  any : l.any || has_lines (unmet_lines l.self.core (drop l.name-index l.list)) ≡ has_lines (unmet_lines l.self.core l.list);
 }

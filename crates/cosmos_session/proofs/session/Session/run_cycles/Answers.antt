@@ -1,23 +1,55 @@
 -- A fault in a cycle leaves a part of the text of all cycles.
-use Rattle.std.proofs.Common.{◌∙◌}
+use Rattle.std.proofs.Common.{ℕ, List, length, refl, sym, ap, subst, ◌∙◌, arith}
 use Rattle.std.proofs.lemmas.Result.{err_from_is_err_and}
-use Rattle.cosmos_session.proofs.BeatLemmas.{cycle_done, cycle_stopped}
+use Rattle.cosmos_session.specs.Sessions.{places_of}
+use Rattle.cosmos_session.specs.Stages.{BeatsMove}
+use Rattle.cosmos_session.proofs.BeatLemmas.{beats_done-none, no_cycle, cycle_done, cycle_stopped}
+use Rattle.cosmos_session.proofs.MoveLemmas.{beats_move-none, cycle_moves}
 use Rattle.cosmos_session.proofs.session.Session.run_cycles.Goals as goal
+
+pub loop-cycle-init : goal.loop-cycle-init
+loop-cycle-init g c =
+    let start = c.args.self.now in
+    record {
+      done = beats_done-none start.core (places_of start.core.clocks) (g.S.Sink.written c.args.out.now);
+      moves = subst (λ (places : List ℕ). BeatsMove places start start) (sym (no_cycle (places_of start.core.clocks)))
+          (beats_move-none start c.requires.there);
+      there = c.requires.there;
+      clocks = refl;
+      circuit = refl;
+      watched = refl;
+      room = refl;
+      faults = refl;
+      refusals = refl;
+    }
+
+pub run_cycle-requires-clause-there : goal.run_cycle-requires-clause-there
+run_cycle-requires-clause-there g c = c.loop-cycle.invariant.there
+
+pub run_cycle-requires-clause-inputs : goal.run_cycle-requires-clause-inputs
+run_cycle-requires-clause-inputs g c = rw (c.loop-cycle.invariant.clocks, c.loop-cycle.invariant.circuit) c.requires.inputs
+
+pub run_cycle-requires-clause-room : goal.run_cycle-requires-clause-room
+run_cycle-requires-clause-room g c =
+    omega (arith, ap length c.loop-cycle.invariant.watched, c.loop-cycle.invariant.room, c.requires.room)
 
 pub returns-in_err-run_cycle-clause-beats : goal.returns-in_err-run_cycle-clause-beats
 returns-in_err-run_cycle-clause-beats g c =
     let stopped = err_from_is_err_and c.from_residual.result c.from_residual.ensures.1 in
-    rw stopped.1 (cycle_stopped c.args.self.now c.loop-cycle.self c.run_cycle.new.self c.loop-cycle._cycle c.args.times
+    rw stopped.1 (cycle_stopped c.args.self.now.core c.loop-cycle.self.core c.run_cycle.new.self.core c.loop-cycle._cycle c.args.times
     (g.S.Sink.written c.args.out.now) (g.S.Sink.written c.loop-cycle.out) (g.S.Sink.written c.run_cycle.new.out)
     c.in_err-run_cycle.field-0.0 c.requires.ready c.loop-cycle-test.true c.loop-cycle.invariant.done c.in_err-run_cycle.ensures.beats)
 
 pub loop-cycle-preserved : goal.loop-cycle-preserved
 loop-cycle-preserved g c = record {
-  done = cycle_done c.args.self.now c.loop-cycle.self c.run_cycle.new.self c.loop-cycle._cycle
+  done = cycle_done c.args.self.now.core c.loop-cycle.self.core c.run_cycle.new.self.core c.loop-cycle._cycle
       (g.S.Sink.written c.args.out.now) (g.S.Sink.written c.loop-cycle.out) (g.S.Sink.written c.run_cycle.new.out)
       c.loop-cycle.invariant.done c.in_ok-run_cycle.ensures.beats;
-  state = c.run_cycle.ensures.state;
-  fits = c.run_cycle.ensures.fits;
+  moves = cycle_moves c.args.self.now c.loop-cycle.self c.run_cycle.new.self c.loop-cycle._cycle c.loop-cycle.invariant.moves
+      c.in_ok-run_cycle.ensures.moves;
+  there = c.run_cycle.ensures.there;
+  clocks = c.run_cycle.ensures.clocks ∙ c.loop-cycle.invariant.clocks;
+  circuit = c.run_cycle.ensures.circuit ∙ c.loop-cycle.invariant.circuit;
   watched = c.run_cycle.ensures.watched ∙ c.loop-cycle.invariant.watched;
   room = c.run_cycle.ensures.room ∙ c.loop-cycle.invariant.room;
   faults = c.in_ok-run_cycle.ensures.faults ∙ c.loop-cycle.invariant.faults;

@@ -1,17 +1,19 @@
--- The cycles before this one are run, with their lines sent, and the stepper has the session's state.
-use Rattle.std.proofs.Common.{◌≡◌}
-use Rattle.oscillation_x.specs.PlainStepping.{HasRoom}
+-- The cycles before this one are run, with their lines sent, by the machine that is there.
+use Rattle.std.proofs.Common.{◌≡◌, true, is_some}
 use Rattle.cosmos_session.specs.Sessions.{places_of}
 use Rattle.cosmos_session.specs.Effects.{places_in}
+use Rattle.cosmos_session.specs.Stages.{BeatsMove}
 use Rattle.cosmos_session.proofs.BeatLemmas.{BeatsDone}
 use Rattle.cosmos_session.proofs.session.Session.run_cycles.Given as goal
 
 abbrev pub invariant-loop-cycle : goal.invariant-loop-cycle
 invariant-loop-cycle g l = record {
-  done : BeatsDone l.fn.self l.self (places_in (places_of l.fn.self.clocks) l._cycle) (g.S.Sink.written l.fn.out) (g.S.Sink.written l.out);
-  state : l.stepper.state ≡ l.self.state;
-  fits : HasRoom l.stepper l.self.circuit.graph;
-  watched : l.self.watched ≡ l.fn.self.watched;
+  done : BeatsDone l.fn.self.core l.self.core (places_in (places_of l.fn.self.core.clocks) l._cycle) (g.S.Sink.written l.fn.out) (g.S.Sink.written l.out);
+  moves : BeatsMove (places_in (places_of l.fn.self.core.clocks) l._cycle) l.fn.self l.self;
+  there : is_some l.self.machine ≡ true;
+  clocks : l.self.core.clocks ≡ l.fn.self.core.clocks;
+  circuit : l.self.core.circuit ≡ l.fn.self.core.circuit;
+  watched : l.self.core.watched ≡ l.fn.self.core.watched;
   room : l.room ≡ l.fn.room;
   faults : g.S.Sink.faults l.out ≡ g.S.Sink.faults l.fn.out;
   refusals : g.S.Sink.refusals l.out ≡ g.S.Sink.refusals l.fn.out;

@@ -4,8 +4,8 @@ use Rattle.cosmos_session.proofs.RefusalLemmas.{or_else-none, set_known}
 use Rattle.cosmos_session.proofs.ClockLemmas.{IsSession-clocks}
 use Rattle.cosmos_session.proofs.session.Session.set_clocks.Goals as goal
 
-pub returns-in-Some : goal.returns-in-Some
-returns-in-Some c = (rw (← c.self.view_is, ← c.items.ensures) (sym c.in-Some.ensures), refl)
+pub returns-in-Some-clause-quiet : goal.returns-in-Some-clause-quiet
+returns-in-Some-clause-quiet c = (rw (← c.self.view_is, ← c.items.ensures) (sym c.in-Some.ensures), refl)
 
 pub named_clocks-requires : goal.named_clocks-requires
 named_clocks-requires c =
@@ -14,6 +14,10 @@ named_clocks-requires c =
 
 pub invariant_of-self : goal.invariant_of-self
 invariant_of-self c =
+    let session = the_view c.self.inside in
     let allowed = or_else-none _ _ (sym (rw (c.in_default.is, c.items.ensures) at c.clocks_refusal.ensures)) in
-    IsSession-clocks (the_view c.self.inside) c.args.list.now _ c.requires allowed.0 allowed.1
-    (rw c.items-2.ensures at c.in_ok-self-inside.ensures.items) c.in_ok-self-inside.ensures.within c.self.invariant
+    record {
+      core = IsSession-clocks session.core c.args.list.now _ c.requires allowed.0 allowed.1
+          (rw c.items-2.ensures at c.in_ok-self-inside.ensures.items) c.in_ok-self-inside.ensures.within c.self.invariant.core;
+      machine = c.self.invariant.machine;
+    }

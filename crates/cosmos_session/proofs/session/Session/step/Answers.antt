@@ -1,13 +1,16 @@
--- A unit step keeps the rails' states.
-use Rattle.std.proofs.Common.{◌≡◌, ◌∙◌}
-use Rattle.path_meaning.specs.Step.{IsStep}
-use Rattle.cosmos_session.proofs.StateLemmas.{sound-step}
+use Rattle.std.proofs.Common.{refl}
+use Rattle.script_lang.specs.declared.command.Command.TheVariants as asked
+use Rattle.cosmos_session.proofs.OutcomeLemmas.{ready_obeys, on_ok}
+use Rattle.cosmos_session.proofs.MoveLemmas.{step-readied}
 use Rattle.cosmos_session.proofs.session.Session.step.Goals as goal
 
-pub move_to-requires-clause-sound : goal.move_to-requires-clause-sound
-move_to-requires-clause-sound g c =
-    let circuit = c.self.inside.circuit in
-    let state : c.in_ok-stepper.stepper.state ≡ c.self.inside.state.items = c.in_ok-stepper.ensures.state ∙ c.deref.ensures.value in
-    let step : IsStep circuit.graph c.self.inside.state.items c.step_uncounted.new.stepper.state =
-    rw (c.graph-2.ensures.value, state) at c.step_uncounted.ensures in
-    rw c.state.ensures (sound-step circuit c.graph.ensures.netlist _ _ step c.self.invariant.ready.sound)
+pub returns-clause-obeys : goal.returns-clause-obeys
+returns-clause-obeys g c =
+    let sent = c.step_and_send.ensures.step in
+    ready_obeys c.args.self.now c.prepare.new.self c.step_and_send.new.self asked.Step sent.lines _ _ _ _ _ _ c.step_and_send.result refl refl
+    c.in_ok-prepare.ensures sent.step (sent.lines, sent.step) sent.sent c.step_and_send.ensures.cause c.step_and_send.ensures.refusals
+
+pub returns-clause-machine : goal.returns-clause-machine
+returns-clause-machine g c =
+    on_ok _ c.step_and_send.result
+    (step-readied c.args.self.now c.prepare.new.self c.step_and_send.new.self _ _ c.in_ok-prepare.ensures c.step_and_send.ensures.machine)

@@ -2,8 +2,8 @@ use Rattle.std.proofs.Common.{refl, sym}
 use Rattle.cosmos_session.proofs.RefusalLemmas.{names_known}
 use Rattle.cosmos_session.proofs.session.Session.watch.Goals as goal
 
-pub returns-in-Some : goal.returns-in-Some
-returns-in-Some c = (rw (← c.self.view_is, ← c.items.ensures, ← c.in-Some.ensures) refl, refl)
+pub returns-in-Some-clause-quiet : goal.returns-in-Some-clause-quiet
+returns-in-Some-clause-quiet c = (rw (← c.self.view_is, ← c.items.ensures, ← c.in-Some.ensures) refl, refl)
 
 pub append_nodes-requires-clause-known : goal.append_nodes-requires-clause-known
 append_nodes-requires-clause-known c =

@@ -1,0 +1,29 @@
+-- A cycle that isn't refused has clocks, whose nodes are input nodes; a build changes neither.
+use Rattle.std.proofs.Common.{◌≡◌, None, sym, subst}
+use Rattle.cosmos_session.specs.Sessions.{HeldSession}
+use Rattle.cosmos_session.specs.Refusals.{cycle_refusal}
+use Rattle.cosmos_session.proofs.OutcomeLemmas.{cycle_obeys, on_ok-map}
+use Rattle.cosmos_session.proofs.MachineLemmas.{cycle_inputs}
+use Rattle.cosmos_session.proofs.MoveLemmas.{cycle-readied}
+use Rattle.cosmos_session.proofs.session.Session.cycle.Goals as goal
+
+pub run_cycles-requires-clause-inputs : goal.run_cycles-requires-clause-inputs
+run_cycles-requires-clause-inputs g c =
+    let none : cycle_refusal c.self.inside.circuit c.self.inside.clocks.items ≡ None =
+    sym (rw (c.in_default.is, c.deref.ensures.value) at c.cycle_refusal.ensures) in
+    let allowed = subst (λ (s : HeldSession). cycle_refusal s.core.circuit s.core.clocks ≡ None) c.self.view_is none in
+    let ready = c.in_ok-prepare.ensures in
+    rw ready.build.grown (cycle_inputs c.args.self.now.core.circuit c.args.self.now.core.clocks allowed)
+
+pub returns-clause-obeys : goal.returns-clause-obeys
+returns-clause-obeys g c =
+    let none : cycle_refusal c.self.inside.circuit c.self.inside.clocks.items ≡ None =
+    sym (rw (c.in_default.is, c.deref.ensures.value) at c.cycle_refusal.ensures) in
+    let allowed = subst (λ (s : HeldSession). cycle_refusal s.core.circuit s.core.clocks ≡ None) c.self.view_is none in
+    cycle_obeys c.args.self.now c.prepare.new.self c.run_cycles.new.self c.args.times _ _ _ _ _ _ c.run_cycles.result allowed
+    c.in_ok-prepare.ensures c.run_cycles.ensures.beats c.run_cycles.ensures.cause c.run_cycles.ensures.refusals
+
+pub returns-clause-machine : goal.returns-clause-machine
+returns-clause-machine g c =
+    on_ok-map _ _ c.run_cycles.result
+    (cycle-readied c.args.self.now c.prepare.new.self c.run_cycles.new.self _ _ c.in_ok-prepare.ensures c.args.times) c.run_cycles.ensures.moves

@@ -1,0 +1,80 @@
+-- What is built before a command: the texts of the circuit's groups that aren't kept are analysed.
+-- After Beatty and Bryant, "Fast Incremental Circuit Analysis Using Extracted Hierarchy", 1988.
+use Rattle.std.specs.Prelude.{◌≡◌, ◌<◌, Bool, true, false, List, [], ◌++◌, length}
+use Rattle.ternary.specs.Counts.{raised}
+use Rattle.group_text.specs.Texts.{GroupTextData}
+use Rattle.circuit_texts.specs.Building.{BuildsFresh}
+use Rattle.script_lang.specs.declared.command.Command.{Command}
+use Rattle.script_lang.specs.declared.command.Command.TheVariants.{Input, Store, Set, Charge, Watch, Limit, Step, Phase, Clock, Cycle, Expect, Add, Del, Strength, Kind, Wire, Report}
+use Rattle.circuit_texts.specs.declared.texts.BuildFault.{BuildFault}
+use Rattle.circuit_texts.specs.declared.texts.BuildFault.TheVariants as build
+use Rattle.path_meaning.specs.Graphs.{GraphData, nodes}
+use Rattle.netlist.specs.declared.fault.EditFault.{EditFault}
+use Rattle.netlist.specs.declared.fault.EditFault.TheVariants as edit
+use Rattle.cosmos_session.specs.declared.fault.Refusal.TheVariants as refusal
+use Rattle.cosmos_session.specs.declared.fault.ApplyFault.{ApplyFault}
+use Rattle.cosmos_session.specs.declared.fault.ApplyFault.TheVariants.{Refused, GroupNodes, GroupSwitches, WriteFault, NoMemory}
+use Rattle.cosmos_session.specs.Sessions.{SessionData}
+
+-- the command builds the present circuit before it has its effect
+abbrev pub builds : Command → Bool
+builds (Input names) = false
+builds (Store name size) = false
+builds (Set list) = false
+builds (Charge list) = false
+builds (Watch names) = false
+builds (Limit number) = false
+builds Step = true
+builds Phase = true
+builds (Clock list) = false
+builds (Cycle times) = true
+builds (Expect list) = false
+builds (Add kind gate source drain strength) = false
+builds (Del number) = false
+builds (Strength number strength) = false
+builds (Kind number kind) = false
+builds (Wire number gate source drain) = false
+builds Report = true
+
+-- the data after these texts were analysed: they are kept behind what was kept, and counted
+abbrev pub with_texts : SessionData → List GroupTextData → SessionData
+with_texts old texts = record old { kept = old.kept ++ texts; fresh = raised old.fresh (length texts) }
+
+-- the present circuit was built: what isn't kept of its groups' texts was analysed
+pub record IsBuild (old mid : SessionData) (texts : List GroupTextData) : Type 0 where
+  pub news : BuildsFresh old.circuit.graph old.kept texts
+  pub grown : mid ≡ with_texts old texts
+
+-- the present circuit was built, or not: then nothing was analysed
+abbrev pub BuildsIf : Bool → SessionData → SessionData → List GroupTextData → Type 0
+BuildsIf true old mid texts = IsBuild old mid texts
+BuildsIf false old mid texts = (mid ≡ old) × (texts ≡ [])
+
+-- what stands before the command's effect: the data then, and the texts that were analysed
+abbrev pub Prepares : SessionData → Command → SessionData → List GroupTextData → Type 0
+Prepares old command mid texts = BuildsIf (builds command) old mid texts
+
+-- what ends a command for which the circuit can't be built
+abbrev pub fault_of_build : BuildFault → ApplyFault
+fault_of_build (build.GroupNodes node count) = GroupNodes node count
+fault_of_build (build.GroupSwitches node count) = GroupSwitches node count
+fault_of_build build.NoMemory = NoMemory
+
+-- what ends a command whose edit isn't done; an edit of transistors never finds that both names are in use
+abbrev pub fault_of_edit : EditFault → ApplyFault
+fault_of_edit edit.NoSuchSwitch = Refused refusal.NoSuchSwitch
+fault_of_edit edit.Rail = Refused refusal.Rail
+fault_of_edit edit.BadStrength = Refused refusal.BadStrength
+fault_of_edit edit.BadSize = Refused refusal.BadSize
+fault_of_edit edit.AliasTaken = NoMemory
+fault_of_edit edit.TooManyNodes = Refused refusal.TooManyNodes
+fault_of_edit edit.TooManySwitches = Refused refusal.TooManySwitches
+fault_of_edit edit.NoMemory = NoMemory
+
+-- the node that a fault names, where it names one, is one of the graph's
+abbrev pub NamesNode : GraphData → ApplyFault → Type 0
+NamesNode g (Refused refusal) = Unit {0}
+NamesNode g (GroupNodes node count) = node < nodes g
+NamesNode g (GroupSwitches node count) = node < nodes g
+NamesNode g WriteFault = Unit {0}
+NamesNode g NoMemory = Unit {0}

@@ -1,0 +1,182 @@
+-- The state of a session's nodes, and the machine that moves it, where there is one: what calls inside the session do to both.
+use Rattle.std.specs.Prelude.{◌≡◌, ◌≢◌, ℕ, ◌<◌, ◌⊎◌, Bool, false, List, ◌++◌, All, Option, None, Some, Result, Ok, Err}
+use Rattle.ternary.specs.declared.tern.Tern.{Tern}
+use Rattle.ternary.specs.Counts.{raised}
+use Rattle.strength_order.specs.declared.TheConstants.{INPUT_LEVEL}
+use Rattle.path_meaning.specs.Graphs.{GraphData, level_of}
+use Rattle.path_meaning.specs.Step.{IsStep}
+use Rattle.oscillation_x.specs.Settling.{Settles}
+use Rattle.group_text.specs.Texts.{GroupTextData}
+use Rattle.circuit_texts.specs.declared.texts.BuildFault.{BuildFault}
+use Rattle.circuit_texts.specs.declared.texts.BuildFault.TheVariants as build
+use Rattle.circuit_texts.specs.Sizes.{TellsTooLarge}
+use Rattle.circuit_texts.specs.Building.{IsCutOff}
+use Rattle.unit_step.specs.Parts.{HasMember}
+use Rattle.unit_step.specs.Machines.{MachineData, IsMarked}
+use Rattle.unit_step.specs.Stepping.{Places, ReadsChange}
+use Rattle.unit_step.specs.Fitting.{FitsGraph}
+use Rattle.netlist.specs.Circuits.{CircuitData}
+use Rattle.netlist.specs.Edits.{node_named}
+use Rattle.cosmos_session.specs.declared.fault.ApplyFault.{ApplyFault}
+use Rattle.cosmos_session.specs.declared.fault.ApplyFault.TheVariants.{Refused, GroupNodes, GroupSwitches, WriteFault, NoMemory}
+use Rattle.cosmos_session.specs.declared.stage.Held.{Held}
+use Rattle.cosmos_session.specs.declared.stage.Held.TheVariants.{Still, Built}
+use Rattle.cosmos_session.specs.Sessions.{SessionData, HeldSession, ClockData}
+use Rattle.cosmos_session.specs.Lines.{Line, text_of}
+use Rattle.cosmos_session.specs.Effects.{IsUnitStep, IsPhase, AreBeats, IsReported, moved_to}
+use Rattle.cosmos_session.specs.Preparing.{IsBuild}
+use Rattle.cosmos_session.specs.Machines.{ConcernsNamed, BuildsMachine, MovesMachine, moves_of, placed_of}
+use Rattle.cosmos_session.specs.Outcomes.{Sent}
+
+-- the state, and the machine, where there is one
+pub record StageData : Type 0 where
+  pub state : List Tern
+  pub machine : Option MachineData
+
+-- the state that stands alone, or is the machine's
+abbrev pub state_held : Held → List Tern
+state_held (Still state) = state.items
+state_held (Built machine) = machine.state
+
+-- the machine, where there is one
+abbrev pub machine_held : Held → Option MachineData
+machine_held (Still state) = None
+machine_held (Built machine) = Some machine
+
+-- a node was placed in a machine
+pub record PutsNode (g : GraphData) (node : ℕ) (value : Tern) (old new : MachineData) : Type 0 where
+  pub places : Places node value old new
+  pub fits : FitsGraph g old → FitsGraph g new
+  pub unplaced : ((k : ℕ) → ¬ HasMember old.parts k node) → new.placed ≡ old.placed
+
+-- a node was placed in the machine, if there is one
+abbrev pub PutsIn : GraphData → ℕ → Tern → Option MachineData → Option MachineData → Type 0
+PutsIn g node value None new = new ≡ None
+PutsIn g node value (Some machine) new = (next : MachineData) × (new ≡ Some next) × PutsNode g node value machine next
+
+-- named nodes were placed in a machine: it fits a graph that it fitted, it didn't move, those parts alone are marked more that the nodes
+-- concern, and where all are input nodes no member was placed
+pub record Assigns (c : CircuitData) (names : List (List ℕ)) (old new : MachineData) : Type 0 where
+  pub fits : FitsGraph c.graph old → FitsGraph c.graph new
+  pub parts : new.parts ≡ old.parts
+  pub moves : new.moves ≡ old.moves
+  pub marks : (k : ℕ) → IsMarked new.marks k → IsMarked old.marks k ⊎ ConcernsNamed c names old.parts k
+  pub unplaced : FitsGraph c.graph old → All (λ name. level_of c.graph (node_named c name) ≡ INPUT_LEVEL) names → new.placed ≡ old.placed
+
+-- named nodes were placed in the machine, if there is one
+abbrev pub AssignsIn : CircuitData → List (List ℕ) → Option MachineData → Option MachineData → Type 0
+AssignsIn c names None new = new ≡ None
+AssignsIn c names (Some machine) new = (next : MachineData) × (new ≡ Some next) × Assigns c names machine next
+
+-- clocks' nodes were placed in a machine: it fits a graph that it fitted, it didn't move, and where all are input nodes no member was
+-- placed
+pub record Ticks (g : GraphData) (clocks : List ClockData) (old new : MachineData) : Type 0 where
+  pub fits : FitsGraph g old → FitsGraph g new
+  pub moves : new.moves ≡ old.moves
+  pub unplaced : FitsGraph g old → All (λ clock. level_of g clock.node ≡ INPUT_LEVEL) clocks → new.placed ≡ old.placed
+
+-- clocks' nodes were placed in the machine, if there is one
+abbrev pub TicksIn : GraphData → List ClockData → Option MachineData → Option MachineData → Type 0
+TicksIn g clocks None new = new ≡ None
+TicksIn g clocks (Some machine) new = (next : MachineData) × (new ≡ Some next) × Ticks g clocks machine next
+
+-- a machine took a unit step of the graph: it moved once where something changed, and those parts alone are marked that read a node
+-- which did
+pub record TakesStep (g : GraphData) (old new : MachineData) : Type 0 where
+  pub step : IsStep g old.state new.state
+  pub fits : FitsGraph g new
+  pub moved : new.state ≢ old.state → new.moves ≡ raised old.moves 1
+  pub rested : new.state ≡ old.state → new.moves ≡ old.moves
+  pub placed : new.placed ≡ old.placed
+  pub marks : (k : ℕ) → IsMarked new.marks k → ReadsChange new.parts old.state new.state k
+
+-- a machine settled: it made each step that changed something, and where it came to rest in time no part is marked
+pub record TakesPhase (g : GraphData) (limit : ℕ) (old new : MachineData) (steps : ℕ) (joined : Bool) : Type 0 where
+  pub settles : Settles g old.state limit new.state steps joined
+  pub fits : FitsGraph g new
+  pub moves : new.moves ≡ raised old.moves steps
+  pub placed : new.placed ≡ old.placed
+  pub rests : joined ≡ false → steps < limit → (k : ℕ) → ¬ IsMarked new.marks k
+
+-- there was a machine and there is one, whose states are these, and this leads from the one to the other
+pub record MovesBy (Leads : MachineData → MachineData → Type 0) (old new : StageData) : Type 0 where
+  pub before : MachineData
+  pub after : MachineData
+  pub was : old.machine ≡ Some before
+  pub there : new.machine ≡ Some after
+  pub from : before.state ≡ old.state
+  pub to : after.state ≡ new.state
+  pub leads : Leads before after
+
+-- the circuit was built: there is a machine, and what was not kept was analysed
+pub record Readied (old new : HeldSession) (asked told : List GroupTextData) : Type 0 where
+  pub texts : List GroupTextData
+  pub build : IsBuild old.core new.core texts
+  pub analysed : told ≡ asked ++ texts
+  pub machine : BuildsMachine old new
+
+-- a build found want of memory: all is as before, but that a front of the texts that it analyses may be kept
+pub record CutOff (old new : HeldSession) (asked told : List GroupTextData) : Type 0 where
+  pub core : new.core ≡ record old.core { kept = new.core.kept }
+  pub machine : new.machine ≡ old.machine
+  pub cut_off : IsCutOff old.core.circuit.graph old.core.kept new.core.kept asked told
+
+-- the circuit can't be built: the first group that is too large is told, and all is as before
+pub record TooLarge (old new : HeldSession) (asked told : List GroupTextData) (fault : BuildFault) : Type 0 where
+  pub first : TellsTooLarge old.core.circuit.graph fault
+  pub same : new ≡ old
+  pub unasked : told ≡ asked
+
+-- what making a session ready for unit steps comes to
+abbrev pub Readies : HeldSession → HeldSession → List GroupTextData → List GroupTextData → Result (Unit {0}) ApplyFault → Type 0
+Readies old new asked told (Ok _) = Readied old new asked told
+Readies old new asked told (Err (Refused refusal)) = ⊥
+Readies old new asked told (Err (GroupNodes node count)) = TooLarge old new asked told (build.GroupNodes node count)
+Readies old new asked told (Err (GroupSwitches node count)) = TooLarge old new asked told (build.GroupSwitches node count)
+Readies old new asked told (Err WriteFault) = ⊥
+Readies old new asked told (Err NoMemory) = CutOff old new asked told
+
+-- a unit step was done
+pub record IsUnitStepDone (old new : SessionData) : Type 0 where
+  pub next : List Tern
+  pub step : IsStep old.circuit.graph old.state next
+  pub moved : new ≡ moved_to old next
+
+-- the state settled by the machine
+pub record IsSettled (old new : HeldSession) (steps : ℕ) (joined : Bool) : Type 0 where
+  pub next : List Tern
+  pub settles : Settles old.core.circuit.graph old.core.state old.core.limit next steps joined
+  pub moved : new.core ≡ moved_to old.core next
+  pub machine : MachineData
+  pub there : new.machine ≡ Some machine
+  pub moves : machine.moves ≡ raised (moves_of old.machine) steps
+  pub placed : machine.placed ≡ placed_of old.machine
+  pub rests : joined ≡ false → steps < old.core.limit → (k : ℕ) → ¬ IsMarked machine.marks k
+
+-- a unit step was done, and its line sent, or a part of it from the start
+pub record IsStepSent (old new : SessionData) (before after : Option (List ℕ)) (result : Result (Unit {0}) ApplyFault) : Type 0 where
+  pub lines : List Line
+  pub step : IsUnitStep old new lines
+  pub sent : Sent before after lines result
+
+-- a phase was done by the machine
+pub record PhaseMoves (old new : HeldSession) : Type 0 where
+  pub lines : List Line
+  pub phase : IsPhase old.core new.core lines
+  pub moves : MovesMachine old.core.limit old.machine new.machine lines
+
+-- phases at these places were done by the machine
+pub record BeatsMove (places : List ℕ) (old new : HeldSession) : Type 0 where
+  pub lines : List Line
+  pub beats : AreBeats old.core places new.core lines
+  pub moves : MovesMachine old.core.limit old.machine new.machine lines
+
+-- a report was done, and its line put behind these bytes
+pub record IsReportPut (old new : HeldSession) (before after : List ℕ) : Type 0 where
+  pub lines : List Line
+  pub report : IsReported old.core new.core lines
+  pub put : after ≡ before ++ text_of lines
+
+-- behind phases at any places the machine did those at these
+abbrev pub BeatsMoveOn : List ℕ → HeldSession → HeldSession → Type 0
+BeatsMoveOn places old new = (start : HeldSession) (done : List ℕ) → BeatsMove done start old → BeatsMove (done ++ places) start new

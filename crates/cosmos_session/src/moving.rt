@@ -1,0 +1,98 @@
+//! What a session's machine does: unit steps, and phases that end at rest.
+
+ghost use Rattle.std.specs.Prelude.{◌≡◌, ◌≢◌, ℕ, ◌<◌, ◌≤◌, false};
+ghost use Rattle.std.specs.Bool.{OnTrue, OnFalse};
+ghost use Rattle.ternary.specs.Counts.{raised};
+ghost use Rattle.path_meaning.specs.Step.{IsStep};
+ghost use Rattle.oscillation_x.specs.Settling.{Settles};
+ghost use Rattle.unit_step.specs.Machines.{IsMarked};
+ghost use Rattle.unit_step.specs.Stepping.{Advances};
+ghost use Rattle.unit_step.specs.Fitting.{FitsGraph};
+ghost use Rattle.cosmos_session.specs.Stages.{TakesStep, TakesPhase};
+
+use oscillation_x::{MOST_LIMIT, Settled, Stepper, settle};
+use path_meaning::Graph;
+use std::marker::Brand;
+use std::sync::ledger::{Blank, Ledger};
+use ternary::Steps;
+use unit_step::Machine;
+
+/// Takes a unit step of a graph that the machine fits.
+pub(crate) fn take_step(machine: &mut Machine, graph: &Graph)
+    requires { FitsGraph graph.now machine.old }
+    ensures { TakesStep graph.now machine.old machine.new }
+{
+    step_uncounted::<Brand>(machine, graph, Blank::new(1));
+}
+
+/// Settles in a graph that the machine fits. Where it comes to rest in time, no part is marked: one step
+/// more changes nothing, counts for nothing, and leaves no mark.
+pub(crate) fn settle_to_rest(machine: &mut Machine, graph: &Graph, limit: u64) -> Settled
+    requires fits { FitsGraph graph.now machine.old }
+    requires low { 1 ≤ limit }
+    requires high { limit ≤ MOST_LIMIT }
+    ensures { TakesPhase graph.now limit machine.old machine.new result.steps result.joined }
+{
+    let settled = settle_uncounted::<Brand>(machine, graph, limit, Blank::new(1));
+    if is_at_rest(settled, limit) {
+        rest_uncounted::<Brand>(machine, graph, Blank::new(1));
+    }
+    settled
+}
+
+// Whether a phase came to rest in time.
+fn is_at_rest(settled: Settled, limit: u64) -> bool
+    ensures rest { OnTrue result ((settled.joined ≡ false) × (settled.steps < limit)) }
+    ensures moving { OnFalse result (settled.joined ≡ false → ¬ (settled.steps < limit)) }
+{
+    !settled.joined && settled.steps < limit
+}
+
+// One unit step, without counting the instructions that the machine runs.
+fn step_uncounted<L: Ledger>(machine: &mut Machine, graph: &Graph, blank: Blank)
+    requires name { blank.name ≡ L.name }
+    requires parts { blank.parts ≡ L.parts }
+    requires some { blank.parts ≢ 0 }
+    requires fits { FitsGraph graph.now machine.old }
+    ensures advances { Advances false machine.old machine.new }
+    ensures step { TakesStep graph.now machine.old machine.new }
+{
+    machine.step(graph, &mut Steps::<L>::new(blank));
+}
+
+// Settles, without counting the instructions that the machine runs.
+fn settle_uncounted<L: Ledger>(
+    machine: &mut Machine,
+    graph: &Graph,
+    limit: u64,
+    blank: Blank,
+) -> Settled
+    requires name { blank.name ≡ L.name }
+    requires parts { blank.parts ≡ L.parts }
+    requires some { blank.parts ≢ 0 }
+    requires low { 1 ≤ limit }
+    requires high { limit ≤ MOST_LIMIT }
+    requires fits { FitsGraph graph.now machine.old }
+    ensures settles { Settles graph.now machine.old.state limit machine.new.state result.steps result.joined }
+    ensures fits { FitsGraph graph.now machine.new }
+    ensures moves { machine.new.moves ≡ raised machine.old.moves result.steps }
+    ensures placed { machine.new.placed ≡ machine.old.placed }
+{
+    settle(machine, graph, limit, &mut Steps::<L>::new(blank))
+}
+
+// One unit step from a steady state: it leaves the state and the counts, and no mark.
+fn rest_uncounted<L: Ledger>(machine: &mut Machine, graph: &Graph, blank: Blank)
+    requires name { blank.name ≡ L.name }
+    requires parts { blank.parts ≡ L.parts }
+    requires some { blank.parts ≢ 0 }
+    requires fits { FitsGraph graph.now machine.old }
+    requires steady { IsStep graph.now machine.old.state machine.old.state }
+    ensures state { machine.new.state ≡ machine.old.state }
+    ensures fits { FitsGraph graph.now machine.new }
+    ensures moves { machine.new.moves ≡ machine.old.moves }
+    ensures placed { machine.new.placed ≡ machine.old.placed }
+    ensures rests { (k : ℕ) → ¬ IsMarked machine.new.marks k }
+{
+    step_uncounted::<L>(machine, graph, blank);
+}

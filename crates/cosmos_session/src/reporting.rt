@@ -1,0 +1,48 @@
+//! Reports: how many groups and texts there are, and how many texts were new.
+
+ghost use Rattle.std.specs.Prelude.{◌≡◌, ◌≤◌, true, is_some, OnOk};
+ghost use Rattle.script_lang.specs.declared.command.Command.TheVariants as asked;
+ghost use Rattle.cosmos_session.specs.Machines.{BuildsMachine};
+ghost use Rattle.cosmos_session.specs.Stages.{IsReportPut};
+ghost use Rattle.cosmos_session.specs.Sinks.{faults_applied};
+ghost use Rattle.cosmos_session.specs.Outcomes.{Obeys};
+
+use crate::fault::ApplyFault;
+use crate::session::Session;
+use crate::waves::send_text;
+use analysis_cache::Analyst;
+use port_edge::Sink;
+use wave_print::{LineBuf, REPORT_LINE_ROOM, report_line};
+
+impl Session {
+    /// `report`: a line with the numbers of groups, of distinct texts, and of texts that were analysed
+    /// since the last report.
+    pub(crate) fn report<A: Analyst, S: Sink>(
+        &mut self,
+        analyst: &mut A,
+        out: &mut S,
+    ) -> Result<(), ApplyFault>
+        ensures obeys { Obeys self.old asked.Report self.new (S.written out.old) (S.written out.new)
+            (A.analysed analyst.old) (A.analysed analyst.new) (S.refusals out.old) (S.refusals out.new) result }
+        ensures faults { S.faults out.new ≡ faults_applied (S.faults out.old) result }
+        ensures machine { OnOk result (BuildsMachine self.old self.new) }
+    {
+        let mut line = LineBuf::new(self.alloc, REPORT_LINE_ROOM)?;
+        self.prepare(analyst)?;
+        self.put_report(&mut line);
+        send_text(out, line.bytes())
+    }
+
+    // Puts the line of a report, with the machine's numbers, and begins to count anew. The machine is there.
+    fn put_report(&mut self, line: &mut LineBuf)
+        requires there { is_some self.old.machine ≡ true }
+        requires room { REPORT_LINE_ROOM ≤ line.old.spare }
+        ensures reported { IsReportPut self.old self.new line.old.bytes line.new.bytes }
+        ensures machine { self.new.machine ≡ self.old.machine }
+    {
+        let groups = self.stage.groups() as u64;
+        let texts = self.stage.texts() as u64;
+        report_line(line, groups, texts, self.fresh);
+        self.fresh = 0;
+    }
+}

@@ -1,0 +1,133 @@
+use cosmos_session::Session;
+use node_elimination::SymbolicAnalyst;
+use port_edge::HonestSink;
+use script_lang::read_command;
+use sim_read::read_netlist;
+use std::alloc::Global;
+use std::test::Fail;
+use table_keys::TableKeys;
+
+// A netlist, and the lines of a script in turn, with what each writes.
+type Row = (&'static [u8], &'static [(&'static [u8], &'static [u8])]);
+
+const ROWS: [Row; 3] = [
+    // `out` is the inverse of `a`, and `r` that of itself
+    (
+        b"n a Gnd out\np a Vdd out\nn r Gnd r\np r Vdd r\n",
+        &[
+            (b"input a", b""),
+            (b"store out 2", b""),
+            (b"watch a out r", b""),
+            (b"set a=1", b""),
+            (b"limit 4", b""),
+            (b"phase", b"1 1 10X\n"),
+            (b"charge out=1", b""),
+            (b"expect out=1 a=1", b""),
+            (
+                b"expect out=0 a=1 r=1",
+                b"expect out=0 got 1 after 1\nexpect r=1 got X after 1\n",
+            ),
+            (b"step", b"2 1 10X\n"),
+            (b"clock a=01", b""),
+            (b"cycle 2", b"3 1 01X\n4 1 10X\n5 1 01X\n6 1 10X\n"),
+            (b"charge r=0", b""),
+            (b"phase", b"7 5* 10X\n"),
+        ],
+    ),
+    // two equal inverters share a text; a transistor more makes another, and without it the first is kept
+    (
+        b"p a Vdd out1\nn a Gnd out1\np b Vdd out2\nn b Gnd out2\n",
+        &[
+            (b"input a b", b""),
+            (b"report", b"groups 2 texts 1 new 1\n"),
+            (b"add n en Gnd out1", b""),
+            (b"input en", b""),
+            (b"report", b"groups 2 texts 2 new 1\n"),
+            (b"del 5", b""),
+            (b"report", b"groups 2 texts 1 new 0\n"),
+        ],
+    ),
+    // strengths, kinds and wires make other texts, and back again none is new
+    (
+        b"p a Vdd out1\nn a Gnd out1\np b Vdd out2\nn b Gnd out2\n",
+        &[
+            (b"input a b", b""),
+            (b"report", b"groups 2 texts 1 new 1\n"),
+            (b"strength 1 1", b""),
+            (b"report", b"groups 2 texts 2 new 1\n"),
+            (b"strength 3 1", b""),
+            (b"report", b"groups 2 texts 1 new 0\n"),
+            (b"wire 3 a Vdd out2", b""),
+            (b"report", b"groups 2 texts 2 new 1\n"),
+            (b"watch out2", b""),
+            (b"set a=1 b=1", b""),
+            (b"phase", b"1 1 0\n"),
+            (b"type 4 d", b""),
+            (b"set a=1 b=0", b""),
+            (b"phase", b"2 0 0\n"),
+        ],
+    ),
+];
+
+#[test]
+fn commands_write_their_lines(rt: HostRuntime) -> Result<(), Fail> {
+    for (net, lines) in &ROWS {
+        let mut session = session_of(rt.alloc(), net)?;
+        let mut analyst = SymbolicAnalyst::new(rt.alloc());
+        let mut out = HonestSink::new(rt.alloc());
+        for (line, text) in *lines {
+            let before = out.written().len();
+            match read_command(rt.alloc(), line)? {
+                Some(command) => {
+                    assert_eq!(rt; session.apply(&command, &mut analyst, &mut out), Ok(()));
+                }
+                None => panic!(rt; "no command"),
+            }
+            assert_eq!(rt; out.written().get(before..), Some(*text));
+        }
+    }
+    Ok(())
+}
+
+// two inverters in a row, a -> b -> c
+const PAIR: &[u8] = b"p a Vdd b\nn a Gnd b\np b Vdd c\nn b Gnd c\n";
+
+// Lines of a script in turn, with the numbers of marked groups, of moves and of placed members after them.
+const MARKS: [(&[u8], Option<(usize, u64, u64)>); 9] = [
+    (b"input a", None),
+    (b"watch a b c", None),
+    (b"set a=0", None),
+    (b"phase", Some((0, 2, 0))),
+    (b"limit 1", Some((0, 2, 0))),
+    (b"set a=1", Some((1, 2, 0))),
+    (b"phase", Some((1, 4, 0))),
+    (b"phase", Some((0, 5, 0))),
+    (b"input c", None),
+];
+
+#[test]
+fn the_machine_stays_until_an_edit(rt: HostRuntime) -> Result<(), Fail> {
+    let mut session = session_of(rt.alloc(), PAIR)?;
+    let mut analyst = SymbolicAnalyst::new(rt.alloc());
+    let mut out = HonestSink::new(rt.alloc());
+    for (line, counts) in &MARKS {
+        match read_command(rt.alloc(), line)? {
+            Some(command) => {
+                assert_eq!(rt; session.apply(&command, &mut analyst, &mut out), Ok(()));
+            }
+            None => panic!(rt; "no command"),
+        }
+        let machine = session.machine();
+        assert_eq!(rt;
+            machine.map(|machine| (machine.marked(), machine.moves(), machine.placed())),
+            *counts
+        );
+    }
+    Ok(())
+}
+
+// A session at its start.
+fn session_of(alloc: Global, net: &[u8]) -> Result<Session, Fail> {
+    let circuit = read_netlist(alloc, TableKeys::fixed(), net)?;
+    Ok(Session::new(alloc, circuit)?)
+}
