@@ -1,7 +1,5 @@
 -- How the ends of the parts of a run become the ends of the whole.
 use Rattle.std.proofs.Common.{◌≡◌, ℕ, inl, inr, IfErr, List, [], ◌++◌, Option, None, Some, IfSome, Result, Ok, Err, refl, sym, ap, subst, ◌∙◌, append-nil}
-use Rattle.std.specs.Io.KnownBytes.{append_known}
-use Rattle.port_edge.proofs.SendingLemmas.{append_known-append, sends_part, part_whole, part_longer}
 use Rattle.group_text.specs.Texts.{GroupTextData}
 use Rattle.cosmos_app.specs.declared.stop.End as end
 use Rattle.cosmos_app.specs.declared.stop.End.TheVariants as ended
@@ -9,31 +7,9 @@ use Rattle.cosmos_app.specs.declared.stop.Stop.{Stop}
 use Rattle.cosmos_app.specs.declared.stop.Stop.TheVariants.{Read, Write, Memory}
 use Rattle.cosmos_app.specs.declared.status.Status.{Status}
 use Rattle.cosmos_app.specs.declared.status.Status.TheVariants.{ReadFault}
-use Rattle.cosmos_app.specs.Runs.{Answer, after_text}
+use Rattle.cosmos_app.specs.Runs.{Answer}
 use Rattle.cosmos_app.specs.Answers.{IsAnswer, IsAnswered}
 use Rattle.cosmos_app.specs.Ends.{IsTold, IsToldBy, IsUntouched, status_after}
-
--- what is told of an answer after a text was sent is told of the answer that begins with the text
-pub told_after : (IsNext IsRight : Answer → Type 0) (before now new : Option (List ℕ)) (sent : List ℕ) (result : Result end.End Stop)
-    → now ≡ append_known before sent → ((answer : Answer) → IsNext answer → IsRight (after_text sent answer))
-    → (answer : Answer) × IsNext answer → IsTold IsNext now new result → IsTold IsRight before new result
-told_after IsNext IsRight before now new sent (Ok end) grew goes_on some told = record {
-  answer = after_text sent told.answer;
-  right = goes_on told.answer told.right;
-  ended = told.ended;
-  grew = told.grew ∙ ap (λ known. append_known known told.answer.text) grew ∙ append_known-append before sent told.answer.text;
-}
-told_after IsNext IsRight before now new sent (Err stop) grew goes_on (answer, right) (inl same) = inr (record {
-  answer = after_text sent answer;
-  right = goes_on answer right;
-  part = part_longer before new sent answer.text (part_whole before new sent (same ∙ grew));
-})
-told_after IsNext IsRight before now new sent (Err stop) grew goes_on some (inr begun) = inr (record {
-  answer = after_text sent begun.answer;
-  right = goes_on begun.answer begun.right;
-  part = sends_part before now new (sent ++ begun.answer.text) begun.answer.text []
-      (record { sent = sent; whole = ap (λ rest. sent ++ rest) (sym (append-nil begun.answer.text)); grew = grew }) begun.part;
-})
 
 -- what is right in one sense is right in another
 pub told_as : (IsRight IsMeant : Answer → Type 0) (old new : Option (List ℕ)) (result : Result end.End Stop)

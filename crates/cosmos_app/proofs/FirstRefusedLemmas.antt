@@ -1,108 +1,126 @@
--- A script runs line by line: what it writes is what the lines before the first refused one write, and then that refusal.
-use Rattle.std.proofs.Common.{◌≡◌, ℕ, inl, inr, Bool, true, false, List, [], ◌∷◌, ◌++◌, Option, Some, None, Result, Ok, Err, refl, sym, ap, subst, ◌∙◌, append_assoc, append-nil, true≢false}
+-- A script runs line by line: what comes of it is what comes of the lines before the first refused one, and then that refusal.
+use Rattle.std.proofs.Common.{◌≡◌, ℕ, inl, inr, true, List, [], ◌∷◌, ◌++◌, Option, refl, sym, ap, subst, ◌∙◌, append_assoc, append-nil, true≢false}
 use Rattle.std.specs.Prelude.{◌⊎◌}
-use Rattle.script_lang.specs.declared.command.Command.{Command}
+use Rattle.group_text.specs.Texts.{GroupTextData}
 use Rattle.cosmos_session.specs.Sessions.{SessionData}
-use Rattle.wave_print.specs.declared.faults.FaultCode.{FaultCode}
-use Rattle.cosmos_app.specs.Runs.{Answer, Runs, IsRefused, end_answer, refused_at, after_text}
+use Rattle.cosmos_session.specs.Preparing.{builds}
+use Rattle.cosmos_session.specs.Lines.{Line}
+use Rattle.cosmos_app.specs.Codes.{Cause}
+use Rattle.cosmos_app.specs.Runs.{Reading, Outcome, Runs, IsRefused, at_end, refused_at, after_command}
 use Rattle.cosmos_app.specs.Runs.Runs.{ends, passes, obeys, refuses}
-use Rattle.cosmos_app.specs.Runs.IsRefused.{too_long, unread, refused}
+use Rattle.cosmos_app.specs.Runs.IsRefused.{too_long, unread, refused, too_large}
 use Rattle.cosmos_app.specs.FirstRefused.{IsObeyed, AreObeyed, IsWhole, EndsAtFirst, RunsEndAtTheFirst, ObeyedIsNotRefused}
 use Rattle.cosmos_app.specs.FirstRefused.IsObeyed.{idle, done}
 use Rattle.cosmos_app.specs.FirstRefused.AreObeyed.{no_line, one_more}
+use Rattle.cosmos_app.proofs.PerformLemmas.{performs-allowed, performs-fits}
 
 -- how a script ends
-abbrev Ends : Option ℕ → SessionData → List (ℕ × List ℕ) → Answer → Type 0
-Ends cut start lines answer = IsWhole cut start lines answer ⊎ EndsAtFirst cut start lines answer
+abbrev Ends : Reading → Option ℕ → SessionData → List (ℕ × List ℕ) → Outcome → Type 0
+Ends reading cut start lines outcome = IsWhole reading cut start lines outcome ⊎ EndsAtFirst reading cut start lines outcome
 
--- texts before an answer join
-after_text-twice : (text more : List ℕ) (answer : Answer) → after_text text (after_text more answer) ≡ after_text (text ++ more) answer
-after_text-twice text more answer = ap (λ whole. record { status = answer.status; text = whole; texts = answer.texts })
-    (sym (append_assoc text more answer.text))
+-- what comes first joins
+pub after_command-twice : (wrote more : List Line) (texts others : List GroupTextData) (rest : Outcome) →
+    after_command wrote texts (after_command more others rest) ≡ after_command (wrote ++ more) (texts ++ others) rest
+after_command-twice wrote more texts others rest =
+    let told : List Line → List GroupTextData → Outcome =
+    λ lines analysed. record { lines = lines; texts = analysed; end = rest.end; refused = rest.refused } in
+    ap (λ lines. told lines (texts ++ (others ++ rest.texts))) (sym (append_assoc wrote more rest.lines))
+    ∙ ap (told (wrote ++ more ++ rest.lines)) (sym (append_assoc texts others rest.texts))
 
 -- a line that is obeyed stands before what ends so
-later : (cut : Option ℕ) (old mid : SessionData) (line : ℕ × List ℕ) (lines : List (ℕ × List ℕ)) (text : List ℕ) (answer : Answer)
-    → IsObeyed cut old line mid text → Ends cut mid lines answer → Ends cut old (line ∷ lines) (after_text text answer)
-later cut old mid line lines text answer obeyed (inl whole) = inl (record {
+later : (reading : Reading) (cut : Option ℕ) (old mid : SessionData) (line : ℕ × List ℕ) (lines : List (ℕ × List ℕ)) (wrote : List Line) (texts : List GroupTextData) (outcome : Outcome)
+    → IsObeyed reading cut old line mid wrote texts → Ends reading cut mid lines outcome → Ends reading cut old (line ∷ lines) (after_command wrote texts outcome)
+later reading cut old mid line lines wrote texts outcome obeyed (inl whole) = inl (record {
   end = whole.end;
-  text = text ++ whole.text;
-  obeyed = one_more old mid whole.end line lines text whole.text obeyed whole.obeyed;
-  told = ap (after_text text) whole.told ∙ after_text-twice text whole.text (end_answer whole.end);
+  wrote = wrote ++ whole.wrote;
+  texts = texts ++ whole.texts;
+  obeyed = one_more old mid whole.end line lines wrote whole.wrote texts whole.texts obeyed whole.obeyed;
+  told = ap (after_command wrote texts) whole.told ∙ after_command-twice wrote whole.wrote texts whole.texts (at_end whole.end);
 })
-later cut old mid line lines text answer obeyed (inr first) = inr (record {
+later reading cut old mid line lines wrote texts outcome obeyed (inr first) = inr (record {
   before = line ∷ first.before;
   line = first.line;
   after = first.after;
   parts = ap (λ others. line ∷ others) first.parts;
   session = first.session;
-  text = text ++ first.text;
-  obeyed = one_more old mid first.session line first.before text first.text obeyed first.obeyed;
-  code = first.code;
+  wrote = wrote ++ first.wrote;
+  texts = texts ++ first.texts;
+  obeyed = one_more old mid first.session line first.before wrote first.wrote texts first.texts obeyed first.obeyed;
+  cause = first.cause;
   refused = first.refused;
-  told = ap (after_text text) first.told ∙ after_text-twice text first.text (refused_at first.line.0 first.code);
+  told = ap (after_command wrote texts) first.told
+      ∙ after_command-twice wrote first.wrote texts first.texts (refused_at first.session first.line.0 first.cause);
 })
 
 -- a script that runs ends so
-ends-Runs : {cut : Option ℕ} {start : SessionData} {lines : List (ℕ × List ℕ)} {answer : Answer} → Runs cut start lines answer → Ends cut start lines answer
-ends-Runs (ends session) = inl (record { end = session; text = []; obeyed = no_line session; told = refl })
-ends-Runs {cut} (passes session line lines answer asks rest) =
-    later cut session session line lines [] answer (idle asks) (ends-Runs rest)
-ends-Runs {cut} (obeys session new line lines command text answer asks does rest) =
-    later cut session new line lines text answer (done command new text asks does) (ends-Runs rest)
-ends-Runs {cut} (refuses session line lines code is) = inr (record {
+ends-Runs : {reading : Reading} {cut : Option ℕ} {start : SessionData} {lines : List (ℕ × List ℕ)} {outcome : Outcome} →
+    Runs reading cut start lines outcome → Ends reading cut start lines outcome
+ends-Runs (ends session) = inl (record { end = session; wrote = []; texts = []; obeyed = no_line session; told = refl })
+ends-Runs {reading} {cut} (passes session line lines rest asks runs) =
+    later reading cut session session line lines [] [] rest (idle asks) (ends-Runs runs)
+ends-Runs {reading} {cut} (obeys session new line lines command text texts rest asks performs runs) =
+    later reading cut session new line lines performs.does.lines texts rest (done command new text texts asks performs) (ends-Runs runs)
+ends-Runs (refuses session line lines cause is) = inr (record {
   before = [];
   line = line;
   after = lines;
   parts = refl;
   session = session;
-  text = [];
+  wrote = [];
+  texts = [];
   obeyed = no_line session;
-  code = code;
+  cause = cause;
   refused = is;
   told = refl;
 })
 
 -- a line that is obeyed, and then what runs so
-one_before : {cut : Option ℕ} {old mid : SessionData} {line : ℕ × List ℕ} {text : List ℕ} (lines : List (ℕ × List ℕ)) (answer : Answer)
-    → IsObeyed cut old line mid text → Runs cut mid lines answer → Runs cut old (line ∷ lines) (after_text text answer)
-one_before {cut} {old} {mid} {line} lines answer (idle asks) rest = passes old line lines answer asks rest
-one_before {cut} {old} {mid} {line} lines answer (done command new text asks does) rest =
-    obeys old new line lines command text answer asks does rest
+one_before : {reading : Reading} {cut : Option ℕ} {old mid : SessionData} {line : ℕ × List ℕ} {wrote : List Line} {texts : List GroupTextData} (lines : List (ℕ × List ℕ)) (outcome : Outcome)
+    → IsObeyed reading cut old line mid wrote texts → Runs reading cut mid lines outcome → Runs reading cut old (line ∷ lines) (after_command wrote texts outcome)
+one_before {reading} {cut} {old} {mid} {line} lines outcome (idle asks) runs = passes old line lines outcome asks runs
+one_before {reading} {cut} {old} {mid} {line} lines outcome (done command new text texts asks performs) runs =
+    obeys old new line lines command text texts outcome asks performs runs
 
 -- lines that are obeyed, and then what runs so
-all_before : {cut : Option ℕ} {old new : SessionData} {lines : List (ℕ × List ℕ)} {text : List ℕ} (others : List (ℕ × List ℕ)) (answer : Answer)
-    → AreObeyed cut old lines new text → Runs cut new others answer → Runs cut old (lines ++ others) (after_text text answer)
-all_before others answer (no_line session) rest = rest
-all_before {cut} others answer (one_more old mid new line lines text more obeyed are) rest =
-    subst (Runs cut old (line ∷ lines ++ others)) (after_text-twice text more answer)
-    (one_before (lines ++ others) (after_text more answer) obeyed (all_before others answer are rest))
+all_before : {reading : Reading} {cut : Option ℕ} {old new : SessionData} {lines : List (ℕ × List ℕ)} {wrote : List Line} {texts : List GroupTextData} (others : List (ℕ × List ℕ)) (outcome : Outcome)
+    → AreObeyed reading cut old lines new wrote texts → Runs reading cut new others outcome → Runs reading cut old (lines ++ others) (after_command wrote texts outcome)
+all_before others outcome (no_line session) runs = runs
+all_before {reading} {cut} others outcome (one_more old mid new line lines wrote more texts further obeyed are) runs =
+    subst (Runs reading cut old (line ∷ lines ++ others)) (after_command-twice wrote more texts further outcome)
+    (one_before (lines ++ others) (after_command more further outcome) obeyed (all_before others outcome are runs))
 
 -- what ends so is a script that runs
-Runs-ends : (cut : Option ℕ) (start : SessionData) (lines : List (ℕ × List ℕ)) (answer : Answer) → Ends cut start lines answer → Runs cut start lines answer
-Runs-ends cut start lines answer (inl whole) =
-    subst (Runs cut start lines) (sym whole.told)
-    (subst (λ all. Runs cut start all (after_text whole.text (end_answer whole.end))) (append-nil lines)
-    (all_before [] (end_answer whole.end) whole.obeyed (ends whole.end)))
-Runs-ends cut start lines answer (inr first) =
-    subst (Runs cut start lines) (sym first.told)
-    (subst (λ all. Runs cut start all (after_text first.text (refused_at first.line.0 first.code))) (sym first.parts)
-    (all_before (first.line ∷ first.after) (refused_at first.line.0 first.code) first.obeyed
-    (refuses first.session first.line first.after first.code first.refused)))
+Runs-ends : (reading : Reading) (cut : Option ℕ) (start : SessionData) (lines : List (ℕ × List ℕ)) (outcome : Outcome) →
+    Ends reading cut start lines outcome → Runs reading cut start lines outcome
+Runs-ends reading cut start lines outcome (inl whole) =
+    subst (Runs reading cut start lines) (sym whole.told)
+    (subst (λ all. Runs reading cut start all (after_command whole.wrote whole.texts (at_end whole.end))) (append-nil lines)
+    (all_before [] (at_end whole.end) whole.obeyed (ends whole.end)))
+Runs-ends reading cut start lines outcome (inr first) =
+    let last = refused_at first.session first.line.0 first.cause in
+    subst (Runs reading cut start lines) (sym first.told)
+    (subst (λ all. Runs reading cut start all (after_command first.wrote first.texts last)) (sym first.parts)
+    (all_before (first.line ∷ first.after) last first.obeyed (refuses first.session first.line first.after first.cause first.refused)))
 
 -- so a script runs exactly so
 pub runs_end : RunsEndAtTheFirst
-runs_end cut start lines answer = (ends-Runs, Runs-ends cut start lines answer)
+runs_end reading cut start lines outcome = (ends-Runs, Runs-ends reading cut start lines outcome)
 
--- a line that is obeyed isn't refused: it is within the text, it is read, and its command has no refusal
-kept_apart : {cut : Option ℕ} {old new : SessionData} {line : ℕ × List ℕ} {text : List ℕ} {code : FaultCode}
-    → IsObeyed cut old line new text → ¬ IsRefused cut old line code
+-- a line that is obeyed isn't refused: it is within the text, it is read, its command has no refusal, and its circuit is not too large
+kept_apart : {reading : Reading} {cut : Option ℕ} {old new : SessionData} {line : ℕ × List ℕ} {wrote : List Line} {texts : List GroupTextData} {cause : Cause}
+    → IsObeyed reading cut old line new wrote texts → ¬ IsRefused reading cut old line cause
 kept_apart (idle asks) (too_long past is) = true≢false (sym past ∙ asks.inside)
-kept_apart (idle asks) (unread fault inside other is) = absurd (cc (asks.reading, other))
-kept_apart (idle asks) (refused command refusal other cause is) = absurd (cc (asks.reading, other.reading))
-kept_apart (done command new text asks does) (too_long past is) = true≢false (sym past ∙ asks.inside)
-kept_apart (done command new text asks does) (unread fault inside other is) = absurd (cc (asks.reading, other))
-kept_apart (done command new text asks does) (refused other refusal asked cause is) =
-    let same : other ≡ command = cc (asks.reading, asked.reading) in absurd (cc (does.allowed, cause, same))
+kept_apart (idle asks) (unread fault code inside other coded is) = absurd (cc (asks.nothing, other))
+kept_apart (idle asks) (refused command refusal other found is) = absurd (cc (asks.nothing, other.asked))
+kept_apart (idle asks) (too_large command fault other allowed building told named) = absurd (cc (asks.nothing, other.asked))
+kept_apart (done command new text texts asks performs) (too_long past is) = true≢false (sym past ∙ asks.inside)
+kept_apart (done command new text texts asks performs) (unread fault code inside other coded is) = absurd (cc (asks.asked, other))
+kept_apart {old = old} (done command new text texts asks performs) (refused other refusal asked found is) =
+    let same : other ≡ command = cc (asks.asked, asked.asked) in
+    let allowed = performs-allowed old new command text texts performs in absurd (cc (allowed, found, same))
+kept_apart {old = old} (done command new text texts asks performs) (too_large other fault asked allowed building told named) =
+    let same : other ≡ command = cc (asks.asked, asked.asked) in
+    performs-fits old new command text texts fault performs (subst (λ one. builds one ≡ true) same building) told
 
 pub not_refused : ObeyedIsNotRefused
-not_refused cut old new line text code obeyed is = kept_apart obeyed is
+not_refused reading cut old new line wrote texts cause obeyed is = kept_apart obeyed is

@@ -1,4 +1,6 @@
 pub mod LowerLemmas
+pub mod SizeLemmas
+pub mod PerformLemmas
 pub mod EndLemmas
 pub mod RunLemmas
 pub mod TurnLemmas
@@ -6,8 +8,8 @@ pub mod NetLemmas
 pub mod StartLemmas
 pub mod GroupsLemmas
 pub mod ListLemmas
-pub mod AnswerLemmas
 pub mod WholeLemmas
 pub mod CountLemmas
 pub mod PieceLemmas
+pub mod FeedingLemmas
 pub mod FirstRefusedLemmas

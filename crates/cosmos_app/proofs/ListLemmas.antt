@@ -7,6 +7,7 @@ use Rattle.port_edge.specs.Sending.{WritesPart}
 use Rattle.path_meaning.specs.Graphs.{GraphData, nodes, IsStorage}
 use Rattle.netlist.specs.Names.{name_at}
 use Rattle.netlist.specs.Circuits.{CircuitData}
+use Rattle.wave_print.specs.declared.faults.FaultPlace.{FaultPlace}
 use Rattle.wave_print.specs.declared.faults.FaultPlace.TheVariants.{NetWhole}
 use Rattle.wave_print.specs.declared.faults.FaultCode.TheVariants.{G1GroupNodes, G2GroupSwitches}
 use Rattle.group_meaning.specs.Groups.{Group, AreGroups, IsGroup, id_of}
@@ -22,10 +23,12 @@ use Rattle.circuit_listing.specs.Faithful.{IsFaithful}
 use Rattle.circuit_texts.specs.Sizes.{at_node, AllFit, TellsTooLarge}
 use Rattle.cosmos_app.specs.declared.stop.Stop.{Stop}
 use Rattle.cosmos_app.specs.declared.stop.Stop.TheVariants.{Memory}
+use Rattle.cosmos_app.specs.declared.status.Status.{Status}
 use Rattle.cosmos_app.specs.declared.status.Status.TheVariants as status
 use Rattle.cosmos_app.specs.declared.stop.End as end
-use Rattle.cosmos_app.specs.Runs.{Answer, plain_answer}
-use Rattle.cosmos_app.specs.Answers.{distinct_texts, IsCompiled, IsTooLarge, IsNamedRefusal, size_line}
+use Rattle.cosmos_app.specs.Runs.{Answer}
+use Rattle.cosmos_app.specs.Codes.{Cause, size_cause}
+use Rattle.cosmos_app.specs.Answers.{distinct_texts, IsCompiled, IsTooLarge, IsRefusalFor}
 use Rattle.cosmos_app.specs.Ends.{IsTextOf, IsTold, IsToldBy}
 use Rattle.cosmos_app.proofs.EndLemmas.{told_as, told_by_none}
 
@@ -54,21 +57,24 @@ module _ (c : CircuitData) (listing : ListingData) (is : IsListing listing) (fai
 -- and so is what was told of a group that is too large: nothing was analysed for it
 pub told_too_large : (c : CircuitData) (fault : BuildFault) (old new : Option (List ℕ)) (before after : List GroupTextData) (result : Result end.End Stop) →
     (fault ≡ NoMemory) ⊎ (TellsTooLarge c.graph fault × (after ≡ before)) → (fault ≡ NoMemory → result ≡ Err Memory) →
-    IsTold (IsTooLarge c) old new result → IsToldBy (IsCompiled c) old new before after result
+    IsTold (IsTooLarge c NetWhole status.NetRefused) old new result → IsToldBy (IsCompiled c) old new before after result
 told_too_large c fault old new before after result (inl want) stops told =
-    let stopped : IsTold (IsTooLarge c) old new (Err Memory) = subst (IsTold (IsTooLarge c) old new) (stops want) told in
+    let stopped : IsTold (IsTooLarge c NetWhole status.NetRefused) old new (Err Memory) =
+    subst (IsTold (IsTooLarge c NetWhole status.NetRefused) old new) (stops want) told in
     subst (IsToldBy (IsCompiled c) old new before after) (sym (stops want))
-    (told_as (IsTooLarge c) (IsCompiled c) old new (Err Memory) (λ answer right. inr right) stopped)
+    (told_as (IsTooLarge c NetWhole status.NetRefused) (IsCompiled c) old new (Err Memory) (λ answer right. inr right) stopped)
 told_too_large c fault old new before after result (inr first) stops told =
     subst (λ (analysed : List GroupTextData). IsToldBy (IsCompiled c) old new before analysed result) (sym first.1)
-    (told_by_none (IsTooLarge c) (IsCompiled c) old new before result (λ answer right. (inr right, ap (λ (told : Answer). told.texts) right.told)) told)
+    (told_by_none (IsTooLarge c NetWhole status.NetRefused) (IsCompiled c) old new before result
+    (λ answer right. (inr right, ap (λ (told : Answer). told.texts) right.told)) told)
 
 -- the line of the first group that is too large is a right answer
-told_size : (c : CircuitData) (fault : BuildFault) (old new : Option (List ℕ)) (result : Result end.End Stop) → TellsTooLarge c.graph fault →
-    IsTold (λ answer. answer ≡ plain_answer status.NetRefused (size_line c fault)) old new result → IsTold (IsTooLarge c) old new result
-told_size c fault old new result first told =
-    told_as (λ answer. answer ≡ plain_answer status.NetRefused (size_line c fault)) (IsTooLarge c) old new result
-    (λ answer right. record { fault = fault; first = first; told = right }) told
+told_size : (c : CircuitData) (place : FaultPlace) (ended : Status) (fault : BuildFault) (cause : Cause) (old new : Option (List ℕ)) (result : Result end.End Stop) →
+    TellsTooLarge c.graph fault → size_cause c fault ≡ Some cause → IsTold (IsRefusalFor place cause ended) old new result →
+    IsTold (IsTooLarge c place ended) old new result
+told_size c place ended fault cause old new result first named told =
+    told_as (IsRefusalFor place cause ended) (IsTooLarge c place ended) old new result
+    (λ answer right. record { fault = fault; first = first; cause = cause; named = named; told = right }) told
 
 -- the node that a too large group's fault tells of is the group's least one
 node_is : (node id count : ℕ) (cause : TextFault) (fault : BuildFault) → fault ≡ at_node id cause →
@@ -104,22 +110,26 @@ pub node-inside : (g : GraphData) (fault : BuildFault) (node count : ℕ) → (f
     (fault ≡ GroupNodes node count) ⊎ (fault ≡ GroupSwitches node count) → node < nodes g
 node-inside g fault node count refused is = told_node g fault node count (is_too_large g fault node count refused is) is
 
-module _ (c : CircuitData) (fault : BuildFault) (node count : ℕ) (name : List ℕ) (refused : (fault ≡ NoMemory) ⊎ TellsTooLarge c.graph fault)
+module _ (c : CircuitData) (place : FaultPlace) (ended : Status) (fault : BuildFault) (node count : ℕ) (name : List ℕ) (refused : (fault ≡ NoMemory) ⊎ TellsTooLarge c.graph fault)
     (found : name_at c.names node ≡ Some name) (old new : Option (List ℕ)) (result : Result end.End Stop) where
+  -- the node is called by its name
+  named : name ≡ unwrap_or (name_at c.names node) []
+  named = sym (ap (λ known. unwrap_or known []) found)
+
   -- the line of a group with too many members is told of the circuit
-  pub told_nodes : fault ≡ GroupNodes node count → IsTold (IsNamedRefusal NetWhole G1GroupNodes name count status.NetRefused) old new result →
-      IsTold (IsTooLarge c) old new result
+  pub told_nodes : fault ≡ GroupNodes node count →
+      IsTold (IsRefusalFor place (record { code = G1GroupNodes; name = name; count = count }) ended) old new result →
+      IsTold (IsTooLarge c place ended) old new result
   told_nodes is told =
-      told_size c (GroupNodes node count) old new result
-      (subst (TellsTooLarge c.graph) is (is_too_large c.graph fault node count refused (inl is)))
-      (subst (λ called. IsTold (IsNamedRefusal NetWhole G1GroupNodes called count status.NetRefused) old new result)
-      (sym (ap (λ known. unwrap_or known []) found)) told)
+      told_size c place ended (GroupNodes node count) _ old new result
+      (subst (TellsTooLarge c.graph) is (is_too_large c.graph fault node count refused (inl is))) refl
+      (subst (λ called. IsTold (IsRefusalFor place (record { code = G1GroupNodes; name = called; count = count }) ended) old new result) named told)
 
   -- and that of a group with too many switches
   pub told_switches : fault ≡ GroupSwitches node count →
-      IsTold (IsNamedRefusal NetWhole G2GroupSwitches name count status.NetRefused) old new result → IsTold (IsTooLarge c) old new result
+      IsTold (IsRefusalFor place (record { code = G2GroupSwitches; name = name; count = count }) ended) old new result →
+      IsTold (IsTooLarge c place ended) old new result
   told_switches is told =
-      told_size c (GroupSwitches node count) old new result
-      (subst (TellsTooLarge c.graph) is (is_too_large c.graph fault node count refused (inr is)))
-      (subst (λ called. IsTold (IsNamedRefusal NetWhole G2GroupSwitches called count status.NetRefused) old new result)
-      (sym (ap (λ known. unwrap_or known []) found)) told)
+      told_size c place ended (GroupSwitches node count) _ old new result
+      (subst (TellsTooLarge c.graph) is (is_too_large c.graph fault node count refused (inr is))) refl
+      (subst (λ called. IsTold (IsRefusalFor place (record { code = G2GroupSwitches; name = called; count = count }) ended) old new result) named told)

@@ -1,5 +1,5 @@
 -- What the crates below show of lines, of commands and of netlists.
-use Rattle.std.proofs.Common.{◌≡◌, ◌≢◌, ℕ, ◌⊎◌, List, Some, Ok, Err}
+use Rattle.std.proofs.Common.{◌≡◌, ◌≢◌, ℕ, List, ◌++◌, Some, Ok, Err}
 use Rattle.line_words.specs.Files.{front_of}
 use Rattle.netlist.specs.Circuits.{CircuitData, IsCircuit}
 use Rattle.sim_read.specs.Meaning.{netlist_of}
@@ -10,11 +10,12 @@ use Rattle.script_lang.specs.declared.command.ScriptFault.TheVariants as script
 use Rattle.script_lang.specs.Commands.{reading_of}
 use Rattle.script_lang.specs.Forms.{IsFormed}
 use Rattle.script_lang.proofs.ReadingLemmas.{reading-named, reading-formed}
-use Rattle.cosmos_session.specs.declared.fault.Refusal.{Refusal}
+use Rattle.group_text.specs.Texts.{GroupTextData}
 use Rattle.cosmos_session.specs.Sessions.{SessionData, IsReady, start_of}
-use Rattle.cosmos_session.specs.Refusals.{refusal_of}
-use Rattle.cosmos_session.specs.Outcomes.{Does}
+use Rattle.cosmos_session.specs.Lines.{Line, text_of}
+use Rattle.cosmos_session.specs.Outcomes.{Performs}
 use Rattle.cosmos_session.proofs.EffectLemmas as effects
+use Rattle.cosmos_session.proofs.LineLemmas as lines
 
 -- a line is never refused by want of memory
 pub reading_of-meant : (line : List ℕ) → reading_of line ≢ Err script.NoMemory
@@ -24,15 +25,18 @@ reading_of-meant line = reading-named line
 pub reading_of-formed : (line : List ℕ) (command : Command) → reading_of line ≡ Ok (Some command) → IsFormed command
 reading_of-formed line command is = reading-formed line command is
 
--- a formed command is refused, or has an effect
-pub does_or_refused : (session : SessionData) (command : Command) → IsReady session → IsFormed command →
-    ((refusal : Refusal) × (refusal_of session command ≡ Some refusal))
-    ⊎ ((new : SessionData) × (text : List ℕ) × Does session command new text)
-does_or_refused session command ready formed = effects.does_or_refused session command ready formed
+-- how a formed command ends: it is refused, or a group is too large for it, or it is performed
+pub command_ends : (session : SessionData) (command : Command) → IsReady session → IsFormed command → effects.Ends session command
+command_ends session command ready formed = effects.ends session command ready formed
 
--- the effect of a command keeps the data ready
-pub ready-does : (old new : SessionData) (command : Command) (text : List ℕ) → IsReady old → Does old command new text → IsReady new
-ready-does old new command text ready does = effects.ready-does old new command text ready does
+-- what is done for a command keeps the data ready
+pub ready-performs : (old new : SessionData) (command : Command) (text : List ℕ) (texts : List GroupTextData) → IsReady old →
+    Performs old command new text texts → IsReady new
+ready-performs old new command text texts ready performs = effects.ready-performs old new command text texts ready performs
+
+-- the text of lines and more lines is the texts of both
+pub text_of-append : (some more : List Line) → text_of (some ++ more) ≡ text_of some ++ text_of more
+text_of-append some more = lines.text_of-append some more
 
 -- a session starts ready
 pub ready-start : (circuit : CircuitData) → IsCircuit circuit → IsReady (start_of circuit)

@@ -1,5 +1,5 @@
 -- What is told of the text that was read of a netlist or a script is told of the file.
-use Rattle.std.proofs.Common.{◌≡◌, ℕ, List, Option, None, Some, IfSome, Result, Err, sym, ap, subst, ◌∙◌}
+use Rattle.std.proofs.Common.{◌≡◌, ℕ, List, Option, None, Some, IfSome, Result, Ok, Err, refl, sym, ap, subst, ◌∙◌}
 use Rattle.line_words.specs.Files.{front_of, lines_in, cut_line}
 use Rattle.line_words.proofs.FileLemmas.{cut_line-front_of, lines_in-front_of}
 use Rattle.netlist.specs.Circuits.{CircuitData}
@@ -9,10 +9,10 @@ use Rattle.cosmos_session.specs.Sessions.{SessionData, start_of}
 use Rattle.group_text.specs.Texts.{GroupTextData}
 use Rattle.cosmos_app.specs.declared.stop.Stop.{Stop}
 use Rattle.cosmos_app.specs.declared.stop.End as end
-use Rattle.cosmos_app.specs.Runs.{Answer, Runs}
+use Rattle.cosmos_app.specs.Runs.{Answer, plain_reading, answer_told, IsScriptAnswer}
 use Rattle.cosmos_app.specs.Requests.{Question}
 use Rattle.cosmos_app.specs.Answers.{IsOver, IsNetRefusal, IsSimulation, IsAnswerIn}
-use Rattle.cosmos_app.specs.Ends.{IsTold, IsToldBy}
+use Rattle.cosmos_app.specs.Ends.{IsTold, IsToldBy, TellsRun}
 use Rattle.cosmos_app.proofs.LowerLemmas.{netlist_of-front_of}
 use Rattle.cosmos_app.proofs.EndLemmas.{told_by_none}
 
@@ -47,16 +47,29 @@ told_refusal (Some holds) question net refusal old new analysed result means tol
     subst (λ what. IsToldBy (IsOver (IsAnswerIn question holds) what) old new analysed analysed result) (sym means)
     (told_by_none (IsNetRefusal refusal) (IsNetRefusal refusal) old new analysed result (λ answer right. (right, ap (λ (told : Answer). told.texts) right)) told)
 
+-- what ran is told by its answer
+told_run : (cut : Option ℕ) (start : SessionData) (lines : List (ℕ × List ℕ)) (new : SessionData) (before after : Option (List ℕ)) (asked told : List GroupTextData) (result : Result end.End Stop) →
+    TellsRun cut start lines new before after asked told result → IsToldBy (IsScriptAnswer plain_reading cut start lines) before after asked told result
+told_run cut start lines new before after asked told (Ok ending) run = record {
+  answer = answer_told run.outcome;
+  right = (record { outcome = run.outcome; runs = run.runs; told = refl }, run.analysed);
+  ended = run.ended;
+  grew = run.grew;
+}
+told_run cut start lines new before after asked told (Err stop) stopped = stopped
+
 -- what was told of the lines that were read is told of the script
-pub told_script : (known : Option (List ℕ → List ℕ)) (name : List ℕ) (circuit : CircuitData) (session : SessionData) (text seen : List ℕ) (old new : Option (List ℕ)) (result : Result end.End Stop) →
-    IfSome known (λ holds. text ≡ front_of (holds name)) → seen ≡ text → session ≡ start_of circuit →
-    IsTold (Runs (cut_line seen) session (lines_in seen)) old new result →
-    IfSome known (λ holds. IsTold (IsSimulation (holds name) circuit) old new result)
-told_script None name circuit session text seen old new result front same first told = tt
-told_script (Some holds) name circuit session text seen old new result front same first told =
+pub told_script : (known : Option (List ℕ → List ℕ)) (name : List ℕ) (circuit : CircuitData) (start new : SessionData) (text seen : List ℕ) (before after : Option (List ℕ)) (asked told : List GroupTextData) (result : Result end.End Stop) →
+    IfSome known (λ holds. text ≡ front_of (holds name)) → seen ≡ text → start ≡ start_of circuit →
+    TellsRun (cut_line seen) start (lines_in seen) new before after asked told result →
+    IfSome known (λ holds. IsToldBy (IsSimulation (holds name) circuit) before after asked told result)
+told_script None name circuit start new text seen before after asked told result front same first run = tt
+told_script (Some holds) name circuit start new text seen before after asked told result front same first run =
     let script = holds name in
     let cut : cut_line seen ≡ cut_line script = ap cut_line (same ∙ front) ∙ cut_line-front_of script in
     let lines : lines_in seen ≡ lines_in script = ap lines_in (same ∙ front) ∙ lines_in-front_of script in
-    subst (λ line. IsTold (Runs line (start_of circuit) (lines_in script)) old new result) cut
-    (subst (λ start. IsTold (Runs (cut_line seen) start (lines_in script)) old new result) first
-    (subst (λ left. IsTold (Runs (cut_line seen) session left) old new result) lines told))
+    let Tells : Option ℕ → SessionData → List (ℕ × List ℕ) → Type 0 =
+    λ line from left. IsToldBy (IsScriptAnswer plain_reading line from left) before after asked told result in
+    subst (λ line. Tells line (start_of circuit) (lines_in script)) cut
+    (subst (λ from. Tells (cut_line seen) from (lines_in script)) first
+    (subst (λ left. Tells (cut_line seen) start left) lines (told_run (cut_line seen) start (lines_in seen) new before after asked told result run)))

@@ -6,32 +6,36 @@ use Rattle.script_lang.specs.declared.command.Command.{Command}
 use Rattle.script_lang.specs.declared.command.ScriptFault.{ScriptFault}
 use Rattle.script_lang.specs.declared.command.ScriptFault.TheVariants.{NoMemory}
 use Rattle.script_lang.specs.Commands.{reading_of}
-use Rattle.cosmos_session.specs.Sessions.{SessionData}
+use Rattle.group_text.specs.Texts.{GroupTextData}
+use Rattle.cosmos_session.specs.Sessions.{SessionData, HeldSession}
 use Rattle.wave_print.specs.declared.faults.FaultCode.{FaultCode}
 use Rattle.cosmos_app.specs.declared.stop.Stop.{Stop}
 use Rattle.cosmos_app.specs.declared.script.Turn.{Turn}
-use Rattle.cosmos_app.specs.declared.script.Turn.TheVariants.{Accepted, Refused}
-use Rattle.cosmos_app.specs.Codes.{script_code}
-use Rattle.cosmos_app.specs.Runs.{Asks, IsRefused, unread, refused}
+use Rattle.cosmos_app.specs.declared.script.Turn.TheVariants.{Accepted, Refused, TooLarge}
+use Rattle.cosmos_app.specs.Codes.{plain_cause, script_code}
+use Rattle.cosmos_app.specs.Runs.{plain_reading, Asks, IsRefused, unread, refused}
 use Rattle.cosmos_app.specs.Turns.{TakesTurn, TakesCommand}
 
 -- a line that asks for a command comes to what the command comes to
-pub takes_turn : (cut : Option ℕ) (line : ℕ × List ℕ) (command : Command) (old new : SessionData) (before after : Option (List ℕ)) (result : Result Turn Stop) →
-    Asks cut line command → TakesCommand old command new before after result → TakesTurn cut line old new before after result
-takes_turn cut line command old new before after (Ok Accepted) asks accepts =
+pub takes_turn : (cut : Option ℕ) (line : ℕ × List ℕ) (command : Command) (old new : HeldSession) (before after : Option (List ℕ)) (asked told : List GroupTextData) (result : Result Turn Stop) →
+    Asks plain_reading cut old.core line command → TakesCommand old command new before after asked told result →
+    TakesTurn cut line old new before after asked told result
+takes_turn cut line command old new before after asked told (Ok Accepted) asks accepts =
     inr (record { command = command; asks = asks; accepts = accepts })
-takes_turn cut line command old new before after (Ok (Refused code)) asks (is, same) =
-    (refused command is.refusal asks is.cause is.coded, same)
-takes_turn cut line command old new before after (Err stop) asks (inl same) = inl same
-takes_turn cut line command old new before after (Err stop) asks (inr begins) =
+takes_turn cut line command old new before after asked told (Ok (Refused code)) asks (is, keeps) =
+    (refused command is.refusal asks is.cause (ap plain_cause is.coded), keeps)
+takes_turn cut line command old new before after asked told (Ok (TooLarge fault)) asks refuses =
+    record { command = command; asks = asks; refuses = refuses }
+takes_turn cut line command old new before after asked told (Err stop) asks (inl same) = inl same
+takes_turn cut line command old new before after asked told (Err stop) asks (inr begins) =
     inr (record { command = command; asks = asks; begins = begins })
 
 -- a line that can't be read is refused, where its fault has a code
 pub is_unread : (cut : Option ℕ) (session : SessionData) (line : ℕ × List ℕ) (fault : ScriptFault) (code : FaultCode) → is_cut cut line.0 ≡ false →
-    (fault ≡ NoMemory) ⊎ (reading_of line.1 ≡ Err fault) → script_code fault ≡ Some code → IsRefused cut session line code
+    (fault ≡ NoMemory) ⊎ (reading_of line.1 ≡ Err fault) → script_code fault ≡ Some code → IsRefused plain_reading cut session line (plain_cause code)
 is_unread cut session line fault code inside (inl want) coded =
     let none : None ≡ Some code = sym (ap script_code want) ∙ coded in absurd (cc)
-is_unread cut session line fault code inside (inr is) coded = unread fault inside is coded
+is_unread cut session line fault code inside (inr is) coded = unread fault code inside is coded refl
 
 -- a line with another number than the one that is too far isn't too far
 pub is_inside : (cut : Option ℕ) (number : ℕ) (same : Bool) → same ≡ option_eq nat_eq cut (Some number) → same ≡ false → is_cut cut number ≡ false

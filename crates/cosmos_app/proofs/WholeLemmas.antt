@@ -11,7 +11,7 @@ use Rattle.cosmos_app.specs.declared.stop.End.TheVariants as ended
 use Rattle.cosmos_app.specs.declared.stop.Stop.{Stop}
 use Rattle.cosmos_app.specs.declared.stop.Stop.TheVariants.{Read, Write, Memory}
 use Rattle.cosmos_app.specs.declared.status.Status.{Status}
-use Rattle.cosmos_app.specs.Requests.{Question, Request, Unclear}
+use Rattle.cosmos_app.specs.Requests.{Question, Request}
 use Rattle.cosmos_app.specs.Ends.{status_after}
 use Rattle.cosmos_app.specs.Wholes.{scripts_of, needed, files_of, ReadsWhole, ReadsAll}
 
@@ -27,11 +27,11 @@ whole_none : (taken : Taken) → taken ≡ with_files taken []
 whole_none None = refl
 whole_none (Some counts) = refl
 
-pub whole_unclear : (known : Option (List ℕ → List ℕ)) (request : Request) (taken : Taken) → request ≡ Unclear →
-    IfSome known (λ holds. ReadsWhole taken taken holds (files_of request holds))
-whole_unclear None request taken asks = tt
-whole_unclear (Some holds) request taken asks =
-    subst (λ asked. ReadsWhole taken taken holds (files_of asked holds)) (sym asks) (whole_none taken)
+pub whole_unasked : (known : Option (List ℕ → List ℕ)) (request : Request) (taken : Taken) →
+    ((holds : List ℕ → List ℕ) → files_of request holds ≡ []) → IfSome known (λ holds. ReadsWhole taken taken holds (files_of request holds))
+whole_unasked None request taken asks = tt
+whole_unasked (Some holds) request taken asks =
+    subst (ReadsWhole taken taken holds) (sym (asks holds)) (whole_none taken)
 
 -- files taken one after another
 with_files-twice : (taken : Taken) (first second : List ℕ) → with_files (with_files taken first) second ≡ with_files taken (second ++ first)

@@ -1,42 +1,41 @@
 -- What the program answers to the words of its command line, and what a call that meets a fault may have written.
-use Rattle.std.specs.Prelude.{◌≡◌, ◌⊎◌, ℕ, List, [], ◌++◌, map, length, count_by, is_some, codes, Option, Result, Ok, Err}
+use Rattle.std.specs.Prelude.{◌≡◌, ◌⊎◌, ℕ, List, ◌++◌, map, length, count_by, is_some, codes, Option, Some, Result, Ok, Err}
 use Rattle.std.specs.Io.KnownBytes.{append_known}
 use Rattle.port_edge.specs.Sending.{WritesPart}
 use Rattle.path_meaning.specs.Graphs.{nodes}
 use Rattle.line_words.specs.Files.{lines_in, cut_line}
-use Rattle.netlist.specs.Circuits.{CircuitData, called}
+use Rattle.netlist.specs.Circuits.{CircuitData}
 use Rattle.sim_read.specs.declared.fault.NetRefusal.{NetRefusal}
 use Rattle.sim_read.specs.Meaning.{netlist_of}
 use Rattle.wave_print.specs.Lines.{check_line_of}
-use Rattle.wave_print.specs.Faults.{fault_line_of}
 use Rattle.wave_print.specs.declared.faults.FaultPlace.{FaultPlace}
 use Rattle.wave_print.specs.declared.faults.FaultPlace.TheVariants.{Net, NetWhole}
 use Rattle.wave_print.specs.declared.faults.FaultCode.{FaultCode}
-use Rattle.wave_print.specs.declared.faults.FaultCode.TheVariants.{G1GroupNodes, G2GroupSwitches}
 use Rattle.group_meaning.specs.Groups.{Group, AreGroups}
 use Rattle.group_text.specs.Texts.{GroupTextData, text_of_group}
 use Rattle.group_text.specs.FirstTexts.{first_texts}
 use Rattle.linear_code.specs.Listing.{ListingData, IsListing}
 use Rattle.linear_code.specs.ListingText.{listing_text}
 use Rattle.circuit_texts.specs.declared.texts.BuildFault.{BuildFault}
-use Rattle.circuit_texts.specs.declared.texts.BuildFault.TheVariants.{GroupNodes, GroupSwitches, NoMemory}
 use Rattle.circuit_listing.specs.Faithful.{IsFaithful}
 use Rattle.circuit_texts.specs.Sizes.{AllFit, TellsTooLarge}
 use Rattle.group_report.specs.Report.{IsReport}
+use Rattle.net_gen.specs.declared.families.GenPart.{GenPart}
 use Rattle.cosmos_session.specs.Sessions.{start_of}
 use Rattle.cosmos_app.specs.declared.status.Status.{Status}
 use Rattle.cosmos_app.specs.declared.status.Status.TheVariants as status
-use Rattle.cosmos_app.specs.Codes.{net_code}
-use Rattle.cosmos_app.specs.Requests.{Question, Simulate, Check, Groups, Compile, Request, About, Unclear, request_of}
-use Rattle.cosmos_app.specs.Runs.{Answer, plain_answer, Runs}
+use Rattle.cosmos_app.specs.Codes.{Cause, plain_cause, size_cause, cause_line, net_code}
+use Rattle.cosmos_app.specs.Samples.{Sample, text_of}
+use Rattle.cosmos_app.specs.Requests.{Question, Simulate, Check, Groups, Compile, Request, About, Generate, Unclear, request_of}
+use Rattle.cosmos_app.specs.Runs.{Answer, plain_answer, plain_reading, IsScriptAnswer}
 
--- the answer is the line of a refusal alone, with this name and count
-abbrev pub IsNamedRefusal : FaultPlace → FaultCode → List ℕ → ℕ → Status → Answer → Type 0
-IsNamedRefusal place code name count status answer = answer ≡ plain_answer status (fault_line_of place code name count)
+-- the answer is the line of a refusal alone, for this cause
+abbrev pub IsRefusalFor : FaultPlace → Cause → Status → Answer → Type 0
+IsRefusalFor place cause status answer = answer ≡ plain_answer status (cause_line place cause)
 
--- the answer is the line of a refusal without a name
+-- the answer is the line of a refusal that names no group
 abbrev pub IsRefusal : FaultPlace → FaultCode → Status → Answer → Type 0
-IsRefusal place code status answer = IsNamedRefusal place code [] 0 status answer
+IsRefusal place code status answer = IsRefusalFor place (plain_cause code) status answer
 
 -- the answer is the usage line alone
 abbrev pub IsUsage : Answer → Type 0
@@ -51,9 +50,9 @@ abbrev pub IsOver : (CircuitData → Answer → Type 0) → Result CircuitData N
 IsOver IsRight (Ok circuit) answer = IsRight circuit answer
 IsOver IsRight (Err refusal) answer = IsNetRefusal refusal answer
 
--- the answer of a simulation: what the script writes from the start in the circuit
+-- the answer of a simulation: that of the script's lines from the start in the circuit
 abbrev pub IsSimulation : List ℕ → CircuitData → Answer → Type 0
-IsSimulation script circuit answer = Runs (cut_line script) (start_of circuit) (lines_in script) answer
+IsSimulation script circuit answer = IsScriptAnswer plain_reading (cut_line script) (start_of circuit) (lines_in script) answer
 
 -- the answer of a check: how many nodes the circuit has, the rails among them, how many transistors, and how many names
 abbrev pub IsCheck : CircuitData → Answer → Type 0
@@ -83,21 +82,17 @@ pub record IsListed (circuit : CircuitData) (answer : Answer) : Type 0 where
     texts = distinct_texts circuit groups;
   }
 
--- the line of a group that is too large: it is named by its least node, and so is the count of what it has too many of
-abbrev pub size_line : CircuitData → BuildFault → List ℕ
-size_line circuit (GroupNodes node count) = fault_line_of NetWhole G1GroupNodes (called circuit node) count
-size_line circuit (GroupSwitches node count) = fault_line_of NetWhole G2GroupSwitches (called circuit node) count
-size_line circuit NoMemory = []
-
 -- the answer is the line of the first group that is too large
-pub record IsTooLarge (circuit : CircuitData) (answer : Answer) : Type 0 where
+pub record IsTooLarge (circuit : CircuitData) (place : FaultPlace) (status : Status) (answer : Answer) : Type 0 where
   pub fault : BuildFault
   pub first : TellsTooLarge circuit.graph fault
-  pub told : answer ≡ plain_answer status.NetRefused (size_line circuit fault)
+  pub cause : Cause
+  pub named : size_cause circuit fault ≡ Some cause
+  pub told : IsRefusalFor place cause status answer
 
 -- the answer of a compilation: a faithful listing, or the refusal of a group that is too large
 abbrev pub IsCompiled : CircuitData → Answer → Type 0
-IsCompiled circuit answer = IsListed circuit answer ⊎ IsTooLarge circuit answer
+IsCompiled circuit answer = IsListed circuit answer ⊎ IsTooLarge circuit NetWhole status.NetRefused answer
 
 -- the answer to a question about a circuit, by what the names hold
 abbrev pub IsAnswerIn : Question → (List ℕ → List ℕ) → CircuitData → Answer → Type 0
@@ -106,9 +101,14 @@ IsAnswerIn Check holds = IsCheck
 IsAnswerIn Groups holds = IsGroups
 IsAnswerIn Compile holds = IsCompiled
 
+-- the answer of a request for a part of a sample: its text
+abbrev pub IsGenerated : GenPart → Sample → Answer → Type 0
+IsGenerated part sample answer = answer ≡ plain_answer status.Done (text_of part sample)
+
 -- the answer to a request, by what the names hold
 abbrev pub IsAnswerTo : Request → (List ℕ → List ℕ) → Answer → Type 0
 IsAnswerTo (About net question) holds answer = IsOver (IsAnswerIn question holds) (netlist_of (holds net)) answer
+IsAnswerTo (Generate part sample) holds answer = IsGenerated part sample answer
 IsAnswerTo Unclear holds answer = IsUsage answer
 
 -- the answer of the words

@@ -1,5 +1,6 @@
 -- How a run ends, with what it wrote: inside the program, before the end becomes a status.
-use Rattle.std.specs.Prelude.{◌≡◌, ℕ, List, Option, Result, Ok, Err, IfErr}
+use Rattle.std.specs.Prelude.{◌≡◌, ℕ, List, ◌++◌, Option, Result, Ok, Err, IfErr}
+use Rattle.std.specs.Io.KnownBytes.{append_known}
 use Rattle.group_text.specs.Texts.{GroupTextData}
 use Rattle.cosmos_app.specs.declared.stop.End as end
 use Rattle.cosmos_app.specs.declared.stop.End.TheVariants as ended
@@ -9,7 +10,8 @@ use Rattle.cosmos_app.specs.declared.status.Status.{Status}
 use Rattle.cosmos_app.specs.declared.status.Status.TheVariants as status
 use Rattle.linear_code.specs.Listing.{ListingData}
 use Rattle.linear_code.specs.ListingText.{listing_text}
-use Rattle.cosmos_app.specs.Runs.{Answer}
+use Rattle.cosmos_session.specs.Sessions.{SessionData}
+use Rattle.cosmos_app.specs.Runs.{Answer, Outcome, Runs, plain_reading, answer_told, IsScriptAnswer}
 use Rattle.cosmos_app.specs.Answers.{IsWritten, IsStopped, IsAnalysed}
 
 -- the status of a run that met no fault and no want of memory
@@ -44,3 +46,19 @@ IsUntouched old new result = IfErr result (λ stop. stop ≡ Read → new ≡ ol
 -- the answer is the text of a listing, whatever texts were analysed for it
 abbrev pub IsTextOf : ListingData → Answer → Type 0
 IsTextOf listing answer = (answer.status ≡ status.Done) × (answer.text ≡ listing_text listing)
+
+-- a script has run: to these data, with this end, and what came of it was written and analysed
+pub record HasRun (cut : Option ℕ) (start : SessionData) (lines : List (ℕ × List ℕ)) (new : SessionData) (before after : Option (List ℕ))
+    (asked told : List GroupTextData) (ending : end.End) : Type 0 where
+  pub outcome : Outcome
+  pub runs : Runs plain_reading cut start lines outcome
+  pub reached : outcome.end ≡ new
+  pub ended : (answer_told outcome).status ≡ status_of ending
+  pub grew : after ≡ append_known before (answer_told outcome).text
+  pub analysed : told ≡ asked ++ outcome.texts
+
+-- what running a script comes to; where the run stopped, nothing or a part of an answer was written
+abbrev pub TellsRun : Option ℕ → SessionData → List (ℕ × List ℕ) → SessionData → Option (List ℕ) → Option (List ℕ) → List GroupTextData → List GroupTextData →
+    Result end.End Stop → Type 0
+TellsRun cut start lines new before after asked told (Ok ending) = HasRun cut start lines new before after asked told ending
+TellsRun cut start lines new before after asked told (Err stop) = IsStopped (IsScriptAnswer plain_reading cut start lines) before after

@@ -1,11 +1,13 @@
 pub mod Statuses
 pub mod Codes
+pub mod Samples
 pub mod Requests
 pub mod Runs
 pub mod Answers
 pub mod Stops
 pub mod Turns
 pub mod Ends
+pub mod Feeding
 pub mod Starts
 pub mod Counts
 pub mod Wholes

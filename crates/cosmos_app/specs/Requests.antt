@@ -1,10 +1,12 @@
 -- What the words of a command line ask for.
 use Rattle.std.specs.Prelude.{ℕ, List, [], ◌∷◌, map, codes, bytes_eq, if◌then◌else◌, Option, Some, None, String, string_bytes}
 use Rattle.std.specs.declared.alloc.Global.{Global}
+use Rattle.net_gen.specs.declared.families.GenPart.{GenPart}
 use Rattle.cosmos_app.specs.declared.request.Question as code_question
 use Rattle.cosmos_app.specs.declared.request.Question.TheVariants as code_question_is
 use Rattle.cosmos_app.specs.declared.request.Request as code_request
 use Rattle.cosmos_app.specs.declared.request.Request.TheVariants as code_request_is
+use Rattle.cosmos_app.specs.Samples.{Sample, part_of, sample_of, sample_seen}
 
 -- what may be asked about a netlist: the run of the script with this name in its circuit, a check, its groups, or its listing
 pub data Question : Type 0 where
@@ -13,9 +15,10 @@ pub data Question : Type 0 where
   Groups : Question
   Compile : Question
 
--- what words ask for: a question about the netlist with this name, or nothing that there is
+-- what words ask for: a question about the netlist with this name, a part of a sample, or nothing that there is
 pub data Request : Type 0 where
   About : List ℕ → Question → Request
+  Generate : GenPart → Sample → Request
   Unclear : Request
 
 -- what a word alone asks about a netlist
@@ -30,10 +33,26 @@ abbrev pub about : List ℕ → Option Question → Request
 about net (Some question) = About net question
 about net None = Unclear
 
--- `sim NET SCRIPT`, `check NET`, `groups NET` and `compile NET`, compared byte by byte
+-- a part of a sample, where the words tell both
+abbrev pub generate : Option GenPart → Option Sample → Request
+generate (Some part) (Some sample) = Generate part sample
+generate (Some part) None = Unclear
+generate None sample = Unclear
+
+-- `sim NET SCRIPT`, compared byte by byte
+abbrev pub simulation : List ℕ → List ℕ → List ℕ → Request
+simulation command net script = if bytes_eq command (codes "sim") then About net (Simulate script) else Unclear
+
+-- `gen PART KIND SEED N`
+abbrev pub generation : List ℕ → List ℕ → List ℕ → List ℕ → List ℕ → Request
+generation command part kind seed rows =
+    if bytes_eq command (codes "gen") then generate (part_of part) (sample_of kind seed rows) else Unclear
+
+-- what words ask for, by their number: `sim NET SCRIPT`, `check NET`, `groups NET`, `compile NET` and `gen PART KIND SEED N`, and nothing else
 abbrev pub request_of : List (List ℕ) → Request
-request_of (command ∷ net ∷ script ∷ []) = if bytes_eq command (codes "sim") then About net (Simulate script) else Unclear
+request_of (command ∷ net ∷ script ∷ []) = simulation command net script
 request_of (command ∷ net ∷ []) = about net (question_of command)
+request_of (command ∷ part ∷ kind ∷ seed ∷ rows ∷ []) = generation command part kind seed rows
 request_of _ = Unclear
 
 -- a question of the code, as it is meant here
@@ -46,6 +65,7 @@ question_seen code_question_is.Compile = Compile
 -- and a request of the code
 abbrev pub request_seen : code_request.Request → Request
 request_seen (code_request_is.About net question) = About net.now (question_seen question)
+request_seen (code_request_is.Generate part sample) = Generate part (sample_seen sample)
 request_seen code_request_is.Unclear = Unclear
 
 -- the bytes of the words

@@ -49,8 +49,12 @@ pub(crate) fn refusal_code(refusal: Refusal) -> FaultCode
 {
     match refusal {
         Refusal::UnknownNode => FaultCode::E1UnknownNode,
+        Refusal::NoSuchSwitch => FaultCode::E2NoSuchSwitch,
         Refusal::Rail => FaultCode::E3Rail,
+        Refusal::BadStrength => FaultCode::E4BadStrength,
         Refusal::BadSize => FaultCode::E5BadSize,
+        Refusal::TooManyNodes => FaultCode::E7TooManyNodes,
+        Refusal::TooManySwitches => FaultCode::E8TooManySwitches,
         Refusal::NotInput => FaultCode::S6NotInput,
         Refusal::NotStore => FaultCode::S7NotStore,
         Refusal::ClockLength => FaultCode::S8ClockLength,

@@ -19,6 +19,7 @@ use netlist::Circuit;
 use port_edge::{Sink, send};
 use std::alloc::Global;
 use table_keys::TableKeys;
+use wave_print::FaultPlace;
 
 // How many bytes of a listing are sent at a time, or the last of a line more.
 const PIECE: usize = 65_536;
@@ -41,7 +42,10 @@ pub(crate) fn write_listing<S: Sink, A: Analyst>(
 {
     match list_circuit(alloc, keys, circuit, analyst) {
         Ok(listing) => send_listing(alloc, &listing, out),
-        Err(fault) => refuse_size(alloc, circuit, fault, out),
+        Err(fault) => {
+            let place = FaultPlace::NetWhole;
+            refuse_size(alloc, place, circuit, fault, End::NetRefused, out)
+        }
     }
 }
 

@@ -17,11 +17,13 @@
 
 mod codes;
 mod compile;
+mod generated;
 mod laws;
 mod reading;
 mod refusal;
 mod reports;
 mod request;
+mod sample;
 mod script;
 mod status;
 mod stop;

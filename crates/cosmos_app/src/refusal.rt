@@ -2,7 +2,7 @@
 
 ghost use Rattle.std.specs.Prelude.{◌≡◌, ◌≢◌, ◌⊎◌, Err, IfOk, IfErr};
 ghost use Rattle.circuit_texts.specs.Sizes.{TellsTooLarge};
-ghost use Rattle.cosmos_app.specs.Answers.{IsNamedRefusal, IsNetRefusal, IsRefusal, IsTooLarge, IsUsage};
+ghost use Rattle.cosmos_app.specs.Answers.{IsNetRefusal, IsRefusal, IsRefusalFor, IsTooLarge, IsUsage};
 ghost use Rattle.cosmos_app.specs.Ends.{IsTold, status_of};
 ghost use Rattle.cosmos_app.specs.Stops.{faults_written, IsRefusedOnce};
 
@@ -44,7 +44,8 @@ fn refuse_named<S: Sink>(
     out: &mut S,
 ) -> Result<End, Stop>
     ensures told { IsTold
-        (IsNamedRefusal place code name.now count (status_of end)) (S.written out.old) (S.written out.new) result }
+        (IsRefusalFor place (record { code = code; name = name.now; count = count }) (status_of end))
+        (S.written out.old) (S.written out.new) result }
     ensures same { IfOk result (λ ended. ended ≡ end) }
     ensures no_read { IfErr result (λ stop. stop ≢ Stop.Read) }
     ensures write { S.faults out.new ≡ faults_written (S.faults out.old) result }
@@ -58,31 +59,35 @@ fn refuse_named<S: Sink>(
     }
 }
 
-/// Writes the line of the first group of a circuit that is too large; want of memory ends the run.
+/// Writes the line of the first group of a circuit that is too large, and ends the run so; want of memory
+/// stops it.
 pub(crate) fn refuse_size<S: Sink>(
     alloc: Global,
+    place: FaultPlace,
     circuit: &Circuit,
     fault: BuildFault,
+    end: End,
     out: &mut S,
 ) -> Result<End, Stop>
     requires { (fault ≡ BuildFault.NoMemory) ⊎ TellsTooLarge circuit.now.graph fault }
-    ensures told { IsTold (IsTooLarge circuit.now) (S.written out.old) (S.written out.new) result }
+    ensures told { IsTold
+        (IsTooLarge circuit.now place (status_of end)) (S.written out.old) (S.written out.new) result }
     ensures memory { fault ≡ BuildFault.NoMemory → result ≡ Err Stop.Memory }
+    ensures same { IfOk result (λ ended. ended ≡ end) }
     ensures no_read { IfErr result (λ stop. stop ≢ Stop.Read) }
     ensures write { S.faults out.new ≡ faults_written (S.faults out.old) result }
     ensures refused { IsRefusedOnce (S.refusals out.old) (S.refusals out.new) result }
 {
-    let place = FaultPlace::NetWhole;
     match fault {
         BuildFault::GroupNodes { node, count } => {
             let name = circuit.name_of(node);
             let code = FaultCode::G1GroupNodes;
-            refuse_named(alloc, place, code, name, count, End::NetRefused, out)
+            refuse_named(alloc, place, code, name, count, end, out)
         }
         BuildFault::GroupSwitches { node, count } => {
             let name = circuit.name_of(node);
             let code = FaultCode::G2GroupSwitches;
-            refuse_named(alloc, place, code, name, count, End::NetRefused, out)
+            refuse_named(alloc, place, code, name, count, end, out)
         }
         BuildFault::NoMemory => Err(Stop::Memory),
     }

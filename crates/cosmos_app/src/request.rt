@@ -1,8 +1,13 @@
 //! What the words of a command line ask for.
 
-ghost use Rattle.std.specs.Prelude.{◌≡◌};
+ghost use Rattle.std.specs.Prelude.{◌≡◌, ◌≤◌, IfSome};
 ghost use Rattle.std.specs.Option.{option_map};
 ghost use Rattle.cosmos_app.specs.Requests as spec;
+ghost use Rattle.cosmos_app.specs.Samples as samples;
+
+use crate::sample::Sample;
+use line_words::decimal;
+use net_gen::{GenKind, GenPart, MOST_ROWS};
 
 /// What words ask for.
 #[derive(Clone, Copy)]
@@ -11,6 +16,11 @@ pub(crate) enum Request<'a> {
     About {
         net: &'a str,
         question: Question<'a>,
+    },
+    /// A part of a sample.
+    Generate {
+        part: GenPart,
+        sample: Sample,
     },
     /// Nothing that there is.
     Unclear,
@@ -29,18 +39,42 @@ pub(crate) enum Question<'a> {
     Compile,
 }
 
-/// What the words of a command line ask for: `sim NET SCRIPT`, `check NET`, `groups NET` and
-/// `compile NET`, and nothing else.
+/// What the words of a command line ask for: `sim NET SCRIPT`, `check NET`, `groups NET`, `compile NET`
+/// and `gen PART KIND SEED N`, and nothing else.
 pub(crate) fn request_of(words: &[String]) -> Request<'_>
     ensures { spec.request_seen result ≡ spec.request_of (spec.names_of words.now) }
 {
-    match words {
-        [command, net, script] if command.as_str() == "sim" => Request::About {
-            net,
-            question: Question::Simulate(script),
-        },
-        [command, net] => about(net, question_of(command)),
-        _ => Request::Unclear,
+    if let [command, net] = words {
+        about(net, question_of(command))
+    } else if let [command, net, script] = words {
+        simulation(command, net, script)
+    } else if let [command, part, kind, seed, rows] = words {
+        generation(command, part, kind, seed, rows)
+    } else {
+        Request::Unclear
+    }
+}
+
+// What three words ask for.
+fn simulation<'a>(command: &str, net: &'a str, script: &'a str) -> Request<'a>
+    ensures { spec.request_seen result ≡ spec.simulation command.now net.now script.now }
+{
+    if command == "sim" {
+        let question = Question::Simulate(script);
+        Request::About { net, question }
+    } else {
+        Request::Unclear
+    }
+}
+
+// What five words ask for.
+fn generation<'a>(command: &str, part: &str, kind: &str, seed: &str, rows: &str) -> Request<'a>
+    ensures { spec.request_seen result ≡ spec.generation command.now part.now kind.now seed.now rows.now }
+{
+    if command == "gen" {
+        generate(part_of(part), sample_of(kind, seed, rows))
+    } else {
+        Request::Unclear
     }
 }
 
@@ -54,6 +88,16 @@ fn about<'a>(net: &'a str, question: Option<Question<'a>>) -> Request<'a>
     }
 }
 
+// A part of a sample, where the words tell both.
+fn generate<'a>(part: Option<GenPart>, sample: Option<Sample>) -> Request<'a>
+    ensures { spec.request_seen result ≡ spec.generate part (option_map samples.sample_seen sample) }
+{
+    match (part, sample) {
+        (Some(part), Some(sample)) => Request::Generate { part, sample },
+        _ => Request::Unclear,
+    }
+}
+
 // What a word alone asks about a netlist.
 fn question_of(command: &str) -> Option<Question<'_>>
     ensures { option_map spec.question_seen result ≡ spec.question_of command.now }
@@ -64,6 +108,58 @@ fn question_of(command: &str) -> Option<Question<'_>>
         Some(Question::Groups)
     } else if command == "compile" {
         Some(Question::Compile)
+    } else {
+        None
+    }
+}
+
+// The part of a sample that a word names.
+fn part_of(word: &str) -> Option<GenPart>
+    ensures { result ≡ samples.part_of word.now }
+{
+    if word == "net" {
+        Some(GenPart::Net)
+    } else if word == "script" {
+        Some(GenPart::Script)
+    } else {
+        None
+    }
+}
+
+// The sample that the words for its family, its seed and its number of rows tell.
+fn sample_of(kind: &str, seed: &str, rows: &str) -> Option<Sample>
+    ensures { option_map samples.sample_seen result ≡ samples.sample_of kind.now seed.now rows.now }
+{
+    let kind = kind_of(kind)?;
+    let seed = decimal(seed.as_bytes())?;
+    let rows = rows_of(rows)?;
+    Some(Sample { kind, seed, rows })
+}
+
+// The family that a word names.
+fn kind_of(word: &str) -> Option<GenKind>
+    ensures { result ≡ samples.kind_of word.now }
+{
+    if word == "inverters" {
+        Some(GenKind::Inverters)
+    } else if word == "passes" {
+        Some(GenKind::Passes)
+    } else if word == "columns" {
+        Some(GenKind::Columns)
+    } else {
+        None
+    }
+}
+
+// The number of rows that a word writes.
+fn rows_of(word: &str) -> Option<u64>
+    ensures value { result ≡ samples.rows_of word.now }
+    ensures some { IfSome result (λ rows. 1 ≤ rows) }
+    ensures most { IfSome result (λ rows. rows ≤ MOST_ROWS) }
+{
+    let rows = decimal(word.as_bytes())?;
+    if 1 <= rows && rows <= MOST_ROWS {
+        Some(rows)
     } else {
         None
     }

@@ -11,9 +11,10 @@ ghost use Rattle.cosmos_app.specs.Stops.{faults_read, faults_written, IsRefusedO
 ghost use Rattle.cosmos_app.specs.Counts.{files_count, sink_count, HasRefused};
 ghost use Rattle.cosmos_app.specs.Wholes.{files_of, needed, scripts_of, ReadsAll, ReadsWhole};
 ghost use Rattle.cosmos_app.specs.Starts.{QuestionStarts, RequestStarts, ScriptStarts, StartsAtMost};
-ghost use Rattle.cosmos_app.specs.Ends.{IsTold, IsToldBy, IsUntouched, status_after};
+ghost use Rattle.cosmos_app.specs.Ends.{IsToldBy, IsUntouched, status_after};
 
 use crate::compile::write_listing;
+use crate::generated::write_part;
 use crate::reading::{read_circuit, read_file};
 use crate::refusal::{refuse_net, refuse_words};
 use crate::reports::{list_groups, report_check};
@@ -31,11 +32,15 @@ use std::alloc::Global;
 /// Answers the words of a command line, which are those after the program's name.
 ///
 /// `sim NET SCRIPT` reads the netlist and the script of these names and runs the script's lines in
-/// order, writing a waveform line for each step and each phase and a line for each expectation that
-/// isn't met. `check NET` reads the netlist and writes how many nodes, transistors and names it has;
+/// order, writing a waveform line for each step and each phase, a line for each expectation that isn't
+/// met and one for each report; the analyst makes code of each text of a group that a command needs and
+/// that isn't kept. `check NET` reads the netlist and writes how many nodes, transistors and names it has;
 /// `groups NET` writes a line for each of its channel-connected groups; `compile NET` has the analyst
 /// make code of each text of a group that the circuit has, once, and writes a listing of the circuit,
-/// or the line of its first group that is too large. All other words are answered by the usage line.
+/// or the line of its first group that is too large. `gen PART KIND SEED N` writes the netlist or the
+/// script, by PART `net` or `script`, that `net_gen::generate` makes of the family KIND, `inverters`,
+/// `passes` or `columns`, from the seed SEED, a decimal within 64 bits, with N rows, a decimal from 1 to
+/// 10,000; it reads no file. All other words are answered by the usage line.
 ///
 /// A netlist or a script with a refused line ends the run with the line of that refusal. A file is
 /// read to its end, or to the first byte too many, before any refusal of it is answered. After a call
@@ -115,6 +120,7 @@ fn answer<F: Files, S: Sink, A: Analyst>(
 {
     match request_of(words) {
         Request::About { net, question } => answer_about(alloc, net, question, files, out, analyst),
+        Request::Generate { part, sample } => write_part(alloc, part, sample, out),
         Request::Unclear => refuse_words(out),
     }
 }
@@ -174,7 +180,7 @@ fn answer_in<F: Files, S: Sink, A: Analyst>(
     ensures untouched { IsUntouched out.old out.new result }
 {
     match question {
-        Question::Simulate(script) => run_script(alloc, circuit, script, files, out),
+        Question::Simulate(script) => run_script(alloc, circuit, script, files, out, analyst),
         Question::Check => report_check(alloc, &circuit, out),
         Question::Groups => list_groups(alloc, files.keys(), &circuit, out),
         Question::Compile => write_listing(alloc, files.keys(), &circuit, out, analyst),
@@ -182,17 +188,17 @@ fn answer_in<F: Files, S: Sink, A: Analyst>(
 }
 
 // Reads the script and runs it in the circuit.
-fn run_script<F: Files, S: Sink>(
+fn run_script<F: Files, S: Sink, A: Analyst>(
     alloc: Global,
     circuit: Circuit,
     script: &str,
     files: &mut F,
     out: &mut S,
+    analyst: &mut A,
 ) -> Result<End, Stop>
     requires { IsCircuit circuit }
-    ensures told { IfSome (F.holds files.old) (λ holds. IsTold
-        (IsSimulation (holds script.now) circuit)
-        (S.written out.old) (S.written out.new) result) }
+    ensures told { IfSome (F.holds files.old) (λ holds. IsToldBy (IsSimulation (holds script.now) circuit)
+        (S.written out.old) (S.written out.new) (A.analysed analyst.old) (A.analysed analyst.new) result) }
     ensures started { StartsAtMost (F.started files.old) (F.started files.new) script.now }
     ensures taken { TakesFiles (F.taken files.old) (F.taken files.new) (MOST_FILE_BYTES + 1) }
     ensures whole { IfOk result (λ _. IfSome (F.holds files.old) (λ holds.
@@ -204,5 +210,5 @@ fn run_script<F: Files, S: Sink>(
 {
     let text = read_file(alloc, files, script)?;
     let mut session = Session::new(alloc, circuit)?;
-    run_lines(alloc, &mut session, &text, out)
+    run_lines(alloc, &mut session, &text, out, analyst)
 }

@@ -9,9 +9,29 @@ const SCRIPT: &[u8] = b"input a\nwatch a out\nset a=0\nstep\nset a=1\nstep\n";
 
 const TEXT: &[u8] = b"1 1 01\n2 1 10\n";
 
+// Two inverters, as an extractor writes them.
+const EXTRACTED: &[u8] = b"| units: 100 tech: scmos format: SU
+p a_12_34# Vdd! out 2 8 100 200 g=S_Vdd! s=A_40,P_28 d=A_40,P_28
+n a_12_34# GND! out 2 4 100 150 s=A_20,P_18 d=A_20,P_18
+p out q Vdd! 2 8 140 200 s=A_40,P_28 d=A_40,P_28
+n out GND! q 2 4 140 150
+C out GND! 5.2
+C a_12_34# Vdd! 1.5
+R out 120
+= out y
+= a_12_34# in
+= Vdd! vdd
+";
+
 // netlist, script, status and text
-const SIMULATIONS: [(&[u8], &[u8], Status, &[u8]); 5] = [
+const SIMULATIONS: [(&[u8], &[u8], Status, &[u8]); 6] = [
     (INVERTER, SCRIPT, Status::Done, TEXT),
+    (
+        EXTRACTED,
+        b"input in\nwatch in y q\nset in=0\nphase\nset in=1\nphase\n",
+        Status::Done,
+        b"1 2 010\n2 2 101\n",
+    ),
     (
         b"n g bus cell\nA bus size:2\n",
         b"input g\nset g=1\ncharge bus=1 cell=0\nwatch bus cell\nphase\n",
@@ -35,6 +55,12 @@ const SIMULATIONS: [(&[u8], &[u8], Status, &[u8]); 5] = [
         b"input a\nset a=1\nphase\nexpect out=1 a=1 a=X\nphase\n",
         Status::Mismatch,
         b"1 1 -\nexpect out=1 got 0 after 1\nexpect a=X got 1 after 1\n2 0 -\n",
+    ),
+    (
+        b"p a Vdd out1\nn a Gnd out1\np b Vdd out2\nn b Gnd out2\n",
+        b"input a b\nreport\nadd n en Gnd out1\ninput en\nreport\ndel 5\nreport\n",
+        Status::Done,
+        b"groups 2 texts 1 new 1\ngroups 2 texts 2 new 1\ngroups 2 texts 1 new 0\n",
     ),
 ];
 
@@ -67,6 +93,25 @@ const CHECKS: [(&[u8], Status, &[u8]); 8] = [
         b"n Vdd GND vdd!\n",
         Status::Done,
         b"ok nodes 2 switches 1 names 0\n",
+    ),
+];
+
+// words, status and text
+const SAMPLES: [([&str; 5], Status, &[u8]); 3] = [
+    (
+        ["gen", "net", "inverters", "1", "1"],
+        Status::Done,
+        b"| units: 1 tech: cosmos format: MIT\np w0 Vdd w1\nn w0 Gnd w1\n",
+    ),
+    (
+        ["gen", "script", "inverters", "01", "1"],
+        Status::Done,
+        b"input w0\nwatch w0 w1\nlimit 1000000\nset w0=0\nphase\nset w0=0\nphase\nset w0=1\nphase\nset w0=1\nphase\n",
+    ),
+    (
+        ["gen", "net", "passes", "1", "10001"],
+        Status::Usage,
+        b"bad command line\n",
     ),
 ];
 
@@ -103,6 +148,16 @@ fn answer(
     Ok((status, out.written().to_vec(alloc)?))
 }
 
+// The status and the text of a simulation whose files give one byte at a time.
+fn answer_by_bytes(alloc: Global, net: &[u8], script: &[u8]) -> Result<(Status, Vec<u8>), Fail> {
+    let mut files = MemFiles::new(alloc, table_of(alloc, net, script)?, Vec::new(alloc), 1);
+    let mut out = HonestSink::new(alloc);
+    let mut analyst = SymbolicAnalyst::new(alloc);
+    let owned = words_of(alloc, &["sim", "net", "script"])?;
+    let status = run(alloc, &owned, &mut files, &mut out, &mut analyst);
+    Ok((status, out.written().to_vec(alloc)?))
+}
+
 // The inverter's simulation over ports of which this call of the files and this one of the sink fail: the
 // files give five bytes at a time, and the sink takes one.
 fn answer_failing(
@@ -129,6 +184,26 @@ fn netlists_and_scripts_have_their_status_and_text(rt: HostRuntime) -> Result<()
     }
     for (net, status, text) in &CHECKS {
         let (found, written) = answer(rt.alloc(), &["check", "net"], net, b"")?;
+        assert_eq!(rt; found, *status);
+        assert_eq!(rt; written.as_slice(), *text);
+    }
+    Ok(())
+}
+
+#[test]
+fn samples_are_written_without_a_file(rt: HostRuntime) -> Result<(), Fail> {
+    for (words, status, text) in &SAMPLES {
+        let (found, written) = answer(rt.alloc(), words, b"", b"")?;
+        assert_eq!(rt; found, *status);
+        assert_eq!(rt; written.as_slice(), *text);
+    }
+    Ok(())
+}
+
+#[test]
+fn netlists_and_scripts_may_come_a_byte_at_a_time(rt: HostRuntime) -> Result<(), Fail> {
+    for (net, script, status, text) in &SIMULATIONS {
+        let (found, written) = answer_by_bytes(rt.alloc(), net, script)?;
         assert_eq!(rt; found, *status);
         assert_eq!(rt; written.as_slice(), *text);
     }

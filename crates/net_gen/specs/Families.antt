@@ -1,13 +1,18 @@
 -- The whole texts that the generator writes.
-use Rattle.std.specs.Prelude.{ℕ, List, ◌++◌, codes}
+use Rattle.std.specs.Prelude.{ℕ, Bool, nat_le, ◌&&◌, List, ◌++◌, codes}
 use Rattle.net_gen.specs.Lines.{each, turns}
 use Rattle.net_gen.specs.Inverters.{inverter, inverters_start, inverters_turn}
 use Rattle.net_gen.specs.Passes.{pass_row, passes_start, passes_turn}
 use Rattle.net_gen.specs.Columns.{column, columns_start, columns_turn}
+use Rattle.net_gen.specs.declared.families.TheConstants.{MOST_ROWS}
 use Rattle.net_gen.specs.declared.families.GenKind.{GenKind}
 use Rattle.net_gen.specs.declared.families.GenKind.TheVariants.{Inverters, Passes, Columns}
 use Rattle.net_gen.specs.declared.families.GenPart.{GenPart}
 use Rattle.net_gen.specs.declared.families.GenPart.TheVariants.{Net, Script}
+
+-- a text may have so many rows: one at least, and `MOST_ROWS` at most
+abbrev pub is_row_count : ℕ → Bool
+is_row_count rows = nat_le 1 rows && nat_le rows MOST_ROWS
 
 -- the first line of every netlist
 abbrev pub header : List ℕ

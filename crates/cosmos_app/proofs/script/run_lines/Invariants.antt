@@ -5,7 +5,8 @@ use Rattle.cosmos_app.proofs.script.run_lines.Given as goal
 
 abbrev pub invariant-loop-line : goal.invariant-loop-line
 invariant-loop-line g l = record {
-  come : HasCome l.cut l.fn.session (file.lines_in l.text) (g.S.Sink.written l.fn.out) l.session l.line-iterator (g.S.Sink.written l.out);
+  come : HasCome l.cut l.fn.session.core (file.lines_in l.text) (g.S.Sink.written l.fn.out) (g.A.Analyst.analysed l.fn.analyst)
+      l.session.core l.line-iterator (g.S.Sink.written l.out) (g.A.Analyst.analysed l.analyst);
   faults : g.S.Sink.faults l.out ≡ g.S.Sink.faults l.fn.out;
   refusals : g.S.Sink.refusals l.out ≡ g.S.Sink.refusals l.fn.out;
 }

@@ -1,0 +1,18 @@
+//! Samples of generated circuits.
+
+ghost use Rattle.std.specs.Prelude.{◌≤◌};
+ghost use Rattle.net_gen.specs.declared.families.TheConstants.{MOST_ROWS};
+
+use net_gen::GenKind;
+
+/// A sample of a family of circuits.
+#[derive(Clone, Copy)]
+pub(crate) struct Sample {
+    pub(crate) kind: GenKind,
+    /// The seed of its script's draws.
+    pub(crate) seed: u64,
+    /// How many rows it has.
+    pub(crate) rows: u64,
+    ghost some: { 1 ≤ rows },
+    ghost most: { rows ≤ MOST_ROWS },
+}
