@@ -24,7 +24,7 @@ R out 120
 ";
 
 // netlist, script, status and text
-const SIMULATIONS: [(&[u8], &[u8], Status, &[u8]); 6] = [
+const SIMULATIONS: [(&[u8], &[u8], Status, &[u8]); 7] = [
     (INVERTER, SCRIPT, Status::Done, TEXT),
     (
         EXTRACTED,
