@@ -1,14 +1,15 @@
 -- Laws of the names beside the places of the first ones: they stay well formed as names are added, and what was added can be cut off.
-use Rattle.std.proofs.Common.{◌≡◌, ◌≢◌, ℕ, ◌+◌, ◌-◌, ◌<◌, ◌≤◌, true, List, [], ◌∷◌, ◌++◌, length, None, Some, is_some, codes, ◌==◌, slice_get, slice_index, get_or, refl, sym, ap, ◌∙◌, subst, inl, inr, arith, All, length-append, append_assoc, take, Vec, Result, Ok, Err, OnOk, OnErr, IfOk}
+use Rattle.std.proofs.Common.{◌≡◌, ◌≢◌, ℕ, zero, suc, ◌+◌, ◌-◌, ◌<◌, ◌≤◌, Bool, true, false, bytes_eq, if◌then◌else◌, option_map, Decides, add-one, List, [], ◌∷◌, ◌++◌, length, None, Some, is_some, codes, ◌==◌, slice_get, slice_index, get_or, refl, sym, ap, ◌∙◌, subst, inl, inr, arith, All, length-append, append_assoc, take, Vec, Result, Ok, Err, OnOk, OnErr, IfOk}
 use Rattle.std.specs.List.{take-map}
-use Rattle.std.proofs.Math.Seq.{take-append_seam}
+use Rattle.std.proofs.Math.Seq.{take-append_seam, take-suc}
+use Rattle.std.proofs.lemmas.Slice.Eq.{bytes_eq-Decides}
 use Rattle.std.proofs.lemmas.Bool.{cases_lt, cond-false, cond_both, ne_eqb, eqb-false}
 use Rattle.std.proofs.lemmas.List.{append-nil, get_or_append_left, get_or_push}
 use Rattle.std.proofs.lemmas.List.Elements.{All-push, All-weaker}
-use Rattle.std.proofs.lemmas.Option.{slice_get-get_or, slice_get_within, get_or_from_slice_get}
+use Rattle.std.proofs.lemmas.Option.{slice_get-get_or, slice_get_within, slice_get-map, get_or_from_slice_get}
 use Rattle.std.specs.declared.alloc.Global.{Global}
 use Rattle.path_meaning.specs.declared.TheConstants.{GND, VDD, RAILS}
-use Rattle.netlist.specs.Names.{StandOnce, first_name, name_at, node_of}
+use Rattle.netlist.specs.Names.{StandOnce, first_name, held, name_at, node_of}
 use Rattle.netlist.specs.Naming.{NamesData, node_count, IsFirst, IsNaming, Extends, HasNode, entries_of, with_first, with_name, with_names, with_more, cut}
 use Rattle.netlist.proofs.NameLemmas.{first_name-append, first_name-added, node_of-append, node_of-added}
 
@@ -260,3 +261,35 @@ IsNaming-added_more (Ok u) naming entries name node is unused low more same =
     subst (λ es. IsNaming (record { entries = es; firsts = naming.firsts })) (sym more) (IsNaming-with_more naming name node is unused low)
 IsNaming-added_more (Err e) naming entries name node is unused low more same =
     subst (λ es. IsNaming (record { entries = es; firsts = naming.firsts })) (sym same) is
+
+-- what stands at a place of the table stands there among the names
+pub stands-entries_of : (table : List (Vec ℕ Global × ℕ)) (place : ℕ) (name : Vec ℕ Global) (node : ℕ) →
+    Some (name, node) ≡ slice_get table place → slice_get (entries_of table) place ≡ Some (name.items, node)
+stands-entries_of table place name node seen =
+    let names : Vec ℕ Global × ℕ → List ℕ × ℕ = λ entry. (entry.0.items, entry.1) in
+    slice_get-map names table place ∙ ap (option_map names) (sym seen)
+
+-- the names up to a place and the one there are one more
+pub take-one_more : (entries : List (List ℕ × ℕ)) (place : ℕ) (entry : List ℕ × ℕ) → slice_get entries place ≡ Some entry →
+    take (place + 1) entries ≡ take place entries ++ entry ∷ []
+take-one_more entries place entry stands =
+    let low : place < length entries = slice_get_within entries place entry stands in
+    rw add-one (take-suc entries place entry low ∙ ap (λ e. take place entries ++ e ∷ []) (get_or_from_slice_get entries place entry entry stands))
+
+-- where each name stands once, none is held by those before it
+pub held-before : (entries : List (List ℕ × ℕ)) (place : ℕ) (name : List ℕ) (node : ℕ) → StandOnce entries →
+    slice_get entries place ≡ Some (name, node) → held (take place entries) name ≡ None
+held-before [] place name node once stands = absurd (cc)
+held-before (entry ∷ entries) zero name node once stands = refl
+held-before (entry ∷ entries) (suc place) name node once stands =
+    by (bytes_eq name entry.0) (bytes_eq-Decides name entry.0)
+    (held-before entries place name node (λ i j same one other at_i at_j.
+    let both : suc i ≡ suc j = once (suc i) (suc j) same one other at_i at_j in omega arith) stands)
+  where
+    by : (test : Bool) → Decides test (name ≡ entry.0) → held (take place entries) name ≡ None →
+        (if test then Some entry.1 else held (take place entries) name) ≡ None
+    by false decides rest = rest
+    by true decides rest =
+        let same : entry.0 ≡ name = sym (decides.0 refl) in
+        let first : 0 ≡ suc place = once 0 (suc place) name entry.1 node (ap (λ n. Some (n, entry.1)) same) stands in
+        absurd (omega arith)

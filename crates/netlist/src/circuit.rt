@@ -64,6 +64,20 @@ impl Circuit {
         })
     }
 
+    /// An equal circuit, whose removed transistors' numbers stay free. It takes time and memory by the
+    /// nodes, transistors and names alone.
+    pub fn copy(&self, alloc: Global) -> Result<Circuit, NoMemory>
+        ensures { IfOk result (λ circuit. circuit ≡ self.now) }
+    {
+        let graph = self.graph.copy(alloc)?;
+        let names = self.names.copy(alloc)?;
+        Ok(Circuit {
+            graph,
+            names,
+            profile: self.profile,
+        })
+    }
+
     /// The keys from which names are hashed, for further tables of what the same text holds.
     pub fn keys(&self) -> TableKeys {
         self.names.keys()

@@ -1,6 +1,6 @@
 //! The names of a circuit, beside its graph.
 ghost use Rattle.std.specs.Prelude.{◌≡◌, ◌<◌, [], ◌∷◌, ◌++◌, length, IfOk, IfSome, None, OnErr, OnOk, Some};
-ghost use Rattle.netlist.specs.Names.{held, name_at, node_of, rail_of};
+ghost use Rattle.netlist.specs.Names.{held, name_at, node_of, rail_of, StandOnce};
 ghost use Rattle.netlist.specs.Naming.{cut, entries_of, node_count, with_first, with_more, with_name, with_name_of, with_names, AreTerminals, Extends, HasNode, IsNaming};
 
 use crate::{GND, RAILS, VDD};
@@ -55,6 +55,15 @@ impl Names {
             table: IndexMap::with_hasher(alloc, keys),
             firsts: Vec::new(alloc),
         }
+    }
+
+    /// Equal names, hashed from the same keys.
+    pub(crate) fn copy(&self, alloc: Global) -> Result<Names, NoMemory>
+        ensures { IfOk result (λ names. names ≡ self.now) }
+    {
+        let table = copy_table(alloc, &self.table)?;
+        let firsts = Vec::from_slice(alloc, &self.firsts)?;
+        Ok(Names { table, firsts })
     }
 
     /// The keys from which names are hashed.
@@ -241,6 +250,25 @@ impl Names {
     {
         self.table.get(name).copied()
     }
+}
+
+// A table of the same names with the same nodes, in the same order.
+fn copy_table(
+    alloc: Global,
+    table: &IndexMap<Vec<u8>, usize, TableKeys>,
+) -> Result<IndexMap<Vec<u8>, usize, TableKeys>, NoMemory>
+    requires { StandOnce (entries_of table.now.entries) }
+    ensures { IfOk result (λ copy. entries_of copy.entries ≡ entries_of table.now.entries) }
+{
+    let mut copy = IndexMap::with_capacity_and_hasher(alloc, table.len(), *table.hasher())?;
+    for place in 0..table.len() {
+        let Some((name, node)) = table.get_index(place) else {
+            unreachable!()
+        };
+        let word = name.to_vec(alloc)?;
+        put_new(&mut copy, word, *node)?;
+    }
+    Ok(copy)
 }
 
 // Puts a name that isn't held behind the others.

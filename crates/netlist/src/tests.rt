@@ -77,11 +77,12 @@ const CALLED: [(&[u8], u8); 8] = [
 ];
 
 #[test]
-fn edits_make_and_name_nodes(rt: HostRuntime) -> Result<(), Fail> {
+fn edits_make_and_name_nodes_and_a_copy_has_them(rt: HostRuntime) -> Result<(), Fail> {
     let mut circuit = Circuit::new(rt.alloc(), Profile::One)?;
     for (edit, answer) in &EDITS {
         assert_eq!(rt; apply(&mut circuit, edit), *answer);
     }
+    let circuit = circuit.copy(rt.alloc())?;
     for (name, node) in &FOUND {
         assert_eq!(rt; circuit.find(name), *node);
     }
@@ -145,6 +146,7 @@ fn a_transistor_is_edited_by_its_number(rt: HostRuntime) -> Result<(), Fail> {
     for (edit, answer) in &REWIRED {
         assert_eq!(rt; apply(&mut circuit, edit), *answer);
     }
+    let circuit = circuit.copy(rt.alloc())?;
     assert_eq!(rt; circuit.graph().nodes(), 7);
     assert_eq!(rt; circuit.graph().places(), PLACES.len());
     for (place, switch) in PLACES.iter().enumerate() {

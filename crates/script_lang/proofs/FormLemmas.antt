@@ -70,7 +70,7 @@ both_some f (Some x) None value is = cc
 both_some f (Some x) (Some y) value is = (x, y, refl, refl, cc)
 
 -- what all items give has an item for each, and each is as that item gives it
-all_given : {X Y : Type 0} (f : X → Option Y) (P : X → Type 0) (Q : Y → Type 0) → ((x : X) (y : Y) → P x → f x ≡ Some y → Q y) →
+pub all_given : {X Y : Type 0} (f : X → Option Y) (P : X → Type 0) (Q : Y → Type 0) → ((x : X) (y : Y) → P x → f x ≡ Some y → Q y) →
     (items : List X) (given : List Y) → All P items → all_of f items ≡ Some given → (length given ≡ length items) × All Q given
 all_given f P Q each [] given all is = subst (λ list. (length list ≡ 0) × All Q list) (let e : [] ≡ given = cc in e) (refl, All-nil Q)
 all_given f P Q each (item ∷ items) given all is =
@@ -85,7 +85,7 @@ named_assignment word item is found =
     let parts = given_parts state_of (parts_of word) item found in (IsVisibleName-part word item.0 parts.0 is parts.1).0
 
 -- the letters of a clock have a name, and there is one at least
-named_beats : (word : List ℕ) (item : List ℕ × List Tern) → IsVisibleName word → beats_of word ≡ Some item → IsVisibleName item.0 × (0 < length item.1)
+pub named_beats : (word : List ℕ) (item : List ℕ × List Tern) → IsVisibleName word → beats_of word ≡ Some item → IsVisibleName item.0 × (0 < length item.1)
 named_beats word item is found =
     let parts = given_parts states_of (parts_of word) item found in
     let named = IsVisibleName-part word item.0 parts.0 is parts.1 in
@@ -107,7 +107,7 @@ formed_of command given made each is =
     let of = made_of command given made is in subst IsFormed of.2 (each of.0 of.1)
 
 -- what is there was there
-given_some : {X : Type 0} (found : Option X) (fault : ScriptFault) (x : X) → ok_or found fault ≡ Ok x → found ≡ Some x
+pub given_some : {X : Type 0} (found : Option X) (fault : ScriptFault) (x : X) → ok_or found fault ≡ Ok x → found ≡ Some x
 given_some None fault x is = cc
 given_some (Some y) fault x is = cc
 

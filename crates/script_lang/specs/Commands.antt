@@ -170,3 +170,23 @@ reading_by line None = if is_comment line then Ok None else reading_of_words (wo
 -- what a line of a script is: a command, nothing to do, or refused. The cases stand in the order in which one refusal wins
 abbrev pub reading_of : List ℕ → Result (Option Command) ScriptFault
 reading_of line = reading_by line (line_fault line)
+
+-- the first word of a line that asks for the command
+abbrev pub word_of : Command → List ℕ
+word_of (Input names) = codes "input"
+word_of (Store name size) = codes "store"
+word_of (Set list) = codes "set"
+word_of (Charge list) = codes "charge"
+word_of (Watch names) = codes "watch"
+word_of (Limit number) = codes "limit"
+word_of Step = codes "step"
+word_of Phase = codes "phase"
+word_of (Clock list) = codes "clock"
+word_of (Cycle number) = codes "cycle"
+word_of (Expect list) = codes "expect"
+word_of (Add kind gate source drain strength) = codes "add"
+word_of (Del number) = codes "del"
+word_of (Strength number strength) = codes "strength"
+word_of (Kind number kind) = codes "type"
+word_of (Wire number gate source drain) = codes "wire"
+word_of Report = codes "report"

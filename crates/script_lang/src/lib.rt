@@ -25,6 +25,7 @@ mod verb;
 pub use command::{Command, ScriptFault};
 pub use laws::readings_are_commands_or_refusals;
 pub use lists::{AssignList, ClockList, ItemList, Name, NameList, StateList};
+pub use parts::beats;
 pub use reader::read_command;
 
 /// The greatest number of `limit` and of `cycle`.

@@ -66,7 +66,7 @@ impl<T: Drop> ItemList<T> {
 
 impl<T: Copy> ItemList<T> {
     /// These items.
-    pub(crate) fn from_slice(alloc: Global, items: &[T]) -> Result<ItemList<T>, NoMemory>
+    pub fn from_slice(alloc: Global, items: &[T]) -> Result<ItemList<T>, NoMemory>
         ensures { IfOk result (λ list. list ≡ items.now) }
     {
         Ok(ItemList {

@@ -22,8 +22,9 @@ pub(crate) fn assignment(alloc: Global, word: &[u8]) -> Result<Option<(Name, Ter
     Ok(Some((Name::from_slice(alloc, name)?, state)))
 }
 
-/// The name and the states of a word `name=vvv..`, or None where the word is no such one.
-pub(crate) fn beats(alloc: Global, word: &[u8]) -> Result<Option<(Name, StateList)>, NoMemory>
+/// The name and the states of a word `name=vvv..`, cut at its last `=`, or None where the word is no such
+/// one: where a part is empty, or a byte after the `=` is no letter of a state.
+pub fn beats(alloc: Global, word: &[u8]) -> Result<Option<(Name, StateList)>, NoMemory>
     ensures { IfOk result (λ found. found ≡ beats_of word.now) }
 {
     let Some((name, letters)) = cut_at_last_equals(word) else {

@@ -104,14 +104,19 @@ module _ (input : List Tern) (instructions : List Instruction) (outputs : List O
   lo_within =
       rw pair_at (omega (arith, place_within input all_results (get_or outputs k past).lo own_allowed.lo, length-results input instructions))
 
+  -- over the array with all results, it has its state
+  pub pair_state : (array : List Bool) → array ≡ flat_values input all_results →
+      pair_value array (get_or pairs k d) ≡ output_state input all_results (get_or outputs k past)
+  pair_state array whole =
+      ap (λ values. pair_value values (get_or pairs k d)) whole ∙ ap (pair_value (flat_values input all_results)) pair_at
+      ∙ pair_value-of input all_results (get_or outputs k past) own_allowed
+
   -- once its state is written, out has the states up to it
   pub state_written : (array : List Bool) (out : List Tern) (state : Tern) → k < length out → array ≡ flat_values input all_results →
       take k out ≡ map (output_state input all_results) (take k outputs) → state ≡ pair_value array (get_or pairs k d) →
       take (k + 1) (set out k state) ≡ map (output_state input all_results) (take (k + 1) outputs)
   state_written array out state room whole so_far is =
-      let own : state ≡ output_state input all_results (get_or outputs k past) =
-      is ∙ ap (λ values. pair_value values (get_or pairs k d)) whole ∙ ap (pair_value (flat_values input all_results)) pair_at
-      ∙ pair_value-of input all_results (get_or outputs k past) own_allowed in
+      let own : state ≡ output_state input all_results (get_or outputs k past) = is ∙ pair_state array whole in
       take_more_set out k state room
       ∙ ap (λ front. front ++ state ∷ []) so_far
       ∙ ap (λ last. map (output_state input all_results) (take k outputs) ++ last ∷ []) own

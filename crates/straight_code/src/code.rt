@@ -1,5 +1,6 @@
 ghost use Rattle.std.specs.Prelude.{◌≡◌, ℕ, ◌+◌, ◌*◌, ◌<◌, ◌≤◌, Bool, length, map, All, IfOk};
 ghost use Rattle.path_meaning.specs.Switching.{state_at};
+ghost use Rattle.straight_code.specs.Flat.{IsFlat};
 ghost use Rattle.straight_code.specs.Code.{IsCode, operand_value, instruction_value, settled, output_state, code_value, IsAllowed, AreAllowed, IsOutput};
 
 use crate::flat::{FlatCode, fill_rails, pair_value, step_value};
@@ -120,6 +121,14 @@ impl Code {
         ensures { result.now ≡ self.now.outputs }
     {
         &self.outputs
+    }
+
+    /// The same instructions and outputs in the dense form, for runs of other kinds of values.
+    pub fn dense(&self) -> &FlatCode
+        ensures flat { IsFlat self.now.inputs self.now.instructions self.now.outputs result.now }
+        ensures program { IsCode self.now }
+    {
+        &self.flat
     }
 
     /// Runs the code on the states of its inputs, and writes those of its outputs, X where neither

@@ -15,7 +15,7 @@ use ternary::{NoMemory, Tern};
 
 /// What an instruction does.
 #[derive(Clone, Copy, Debug, PartialEq, Eq)]
-pub(crate) enum StepKind {
+pub enum StepKind {
     Not,
     And,
     Or,
@@ -23,25 +23,25 @@ pub(crate) enum StepKind {
 
 /// An instruction over the places of the array.
 #[derive(Clone, Copy, Debug, PartialEq, Eq)]
-pub(crate) struct FlatStep {
-    pub(crate) kind: StepKind,
-    pub(crate) a: u32,
-    // for a Not the same place as `a`
-    pub(crate) b: u32,
+pub struct FlatStep {
+    pub kind: StepKind,
+    pub a: u32,
+    /// For a Not the same place as `a`.
+    pub b: u32,
 }
 
 /// The places of both rails of an output.
 #[derive(Clone, Copy, Debug, PartialEq, Eq)]
-pub(crate) struct FlatOutput {
-    pub(crate) hi: u32,
-    pub(crate) lo: u32,
+pub struct FlatOutput {
+    pub hi: u32,
+    pub lo: u32,
 }
 
 /// The instructions and the outputs of code, over the places of one array.
 #[derive(Drop)]
-pub(crate) struct FlatCode {
-    pub(crate) steps: Vec<FlatStep>,
-    pub(crate) outputs: Vec<FlatOutput>,
+pub struct FlatCode {
+    pub steps: Vec<FlatStep>,
+    pub outputs: Vec<FlatOutput>,
 }
 
 /// The most inputs, and the most instructions, of code: places are numbers of 32 bits.

@@ -11,7 +11,8 @@
 //! the formulas (h0 and l1, not h0)      t0 = h0 & l1, t1 = ! h0, and the output (t0, t1)
 //! ```
 //!
-//! For the proofs of crates above: `ResultLemmas` (the results of instructions).
+//! For the proofs of crates above: `ResultLemmas` (the results of instructions), `FlatLemmas` and
+//! `RunMappedLemmas` (a run over the array of the dense form).
 //!
 //! After Bryant, Beatty, Brace, Cho and Sheffler, "COSMOS: A Compiled Simulator for MOS Circuits",
 //! 1987.
@@ -23,5 +24,6 @@ mod linear;
 mod part;
 
 pub use code::{Code, Instruction, Operand, Output, instruction_value, output_state};
+pub use flat::{FlatCode, FlatOutput, FlatStep, StepKind};
 pub use linear::linearise;
 pub use part::Part;

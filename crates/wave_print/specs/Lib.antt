@@ -1,3 +1,5 @@
 pub mod Faults
 pub mod LineBuf
 pub mod Lines
+pub mod Verdicts
+pub mod Waves

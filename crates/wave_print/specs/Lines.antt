@@ -1,7 +1,8 @@
--- The printed lines that tell no fault: waveform, expect, report, check and group. Each ends with LF.
+-- The printed lines that tell no fault: waveform, expect, report, check, group and summary. Each ends with LF.
 use Rattle.std.specs.Prelude.{ℕ, Bool, true, false, List, [], ◌∷◌, ◌++◌, map, codes, decimal, Option, Some, None}
 use Rattle.ternary.specs.declared.tern.Tern.{Tern}
 use Rattle.ternary.specs.Tern.{letter}
+use Rattle.wave_print.specs.declared.lines.Summary.{Summary}
 
 -- the mark of a phase: `*`, or nothing
 abbrev pub mark_of : Bool → List ℕ
@@ -56,3 +57,23 @@ names_after (name ∷ names) = codes " " ++ name ++ names_after names
 abbrev pub group_line_of : ℕ → ℕ → ℕ → Option ℕ → List (List ℕ) → List ℕ
 group_line_of number nodes switches text names =
     group_start_of number nodes switches text ++ names_after names ++ codes "\n"
+
+-- what a summary tells of the circuit: ` nodes <nodes> switches <switches>`
+abbrev pub circuit_of : Summary → List ℕ
+circuit_of summary = codes " nodes " ++ decimal summary.nodes ++ codes " switches " ++ decimal summary.switches
+
+-- of the lines and their steps: ` lines <lines> steps <steps> marks <marks>`
+abbrev pub moves_of : Summary → List ℕ
+moves_of summary =
+    codes " lines " ++ decimal summary.lines ++ codes " steps " ++ decimal summary.steps ++ codes " marks "
+    ++ decimal summary.marks
+
+-- and of the values: ` zeros <zeros> ones <ones> unknown <unknown>`
+abbrev pub states_of : Summary → List ℕ
+states_of summary =
+    codes " zeros " ++ decimal summary.zeros ++ codes " ones " ++ decimal summary.ones ++ codes " unknown "
+    ++ decimal summary.unknown
+
+-- the summary line: `large`, and these three parts
+abbrev pub summary_line_of : Summary → List ℕ
+summary_line_of summary = codes "large" ++ circuit_of summary ++ moves_of summary ++ states_of summary ++ codes "\n"

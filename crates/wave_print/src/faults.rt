@@ -22,9 +22,11 @@ pub enum FaultPlace {
     NetWhole,
     /// A line of the script, counted from 1.
     Script(u64),
+    /// A line of the list of faults, counted from 1.
+    List(u64),
 }
 
-/// A refusal, by its code and its word, in the order lines, netlist, groups, edits, script.
+/// A refusal, by its code and its word, in the order lines, netlist, groups, edits, script, list.
 #[derive(Clone, Copy, Debug, PartialEq, Eq)]
 pub enum FaultCode {
     /// A line has more than 65,536 bytes.
@@ -81,6 +83,10 @@ pub enum FaultCode {
     S10TooManyWatched,
     /// A script goes past 67,108,864 bytes.
     S11TooLong,
+    /// A line of the list isn't two words that name a fault.
+    F1BadFault,
+    /// A list goes past 67,108,864 bytes.
+    F2TooLong,
 }
 
 impl FaultCode {
@@ -117,6 +123,8 @@ impl FaultCode {
             FaultCode::S9NoClock => b"S9 NoClock",
             FaultCode::S10TooManyWatched => b"S10 TooManyWatched",
             FaultCode::S11TooLong => b"S11 TooLong",
+            FaultCode::F1BadFault => b"F1 BadFault",
+            FaultCode::F2TooLong => b"F2 TooLong",
         }
     }
 }
@@ -148,6 +156,7 @@ fn append_place(out: &mut LineBuf, place: FaultPlace)
         FaultPlace::Net(line) => append_line_number(out, b"net line ", line),
         FaultPlace::NetWhole => out.append(b"net: "),
         FaultPlace::Script(line) => append_line_number(out, b"script line ", line),
+        FaultPlace::List(line) => append_line_number(out, b"list line ", line),
     }
 }
 

@@ -8,6 +8,8 @@
 //! ```text
 //! wave_line(&mut out, 7, 2, true, &[Tern::One, Tern::Unk])
 //!     appends `7 2* 1X` and LF
+//! wave_values(b"7 2* 1X")
+//!     is Some((7, b"1X")): a waveform line is read back, and no other line is
 //! fault_line(&mut out, FaultPlace::NetWhole, FaultCode::G1GroupNodes, b"s1", 201)
 //!     appends `net: G1 GroupNodes s1 201` and LF
 //! ```
@@ -18,11 +20,18 @@ mod line_buf;
 mod lines;
 #[cfg(test)]
 mod tests;
+mod verdicts;
+mod waves;
 
 pub use faults::{FAULT_LINE_ROOM, FaultCode, FaultPlace, fault_line};
 pub use line_buf::LineBuf;
 pub use lines::{
     CHECK_LINE_ROOM, EXPECT_LINE_ROOM, GROUP_START_ROOM, MOST_VALUES, REPORT_LINE_ROOM,
-    WAVE_LINE_ROOM, check_line, expect_line, group_name, group_start, line_end, report_line,
-    wave_line,
+    SUMMARY_LINE_ROOM, Summary, WAVE_LINE_ROOM, check_line, expect_line, group_name, group_start,
+    line_end, report_line, summary_line, wave_line,
 };
+pub use verdicts::{
+    FAULTS_LINE_ROOM, VERDICT_LINE_ROOM, detected_line, faults_line, possible_line, refused_line,
+    undetected_line,
+};
+pub use waves::wave_values;

@@ -1,6 +1,6 @@
 ghost use Rattle.std.specs.Prelude.{◌≡◌, ◌+◌, ◌≤◌, ◌++◌, length, map, codes, decimal};
 ghost use Rattle.ternary.specs.Tern.{letter};
-ghost use Rattle.wave_print.specs.Lines.{mark_of, values_of, wave_line_of, report_line_of, expect_line_of, check_line_of, text_number_of, group_start_of};
+ghost use Rattle.wave_print.specs.Lines.{mark_of, values_of, wave_line_of, report_line_of, expect_line_of, check_line_of, text_number_of, group_start_of, circuit_of, moves_of, states_of, summary_line_of};
 
 use crate::line_buf::LineBuf;
 use itoa::Buffer;
@@ -24,8 +24,33 @@ pub const CHECK_LINE_ROOM: usize = 300;
 /// Room for the start of any group line.
 pub const GROUP_START_ROOM: usize = 300;
 
+/// Room for any summary line.
+pub const SUMMARY_LINE_ROOM: usize = 300;
+
 /// The most digits of a number.
 pub(crate) const NUMBER_ROOM: usize = 20;
+
+/// What a whole run comes to: its circuit's nodes and transistors, and what its waveform lines tell
+/// together. A count that is at the last value of its type may stand for more.
+#[derive(Clone, Copy, Debug, PartialEq, Eq)]
+pub struct Summary {
+    /// How many nodes the circuit has.
+    pub nodes: u64,
+    /// How many transistors it has.
+    pub switches: u64,
+    /// How many waveform lines there are.
+    pub lines: u64,
+    /// How many steps changed something, in all lines together.
+    pub steps: u64,
+    /// How many lines have the mark.
+    pub marks: u64,
+    /// How many values are 0.
+    pub zeros: u64,
+    /// How many are 1.
+    pub ones: u64,
+    /// How many are X.
+    pub unknown: u64,
+}
 
 /// Appends the waveform line `<n> <k><mark> <values>` and LF.
 ///
@@ -99,6 +124,64 @@ pub fn check_line(out: &mut LineBuf, nodes: u64, switches: u64, names: u64)
     out.append(b" names ");
     append_number(out, names);
     out.append(b"\n");
+}
+
+/// Appends the summary line `large nodes <nodes> switches <switches> lines <lines> steps <steps> marks
+/// <marks> zeros <zeros> ones <ones> unknown <unknown>` and LF.
+pub fn summary_line(out: &mut LineBuf, summary: Summary)
+    requires room { SUMMARY_LINE_ROOM ≤ out.old.spare }
+    ensures bytes { out.new.bytes ≡ out.old.bytes ++ summary_line_of summary }
+    ensures spare { out.new.spare + length (summary_line_of summary) ≡ out.old.spare }
+    ensures short { length (summary_line_of summary) ≤ SUMMARY_LINE_ROOM }
+{
+    out.append(b"large");
+    append_circuit(out, summary);
+    append_moves(out, summary);
+    append_states(out, summary);
+    out.append(b"\n");
+}
+
+// Appends what a summary tells of the circuit.
+fn append_circuit(out: &mut LineBuf, summary: Summary)
+    requires room { 90 ≤ out.old.spare }
+    ensures bytes { out.new.bytes ≡ out.old.bytes ++ circuit_of summary }
+    ensures spare { out.new.spare + length (circuit_of summary) ≡ out.old.spare }
+    ensures short { length (circuit_of summary) ≤ 90 }
+{
+    out.append(b" nodes ");
+    append_number(out, summary.nodes);
+    out.append(b" switches ");
+    append_number(out, summary.switches);
+}
+
+// Appends what a summary tells of the lines and their steps.
+fn append_moves(out: &mut LineBuf, summary: Summary)
+    requires room { 90 ≤ out.old.spare }
+    ensures bytes { out.new.bytes ≡ out.old.bytes ++ moves_of summary }
+    ensures spare { out.new.spare + length (moves_of summary) ≡ out.old.spare }
+    ensures short { length (moves_of summary) ≤ 90 }
+{
+    out.append(b" lines ");
+    append_number(out, summary.lines);
+    out.append(b" steps ");
+    append_number(out, summary.steps);
+    out.append(b" marks ");
+    append_number(out, summary.marks);
+}
+
+// Appends what a summary tells of the values.
+fn append_states(out: &mut LineBuf, summary: Summary)
+    requires room { 90 ≤ out.old.spare }
+    ensures bytes { out.new.bytes ≡ out.old.bytes ++ states_of summary }
+    ensures spare { out.new.spare + length (states_of summary) ≡ out.old.spare }
+    ensures short { length (states_of summary) ≤ 90 }
+{
+    out.append(b" zeros ");
+    append_number(out, summary.zeros);
+    out.append(b" ones ");
+    append_number(out, summary.ones);
+    out.append(b" unknown ");
+    append_number(out, summary.unknown);
 }
 
 /// Appends the start of a group line, `group <number> nodes <nodes> switches <switches> text

@@ -1,0 +1,164 @@
+-- A line that asks for a command begins with the command's word.
+use Rattle.std.proofs.Common.{◌≡◌, ℕ, Bool, true, false, List, [], ◌∷◌, Option, Some, None, option_map, Result, Ok, Err, refl, sym, ◌∙◌, subst, if◌then◌else◌}
+use Rattle.std.specs.Prelude.{codes, bytes_eq}
+use Rattle.std.specs.Option.{ok_or}
+use Rattle.std.proofs.lemmas.Slice.Eq.{bytes_eq-Decides}
+use Rattle.line_words.specs.Decimals.{decimal_of}
+use Rattle.script_lang.specs.declared.verb.Verb.{Verb}
+use Rattle.script_lang.specs.declared.verb.Verb.TheVariants as verb
+use Rattle.script_lang.specs.declared.command.Command.{Command}
+use Rattle.script_lang.specs.declared.command.Command.TheVariants.{Input, Store, Set, Charge, Watch, Limit, Step, Phase, Clock, Cycle, Expect, Add, Del, Strength, Kind, Wire, Report}
+use Rattle.script_lang.specs.declared.command.ScriptFault.{ScriptFault}
+use Rattle.script_lang.specs.declared.command.ScriptFault.TheVariants.{BadNumber}
+use Rattle.script_lang.specs.Commands.{add_by, alone, assignments_given, clocks_given, command_by, commanded, commanded_by, del_by, kind_by, kind_given, names_given, number_given, reading_of_words, some_command, store_by, strength_by, times_given, verb_of, wire_by, word_of}
+
+-- the word of a verb
+abbrev text_of : Verb → List ℕ
+text_of verb.Input = codes "input"
+text_of verb.Store = codes "store"
+text_of verb.Set = codes "set"
+text_of verb.Charge = codes "charge"
+text_of verb.Watch = codes "watch"
+text_of verb.Limit = codes "limit"
+text_of verb.Step = codes "step"
+text_of verb.Phase = codes "phase"
+text_of verb.Clock = codes "clock"
+text_of verb.Cycle = codes "cycle"
+text_of verb.Expect = codes "expect"
+text_of verb.Add = codes "add"
+text_of verb.Del = codes "del"
+text_of verb.Strength = codes "strength"
+text_of verb.Kind = codes "type"
+text_of verb.Wire = codes "wire"
+text_of verb.Report = codes "report"
+
+-- the word is that of the verb, if there is one
+abbrev IsWordOf : List ℕ → Option Verb → Type 0
+IsWordOf word None = Unit {0}
+IsWordOf word (Some v) = word ≡ text_of v
+
+-- a verb is found by its word, or it is one of the others
+found_by : (word : List ℕ) (v : Verb) (rest : Option Verb) → IsWordOf word rest → IsWordOf word (if bytes_eq word (text_of v) then Some v else rest)
+found_by word v rest later = by (bytes_eq word (text_of v)) refl
+  where
+    by : (test : Bool) → bytes_eq word (text_of v) ≡ test → IsWordOf word (if test then Some v else rest)
+    by true is = (bytes_eq-Decides word (text_of v)).0 is
+    by false is = later
+
+verb_word : (word : List ℕ) → IsWordOf word (verb_of word)
+verb_word word =
+    found_by word verb.Input _
+    (found_by word verb.Store _
+    (found_by word verb.Set _
+    (found_by word verb.Charge _
+    (found_by word verb.Watch _
+    (found_by word verb.Limit _
+    (found_by word verb.Step _
+    (found_by word verb.Phase _
+    (found_by word verb.Clock _
+    (found_by word verb.Cycle _
+    (found_by word verb.Expect _
+    (found_by word verb.Add _
+    (found_by word verb.Del _
+    (found_by word verb.Strength _
+    (found_by word verb.Kind _
+    (found_by word verb.Wire _
+    (found_by word verb.Report None tt))))))))))))))))
+
+-- ---- the word of what was made
+
+module _ (made : Command) (text : List ℕ) where
+  by_one : {X : Type 0} (command : X → Command) (given : Result X ScriptFault) → ((x : X) → word_of (command x) ≡ text) →
+      commanded command given ≡ Ok made → word_of made ≡ text
+  by_one command (Ok x) each is = subst (λ (c : Command). word_of c ≡ text) (let same : command x ≡ made = cc in same) (each x)
+  by_one command (Err fault) each is = cc
+
+  by_two : {X Y : Type 0} (command : X → Y → Command) (first : Result X ScriptFault) (second : Result Y ScriptFault) →
+      ((x : X) (y : Y) → word_of (command x y) ≡ text) → commanded_by command first second ≡ Ok made → word_of made ≡ text
+  by_two command (Ok x) (Ok y) each is = subst (λ (c : Command). word_of c ≡ text) (let same : command x y ≡ made = cc in same) (each x y)
+  by_two command (Ok x) (Err fault) each is = cc
+  by_two command (Err fault) second each is = cc
+
+  by_none : (command : Command) (words : List (List ℕ)) → word_of command ≡ text → alone command words ≡ Ok made → word_of made ≡ text
+  by_none command [] own is = subst (λ (c : Command). word_of c ≡ text) (let same : command ≡ made = cc in same) own
+  by_none command (word ∷ words) own is = cc
+
+store_word : (words : List (List ℕ)) (made : Command) → store_by words ≡ Ok made → word_of made ≡ codes "store"
+store_word [] made is = cc
+store_word (name ∷ []) made is = cc
+store_word (name ∷ size ∷ other ∷ words) made is = cc
+store_word (name ∷ size ∷ []) made is = by (decimal_of size) is
+  where
+    by : (found : Option ℕ) → ok_or (option_map (Store name) found) BadNumber ≡ Ok made → word_of made ≡ codes "store"
+    by None is = cc
+    by (Some number) is = subst (λ (c : Command). word_of c ≡ codes "store") (let same : Store name number ≡ made = cc in same) refl
+
+add_word : (words : List (List ℕ)) (made : Command) → add_by words ≡ Ok made → word_of made ≡ codes "add"
+add_word [] made is = cc
+add_word (kind ∷ []) made is = cc
+add_word (kind ∷ gate ∷ []) made is = cc
+add_word (kind ∷ gate ∷ source ∷ []) made is = cc
+add_word (kind ∷ gate ∷ source ∷ drain ∷ []) made is =
+    by_one made (codes "add") (λ k. Add k gate source drain None) (kind_given kind) (λ _. refl) is
+add_word (kind ∷ gate ∷ source ∷ drain ∷ strength ∷ []) made is =
+    by_two made (codes "add") (λ k s. Add k gate source drain (Some s)) (kind_given kind) (number_given strength) (λ _ _. refl) is
+add_word (kind ∷ gate ∷ source ∷ drain ∷ strength ∷ other ∷ words) made is = cc
+
+del_word : (words : List (List ℕ)) (made : Command) → del_by words ≡ Ok made → word_of made ≡ codes "del"
+del_word [] made is = cc
+del_word (number ∷ []) made is = by_one made (codes "del") Del (number_given number) (λ _. refl) is
+del_word (number ∷ other ∷ words) made is = cc
+
+strength_word : (words : List (List ℕ)) (made : Command) → strength_by words ≡ Ok made → word_of made ≡ codes "strength"
+strength_word [] made is = cc
+strength_word (number ∷ []) made is = cc
+strength_word (number ∷ strength ∷ []) made is =
+    by_two made (codes "strength") Strength (number_given number) (number_given strength) (λ _ _. refl) is
+strength_word (number ∷ strength ∷ other ∷ words) made is = cc
+
+kind_word : (words : List (List ℕ)) (made : Command) → kind_by words ≡ Ok made → word_of made ≡ codes "type"
+kind_word [] made is = cc
+kind_word (number ∷ []) made is = cc
+kind_word (number ∷ kind ∷ []) made is = by_two made (codes "type") Kind (number_given number) (kind_given kind) (λ _ _. refl) is
+kind_word (number ∷ kind ∷ other ∷ words) made is = cc
+
+wire_word : (words : List (List ℕ)) (made : Command) → wire_by words ≡ Ok made → word_of made ≡ codes "wire"
+wire_word [] made is = cc
+wire_word (number ∷ []) made is = cc
+wire_word (number ∷ gate ∷ []) made is = cc
+wire_word (number ∷ gate ∷ source ∷ []) made is = cc
+wire_word (number ∷ gate ∷ source ∷ drain ∷ []) made is =
+    by_one made (codes "wire") (λ n. Wire n gate source drain) (number_given number) (λ _. refl) is
+wire_word (number ∷ gate ∷ source ∷ drain ∷ other ∷ words) made is = cc
+
+-- the command of a verb has the verb's word
+command_word : (v : Verb) (words : List (List ℕ)) (made : Command) → command_by (Some v) words ≡ Ok made → word_of made ≡ text_of v
+command_word verb.Input words made is = by_one made (codes "input") Input (names_given words) (λ _. refl) is
+command_word verb.Store words made is = store_word words made is
+command_word verb.Set words made is = by_one made (codes "set") Set (assignments_given words) (λ _. refl) is
+command_word verb.Charge words made is = by_one made (codes "charge") Charge (assignments_given words) (λ _. refl) is
+command_word verb.Watch words made is = by_one made (codes "watch") Watch (names_given words) (λ _. refl) is
+command_word verb.Limit words made is = by_one made (codes "limit") Limit (times_given words) (λ _. refl) is
+command_word verb.Step words made is = by_none made (codes "step") Step words refl is
+command_word verb.Phase words made is = by_none made (codes "phase") Phase words refl is
+command_word verb.Clock words made is = by_one made (codes "clock") Clock (clocks_given words) (λ _. refl) is
+command_word verb.Cycle words made is = by_one made (codes "cycle") Cycle (times_given words) (λ _. refl) is
+command_word verb.Expect words made is = by_one made (codes "expect") Expect (assignments_given words) (λ _. refl) is
+command_word verb.Add words made is = add_word words made is
+command_word verb.Del words made is = del_word words made is
+command_word verb.Strength words made is = strength_word words made is
+command_word verb.Kind words made is = kind_word words made is
+command_word verb.Wire words made is = wire_word words made is
+command_word verb.Report words made is = by_none made (codes "report") Report words refl is
+
+-- a line that asks for a command begins with the command's word
+pub first_word : (word : List ℕ) (words : List (List ℕ)) (made : Command) → reading_of_words (word ∷ words) ≡ Ok (Some made) → word ≡ word_of made
+first_word word words made is = by (verb_of word) (verb_word word) (asked (command_by (verb_of word) words) is)
+  where
+    asked : (answer : Result Command ScriptFault) → some_command answer ≡ Ok (Some made) → answer ≡ Ok made
+    asked (Ok command) is = cc
+    asked (Err fault) is = cc
+
+    by : (v : Option Verb) → IsWordOf word v → command_by v words ≡ Ok made → word ≡ word_of made
+    by None is made_is = cc
+    by (Some v) is made_is = is ∙ sym (command_word v words made made_is)
