@@ -1,21 +1,24 @@
 -- The flood: what a look at places adds, and that a flood that has looked from all it found has found a group.
-use Rattle.std.proofs.Common.{◌≡◌, ℕ, ◌+◌, ◌*◌, ◌<◌, ◌≤◌, Bool, true, false, ◌⊎◌, inl, inr, List, [], ◌∷◌, ◌++◌, length, get_or, take, filter, cond, nat_eq, Contains, Option, Some, None, refl, sym, ap, subst, ◌∙◌, arith, if◌then◌else◌}
+use Rattle.std.proofs.Common.{◌≡◌, ℕ, ◌+◌, ◌*◌, ◌<◌, ◌≤◌, Bool, true, false, ◌⊎◌, inl, inr, List, [], ◌∷◌, ◌++◌, length, get_or, take, drop, filter, cond, nat_eq, Contains, Option, Some, None, refl, sym, ap, subst, ◌∙◌, arith, if◌then◌else◌}
 use Rattle.std.specs.Prelude.{slice_index}
 use Rattle.std.specs.List.{list_any}
 use Rattle.std.proofs.lemmas.Bool.{cases_lt, cases_eq, cases_Bool, eqb-true}
-use Rattle.std.proofs.lemmas.List.{append-nil, append_assoc, get_or_append_left, get_or_default, length-append, take-append-le}
-use Rattle.std.proofs.lemmas.List.Elements.{Contains-append_left, Contains-push, Contains-push_cases, Contains-get_or, filter_more}
+use Rattle.std.proofs.lemmas.Cmp.{nat_eq_equiv}
+use Rattle.std.proofs.lemmas.List.{append-nil, append_assoc, get_or_append_left, get_or_default, length-append, length-take-le, take-append-le, take-append-drop}
+use Rattle.std.proofs.lemmas.List.Elements.{Contains-append_left, Contains-push, Contains-push_cases, Contains-get_or, filter_more, filter-append}
 use Rattle.list_facts.proofs.ContainsLemmas.{Contains-cons_cases}
 use Rattle.indexmap.proofs.CallerLemmas.{Contains-insert_key, Contains-list_any}
+use Rattle.indexmap.proofs.MapLemmas.{distinct-take}
 use Rattle.indexmap.specs.IndexSet.{insert_key}
 use Rattle.path_meaning.specs.Graphs.{GraphData, nodes, IsStorage}
-use Rattle.group_meaning.specs.Groups.{AreJoined, LinksOver, Group, id_of, IsGroup}
+use Rattle.group_meaning.specs.Groups.{AreJoined, AreLinked, LinksOver, Group, id_of, IsGroup}
+use Rattle.group_meaning.proofs.GroupLemmas.{linked_member}
 use Rattle.group_meaning.proofs.LinkLemmas.{AreLinked-self, AreLinked-trans, AreLinked-joined, AreLinked-sym, AreLinked-to, LinksOver-from}
 use Rattle.std.specs.List.{flat_map, IsDistinct}
 use Rattle.std.proofs.lemmas.Map.Steps.{length-le_from_distinct_below}
 use Rattle.channel_groups.specs.Listing.{HasEndAt, AreListed, others_at}
 use Rattle.channel_groups.proofs.CountLemmas.{few_places, count_more, length-le_from_contained}
-use Rattle.channel_groups.specs.Flood.{Sees, IsFlooding, IsSortedFrom}
+use Rattle.channel_groups.specs.Flood.{Sees, IsFlooding, IsSortedFrom, IsPaid}
 
 -- a number that is inserted goes last, unless it is there
 pub insert_key-grown : (keys : List ℕ) (k : ℕ) → (rest : List ℕ) × (insert_key nat_eq keys k ≡ keys ++ rest)
@@ -243,6 +246,13 @@ filter-count_more test xs i inside =
     ∙ ap (λ n. length (filter test (take i xs)) + n)
     (elim (test (get_or xs i 0)) as (λ b. length (cond b (get_or xs i 0 ∷ []) []) ≡ (if b then 1 else 0)) [ true ↦ refl | false ↦ refl ])
 
+-- of a part of a list no more passes
+pub filter-part : (test : ℕ → Bool) (xs : List ℕ) (k : ℕ) → length (filter test (take k xs)) ≤ length (filter test xs)
+filter-part test xs k =
+    let whole : length (filter test (take k xs ++ drop k xs)) ≡ length (filter test xs) = ap (λ (ys : List ℕ). length (filter test ys)) (take-append-drop k xs) in
+    let parts = ap length (filter-append test (take k xs) (drop k xs)) in
+    omega (arith, whole, parts, length-append (filter test (take k xs)) (filter test (drop k xs)))
+
 -- a place is the changed one or it isn't
 changed_or_not : (changed : Option ℕ) (place : ℕ) → (changed ≡ Some place) ⊎ (¬ (changed ≡ Some place))
 changed_or_not None place = inr (λ same. absurd (cc))
@@ -281,24 +291,38 @@ count_within g root count found places flood distinct =
     length-le_from_distinct_below found (nodes g) distinct
     (λ n there. (AreLinked-to g root n (flood.linked n (Contains-list_any nat_eq (λ a b e. eqb-true a b e) found n there))).inside)
 
--- the members and the switches of a flooded group bound its ticks
+-- nodes of one group, each once, have at most as many ticks as it has members and switches, each twice
 pub few_ticks : (g : GraphData) (root : ℕ) (changed : Option ℕ) (firsts seconds : ℕ → List ℕ) →
     AreListed (λ switch. switch.a) g changed firsts → AreListed (λ switch. switch.b) g changed seconds →
-    (found places : List ℕ) → IsFlooding g root (length found) found places → IsDistinct nat_eq found →
-    (group : Group) → IsSortedFrom found group.members → IsSortedFrom places group.switches → (old new : ℕ) →
-    new ≤ old + 2 * length found + length (flat_map (others_at changed firsts) found) + length (flat_map (others_at changed seconds) found) →
-    new ≤ old + 2 * length group.members + 2 * length group.switches
-few_ticks g root changed firsts seconds by_first by_second found places flood distinct group members switches old new bound =
-    let some : length found ≤ length group.members = length-le_from_contained found group.members distinct members.all in
-    let one : length (flat_map (others_at changed firsts) found) ≤ length group.switches =
-    few_places (λ switch. switch.a) g changed firsts by_first found group.switches distinct
-    (λ place node there at. switches.all place (joined_listed g root found places flood place node at.switch.b there
-    (record { switch = at.switch; at_place = at.at_place; joins = inl (at.at_node, refl) }))) in
-    let two : length (flat_map (others_at changed seconds) found) ≤ length group.switches =
-    few_places (λ switch. switch.b) g changed seconds by_second found group.switches distinct
-    (λ place node there at. switches.all place (joined_listed g root found places flood place node at.switch.a there
-    (record { switch = at.switch; at_place = at.at_place; joins = inr (at.at_node, refl) }))) in
-    omega arith
+    (looked : List ℕ) → ((n : ℕ) → Contains looked n → AreLinked g root n) → IsDistinct nat_eq looked → (old new : ℕ) →
+    new ≤ old + 2 * length looked + length (flat_map (others_at changed firsts) looked) + length (flat_map (others_at changed seconds) looked) →
+    IsPaid g root old new
+few_ticks g root changed firsts seconds by_first by_second looked linked distinct old new bound = record {
+  paid = λ group is rooted.
+      let inside : (n : ℕ) → Contains looked n → Contains group.members n = λ n there. linked_member g group is root n rooted (linked n there) in
+      let some : length looked ≤ length group.members = length-le_from_contained looked group.members distinct inside in
+      let one : length (flat_map (others_at changed firsts) looked) ≤ length group.switches =
+      few_places (λ switch. switch.a) g changed firsts by_first looked group.switches distinct
+      (λ place node there at. (is.switches place).1
+      (record { switch = at.switch; at_place = at.at_place; touches = inl (subst (Contains group.members) (sym at.at_node) (inside node there)) })) in
+      let two : length (flat_map (others_at changed seconds) looked) ≤ length group.switches =
+      few_places (λ switch. switch.b) g changed seconds by_second looked group.switches distinct
+      (λ place node there at. (is.switches place).1
+      (record { switch = at.switch; at_place = at.at_place; touches = inr (subst (Contains group.members) (sym at.at_node) (inside node there)) })) in
+      omega arith;
+}
+
+-- so far as a flood has looked, it is paid by the group of its root
+pub paid_so_far : (g : GraphData) (root : ℕ) (changed : Option ℕ) (firsts seconds : ℕ → List ℕ) →
+    AreListed (λ switch. switch.a) g changed firsts → AreListed (λ switch. switch.b) g changed seconds →
+    (found places : List ℕ) (spread count : ℕ) → IsFlooding g root spread found places → IsDistinct nat_eq found → count ≤ length found → (old new : ℕ) →
+    new ≤ old + 2 * count + length (flat_map (others_at changed firsts) (take count found)) + length (flat_map (others_at changed seconds) (take count found)) →
+    IsPaid g root old new
+paid_so_far g root changed firsts seconds by_first by_second found places spread count flood distinct within old new bound =
+    few_ticks g root changed firsts seconds by_first by_second (take count found)
+    (λ n there. flood.linked n (subst (λ (ys : List ℕ). Contains ys n) (take-append-drop count found) (Contains-append_left (take count found) (drop count found) n there)))
+    (distinct-take nat_eq_equiv count found distinct) old new
+    (omega (arith, bound, length-take-le count found within))
 
 -- one node more has been looked from: its places are ticked
 pub ticks-visit : (f h : ℕ → List ℕ) (found new rest : List ℕ) → new ≡ found ++ rest → (count node start before after : ℕ) → count < length found →

@@ -13,7 +13,7 @@ use Rattle.smallvec.specs.SmallVec.{SmallVec}
 use Rattle.path_meaning.specs.declared.switching.Switch.{Switch}
 use Rattle.path_meaning.specs.Graphs.{GraphData, place_at}
 use Rattle.path_meaning.proofs.PathLemmas.{place_inside}
-use Rattle.channel_groups.specs.Listing.{places_of, HasEndAt, AreListed, AreListedTo, SetsAt, without, Moves}
+use Rattle.channel_groups.specs.Listing.{places_of, HasEndAt, AreListed, AreListedTo, SetsAt, TakesOut, without, Moves}
 use Rattle.channel_groups.proofs.CountLemmas.{IsDistinct-filter}
 
 module _ (lists : List (SmallVec ℕ)) where
@@ -216,25 +216,19 @@ module _ (end : Switch → ℕ) (g h : GraphData) where
         }
 
 -- taken out at the one node and put in at the other a place is moved
-pub Moves-made : (place : ℕ) (from to : Option ℕ) (old middle new : ℕ → List ℕ) →
-    ((n : ℕ) → from ≡ Some n → middle n ≡ without place (old n)) → ((n : ℕ) → ¬ (from ≡ Some n) → middle n ≡ old n) →
+pub Moves-made : (place : ℕ) (from to : Option ℕ) (old middle new : ℕ → List ℕ) → ((n : ℕ) → IsDistinct nat_eq (old n)) →
+    ((n : ℕ) → from ≡ Some n → TakesOut place (old n) (middle n)) → ((n : ℕ) → ¬ (from ≡ Some n) → middle n ≡ old n) →
     ((n : ℕ) → to ≡ Some n → new n ≡ middle n ++ place ∷ []) → ((n : ℕ) → ¬ (to ≡ Some n) → new n ≡ middle n) → Moves place from to old new
-Moves-made place from to old middle new out out_others in_at in_others =
+Moves-made place from to old middle new distinct out out_others in_at in_others =
     let is_at : (o : Option ℕ) (n : ℕ) → (o ≡ Some n) ⊎ (¬ (o ≡ Some n)) = decide in
-    let passes : (q : ℕ) → q ≢ place → not (q == place) ≡ true = λ q other. ap not (ne_eqb q place other) in
     let keeps : (n q : ℕ) → q ≢ place → Contains (old n) q → Contains (middle n) q = λ n q other there.
     elim (is_at from n) [
-      | inl at ↦ rw (out n at) (Contains-filter (λ one. not (one == place)) (old n) q there (passes q other))
+      | inl at ↦ (out n at).kept q other there
       | inr elsewhere ↦ rw (out_others n elsewhere) there
     ] in
-    let lacks : (q : ℕ) → not (q == place) ≡ true → q ≢ place = λ q passed same. let fails = ap not (eq-eqb q place same) in absurd (cc (fails, passed)) in
     let from_old : (n q : ℕ) → Contains (middle n) q → Contains (old n) q × ((from ≡ Some n) → q ≢ place) = λ n q there.
     elim (is_at from n) [
-      | inl at ↦
-          let kept = rw (out n at) at there in (
-            Contains-from_filter (λ one. not (one == place)) (old n) q kept,
-            (λ _. lacks q (passes-from_filter (λ one. not (one == place)) (old n) q kept)),
-          )
+      | inl at ↦ let was = (out n at).only q there in (was.0, (λ _. was.1))
       | inr elsewhere ↦ (rw (out_others n elsewhere) at there, (λ at. absurd (elsewhere at)))
     ] in
     record {
@@ -252,10 +246,10 @@ Moves-made place from to old middle new out out_others in_at in_others =
             | inr elsewhere ↦ inl (from_old n q (rw (in_others n elsewhere) at there))
           ];
       put = λ n at. rw (in_at n at) (Contains-push (middle n) place);
-      distinct = λ distinct at_from n.
+      distinct = λ all at_from n.
           let middle_distinct : IsDistinct nat_eq (middle n) =
           elim (is_at from n) [
-            | inl at ↦ rw (out n at) (IsDistinct-filter (λ one. not (one == place)) (old n) (distinct n))
+            | inl at ↦ (out n at).distinct
             | inr elsewhere ↦ rw (out_others n elsewhere) (distinct n)
           ] in
           elim (is_at to n) [
@@ -274,7 +268,7 @@ Moves-made place from to old middle new out out_others in_at in_others =
 
 module _ (lists : List (SmallVec ℕ)) (node : ℕ) (v w : SmallVec ℕ) (inside : node < length lists) (read : v ≡ get_or lists node v) where
   -- the list that was read
-  list_read : places_of lists node ≡ v.items
+  pub list_read : places_of lists node ≡ v.items
   list_read = places_of-at lists node v inside ∙ ap (λ (places : SmallVec ℕ). places.items) (sym read)
 
   -- a list is written anew from what was read
@@ -303,6 +297,13 @@ pub named_others : (from : Option ℕ) (node : ℕ) (value : List ℕ) (old new 
     (n : ℕ) → ¬ (from ≡ Some n) → new n ≡ old n
 named_others from node value old new is sets n elsewhere = sets.others n (λ same. elsewhere (is ∙ ap Some (sym same)))
 
--- where there are no lists a filter leaves nothing
-pub none_at : (place node : ℕ) (lists : List (SmallVec ℕ)) → length lists ≤ node → places_of lists node ≡ without place (places_of lists node)
-none_at place node lists past = let none = places_of-past lists node past in rw none refl
+-- a place is taken out of the list of the node that is named
+pub taken_at : (from : Option ℕ) (node place : ℕ) (lists : List (SmallVec ℕ)) (v w : SmallVec ℕ) → node < length lists → v ≡ get_or lists node v →
+    from ≡ Some node → TakesOut place v.items w.items → (n : ℕ) → from ≡ Some n → TakesOut place (places_of lists n) (places_of (set lists node w) n)
+taken_at from node place lists v w inside read is taken n at =
+    let same : node ≡ n = cc (is, at) in
+    let sets = SetsAt-written lists node v w inside read (λ _. w.items) refl in
+    let old : places_of lists node ≡ v.items = list_read lists node v w inside read in
+    subst (λ (m : ℕ). TakesOut place (places_of lists m) (places_of (set lists node w) m)) same
+    (subst (λ (xs : List ℕ). TakesOut place xs (places_of (set lists node w) node)) (sym old)
+    (subst (λ (ys : List ℕ). TakesOut place v.items ys) (sym sets.at) taken))

@@ -1,10 +1,12 @@
 -- The search: a found group more, and a root more.
-use Rattle.std.proofs.Common.{◌≡◌, ℕ, ◌+◌, ◌<◌, inl, inr, true, nat_lt, List, [], ◌∷◌, ◌++◌, length, map, get_or, take, nat_eq, Contains, sym, subst, arith, refl}
+use Rattle.std.proofs.Common.{◌≡◌, ℕ, ◌+◌, ◌<◌, inl, inr, true, false, nat_lt, List, [], ◌∷◌, ◌++◌, ◌*◌, ◌≤◌, length, map, filter, get_or, take, nat_eq, Contains, drop, Result, Ok, Err, OnErr, sym, ap, subst, ◌∙◌, arith, refl, if◌then◌else◌}
 use Rattle.std.specs.List.{IsDistinct, list_any}
-use Rattle.std.proofs.lemmas.Bool.{cases_Bool, eqb-true, and_parts, and_from, ltb-true, lt-ltb}
+use Rattle.std.proofs.lemmas.Bool.{cases_Bool, eqb-true, eq-eqb, and_parts, and_from, ltb-true, lt-ltb}
 use Rattle.std.proofs.lemmas.Cmp.{nat_eq_equiv}
-use Rattle.std.proofs.lemmas.List.{take_more, map_push}
-use Rattle.std.proofs.lemmas.List.Elements.{Contains-push, Contains-push_cases, Contains-append_left}
+use Rattle.std.proofs.lemmas.List.{take_more, map_push, take-append-drop, length-append}
+use Rattle.std.proofs.lemmas.List.Elements.{All-contains, Contains-push, Contains-push_cases, Contains-append_left, Contains-append_right, filter-append}
+use Rattle.std.proofs.lemmas.List.Sums.{sum_by_push}
+use Rattle.std.proofs.lemmas.List.Folds.{list_any_at}
 use Rattle.std.proofs.lemmas.Map.Keys.{IsDistinct-push}
 use Rattle.list_facts.proofs.ContainsLemmas.{Contains-cons_cases, Contains-cons_first}
 use Rattle.indexmap.specs.IndexSet.{insert_key}
@@ -12,10 +14,11 @@ use Rattle.indexmap.proofs.CallerLemmas.{Contains-insert_key, Contains-list_any}
 use Rattle.strength_order.specs.declared.TheConstants.{INPUT_LEVEL}
 use Rattle.path_meaning.specs.Graphs.{GraphData, nodes, level_of, is_storage_level, IsStorage}
 use Rattle.group_meaning.specs.Groups.{Group, id_of, IsGroup}
-use Rattle.group_meaning.proofs.UniqueGroups.{same_by_id}
+use Rattle.group_meaning.proofs.UniqueGroups.{same_by_id, same_by_member}
 use Rattle.group_meaning.proofs.MappedLists.{contains-from_map}
-use Rattle.channel_groups.specs.Search.{AreFound, Finds, Notes, is_storage, AreFoundFrom}
-use Rattle.channel_groups.proofs.FloodLemmas.{insert_key-grown, insert_key-cases}
+use Rattle.channel_groups.specs.Flood.{IsPaid}
+use Rattle.channel_groups.specs.Search.{AreFound, Finds, Notes, is_storage, AreFoundFrom, IsCutShort, ArePaid, search_cost}
+use Rattle.channel_groups.proofs.FloodLemmas.{insert_key-grown, insert_key-cases, filter-count_more, filter-part}
 
 -- the test for a storage node
 pub IsStorage-from_test : (g : GraphData) (node : ℕ) → is_storage g node ≡ true → IsStorage g node
@@ -67,6 +70,21 @@ AreFound-none g = record {
   once = tt;
 }
 
+-- the group of a node that wasn't seen is another one
+pub apart-more : (g : GraphData) (root : ℕ) (seen : List ℕ) (fresh : List Group) (group : Group) → AreFound g seen fresh →
+    IsGroup g group → Contains group.members root → (¬ Contains seen root) → IsDistinct nat_eq (map id_of (fresh ++ group ∷ []))
+apart-more g root seen fresh group so_far is in_root unseen =
+    rw (map_push id_of fresh group)
+    (IsDistinct-push nat_eq_equiv (map id_of fresh) (id_of group) so_far.apart
+    (elim (cases_Bool (list_any (nat_eq (id_of group)) (map id_of fresh))) [
+      | inl there ↦
+          let any = contains-from_map id_of fresh (id_of group) (Contains-list_any nat_eq (λ a b e. eqb-true a b e) (map id_of fresh) (id_of group) there) in
+          let in_fresh : Contains fresh any.1 = (any.0, any.2, any.3) in
+          let same = same_by_id g any.1 group (so_far.each any.1 in_fresh) is any.4 in
+          absurd (unseen (so_far.all any.1 root in_fresh (subst (λ (one : Group). Contains one.members root) (sym same) in_root)))
+      | inr none ↦ none
+    ]))
+
 -- one group more is found
 pub AreFound-more : (g : GraphData) (root : ℕ) (seen new : List ℕ) (fresh : List Group) (group : Group) → AreFound g seen fresh →
     IsGroup g group → Contains group.members root → (¬ Contains seen root) → Notes group.members seen new →
@@ -85,17 +103,7 @@ AreFound-more g root seen new fresh group so_far is in_root unseen notes once = 
         | inl before ↦ let found = so_far.only node before in (found.0, Contains-append_left fresh (group ∷ []) found.0 found.1, found.2)
         | inr member ↦ (group, Contains-push fresh group, member)
       ];
-  apart =
-      rw (map_push id_of fresh group)
-      (IsDistinct-push nat_eq_equiv (map id_of fresh) (id_of group) so_far.apart
-      (elim (cases_Bool (list_any (nat_eq (id_of group)) (map id_of fresh))) [
-        | inl there ↦
-            let any = contains-from_map id_of fresh (id_of group) (Contains-list_any nat_eq (λ a b e. eqb-true a b e) (map id_of fresh) (id_of group) there) in
-            let in_fresh : Contains fresh any.1 = (any.0, any.2, any.3) in
-            let same = same_by_id g any.1 group (so_far.each any.1 in_fresh) is any.4 in
-            absurd (unseen (so_far.all any.1 root in_fresh (subst (λ (one : Group). Contains one.members root) (sym same) in_root)))
-        | inr none ↦ none
-      ]));
+  apart = apart-more g root seen fresh group so_far is in_root unseen;
 }
 
 -- a root alone
@@ -164,3 +172,134 @@ AreFoundFrom-more roots i old fresh new inside so_far one =
                 ]
           ];
     }
+
+-- what a part of a list has is in the list
+pub Contains-part : (xs : List ℕ) (k n : ℕ) → Contains (take k xs) n → Contains xs n
+Contains-part xs k n there = subst (λ (ys : List ℕ). Contains ys n) (take-append-drop k xs) (Contains-append_left (take k xs) (drop k xs) n there)
+
+-- where the search ends early at a root, the groups that were found and that of the root pay for its steps
+pub ArePaid-cut : (g : GraphData) (roots : List ℕ) (i : ℕ) (old fresh : List Group) (seen : List ℕ) (start middle end : ℕ) → i < length roots →
+    AreFound g seen fresh → AreFoundFrom (take i roots) old fresh →
+    middle + search_cost old ≤ start + length (filter (is_storage g) (take i roots)) + search_cost fresh →
+    IsCutShort g (get_or roots i 0) seen middle end → ArePaid g roots old start end
+ArePaid-cut g roots i old fresh seen start middle end inside so_far from ticked cut = record {
+  paid = λ groups are.
+      let root = get_or roots i 0 in
+      let at = are.whole root cut.storage in
+      let group = at.1 in
+      let is : IsGroup g group = All-contains (IsGroup g) groups group are.each (at.0, at.2, at.3) in
+      let more : take (i + 1) roots ≡ take i roots ++ root ∷ [] = take_more roots i 0 inside in
+      let last : Contains roots root = Contains-part roots (i + 1) root (rw more (Contains-push (take i roots) root)) in (
+        fresh ++ group ∷ [],
+        record {
+          each = λ one there. elim (Contains-push_cases fresh group one there) [ inl before ↦ so_far.each one before | inr same ↦ subst (IsGroup g) same is ];
+          apart = apart-more g root seen fresh group so_far is at.4 cut.unseen;
+          from = record {
+            from = λ one there.
+                elim (Contains-push_cases fresh group one there) [
+                  | inl before ↦
+                      elim (from.from one before) [
+                        | inl older ↦ inl older
+                        | inr (n, in_roots, member) ↦ inr (n, Contains-part roots i n in_roots, member)
+                      ]
+                  | inr same ↦ inr (root, last, subst (λ (one : Group). Contains one.members root) same at.4)
+                ];
+          };
+          steps =
+              let grown = sum_by_push (λ (group : Group). 3 * length group.members + 2 * length group.switches) fresh group in
+              let one = cut.paid group is at.4 in
+              let next = filter-count_more (is_storage g) roots i inside in
+              let root_counts : ℕ = if is_storage g root then 1 else 0 in
+              let tested : root_counts ≡ 1 = rw (test-from_IsStorage g root cut.storage) refl in
+              let fewer = filter-part (is_storage g) roots (i + 1) in
+              omega (arith, grown, one, next, tested, fewer, ticked);
+        },
+      );
+}
+
+both_pass : (g : GraphData) (roots more : List ℕ) →
+    length (filter (is_storage g) (roots ++ more)) ≡ length (filter (is_storage g) roots) + length (filter (is_storage g) more)
+both_pass g roots more =
+    ap length (filter-append (is_storage g) roots more) ∙ length-append (filter (is_storage g) roots) (filter (is_storage g) more)
+
+-- what the first roots pay for, more roots pay for too
+pub ArePaid-first : (g : GraphData) (roots more : List ℕ) (old : List Group) (start end : ℕ) → ArePaid g roots old start end →
+    ArePaid g (roots ++ more) old start end
+ArePaid-first g roots more old start end paid = record {
+  paid = λ groups are.
+      let looked = paid.paid groups are in (
+        looked.0,
+        record {
+          each = looked.1.each;
+          apart = looked.1.apart;
+          from = record {
+            from = λ group there.
+                elim (looked.1.from.from group there) [
+                  | inl older ↦ inl older
+                  | inr (n, root, member) ↦ inr (n, Contains-append_left roots more n root, member)
+                ];
+          };
+          steps = let ticked = looked.1.steps in omega (arith, ticked, both_pass g roots more);
+        },
+      );
+}
+
+-- and those that come after others pay with them
+pub ArePaid-second : (g : GraphData) (roots more : List ℕ) (old fresh : List Group) (start middle end : ℕ) → AreFoundFrom roots old fresh →
+    middle + search_cost old ≤ start + length (filter (is_storage g) roots) + search_cost fresh → ArePaid g more fresh middle end →
+    ArePaid g (roots ++ more) old start end
+ArePaid-second g roots more old fresh start middle end from first paid = record {
+  paid = λ groups are.
+      let looked = paid.paid groups are in (
+        looked.0,
+        record {
+          each = looked.1.each;
+          apart = looked.1.apart;
+          from = record {
+            from = λ group there.
+                elim (looked.1.from.from group there) [
+                  | inl before ↦
+                      elim (from.from group before) [
+                        | inl older ↦ inl older
+                        | inr (n, root, member) ↦ inr (n, Contains-append_left roots more n root, member)
+                      ]
+                  | inr (n, root, member) ↦ inr (n, Contains-append_right roots more n root, member)
+                ];
+          };
+          steps = let ticked = looked.1.steps in omega (arith, ticked, first, both_pass g roots more);
+        },
+      );
+}
+
+-- a number that no look finds isn't there
+pub unseen_root : (seen : List ℕ) (root : ℕ) → list_any (nat_eq root) seen ≡ false → ¬ Contains seen root
+unseen_root seen root none there =
+    let yes : list_any (nat_eq root) seen ≡ true = list_any_at (nat_eq root) seen there.0 root there.1 (eq-eqb root (get_or seen there.0 root) (sym there.2)) in
+    absurd (cc)
+
+-- a search that ends early in the flood from a root, or while its group is noted
+pub IsCutShort-flooded : (g : GraphData) (root : ℕ) (seen : List ℕ) → IsStorage g root → (¬ Contains seen root) → (start ticked end : ℕ) →
+    ticked ≡ start + 1 → IsPaid g root ticked end → IsCutShort g root seen start end
+IsCutShort-flooded g root seen storage unseen start ticked end one flood = record {
+  storage = storage;
+  unseen = unseen;
+  paid = λ group is member. let most = flood.paid group is member in omega (arith, most, one);
+}
+
+pub IsCutShort-noted : (g : GraphData) (root : ℕ) (seen : List ℕ) → IsStorage g root → (¬ Contains seen root) → (start ticked flooded end : ℕ) →
+    ticked ≡ start + 1 → IsPaid g root ticked flooded → (found : Group) → IsGroup g found → Contains found.members root →
+    end ≤ flooded + length found.members → IsCutShort g root seen start end
+IsCutShort-noted g root seen storage unseen start ticked flooded end one flood found is_found in_found noted = record {
+  storage = storage;
+  unseen = unseen;
+  paid = λ group is member.
+      let most = flood.paid group is member in
+      let same : length found.members ≡ length group.members =
+      ap (λ (g : Group). length g.members) (same_by_member g found group is_found is root in_found member) in
+      omega (arith, most, one, noted, same);
+}
+
+-- what holds whatever the answer holds at an error
+pub on_err : {T E P : Type 0} (result : Result T E) → P → OnErr result P
+on_err (Ok value) fact = tt
+on_err (Err fault) fact = fact

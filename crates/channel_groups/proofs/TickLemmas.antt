@@ -1,12 +1,12 @@
 -- How many steps a regrouping takes: for the old groups that are touched at most five a member, and for the new ones at most six a
 -- member and two a switch.
-use Rattle.std.proofs.Common.{◌≡◌, ℕ, ◌+◌, ◌*◌, ◌≤◌, ◌⊎◌, inl, inr, Bool, true, false, ◌||◌, ◌==◌, List, [], ◌∷◌, length, map, get_or, filter, nat_eq, Contains, Option, Some, None, refl, sym, ap, subst, ◌∙◌, arith}
+use Rattle.std.proofs.Common.{◌≡◌, ℕ, ◌+◌, ◌*◌, ◌≤◌, ◌⊎◌, inl, inr, Bool, true, false, ◌||◌, ◌==◌, List, [], ◌∷◌, ◌++◌, length, map, get_or, filter, nat_eq, Contains, Option, Some, None, refl, sym, ap, subst, ◌∙◌, arith}
 use Rattle.std.specs.List.{IsDistinct, list_any, flat_map, sum_by}
 use Rattle.std.proofs.lemmas.Bool.{eq-eqb}
 use native.Mathlib.Nat.{suc-mul}
 use Rattle.std.proofs.lemmas.Nat.{mul-le}
 use Rattle.std.proofs.lemmas.List.{length-append}
-use Rattle.std.proofs.lemmas.List.Elements.{Contains-append_left, Contains-append_right}
+use Rattle.std.proofs.lemmas.List.Elements.{All-contains, Contains-append_left, Contains-append_right, Contains-append_cases, filter-append}
 use Rattle.std.proofs.lemmas.List.Folds.{list_any_at}
 use Rattle.std.proofs.lemmas.List.Sums.{sum_by-cons, get_or-le-sum_by}
 use Rattle.std.proofs.lemmas.Map.Keys.{IsDistinct-tail}
@@ -14,12 +14,14 @@ use Rattle.list_facts.proofs.ContainsLemmas.{Contains-cons_cases, Contains-cons_
 use Rattle.group_meaning.proofs.MappedLists.{contains-map}
 use Rattle.path_meaning.specs.declared.switching.Switch.{Switch}
 use Rattle.path_meaning.specs.Graphs.{GraphData, IsStorage}
-use Rattle.group_meaning.specs.Groups.{Group, id_of}
+use Rattle.group_meaning.specs.Groups.{Group, id_of, IsGroup, AreGroups}
+use Rattle.group_meaning.proofs.GroupLemmas.{member_storage}
+use Rattle.group_meaning.proofs.UniqueGroups.{id_member, same_by_member}
 use Rattle.channel_groups.specs.declared.change.Change.{Change}
 use Rattle.channel_groups.specs.Changes.{ends_of, ends_before, levelled, nodes_before, nodes_after, is_among, is_touched, is_touched_now, in_some, size_of, touched_size}
 use Rattle.channel_groups.specs.Grouping.{slot_at, held, IsHeld, group_at_node}
-use Rattle.channel_groups.specs.Search.{is_storage, search_cost}
-use Rattle.channel_groups.specs.Writing.{IsPlan, members_in, before_cost}
+use Rattle.channel_groups.specs.Search.{is_storage, search_cost, ArePaid}
+use Rattle.channel_groups.specs.Writing.{AreTouched, IsPlan, members_in, before_cost, IsCheap}
 use Rattle.channel_groups.proofs.CountLemmas.{IsDistinct-filter, length-le_from_contained, not_again}
 use Rattle.channel_groups.proofs.HeldLemmas.{held-from_slot}
 use Rattle.channel_groups.proofs.SearchLemmas.{IsStorage-from_test}
@@ -142,6 +144,14 @@ members_most [] = omega arith
 members_most (group ∷ groups) =
     omega (arith, members_most groups, sum_by-cons (λ (group : Group). length group.members) group groups, sum_by-cons size_of group groups)
 
+-- each group of a graph is in its list of groups
+in_groups : (h : GraphData) (groups : List Group) → AreGroups h groups → (group : Group) → IsGroup h group → Contains groups group
+in_groups h groups are group is =
+    let own = id_member h group is in
+    let at = are.whole (id_of group) (member_storage h group is (id_of group) own) in
+    let there : Contains groups at.1 = (at.0, at.2, at.3) in
+    subst (Contains groups) (same_by_member h at.1 group (All-contains (IsGroup h) groups at.1 are.each there) is (id_of group) at.4 own) there
+
 module _ (h : GraphData) (change : Change) (classes : List (Option ℕ)) (slots : List (Option Group)) (are : IsHeld classes slots) where
   -- an old group with a changed node among its members is touched
   touched_there : (id n : ℕ) (group : Group) → slot_at slots id ≡ Some group → Contains group.members n → Contains (nodes_before change) n →
@@ -188,41 +198,92 @@ module _ (h : GraphData) (change : Change) (classes : List (Option ℕ)) (slots 
       one None = omega arith
       one (Some old) = omega arith
 
-  module _ (gone seen : List ℕ) (fresh : List Group) (plan : IsPlan h change classes slots gone seen fresh) where
-    few_gone : length gone ≤ most
-    few_gone =
-        few_members gone (filter (is_touched change) (held slots)) plan.gone_once
-        (λ n there. let why = plan.touched.only n there in (why.2, touched_there why.0 why.1 why.2 why.3 why.4 why.5, why.6))
+  module _ (gone : List ℕ) (touched : AreTouched classes slots (nodes_before change) gone) where
+    few_gone : IsDistinct nat_eq gone → length gone ≤ most
+    few_gone once =
+        few_members gone (filter (is_touched change) (held slots)) once
+        (λ n there. let why = touched.only n there in (why.2, touched_there why.0 why.1 why.2 why.3 why.4 why.5, why.6))
 
-    few_seen : length seen ≤ sum_by (λ group. length group.members) fresh
-    few_seen = few_members seen fresh plan.found.once (λ n there. plan.found.only n there)
-
-    -- a found group is touched
-    fresh_touched : (group : Group) → Contains fresh group → is_touched_now h change (held slots) group ≡ true
-    fresh_touched group there =
-        let from = plan.from group there in
-        let n = from.0 in
-        any_there (λ node. is_among (nodes_after h change) node || in_some (filter (is_touched change) (held slots)) node) group.members n from.1
-        (elim from.2 [
+    -- a group with a changed node, or with a member of a touched old group, is touched
+    now_touched : (group : Group) (n : ℕ) → Contains group.members n → Contains gone n ⊎ Contains (nodes_after h change) n →
+        is_touched_now h change (held slots) group ≡ true
+    now_touched group n member root =
+        any_there (λ node. is_among (nodes_after h change) node || in_some (filter (is_touched change) (held slots)) node) group.members n member
+        (elim root [
           | inr changed ↦ or_left (is_among (nodes_after h change) n) (in_some (filter (is_touched change) (held slots)) n) (among (nodes_after h change) n changed)
           | inl is_gone ↦
-              let why = plan.touched.only n is_gone in
+              let why = touched.only n is_gone in
               or_right (is_among (nodes_after h change) n) (in_some (filter (is_touched change) (held slots)) n)
               (any_there (λ group. is_among group.members n) (filter (is_touched change) (held slots)) why.2
               (touched_there why.0 why.1 why.2 why.3 why.4 why.5) (among why.2.members n why.6))
         ])
 
+    -- where the search ended early, the groups that it looked at and their roots are paid for by the touched groups
+    pub IsCheap-paid : (after : List ℕ) → IsDistinct nat_eq gone → IsDistinct nat_eq after →
+        ((n : ℕ) → Contains after n → Contains (nodes_after h change) n) → (start middle end : ℕ) →
+        middle ≤ start + before_cost change classes slots → ArePaid h (gone ++ after) [] middle end → IsCheap h change (held slots) start end
+    IsCheap-paid after once once_after later start middle end prepared paid = record {
+      cheap = λ found are.
+          let looked = paid.paid found are in
+          let now : List Group = filter (is_touched_now h change (held slots)) found in
+          let old_roots = few_roots h gone once in
+          let old_few = few_gone once in
+          let new_roots : length (filter (is_storage h) after) ≤ sum_by (λ (group : Group). length group.members) now =
+          few_members (filter (is_storage h) after) now (IsDistinct-filter (is_storage h) after once_after)
+          (λ n there.
+          let in_after = Contains-from_filter (is_storage h) after n there in
+          let at = are.whole n (IsStorage-from_test h n (passes-from_filter (is_storage h) after n there)) in
+          let there_now = Contains-filter (is_touched_now h change (held slots)) found at.1 (at.0, at.2, at.3)
+          (now_touched at.1 n at.4 (inr (later n in_after))) in
+          (at.1, there_now, at.4)) in
+          let within = sum_within (λ (group : Group). 3 * length group.members + 2 * length group.switches) looked.0 now looked.1.apart
+          (λ group there.
+          Contains-filter (is_touched_now h change (held slots)) found group (in_groups h found are group (looked.1.each group there))
+          (elim (looked.1.from.from group there) [
+            | inl none ↦ absurd (omega (arith, none.1))
+            | inr (n, root, member) ↦
+                now_touched group n member
+                (elim (Contains-append_cases gone after n root) [ inl is_gone ↦ inl is_gone | inr late ↦ inr (later n late) ])
+          ])) in
+          let roots : length (filter (is_storage h) (gone ++ after)) ≡ length (filter (is_storage h) gone) + length (filter (is_storage h) after) =
+          ap length (filter-append (is_storage h) gone after) ∙ length-append (filter (is_storage h) gone) (filter (is_storage h) after) in
+          let bound = looks (nodes_before change) (λ n there. there) in
+          let thrice : length (nodes_before change) * most ≤ 3 * most = mul-le (length (nodes_before change)) most 3 most three (omega arith) in
+          let old_most = members_most (filter (is_touched change) (held slots)) in
+          let new_most = cost_most now in
+          let ticked = looked.1.steps in
+          omega (arith, old_roots, old_few, new_roots, within, roots, bound, thrice, old_most, new_most, prepared, ticked);
+    }
+
+  -- and so it is where it ended before the first root
+  pub IsCheap-before : (start end : ℕ) → end ≤ start + before_cost change classes slots → IsCheap h change (held slots) start end
+  IsCheap-before start end prepared = record {
+    cheap = λ found are.
+        let bound = looks (nodes_before change) (λ n there. there) in
+        let thrice : length (nodes_before change) * most ≤ 3 * most = mul-le (length (nodes_before change)) most 3 most three (omega arith) in
+        let old_most = members_most (filter (is_touched change) (held slots)) in
+        omega (arith, bound, thrice, old_most, prepared);
+  }
+
+  module _ (gone seen : List ℕ) (fresh : List Group) (plan : IsPlan h change classes slots gone seen fresh) where
+    few_seen : length seen ≤ sum_by (λ group. length group.members) fresh
+    few_seen = few_members seen fresh plan.found.once (λ n there. plan.found.only n there)
+
     -- so a regrouping takes at most eight steps for each member and each switch of the touched groups
-    pub few_ticks : (old new : List Group) → held slots ≡ old → ((group : Group) → Contains fresh group → Contains new group) →
+    pub few_ticks : (old new : List Group) → held slots ≡ old → AreGroups h new →
         (start middle end : ℕ) → middle ≤ start + before_cost change classes slots + length gone + length seen + search_cost fresh →
         end ≡ middle + length gone + length seen + sum_by (λ group. length group.members) fresh →
         end ≤ start + 8 * touched_size h change old new
-    few_ticks old new is all start middle end prepared written =
+    few_ticks old new is are_new start middle end prepared written =
         let bound = looks (nodes_before change) (λ n there. there) in
         let thrice : length (nodes_before change) * most ≤ 3 * most = mul-le (length (nodes_before change)) most 3 most three (omega arith) in
         let within = sum_within size_of fresh (filter (is_touched_now h change (held slots)) new) plan.found.apart
-        (λ group there. Contains-filter (is_touched_now h change (held slots)) new group (all group there) (fresh_touched group there)) in
+        (λ group there.
+        let from = plan.from group there in
+        Contains-filter (is_touched_now h change (held slots)) new group (in_groups h new are_new group (plan.found.each group there))
+        (now_touched gone plan.touched group from.0 from.1 from.2)) in
         let old_most = members_most (filter (is_touched change) (held slots)) in
         let new_most = cost_most fresh in
+        let gone_few = few_gone gone plan.touched plan.gone_once in
         subst (λ (groups : List Group). end ≤ start + 8 * touched_size h change groups new) is
-        (omega (arith, bound, thrice, within, old_most, new_most, few_gone, few_seen, prepared, written))
+        (omega (arith, bound, thrice, within, old_most, new_most, gone_few, few_seen, prepared, written))

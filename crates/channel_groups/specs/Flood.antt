@@ -1,8 +1,8 @@
 -- The flood from a storage node: what is found from one node, and how far the flood is.
-use Rattle.std.specs.Prelude.{◌≡◌, ℕ, ◌<◌, ◌⊎◌, List, ◌++◌, slice_index, Contains}
+use Rattle.std.specs.Prelude.{◌≡◌, ℕ, ◌+◌, ◌*◌, ◌<◌, ◌≤◌, ◌⊎◌, List, ◌++◌, length, slice_index, Contains}
 use Rattle.std.specs.List.Sorted.{IsStrictlyIncreasing}
 use Rattle.path_meaning.specs.Graphs.{GraphData, IsStorage}
-use Rattle.group_meaning.specs.Groups.{AreJoined, AreLinked}
+use Rattle.group_meaning.specs.Groups.{AreJoined, AreLinked, Group, IsGroup}
 
 -- from a node these places are looked at: what was found and listed stays, and the storage nodes at the other ends
 -- of switches with an end at the node are found, and the places of these switches listed
@@ -28,3 +28,8 @@ pub record IsSortedFrom (numbers sorted : List ℕ) : Type 0 where
   pub all : (n : ℕ) → Contains numbers n → Contains sorted n
   pub only : (n : ℕ) → Contains sorted n → Contains numbers n
   pub ascending : IsStrictlyIncreasing sorted
+
+-- from start to end there are at most two steps for each member and each switch of the group of the root
+pub record IsPaid (g : GraphData) (root start end : ℕ) : Type 0 where
+  pub paid : (group : Group) → IsGroup g group → Contains group.members root →
+      end ≤ start + 2 * length group.members + 2 * length group.switches

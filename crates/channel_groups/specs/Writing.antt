@@ -1,13 +1,13 @@
 -- How groups are taken out and put in.
-use Rattle.std.specs.Prelude.{◌≡◌, ◌≢◌, ℕ, ◌<◌, ◌⊎◌, ◌≤◌, List, length, All, Contains, option_map, Option, Some, None, nat_eq}
+use Rattle.std.specs.Prelude.{◌≡◌, ◌≢◌, ℕ, ◌+◌, ◌*◌, ◌<◌, ◌⊎◌, ◌≤◌, List, length, All, Contains, option_map, Option, Some, None, nat_eq}
 use Rattle.std.specs.List.{sum_by, IsDistinct}
-use Rattle.group_meaning.specs.Groups.{Group, id_of}
+use Rattle.group_meaning.specs.Groups.{Group, id_of, AreGroups}
 use Rattle.smallvec.specs.SmallVec.{SmallVec}
 use Rattle.path_meaning.specs.Graphs.{GraphData, nodes, IsStorage}
 use Rattle.channel_groups.specs.declared.change.Change.{Change}
 use Rattle.channel_groups.specs.Listing.{places_of, HasRoomAt}
 use Rattle.channel_groups.specs.Search.{AreFound}
-use Rattle.channel_groups.specs.Changes.{nodes_before, nodes_after, switch_after}
+use Rattle.channel_groups.specs.Changes.{nodes_before, nodes_after, switch_after, touched_size}
 use Rattle.channel_groups.specs.Grouping.{class_at, slot_at, group_at_node}
 
 -- these nodes lose what stands at them, and at all others it stays
@@ -93,3 +93,8 @@ pub record IsPlan (g : GraphData) (change : Change) (classes : List (Option ℕ)
 -- what the members of the touched groups have ticked: the group of each changed node was looked through
 abbrev pub before_cost : Change → List (Option ℕ) → List (Option Group) → ℕ
 before_cost change classes slots = sum_by (λ node. members_in (group_at_node classes slots node)) (nodes_before change)
+
+-- from start to end there are at most eight steps for each member and each switch of the touched groups, whichever list of
+-- groups the graph has
+pub record IsCheap (g : GraphData) (change : Change) (old : List Group) (start end : ℕ) : Type 0 where
+  pub cheap : (found : List Group) → AreGroups g found → end ≤ start + 8 * touched_size g change old found

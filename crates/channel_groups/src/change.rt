@@ -25,7 +25,7 @@ pub(crate) fn changed_place(change: &Change) -> Option<usize>
 }
 
 /// The nodes that the edit changed, as the graph was before it.
-pub(crate) fn nodes_before(alloc: Global, change: &Change) -> Result<Vec<usize>, AllocError>
+pub fn nodes_before(alloc: Global, change: &Change) -> Result<Vec<usize>, AllocError>
     ensures { IfOk result (λ found. found.items ≡ nodes_before change.now) }
 {
     let mut found = Vec::new(alloc);
@@ -35,11 +35,7 @@ pub(crate) fn nodes_before(alloc: Global, change: &Change) -> Result<Vec<usize>,
 }
 
 /// The nodes that the edit changed, as the graph is now.
-pub(crate) fn nodes_after(
-    alloc: Global,
-    graph: &Graph,
-    change: &Change,
-) -> Result<Vec<usize>, AllocError>
+pub fn nodes_after(alloc: Global, graph: &Graph, change: &Change) -> Result<Vec<usize>, AllocError>
     ensures { IfOk result (λ found. found.items ≡ nodes_after graph.now change.now) }
 {
     let mut found = Vec::new(alloc);

@@ -6,7 +6,7 @@ ghost use Rattle.path_meaning.specs.Graphs.{nodes, IsStorage};
 ghost use Rattle.path_meaning.specs.Path.{Joins};
 ghost use Rattle.group_meaning.specs.Groups.{AreJoined, IsGroup};
 ghost use Rattle.channel_groups.specs.Listing.{AreListed, places_of, is_other, others_at};
-ghost use Rattle.channel_groups.specs.Flood.{Sees, IsFlooding};
+ghost use Rattle.channel_groups.specs.Flood.{Sees, IsFlooding, IsPaid};
 
 use crate::change::switch_there;
 use crate::ends::{Ends, listed};
@@ -39,7 +39,7 @@ pub(crate) fn group_at<L: Ledger>(
     requires seconds { AreListed (λ switch. switch.b) graph.now changed (places_of ends.now.seconds.items) }
     ensures group { IfOk result (IsGroup graph.now) }
     ensures root { IfOk result (λ group. Contains group.members root) }
-    ensures steps { IfOk result (λ group. steps.new ≤ steps.old + 2 * length group.members + 2 * length group.switches) }
+    ensures steps { IsPaid graph.now root steps.old steps.new }
 {
     let flood = flood_from(alloc, graph, ends, changed, root, steps)?;
     let group = Group::sorted(alloc, flood.nodes.as_slice(), flood.places.as_slice())?;
@@ -61,9 +61,7 @@ fn flood_from<L: Ledger>(
     ensures flooded { IfOk result (λ flood.
         IsFlooding graph.now root (length flood.nodes.keys) flood.nodes.keys flood.places.items) }
     ensures unique { IfOk result (λ flood. IsDistinct nat_eq flood.nodes.keys) }
-    ensures steps { IfOk result (λ flood. steps.new ≤ steps.old + 2 * length flood.nodes.keys
-        + length (flat_map (others_at changed (places_of ends.now.firsts.items)) flood.nodes.keys)
-        + length (flat_map (others_at changed (places_of ends.now.seconds.items)) flood.nodes.keys)) }
+    ensures steps { IsPaid graph.now root steps.old steps.new }
 {
     let mut flood = Flood {
         nodes: IndexSet::new(alloc),
@@ -93,9 +91,9 @@ fn visit<L: Ledger>(
     requires seconds { AreListed (λ switch. switch.b) graph.now changed (places_of ends.now.seconds.items) }
     ensures sees { OnOk result (Sees graph.now node (λ place. (n : ℕ) × AreJoined graph.now place node n)
         flood.old.nodes.keys flood.new.nodes.keys flood.old.places.items flood.new.places.items) }
-    ensures steps { OnOk result (steps.new ≤ steps.old + 2
+    ensures steps { steps.new ≤ steps.old + 2
         + length (others_at changed (places_of ends.now.firsts.items) node)
-        + length (others_at changed (places_of ends.now.seconds.items) node)) }
+        + length (others_at changed (places_of ends.now.seconds.items) node) }
 {
     steps.tick();
     look_along(
@@ -129,7 +127,7 @@ fn look_along<L: Ledger>(
 ) -> Result<(), AllocError>
     ensures sees { OnOk result (Sees graph.now node (λ place. Contains places.now place × ¬ (changed ≡ Some place))
         flood.old.nodes.keys flood.new.nodes.keys flood.old.places.items flood.new.places.items) }
-    ensures steps { OnOk result (steps.new ≤ steps.old + length (filter (is_other changed) places.now)) }
+    ensures steps { steps.new ≤ steps.old + length (filter (is_other changed) places.now) }
 {
     for &place in places {
         look_at_other(graph, node, place, changed, flood, steps)?;

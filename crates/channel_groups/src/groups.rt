@@ -1,8 +1,8 @@
 //! The groups of a graph, and how they are looked up.
 
-ghost use Rattle.std.specs.Prelude.{◌≡◌, ◌≢◌, ℕ, ◌+◌, ◌*◌, ◌<◌, ◌≤◌, ◌∷◌, [], ◌++◌, Some, None, count_by, is_some, find, length, map, nat_le, nat_eq, option_map, All, Contains, IfOk, IfSome, OnOk, OnErr};
+ghost use Rattle.std.specs.Prelude.{◌≡◌, ◌≢◌, ℕ, ◌+◌, ◌*◌, ◌<◌, ◌≤◌, ◌∷◌, [], ◌++◌, Some, None, List, count_by, is_some, find, length, map, nat_le, nat_eq, option_map, All, Contains, IfOk, IfSome, OnOk, OnErr};
 ghost use Rattle.path_meaning.specs.Graphs.{nodes, IsStorage};
-ghost use Rattle.group_meaning.specs.Groups.{AreGroups, id_of};
+ghost use Rattle.group_meaning.specs.Groups.{Group, AreGroups, id_of};
 ghost use Rattle.channel_groups.specs.Listing.{AreListed, places_of};
 ghost use Rattle.channel_groups.specs.Changes.{undo, touched_size};
 ghost use Rattle.channel_groups.specs.Grouping.{has_member, group_with, held as groups_in, slot_at, class_at, IsId, AreOf};
@@ -85,9 +85,10 @@ impl Groups {
     /// The work is that of the groups that the edit touches: an old group is touched where an end of
     /// the changed place's old switch, or the node whose level changed, is a member of it; a new one
     /// where a member of a touched old group, an end of the place's present switch, the node whose
-    /// level changed, or a new node is. It takes at most 8 steps for each member and each switch of
-    /// these groups: one at each look at a node or a switch, and at each node that is written. A sort of
-    /// a found group's numbers, and an input node among the roots, take none.
+    /// level changed, or a new node is. Whatever the answer, it takes at most 8 steps for each member
+    /// and each switch of these groups, `found` being the groups of the graph: one at each look at a
+    /// node or a switch, and at each node that is written. A sort of a found group's numbers, and an
+    /// input node among the roots, take none.
     pub fn regroup<L: Ledger>(
         &mut self,
         graph: &Graph,
@@ -97,7 +98,8 @@ impl Groups {
         requires before { AreOf (undo graph.now change.now) self.old }
         ensures ok { OnOk result (AreOf graph.now self.new) }
         ensures err { OnErr result (self.new ≡ self.old) }
-        ensures step { OnOk result (steps.new ≤ steps.old + 8 * touched_size graph.now change.now self.old.groups self.new.groups) }
+        ensures step { (found : List Group) → AreGroups graph.now found →
+            steps.new ≤ steps.old + 8 * touched_size graph.now change.now self.old.groups found }
     {
         graphs_are_wired(graph);
         let plan = prepare(&mut self.held, &mut self.ends, graph, change, steps)?;

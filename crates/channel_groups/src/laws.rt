@@ -1,6 +1,6 @@
 //! What an edit leaves.
 
-ghost use Rattle.channel_groups.specs.Laws.{EditsChangeTheirNodesAlone, UntouchedGroupsAreKept};
+ghost use Rattle.channel_groups.specs.Laws.{EditsChangeTheirNodesAlone, UntouchedGroupsAreKept, EmptyPlacesChangeNoGroup};
 
 /// An edit changes its own nodes alone, and leaves every group that it doesn't touch.
 ///
@@ -10,4 +10,9 @@ ghost use Rattle.channel_groups.specs.Laws.{EditsChangeTheirNodesAlone, Untouche
 pub fn untouched_groups_are_kept()
     ensures differ { EditsChangeTheirNodesAlone }
     ensures kept { UntouchedGroupsAreKept }
+{}
+
+/// An empty place more at the end of a graph changes no group, and no list of the places at a node.
+pub fn empty_places_change_no_group()
+    ensures { EmptyPlacesChangeNoGroup }
 {}

@@ -31,10 +31,10 @@ mod laws;
 mod regroup;
 mod search;
 
-pub use change::Change;
+pub use change::{Change, nodes_after, nodes_before};
 pub use group::{Group, GroupId};
 pub use groups::Groups;
-pub use laws::untouched_groups_are_kept;
+pub use laws::{empty_places_change_no_group, untouched_groups_are_kept};
 
 #[cfg(test)]
 mod tests;

@@ -1,6 +1,6 @@
 //! The groups after an edit: what is looked for first, and what is written then.
 
-ghost use Rattle.std.specs.Prelude.{◌≡◌, ℕ, ◌≤◌, None, Some, length, option_map, IfOk, OnOk, ◌+◌, Contains};
+ghost use Rattle.std.specs.Prelude.{◌≡◌, ℕ, ◌≤◌, None, Some, length, option_map, IfOk, OnOk, OnErr, ◌+◌, Contains};
 ghost use Rattle.path_meaning.specs.Graphs.{nodes};
 ghost use Rattle.std.specs.List.{sum_by};
 ghost use Rattle.group_meaning.specs.Groups.{Group, AreGroups};
@@ -8,10 +8,10 @@ ghost use Rattle.channel_groups.specs.Listing.{AreListed, places_of, HasRoomAt};
 ghost use Rattle.channel_groups.specs.Changes.{undo, switch_after};
 ghost use Rattle.channel_groups.specs.Grouping.{held as groups_in, IsHeld};
 ghost use Rattle.channel_groups.specs.Search.{search_cost};
-ghost use Rattle.channel_groups.specs.Writing.{SameHeld, SameEnds, IsPlan, IsRoomy, before_cost};
+ghost use Rattle.channel_groups.specs.Writing.{SameHeld, SameEnds, IsPlan, IsRoomy, before_cost, IsCheap};
 
 use crate::change::{Change, changed_place, nodes_after, nodes_before, switch_there};
-use crate::ends::{Ends, grow_lists, move_place, reserve_place};
+use crate::ends::{Ends, grow_lists, grow_spots, move_place, reserve_place};
 use crate::held::{Held, clear, grow_held, put_all};
 use crate::search::{Found, each_once, members_touched, try_roots};
 use indexmap::IndexSet;
@@ -47,6 +47,7 @@ pub(crate) fn prepare<L: Ledger>(
     ensures room { OnOk result (IsRoomy graph.now change.now held.new.classes.items ends.new.firsts.items ends.new.seconds.items) }
     ensures steps { IfOk result (λ plan. steps.new ≤ steps.old + before_cost change.now held.new.classes.items held.new.slots.items
         + length plan.gone.keys + length plan.found.seen.keys + search_cost plan.found.fresh.items) }
+    ensures err { OnErr result (IsCheap graph.now change.now (groups_in held.new.slots.items) steps.old steps.new) }
 {
     let alloc = *held.slots.allocator();
     make_room(alloc, held, ends, graph, change)?;
@@ -70,6 +71,8 @@ fn make_room(
     grow_held(held, graph.nodes())?;
     grow_lists(alloc, &mut ends.firsts, graph.nodes())?;
     grow_lists(alloc, &mut ends.seconds, graph.nodes())?;
+    grow_spots(&mut ends.first_spots, graph.places())?;
+    grow_spots(&mut ends.second_spots, graph.places())?;
     reserve_ends(ends, graph, change)?;
     Ok(())
 }
@@ -111,6 +114,7 @@ fn search<L: Ledger>(
         plan.gone.keys plan.found.seen.keys plan.found.fresh.items) }
     ensures steps { IfOk result (λ plan. steps.new ≤ steps.old + before_cost change.now held.now.classes.items held.now.slots.items
         + length plan.gone.keys + length plan.found.seen.keys + search_cost plan.found.fresh.items) }
+    ensures err { OnErr result (IsCheap graph.now change.now (groups_in held.now.slots.items) steps.old steps.new) }
 {
     let before = nodes_before(alloc, change)?;
     let gone = members_touched(alloc, held, &before, steps)?;
@@ -188,8 +192,20 @@ pub(crate) fn relist(ends: &mut Ends, graph: &Graph, change: &Change)
         return;
     };
     let new = switch_there(graph, place);
-    move_place(&mut ends.firsts, place, first_end(old), first_end(new));
-    move_place(&mut ends.seconds, place, second_end(old), second_end(new));
+    move_place(
+        &mut ends.firsts,
+        &mut ends.first_spots,
+        place,
+        first_end(old),
+        first_end(new),
+    );
+    move_place(
+        &mut ends.seconds,
+        &mut ends.second_spots,
+        place,
+        second_end(old),
+        second_end(new),
+    );
 }
 
 fn first_end(switch: Option<Switch>) -> Option<usize>

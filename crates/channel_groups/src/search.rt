@@ -1,11 +1,11 @@
 //! The search for the groups of a graph from roots.
 
-ghost use Rattle.std.specs.Prelude.{◌≡◌, ℕ, ◌+◌, ◌*◌, ◌≤◌, length, ◌∷◌, [], filter, nat_eq, IfOk, OnOk, if◌then◌else◌};
+ghost use Rattle.std.specs.Prelude.{◌≡◌, ℕ, ◌+◌, ◌*◌, ◌≤◌, length, ◌∷◌, [], filter, nat_eq, IfOk, OnOk, OnErr, if◌then◌else◌};
 ghost use Rattle.std.specs.List.{IsDistinct, sum_by};
 ghost use Rattle.group_meaning.specs.Groups.{Group};
 ghost use Rattle.channel_groups.specs.Listing.{AreListed, places_of};
 ghost use Rattle.channel_groups.specs.Grouping.{IsHeld, group_at_node};
-ghost use Rattle.channel_groups.specs.Search.{AreFound, AreFoundFrom, Finds, Notes, is_storage, search_cost};
+ghost use Rattle.channel_groups.specs.Search.{AreFound, AreFoundFrom, Finds, Notes, IsCutShort, ArePaid, is_storage, search_cost};
 ghost use Rattle.channel_groups.specs.Writing.{AreTouched, AddsGroup, members_in};
 
 use crate::ends::Ends;
@@ -44,6 +44,7 @@ pub(crate) fn try_roots<L: Ledger>(
     ensures from { OnOk result (AreFoundFrom roots.now found.old.fresh.items found.new.fresh.items) }
     ensures steps { OnOk result (steps.new + search_cost found.old.fresh.items
         ≤ steps.old + length (filter (is_storage graph.now) roots.now) + search_cost found.new.fresh.items) }
+    ensures err { OnErr result (ArePaid graph.now roots.now found.old.fresh.items steps.old steps.new) }
 {
     for &root in roots {
         try_root(alloc, graph, ends, changed, root, found, steps)?;
@@ -69,6 +70,7 @@ pub(crate) fn try_root<L: Ledger>(
     ensures from { OnOk result (AreFoundFrom (root ∷ []) found.old.fresh.items found.new.fresh.items) }
     ensures steps { OnOk result (steps.new + search_cost found.old.fresh.items
         ≤ steps.old + (if is_storage graph.now root then 1 else 0) + search_cost found.new.fresh.items) }
+    ensures err { OnErr result (IsCutShort graph.now root found.old.seen.keys steps.old steps.new) }
 {
     if !is_storage(graph, root) {
         return Ok(());
@@ -99,6 +101,7 @@ fn note<L: Ledger>(
     ensures notes { OnOk result (Notes nodes.now seen.old.keys seen.new.keys) }
     ensures unique { OnOk result (IsDistinct nat_eq seen.old.keys → IsDistinct nat_eq seen.new.keys) }
     ensures steps { OnOk result (steps.new ≡ steps.old + length nodes.now) }
+    ensures most { steps.new ≤ steps.old + length nodes.now }
 {
     for &node in nodes {
         steps.tick();
@@ -117,8 +120,8 @@ pub(crate) fn members_touched<L: Ledger>(
     requires { IsHeld held.now.classes.items held.now.slots.items }
     ensures touched { IfOk result (λ gone. AreTouched held.now.classes.items held.now.slots.items before.now gone.keys) }
     ensures unique { IfOk result (λ gone. IsDistinct nat_eq gone.keys) }
-    ensures steps { IfOk result (λ _. steps.new ≤ steps.old
-        + sum_by (λ node. members_in (group_at_node held.now.classes.items held.now.slots.items node)) before.now) }
+    ensures steps { steps.new ≤ steps.old
+        + sum_by (λ node. members_in (group_at_node held.now.classes.items held.now.slots.items node)) before.now }
 {
     let mut gone = IndexSet::new(alloc);
     for &node in before {
@@ -136,7 +139,7 @@ fn add_touched<L: Ledger>(
 ) -> Result<(), AllocError>
     ensures unique { OnOk result (IsDistinct nat_eq gone.old.keys → IsDistinct nat_eq gone.new.keys) }
     ensures adds { OnOk result (AddsGroup (group_at_node held.now.classes.items held.now.slots.items node) gone.old.keys gone.new.keys) }
-    ensures steps { OnOk result (steps.new ≡ steps.old + members_in (group_at_node held.now.classes.items held.now.slots.items node)) }
+    ensures steps { steps.new ≤ steps.old + members_in (group_at_node held.now.classes.items held.now.slots.items node) }
 {
     let Some(group) = group_of(held, node) else {
         return Ok(());

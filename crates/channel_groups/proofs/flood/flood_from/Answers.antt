@@ -1,11 +1,11 @@
 -- A flood begins at its root and looks from one node more, until it has looked from all.
-use Rattle.std.proofs.Common.{◌≡◌, ℕ, ◌<◌, List, [], ◌∷◌, length, take, nat_eq, sym, ap, subst, ◌∙◌, arith}
+use Rattle.std.proofs.Common.{◌≡◌, ℕ, ◌+◌, ◌<◌, List, [], ◌∷◌, length, nat_eq, sym, ap, subst, ◌∙◌, arith}
 use Rattle.std.specs.Prelude.{slice_index}
-use Rattle.std.proofs.lemmas.List.{take_all}
+use Rattle.std.proofs.lemmas.List.{append-nil}
 use Rattle.indexmap.specs.IndexSet.{insert_key}
 use Rattle.channel_groups.specs.Flood.{IsFlooding}
 use Rattle.channel_groups.specs.Listing.{places_of, others_at}
-use Rattle.channel_groups.proofs.FloodLemmas.{IsFlooding-start, IsFlooding-visit, Sees-longer, count_within, ticks-visit}
+use Rattle.channel_groups.proofs.FloodLemmas.{IsFlooding-start, IsFlooding-visit, Sees-longer, count_within, paid_so_far, ticks-visit}
 use Rattle.channel_groups.proofs.flood.flood_from.Goals as goal
 
 pub loop-count-init : goal.loop-count-init
@@ -53,9 +53,26 @@ returns g c =
     let found = c.loop-count.flood.nodes.keys in
     let so_far = c.loop-count.invariant in
     let all : c.loop-count.count ≡ length found = omega (arith, so_far.within, c.loop-count-test.false, c.len.ensures.len) in
-    let whole : take c.loop-count.count found ≡ found = take_all c.loop-count.count found (omega arith) in
     record {
       flooded = subst (λ n. IsFlooding c.args.graph.now c.args.root n found c.loop-count.flood.places.items) all so_far.flooding;
       unique = c.len.ensures.unique;
-      steps = omega (arith, rw whole at so_far.steps, all);
+      steps =
+          paid_so_far c.args.graph.now c.args.root c.args.changed (places_of c.args.ends.now.firsts.items) (places_of c.args.ends.now.seconds.items)
+          c.requires.firsts c.requires.seconds found c.loop-count.flood.places.items c.loop-count.count c.loop-count.count so_far.flooding
+          c.len.ensures.unique so_far.within c.args.steps.now c.loop-count.steps so_far.steps;
     }
+
+pub returns-in_err-visit-clause-steps : goal.returns-in_err-visit-clause-steps
+returns-in_err-visit-clause-steps g c =
+    let found = c.loop-count.flood.nodes.keys in
+    let count = c.loop-count.count in
+    let so_far = c.loop-count.invariant in
+    let firsts = places_of c.args.ends.now.firsts.items in
+    let seconds = places_of c.args.ends.now.seconds.items in
+    let inside : count < length found = omega (arith, c.loop-count-test.true, c.len.ensures.len) in
+    let is : slice_index found count ≡ slice_index c.as_slice-nodes.result.now count =
+    ap (λ (xs : List ℕ). slice_index xs count) (sym c.as_slice-nodes.ensures.keys) in
+    paid_so_far c.args.graph.now c.args.root c.args.changed firsts seconds c.requires.firsts c.requires.seconds found c.loop-count.flood.places.items
+    count (count + 1) so_far.flooding c.as_slice-nodes.ensures.unique (omega (arith, inside)) c.args.steps.now c.visit.new.steps
+    (ticks-visit (others_at c.args.changed firsts) (others_at c.args.changed seconds) found found [] (sym (append-nil found)) count
+    (slice_index c.as_slice-nodes.result.now count) c.args.steps.now c.loop-count.steps c.visit.new.steps inside is so_far.steps c.visit.ensures.steps)

@@ -1,8 +1,7 @@
 -- What was flooded is a group.
 use Rattle.std.proofs.Common.{List, ℕ, subst}
 use Rattle.channel_groups.specs.Flood.{IsSortedFrom}
-use Rattle.channel_groups.specs.Listing.{places_of}
-use Rattle.channel_groups.proofs.FloodLemmas.{IsGroup-flooded, Contains-root, few_ticks}
+use Rattle.channel_groups.proofs.FloodLemmas.{IsGroup-flooded, Contains-root}
 use Rattle.channel_groups.proofs.flood.group_at.Goals as goal
 
 pub returns : goal.returns
@@ -19,8 +18,5 @@ returns g c =
     record {
       group = IsGroup-flooded graph c.args.root found places flood group members switches;
       root = Contains-root graph c.args.root found places flood group members;
-      steps =
-          few_ticks graph c.args.root c.args.changed (places_of c.args.ends.now.firsts.items) (places_of c.args.ends.now.seconds.items)
-          c.requires.firsts c.requires.seconds found places flood c.in_ok-flood.ensures.unique group members switches
-          c.args.steps.now c.flood_from.new.steps c.in_ok-flood.ensures.steps;
+      steps = c.flood_from.ensures.steps;
     }

@@ -3,7 +3,7 @@ use Rattle.std.proofs.Common.{◌≡◌, ◌+◌, ◌<◌, inl, inr, Some, lengt
 use Rattle.std.proofs.lemmas.List.{take_more, take_all}
 use Rattle.std.proofs.lemmas.List.Elements.{Contains-push_cases}
 use Rattle.channel_groups.specs.Listing.{is_other}
-use Rattle.channel_groups.proofs.FloodLemmas.{Sees-none, Sees-then, filter-count_more}
+use Rattle.channel_groups.proofs.FloodLemmas.{Sees-none, Sees-then, filter-count_more, filter-part}
 use Rattle.channel_groups.proofs.flood.look_along.Goals as goal
 
 pub loop-place-init : goal.loop-place-init
@@ -42,3 +42,12 @@ returns g c =
     let places = c.args.places.now in
     let all : take c.loop-place.place-index places ≡ places = take_all c.loop-place.place-index places (omega arith) in
     rw all at c.loop-place.invariant
+
+pub returns-in_err-look_at_other-clause-steps : goal.returns-in_err-look_at_other-clause-steps
+returns-in_err-look_at_other-clause-steps g c =
+    let test = is_other c.args.changed in
+    let places = c.args.places.now in
+    let i = c.loop-place.place-index in
+    let one = c.look_at_other.ensures.steps in
+    let so_far = c.loop-place.invariant.steps in
+    omega (arith, one, so_far, filter-count_more test places i c.loop-place-test.true, filter-part test places (i + 1))

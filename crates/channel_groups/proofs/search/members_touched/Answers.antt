@@ -1,7 +1,7 @@
 -- One node's group more.
-use Rattle.std.proofs.Common.{◌≡◌, ℕ, take, arith}
+use Rattle.std.proofs.Common.{◌≡◌, ℕ, ◌+◌, take, arith}
 use Rattle.std.proofs.lemmas.List.{take_all}
-use Rattle.std.proofs.lemmas.List.Sums.{sum_by_more}
+use Rattle.std.proofs.lemmas.List.Sums.{sum_by_more, sum_by-take-le}
 use Rattle.channel_groups.specs.Grouping.{group_at_node}
 use Rattle.channel_groups.specs.Writing.{members_in}
 use Rattle.channel_groups.proofs.StoreLemmas.{AreTouched-none, AreTouched-more}
@@ -35,3 +35,12 @@ returns g c =
     let all : take c.loop-node.node-index c.args.before.now ≡ c.args.before.now = take_all c.loop-node.node-index c.args.before.now (omega arith) in
     let so_far = c.loop-node.invariant in
     record { touched = rw all at so_far.touched; unique = so_far.unique; steps = rw all at so_far.steps }
+
+pub returns-in_err-add_touched-clause-steps : goal.returns-in_err-add_touched-clause-steps
+returns-in_err-add_touched-clause-steps g c =
+    let before = c.args.before.now in
+    let i = c.loop-node.node-index in
+    let cost : ℕ → ℕ = λ node. members_in (group_at_node c.args.held.now.classes.items c.args.held.now.slots.items node) in
+    let so_far = c.loop-node.invariant.steps in
+    let one = c.add_touched.ensures.steps in
+    omega (arith, sum_by_more cost before i 0 c.loop-node-test.true, sum_by-take-le cost before (i + 1), one, so_far)

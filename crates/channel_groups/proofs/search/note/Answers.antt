@@ -19,4 +19,4 @@ pub returns : goal.returns
 returns g c =
     let all : take c.loop-node.node-index c.args.nodes.now ≡ c.args.nodes.now = take_all c.loop-node.node-index c.args.nodes.now (omega arith) in
     let notes = c.loop-node.invariant.notes in
-    record { notes = rw all at notes; unique = c.loop-node.invariant.unique; steps = omega (arith, c.loop-node.invariant.steps) }
+    record { notes = rw all at notes; unique = c.loop-node.invariant.unique; steps = omega (arith, c.loop-node.invariant.steps); most = omega (arith, c.loop-node.invariant.steps) }

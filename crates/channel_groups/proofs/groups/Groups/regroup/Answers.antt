@@ -1,17 +1,14 @@
 -- What was prepared and written are the groups of the graph now.
-use Rattle.std.proofs.Common.{List, None, Result, Ok, Err, OnErr, sym, subst, ◌∙◌, arith, ◌≡◌, ap}
+use Rattle.std.proofs.Common.{List, None, sym, subst, ◌∙◌, arith, ◌≡◌, ap}
 use Rattle.group_meaning.specs.Groups.{Group, AreGroups}
 use Rattle.channel_groups.specs.Listing.{places_of, AreListed}
 use Rattle.channel_groups.specs.Changes.{undo}
 use Rattle.channel_groups.specs.Grouping.{AreOf, GroupsData, held}
+use Rattle.channel_groups.specs.Writing.{IsCheap}
+use Rattle.channel_groups.proofs.SearchLemmas.{on_err}
 use Rattle.channel_groups.proofs.StoreLemmas.{IsHeld-same, held-same, same_function, AreListed-seen, AreListed-shown, first_lists-same, nothing_past, first_inside, second_inside}
 use Rattle.channel_groups.proofs.TickLemmas.{few_ticks}
 use Rattle.channel_groups.proofs.groups.Groups.regroup.Goals as goal
-
--- what holds whatever the answer holds at an error
-on_err : {T E P : Type 0} (result : Result T E) → P → OnErr result P
-on_err (Ok value) fact = tt
-on_err (Err fault) fact = fact
 
 pub prepare-requires : goal.prepare-requires
 prepare-requires g c =
@@ -80,6 +77,15 @@ returns-in_err-plan-clause-err g c =
     on_err c.from_residual.result
     ((λ j. record { nodes = i.nodes; groups = held_still j; firsts = firsts j; seconds = seconds j }) ∙ c.self.view_is)
 
+pub returns-in_err-plan-clause-step : goal.returns-in_err-plan-clause-step
+returns-in_err-plan-clause-step g c = λ found are.
+    let i = c.self.inside in
+    let groups : held c.prepare.new.held.slots.items ≡ c.args.self.now.groups =
+    held-same i.held.slots.items c.prepare.new.held.slots.items c.prepare.ensures.held.slot ∙ ap (λ (m : GroupsData). m.groups) c.self.view_is in
+    let cheap : IsCheap c.args.graph.now c.args.change.now c.args.self.now.groups c.args.steps.now c.prepare.new.steps =
+    subst (λ (old : List Group). IsCheap c.args.graph.now c.args.change.now old c.args.steps.now c.prepare.new.steps) groups c.in_err-plan.ensures.err in
+    cheap.cheap found are
+
 pub invariant_of-self-2 : goal.invariant_of-self-2
 invariant_of-self-2 g c =
     let graph = c.args.graph.now in
@@ -122,7 +128,7 @@ returns g c =
             relisted.seconds;
       };
       err = tt;
-      step =
+      step = λ found are.
           let i = c.self.inside in
           let same = c.prepare.ensures.held in
           let groups : held c.prepare.new.held.slots.items ≡ c.args.self.now.groups =
@@ -131,6 +137,6 @@ returns g c =
           let still = IsHeld-same i.held.classes.items c.prepare.new.held.classes.items i.held.slots.items c.prepare.new.held.slots.items same c.self.invariant.held in
           few_ticks graph c.args.change.now c.prepare.new.held.classes.items c.prepare.new.held.slots.items still
           c.in_ok-plan.plan.gone.keys c.in_ok-plan.plan.found.seen.keys c.in_ok-plan.plan.found.fresh.items plan
-          c.args.self.now.groups (held c.write.new.held.slots.items) groups c.write.ensures.fresh
+          c.args.self.now.groups found groups are
           c.args.steps.now c.prepare.new.steps c.write.new.steps c.in_ok-plan.ensures.steps c.write.ensures.steps;
     }
