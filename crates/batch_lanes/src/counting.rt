@@ -1,0 +1,54 @@
+//! The counts of the columns.
+ghost use Rattle.std.specs.Prelude.{◌≡◌, ℕ, ◌+◌, ◌<◌, ◌≤◌, ◌^◌, All, length, slice_index_or};
+ghost use Rattle.batch_words.specs.Lanes.{is_in_lane};
+ghost use Rattle.oscillation_x.specs.declared.settling.Settled.{Settled};
+ghost use Rattle.batch_lanes.specs.Settling.{counted, none_yet};
+
+use oscillation_x::Settled;
+
+// No column took a step yet.
+pub(crate) fn clear(out: &mut [Settled])
+    ensures { (lane : ℕ) (past : Settled) → lane < length out.old → slice_index_or out.new lane past ≡ none_yet }
+{
+    for settled in out.iter_mut() {
+        *settled = Settled {
+            steps: 0,
+            joined: false,
+        };
+    }
+}
+
+// Counts a step in each column that it changed.
+pub(crate) fn count_all(changed: u64, joining: bool, out: &mut [Settled])
+    requires columns { length out.old ≤ 64 }
+    requires room { All (λ settled. settled.steps + 1 < 2 ^ 64) out.old }
+    ensures { (lane : ℕ) (past : Settled) → lane < length out.old
+        → slice_index_or out.new lane past ≡ counted (is_in_lane lane changed) joining (slice_index_or out.old lane past) }
+{
+    for lane in 0..out.len() {
+        out[lane] = counted(has_bit(changed, lane), joining, out[lane]);
+    }
+}
+
+// A column's count after a step that changed it, or didn't.
+fn counted(changed: bool, joining: bool, settled: Settled) -> Settled
+    requires { settled.steps + 1 < 2 ^ 64 }
+    ensures { result ≡ counted changed joining settled }
+{
+    if changed {
+        Settled {
+            steps: settled.steps + 1,
+            joined: joining || settled.joined,
+        }
+    } else {
+        settled
+    }
+}
+
+// Whether a column's bit is set.
+fn has_bit(word: u64, lane: usize) -> bool
+    requires { lane < 64 }
+    ensures { result ≡ is_in_lane lane word }
+{
+    (word >> lane) & 1 == 1
+}

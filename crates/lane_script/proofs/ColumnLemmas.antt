@@ -1,0 +1,224 @@
+-- A line in its columns: what it asks for, or why it is refused, is found for all columns at once.
+use Rattle.std.proofs.Common.{◌≡◌, ℕ, ◌<◌, Bool, true, false, ◌||◌, List, [], ◌∷◌, length, map, All, Option, Some, None, Result, Ok, Err, refl, sym, ap, ◌∙◌, subst, ◌⊎◌, inl, inr, arith, if◌then◌else◌, eqb-true}
+use Rattle.std.specs.Prelude.{codes, bytes_eq, ◌==◌}
+use Rattle.std.specs.Option.{option_and_then}
+use Rattle.std.proofs.lemmas.Slice.Eq.{bytes_eq-Decides}
+use Rattle.std.proofs.lemmas.List.Elements.{All-tail}
+use Rattle.ternary.specs.declared.tern.Tern.{Tern}
+use Rattle.line_words.specs.declared.line_check.LineFault.{LineFault}
+use Rattle.line_words.specs.declared.line_check.LineFault.TheVariants as of_line
+use Rattle.line_words.specs.LineFaults.{line_fault, is_comment}
+use Rattle.line_words.specs.Visible.{IsVisibleName}
+use Rattle.line_words.specs.Words.{words_of}
+use Rattle.line_words.proofs.VisibleLemmas.{words_of-visible}
+use Rattle.script_lang.specs.declared.command.Command.{Command}
+use Rattle.script_lang.specs.declared.command.Command.TheVariants as plain
+use Rattle.script_lang.specs.declared.command.ScriptFault.{ScriptFault}
+use Rattle.script_lang.specs.declared.command.ScriptFault.TheVariants as fault
+use Rattle.script_lang.specs.Parts.{all_of, beats_of}
+use Rattle.script_lang.specs.Commands.{commanded, reading_by, reading_of, reading_of_words, some_command}
+use Rattle.script_lang.proofs.FormLemmas.{all_given, given_some, named_beats}
+use Rattle.lane_script.specs.declared.reader.Sort.{Sort}
+use Rattle.lane_script.specs.declared.reader.Sort.TheVariants as sort
+use Rattle.lane_script.specs.Columns.{column_reading, column_reading_by, column_reading_of, is_left_out, word_in, words_in}
+use Rattle.lane_script.specs.Commands.{IsShared}
+use Rattle.lane_script.specs.Forms.{AreLaneValues, IsLaneValue}
+use Rattle.lane_script.specs.Values.{are_fit, lane_value_of, sort_of, values_given}
+use Rattle.lane_script.specs.Laws.{ColumnsAreRefusedAlike, ColumnsPassAlike}
+use Rattle.lane_script.proofs.ValueLemmas.{given_in, given_in_column}
+use Rattle.lane_script.proofs.SharedLemmas.{IsOther, other_sort, shared_words}
+
+-- ---- a line without a fault that is no comment
+
+pub column_words : (lanes lane : ℕ) (line : List ℕ) → line_fault line ≡ None → is_comment line ≡ false →
+    column_reading_of lanes lane line ≡ column_reading lanes lane (words_of line)
+column_words lanes lane line sound other =
+    ap (column_reading_by lanes lane line) sound
+    ∙ ap (λ (comment : Bool). if comment then Ok None else column_reading lanes lane (words_of line)) other
+
+-- ---- words
+
+-- what values ask for in a column
+abbrev pub values_asked : (List (List ℕ × Tern) → Command) → ℕ → Result (List (List ℕ × List Tern)) ScriptFault → Result (Option Command) ScriptFault
+values_asked command lane given = some_command (commanded command (given_in lane given))
+
+-- the words of `set` in a column
+pub set_words : (lanes lane : ℕ) (word : List ℕ) (words : List (List ℕ)) → lane < lanes → word ≡ codes "set" →
+    column_reading lanes lane (word ∷ words) ≡ values_asked plain.Set lane (values_given lanes words)
+set_words lanes lane word words inside is =
+    ap (λ (verb : List ℕ). column_reading lanes lane (verb ∷ words)) is
+    ∙ ap (λ given. some_command (commanded plain.Set given)) (given_in_column lanes lane words inside)
+
+-- and of `charge`
+pub charge_words : (lanes lane : ℕ) (word : List ℕ) (words : List (List ℕ)) → lane < lanes → word ≡ codes "charge" →
+    column_reading lanes lane (word ∷ words) ≡ values_asked plain.Charge lane (values_given lanes words)
+charge_words lanes lane word words inside is =
+    ap (λ (verb : List ℕ). column_reading lanes lane (verb ∷ words)) is
+    ∙ ap (λ given. some_command (commanded plain.Charge given)) (given_in_column lanes lane words inside)
+
+-- what is left out is no command
+pub out_words : (lanes lane : ℕ) (word : List ℕ) (words : List (List ℕ)) → is_left_out word ≡ true →
+    column_reading lanes lane (word ∷ words) ≡ Err fault.BadCommand
+out_words lanes lane word words is =
+    ap (λ (out : Bool). if out then Err fault.BadCommand else reading_of_words (words_in lanes lane (word ∷ words))) is
+
+-- all else is in each column as in a plain script
+pub other_words : (lanes lane : ℕ) (word : List ℕ) (words : List (List ℕ)) → IsOther word →
+    column_reading lanes lane (word ∷ words) ≡ reading_of_words (word ∷ words)
+other_words lanes lane word words other =
+    ap (λ (out : Bool). if out then Err fault.BadCommand else reading_of_words (words_in lanes lane (word ∷ words))) other.out
+    ∙ ap (λ (first : Bool). reading_of_words (word ∷ (if first || bytes_eq word (codes "charge") then map (word_in lanes lane) words else words))) other.set
+    ∙ ap (λ (second : Bool). reading_of_words (word ∷ (if second then map (word_in lanes lane) words else words))) other.charge
+
+-- ---- the sorts of words
+
+pub set_sort : (word : List ℕ) → sort_of word ≡ sort.Set → word ≡ codes "set"
+set_sort word is = by (bytes_eq word (codes "set")) (bytes_eq word (codes "charge")) (is_left_out word) refl is
+  where
+    by : (set charge out : Bool) → bytes_eq word (codes "set") ≡ set →
+        (if set then sort.Set else (if charge then sort.Charge else (if out then sort.LeftOut else sort.Shared))) ≡ sort.Set → word ≡ codes "set"
+    by true charge out a is = (bytes_eq-Decides word (codes "set")).0 a
+    by false true out a is = cc
+    by false false true a is = cc
+    by false false false a is = cc
+
+pub charge_sort : (word : List ℕ) → sort_of word ≡ sort.Charge → word ≡ codes "charge"
+charge_sort word is = by (bytes_eq word (codes "set")) (bytes_eq word (codes "charge")) (is_left_out word) refl is
+  where
+    by : (set charge out : Bool) → bytes_eq word (codes "charge") ≡ charge →
+        (if set then sort.Set else (if charge then sort.Charge else (if out then sort.LeftOut else sort.Shared))) ≡ sort.Charge → word ≡ codes "charge"
+    by true charge out a is = cc
+    by false true out a is = (bytes_eq-Decides word (codes "charge")).0 a
+    by false false true a is = cc
+    by false false false a is = cc
+
+pub out_sort : (word : List ℕ) → sort_of word ≡ sort.LeftOut → is_left_out word ≡ true
+out_sort word is = by (bytes_eq word (codes "set")) (bytes_eq word (codes "charge")) (is_left_out word) is
+  where
+    by : (set charge out : Bool) →
+        (if set then sort.Set else (if charge then sort.Charge else (if out then sort.LeftOut else sort.Shared))) ≡ sort.LeftOut → out ≡ true
+    by true charge out is = cc
+    by false true out is = cc
+    by false false true is = refl
+    by false false false is = cc
+
+-- ---- values are well formed
+
+-- a value of a visible word has a visible name, and states that fit
+formed_value : (lanes : ℕ) (word : List ℕ) (value : List ℕ × List Tern) → IsVisibleName word → lane_value_of lanes word ≡ Some value → IsLaneValue lanes value
+formed_value lanes word value visible is = by (beats_of word) refl is
+  where
+    fit : (states : List Tern) → are_fit lanes states ≡ true → (length states ≡ 1) ⊎ (length states ≡ lanes)
+    fit states held = cases (length states == 1) (length states == lanes) refl refl held
+      where
+        cases : (one all : Bool) → (length states == 1) ≡ one → (length states == lanes) ≡ all → (one || all) ≡ true → (length states ≡ 1) ⊎ (length states ≡ lanes)
+        cases true all a b held = inl (eqb-true _ _ a)
+        cases false true a b held = inr (eqb-true _ _ b)
+        cases false false a b held = cc
+
+    by : (found : Option (List ℕ × List Tern)) → beats_of word ≡ found →
+        option_and_then (λ value. if are_fit lanes value.1 then Some value else None) found ≡ Some value → IsLaneValue lanes value
+    by None from is = cc
+    by (Some item) from is = tested (are_fit lanes item.1) refl is
+      where
+        tested : (held : Bool) → are_fit lanes item.1 ≡ held → (if held then Some item else None) ≡ Some value → IsLaneValue lanes value
+        tested false fails is = cc
+        tested true held is =
+            subst (IsLaneValue lanes) (let same : item ≡ value = cc in same)
+            (record { named = (named_beats word item visible from).0; states = fit item.1 held })
+
+-- values that are given are one or more, and well formed
+pub formed_values : (lanes : ℕ) (words : List (List ℕ)) (list : List (List ℕ × List Tern)) → All IsVisibleName words → values_given lanes words ≡ Ok list → AreLaneValues lanes list
+formed_values lanes [] list are is = cc
+formed_values lanes (word ∷ words) list are is =
+    let all = all_given (lane_value_of lanes) IsVisibleName (IsLaneValue lanes) (formed_value lanes) (word ∷ words) list are (given_some (all_of (lane_value_of lanes) (word ∷ words)) fault.BadValue list is) in
+    (omega (arith, all.0), all.1)
+
+-- the words after the first of a line without a fault that is no comment are visible
+pub rest_visible : (line word : List ℕ) (words : List (List ℕ)) → line_fault line ≡ None → is_comment line ≡ false → words_of line ≡ word ∷ words → All IsVisibleName words
+rest_visible line word words sound other is =
+    All-tail IsVisibleName word words (subst (All IsVisibleName) is (words_of-visible line sound other))
+
+-- ---- lines with values
+
+-- what a line of `set` or `charge` is in a column, by the values that are given
+module _ (lanes : ℕ) (line word : List ℕ) (rest : List (List ℕ)) (sound : line_fault line ≡ None) (other : is_comment line ≡ false)
+    (cut : words_of line ≡ word ∷ rest) where
+  pub line_words : (lane : ℕ) → column_reading_of lanes lane line ≡ column_reading lanes lane (word ∷ rest)
+  line_words lane = column_words lanes lane line sound other ∙ ap (column_reading lanes lane) cut
+
+  pub set_line : sort_of word ≡ sort.Set → (given : Result (List (List ℕ × List Tern)) ScriptFault) → given ≡ values_given lanes rest →
+      (lane : ℕ) → lane < lanes → column_reading_of lanes lane line ≡ values_asked plain.Set lane given
+  set_line kind given is lane inside =
+      line_words lane ∙ set_words lanes lane word rest inside (set_sort word kind) ∙ ap (values_asked plain.Set lane) (sym is)
+
+  pub charge_line : sort_of word ≡ sort.Charge → (given : Result (List (List ℕ × List Tern)) ScriptFault) → given ≡ values_given lanes rest →
+      (lane : ℕ) → lane < lanes → column_reading_of lanes lane line ≡ values_asked plain.Charge lane given
+  charge_line kind given is lane inside =
+      line_words lane ∙ charge_words lanes lane word rest inside (charge_sort word kind) ∙ ap (values_asked plain.Charge lane) (sym is)
+
+  pub values_formed : (list : List (List ℕ × List Tern)) → Ok list ≡ values_given lanes rest → AreLaneValues lanes list
+  values_formed list is = formed_values lanes rest list (rest_visible line word rest sound other cut) (sym is)
+
+  -- a line of a shared command is in each column what it is in a plain script
+  pub shared_line : sort_of word ≡ sort.Shared → (lane : ℕ) → column_reading_of lanes lane line ≡ reading_of line
+  shared_line kind lane =
+      line_words lane ∙ other_words lanes lane word rest (other_sort word kind) ∙ ap reading_of_words (sym cut)
+      ∙ sym (ap (reading_by line) sound ∙ ap (λ (comment : Bool). if comment then Ok None else reading_of_words (words_of line)) other)
+
+  pub shared_command : sort_of word ≡ sort.Shared → (made : Command) → reading_of line ≡ Ok (Some made) → IsShared made
+  shared_command kind made is =
+      shared_words word rest made (other_sort word kind) (sym (other_words lanes 0 word rest (other_sort word kind)) ∙ sym (line_words 0) ∙ shared_line kind 0 ∙ is)
+
+-- ---- columns are alike
+
+-- the answer of two columns is the same refusal, or both are no refusals and ask for something or both for nothing
+abbrev AreAlike : Result (Option Command) ScriptFault → Result (Option Command) ScriptFault → Type 0
+AreAlike (Err one) other = other ≡ Err one
+AreAlike (Ok None) other = other ≡ Ok None
+AreAlike (Ok (Some command)) other = Unit {0}
+
+same-alike : (answer : Result (Option Command) ScriptFault) → AreAlike answer answer
+same-alike (Err fault) = refl
+same-alike (Ok None) = refl
+same-alike (Ok (Some command)) = tt
+
+asked-alike : (command : List (List ℕ × Tern) → Command) (lane other : ℕ) (given : Result (List (List ℕ × List Tern)) ScriptFault) →
+    AreAlike (values_asked command lane given) (values_asked command other given)
+asked-alike command lane other (Ok list) = tt
+asked-alike command lane other (Err fault) = refl
+
+words-alike : (lanes lane other : ℕ) (words : List (List ℕ)) → lane < lanes → other < lanes →
+    AreAlike (column_reading lanes lane words) (column_reading lanes other words)
+words-alike lanes lane other [] inside within = refl
+words-alike lanes lane other (word ∷ words) inside within = by (sort_of word) refl
+  where
+    pair : {a b c d : Result (Option Command) ScriptFault} → a ≡ c → b ≡ d → AreAlike c d → AreAlike a b
+    pair {a} {b} {c} {d} one two alike = subst (λ (x : Result (Option Command) ScriptFault). AreAlike x b) (sym one) (subst (λ (y : Result (Option Command) ScriptFault). AreAlike c y) (sym two) alike)
+
+    by : (kind : Sort) → sort_of word ≡ kind → AreAlike (column_reading lanes lane (word ∷ words)) (column_reading lanes other (word ∷ words))
+    by sort.Set is = pair (set_words lanes lane word words inside (set_sort word is)) (set_words lanes other word words within (set_sort word is)) (asked-alike plain.Set lane other (values_given lanes words))
+    by sort.Charge is = pair (charge_words lanes lane word words inside (charge_sort word is)) (charge_words lanes other word words within (charge_sort word is)) (asked-alike plain.Charge lane other (values_given lanes words))
+    by sort.LeftOut is = pair (out_words lanes lane word words (out_sort word is)) (out_words lanes other word words (out_sort word is)) refl
+    by sort.Shared is = pair (other_words lanes lane word words (other_sort word is)) (other_words lanes other word words (other_sort word is)) (same-alike (reading_of_words (word ∷ words)))
+
+line-alike : (lanes lane other : ℕ) (line : List ℕ) → lane < lanes → other < lanes →
+    AreAlike (column_reading_of lanes lane line) (column_reading_of lanes other line)
+line-alike lanes lane other line inside within = by (line_fault line)
+  where
+    commented : (comment : Bool) → AreAlike (if comment then Ok None else column_reading lanes lane (words_of line)) (if comment then Ok None else column_reading lanes other (words_of line))
+    commented true = refl
+    commented false = words-alike lanes lane other (words_of line) inside within
+
+    by : (found : Option LineFault) → AreAlike (column_reading_by lanes lane line found) (column_reading_by lanes other line found)
+    by (Some of_line.TooLong) = refl
+    by (Some of_line.BadByte) = refl
+    by None = commented (is_comment line)
+
+pub refused-alike : ColumnsAreRefusedAlike
+refused-alike lanes lane other line fault inside within is =
+    subst (λ (answer : Result (Option Command) ScriptFault). AreAlike answer (column_reading_of lanes other line)) is (line-alike lanes lane other line inside within)
+
+pub passed-alike : ColumnsPassAlike
+passed-alike lanes lane other line inside within is =
+    subst (λ (answer : Result (Option Command) ScriptFault). AreAlike answer (column_reading_of lanes other line)) is (line-alike lanes lane other line inside within)
