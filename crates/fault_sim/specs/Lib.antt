@@ -1,0 +1,6 @@
+pub mod Benches
+pub mod Changes
+pub mod Faults
+pub mod Masks
+pub mod Rows
+pub mod Traces
