@@ -1,0 +1,7 @@
+pub mod CollectLemmas
+pub mod LineLemmas
+pub mod PlaceLemmas
+pub mod PoolLemmas
+pub mod ReadingLemmas
+pub mod TableLemmas
+mod Worked

@@ -1,0 +1,122 @@
+-- The pool of a deck's words: a part keeps its words while the words behind them come and go.
+use Rattle.std.proofs.Common.{◌≡◌, ℕ, ◌+◌, ◌-◌, ◌<◌, ◌≤◌, List, [], ◌∷◌, ◌++◌, All, length, map, take, drop, refl, sym, ◌∙◌, ap, arith, length-append, length-drop}
+use Rattle.std.proofs.lemmas.List.{drop-append-le, drop-map, drop-take, drop_all, length-take-le, map-append, take-append-le, take-map, take-take, take_all}
+use Rattle.std.proofs.lemmas.List.Elements.{All-head, All-tail}
+use Rattle.spice_cards.specs.declared.places.PartPlace.{PartPlace}
+use Rattle.spice_cards.specs.declared.sorts.PartSort.{PartSort}
+use Rattle.spice_cards.specs.Decks.{PartCard}
+use Rattle.spice_cards.specs.Pools.{IsPlace, IsPool, PoolData, part_at, parts_at, pool_of, with_inside, with_outside}
+
+-- a slice ends where the words that are taken for it end
+slice_is : (words : List (List ℕ)) (first end : ℕ) → first ≤ end → take (end - first) (drop first words) ≡ drop first (take end words)
+slice_is words first end ordered =
+    let whole : first + (end - first) ≡ end = omega arith in
+    sym (drop-take first (end - first) words) ∙ ap (λ n. drop first (take n words)) whole
+
+-- a part has the same words in lists that begin alike
+part_at-same : (kept : ℕ) (words others : List (List ℕ)) (at : PartPlace) → IsPlace kept at → take kept words ≡ take kept others →
+    part_at words at ≡ part_at others at
+part_at-same kept words others at is alike =
+    let ends : take at.end words ≡ take at.end others =
+    sym (take-take at.end kept words is.within) ∙ ap (take at.end) alike ∙ take-take at.end kept others is.within in
+    let same = slice_is words at.first at.end is.ordered ∙ ap (drop at.first) ends ∙ sym (slice_is others at.first at.end is.ordered) in
+    λ j. record { line = at.line; sort = at.sort; words = same j }
+
+-- so have all parts
+pub parts_at-same : (kept : ℕ) (words others : List (List ℕ)) (places : List PartPlace) → All (IsPlace kept) places →
+    take kept words ≡ take kept others → parts_at words places ≡ parts_at others places
+parts_at-same kept words others [] are alike = refl
+parts_at-same kept words others (at ∷ places) are alike =
+    ap (λ part. part ∷ parts_at words places) (part_at-same kept words others at (All-head (IsPlace kept) at places are) alike)
+    ∙ ap (λ parts. part_at others at ∷ parts) (parts_at-same kept words others places (All-tail (IsPlace kept) at places are) alike)
+
+-- nothing is pending of words that end where those of the parts end
+none_pending : (n : ℕ) (words : List (List ℕ)) → n ≤ length words → drop n (take n words) ≡ []
+none_pending n words within = drop_all n (take n words) (let long = length-take-le n words within in omega arith)
+
+-- the pool without the pending words
+pub pool_of-cleared : (words left : List (List ℕ)) (kept : ℕ) (outside inside : List PartPlace) (before : PoolData) →
+    IsPool (length words) kept outside inside → left ≡ take kept words → pool_of words kept outside inside ≡ before →
+    pool_of left kept outside inside ≡ record { outside = before.outside; inside = before.inside; pending = [] }
+pool_of-cleared words left kept outside inside before is cut seen =
+    let alike : take kept left ≡ take kept words = ap (take kept) cut ∙ take-take kept kept words (omega arith) in
+    let out = parts_at-same kept left words outside is.outside alike ∙ ap (λ (p : PoolData). p.outside) seen in
+    let within = parts_at-same kept left words inside is.inside alike ∙ ap (λ (p : PoolData). p.inside) seen in
+    let none = ap (drop kept) cut ∙ none_pending kept words is.counted in
+    λ j. record { outside = out j; inside = within j; pending = none j }
+
+-- the pool with one more pending word
+pub pool_of-added : (words more : List (List ℕ)) (word : List ℕ) (kept : ℕ) (outside inside : List PartPlace) (before : PoolData) →
+    IsPool (length words) kept outside inside → more ≡ words ++ word ∷ [] → pool_of words kept outside inside ≡ before →
+    pool_of more kept outside inside ≡ record { outside = before.outside; inside = before.inside; pending = before.pending ++ word ∷ [] }
+pool_of-added words more word kept outside inside before is grown seen =
+    let alike : take kept more ≡ take kept words = ap (take kept) grown ∙ take-append-le kept words (word ∷ []) is.counted in
+    let out = parts_at-same kept more words outside is.outside alike ∙ ap (λ (p : PoolData). p.outside) seen in
+    let within = parts_at-same kept more words inside is.inside alike ∙ ap (λ (p : PoolData). p.inside) seen in
+    let pending = ap (drop kept) grown ∙ drop-append-le kept words (word ∷ []) is.counted ∙ ap (λ (p : PoolData). p.pending ++ word ∷ []) seen in
+    λ j. record { outside = out j; inside = within j; pending = pending j }
+
+-- the words of a part that is kept are the first pending ones
+kept_words : (words : List (List ℕ)) (kept count : ℕ) → kept + count ≤ length words →
+    take (kept + count - kept) (drop kept (take (kept + count) words)) ≡ take count (drop kept words)
+kept_words words kept count within =
+    let n : kept + count - kept ≡ count = omega arith in
+    ap (λ m. take m (drop kept (take (kept + count) words))) n
+    ∙ ap (take count) (drop-take kept count words)
+    ∙ take-take count count (drop kept words) (omega arith)
+
+-- the parts with one more of the first pending words
+grown_parts : (words left : List (List ℕ)) (kept count : ℕ) (places more : List PartPlace) (at : PartPlace) →
+    All (IsPlace kept) places → kept + count ≤ length words → left ≡ take (kept + count) words → more ≡ places ++ at ∷ [] →
+    at.first ≡ kept → at.end ≡ kept + count →
+    parts_at left more ≡ parts_at words places ++ record { line = at.line; sort = at.sort; words = take count (drop kept words) } ∷ []
+grown_parts words left kept count places more at are within cut grown first end =
+    let alike : take kept left ≡ take kept words = ap (take kept) cut ∙ take-take kept (kept + count) words (omega arith) in
+    let old = parts_at-same kept left words places are alike in
+    let own : take (at.end - at.first) (drop at.first left) ≡ take count (drop kept words) =
+    ap (λ e. take (e - at.first) (drop at.first left)) end
+    ∙ ap (λ f. take (kept + count - f) (drop f left)) first
+    ∙ ap (λ ws. take (kept + count - kept) (drop kept ws)) cut
+    ∙ kept_words words kept count within in
+    let part : part_at left at ≡ record { line = at.line; sort = at.sort; words = take count (drop kept words) } =
+    λ j. record { line = at.line; sort = at.sort; words = own j } in
+    ap (parts_at left) grown ∙ map-append (part_at left) places (at ∷ [])
+    ∙ ap (λ parts. parts ++ part_at left at ∷ []) old ∙ ap (λ p. parts_at words places ++ p ∷ []) part
+
+-- the pool with the first pending words as one more part outside subcircuits
+pub pool_of-outside : (words left : List (List ℕ)) (kept count : ℕ) (outside more inside : List PartPlace) (at : PartPlace) (line : ℕ) (before : PoolData) →
+    IsPool (length words) kept outside inside → pool_of words kept outside inside ≡ before → count ≤ length before.pending →
+    left ≡ take (kept + count) words → more ≡ outside ++ at ∷ [] → at.first ≡ kept → at.end ≡ kept + count → at.line ≡ line →
+    pool_of left (kept + count) more inside ≡ with_outside before (record { line = line; sort = at.sort; words = take count before.pending })
+pool_of-outside words left kept count outside more inside at line before is seen room cut grown first end numbered =
+    let within : kept + count ≤ length words = omega (arith, ap (λ (p : PoolData). length p.pending) seen, length-drop kept words, is.counted, room) in
+    let alike : take kept left ≡ take kept words = ap (take kept) cut ∙ take-take kept (kept + count) words (omega arith) in
+    let here : parts_at left more ≡ before.outside ++ record { line = line; sort = at.sort; words = take count before.pending } ∷ [] =
+    grown_parts words left kept count outside more at is.outside within cut grown first end
+    ∙ ap (λ l. parts_at words outside ++ record { line = l; sort = at.sort; words = take count (drop kept words) } ∷ []) numbered
+    ∙ ap (λ (p : PoolData). p.outside ++ record { line = line; sort = at.sort; words = take count p.pending } ∷ []) seen in
+    let others = parts_at-same kept left words inside is.inside alike ∙ ap (λ (p : PoolData). p.inside) seen in
+    let none = ap (drop (kept + count)) cut ∙ none_pending (kept + count) words within in
+    λ j. record { outside = here j; inside = others j; pending = none j }
+
+-- and as one more part inside
+pub pool_of-inside : (words left : List (List ℕ)) (kept count : ℕ) (outside inside more : List PartPlace) (at : PartPlace) (line : ℕ) (before : PoolData) →
+    IsPool (length words) kept outside inside → pool_of words kept outside inside ≡ before → count ≤ length before.pending →
+    left ≡ take (kept + count) words → more ≡ inside ++ at ∷ [] → at.first ≡ kept → at.end ≡ kept + count → at.line ≡ line →
+    pool_of left (kept + count) outside more ≡ with_inside before (record { line = line; sort = at.sort; words = take count before.pending })
+pool_of-inside words left kept count outside inside more at line before is seen room cut grown first end numbered =
+    let within : kept + count ≤ length words = omega (arith, ap (λ (p : PoolData). length p.pending) seen, length-drop kept words, is.counted, room) in
+    let alike : take kept left ≡ take kept words = ap (take kept) cut ∙ take-take kept (kept + count) words (omega arith) in
+    let here : parts_at left more ≡ before.inside ++ record { line = line; sort = at.sort; words = take count before.pending } ∷ [] =
+    grown_parts words left kept count inside more at is.inside within cut grown first end
+    ∙ ap (λ l. parts_at words inside ++ record { line = l; sort = at.sort; words = take count (drop kept words) } ∷ []) numbered
+    ∙ ap (λ (p : PoolData). p.inside ++ record { line = line; sort = at.sort; words = take count p.pending } ∷ []) seen in
+    let others = parts_at-same kept left words outside is.outside alike ∙ ap (λ (p : PoolData). p.outside) seen in
+    let none = ap (drop (kept + count)) cut ∙ none_pending (kept + count) words within in
+    λ j. record { outside = others j; inside = here j; pending = none j }
+
+-- some parts in a row are those at some places in a row
+pub parts_at-slice : (words : List (List ℕ)) (places : List PartPlace) (first count : ℕ) →
+    parts_at words (take count (drop first places)) ≡ take count (drop first (parts_at words places))
+parts_at-slice words places first count =
+    sym (take-map (part_at words) count (drop first places)) ∙ ap (take count) (sym (drop-map (part_at words) first places))

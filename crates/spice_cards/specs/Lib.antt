@@ -1,0 +1,10 @@
+pub mod CardLines
+pub mod CardSorts
+pub mod Decks
+pub mod Entries
+pub mod Pools
+pub mod Reading
+pub mod Readings
+pub mod Reports
+pub mod Stops
+pub mod Tables

@@ -1,0 +1,105 @@
+//! What a deck is refused for.
+
+use ternary::NoMemory;
+use thiserror::Error;
+
+/// Why a deck gives no circuit.
+#[derive(Clone, Copy, Debug, Drop, Error, PartialEq, Eq)]
+pub enum DeckFault {
+    /// A line is refused.
+    #[error("line {line}: {what}")]
+    At {
+        /// The number of the line, from 1; a card's line is its first one.
+        line: u64,
+        /// Why it is refused.
+        what: DeckWhat,
+    },
+    /// There was want of memory.
+    #[error("want of memory")]
+    NoMemory,
+}
+
+/// Why a line of a deck is refused. Where several causes stand together at a line, the first one in
+/// the order here wins; those up to `Redefined` come before all others, wherever these stand.
+#[derive(Clone, Copy, Debug, Drop, Error, PartialEq, Eq)]
+pub enum DeckWhat {
+    /// The line holds the first byte too many of the text.
+    #[error("the text is too long")]
+    TooLong,
+    /// The line has more bytes than a line may have.
+    #[error("the line is too long")]
+    LineTooLong,
+    /// The line is no comment, and has a byte that is none of tab, space and 0x21 to 0x7e.
+    #[error("a byte that may not stand in a line")]
+    BadByte,
+    /// The first word begins no card that is read or passed, or a `+` has no card before it.
+    #[error("no such card")]
+    BadCard,
+    /// The card has too few words.
+    #[error("too few words")]
+    FewWords,
+    /// A subcircuit begins inside another one, or is never ended, or an `.ends` ends none.
+    #[error("subcircuits don't begin and end in turn")]
+    BadNesting,
+    /// There is a subcircuit of this name already.
+    #[error("the subcircuit is defined already")]
+    Redefined,
+    /// No subcircuit has the name that is called.
+    #[error("no such subcircuit")]
+    NoSubckt,
+    /// The call has another number of nodes than the subcircuit has ports.
+    #[error("another number of nodes than of ports")]
+    PortCount,
+    /// The subcircuit is called inside itself.
+    #[error("the subcircuit calls itself")]
+    Recursion,
+    /// More calls would be open than may be.
+    #[error("too many calls inside one another")]
+    TooDeep,
+    /// There are as many calls as there may be.
+    #[error("too many calls")]
+    TooManyCalls,
+    /// The model has no kind.
+    #[error("no such model")]
+    BadModel,
+    /// A strength isn't a decimal from 1 to 4.
+    #[error("the strength is out of range")]
+    BadStrength,
+    /// There would be too many nodes.
+    #[error("too many nodes")]
+    TooManyNodes,
+    /// There would be too many transistors.
+    #[error("too many transistors")]
+    TooManySwitches,
+}
+
+impl From<NoMemory> for DeckFault {
+    ghost use Rattle.std.specs.Prelude.{◌≡◌};
+    ghost use Rattle.spice_cards.specs.declared.fault.DeckFault.TheVariants.{NoMemory};
+
+    ghost from_gives = { λ _ fault. fault ≡ NoMemory };
+
+    fn from(_want: NoMemory) -> DeckFault {
+        DeckFault::NoMemory
+    }
+}
+
+/// Why the reading stops at a card.
+#[derive(Clone, Copy)]
+pub(crate) enum CardStop {
+    /// The card is refused for this cause.
+    Refused(DeckWhat),
+    /// There was want of memory.
+    NoMemory,
+}
+
+impl From<NoMemory> for CardStop {
+    ghost use Rattle.std.specs.Prelude.{◌≡◌};
+    ghost use Rattle.spice_cards.specs.declared.fault.CardStop.TheVariants.{NoMemory};
+
+    ghost from_gives = { λ _ stop. stop ≡ NoMemory };
+
+    fn from(_want: NoMemory) -> CardStop {
+        CardStop::NoMemory
+    }
+}

@@ -1,0 +1,47 @@
+//! Reads the cards of a SPICE deck: its transistors and calls, its subcircuits, models and global names.
+//!
+//! The main type is `Deck`, made by `read_cards`. The layer above uses the contract of `read_cards`
+//! together with that of `folded`: they give `cards_of` of the text, what its cards say in the order of
+//! its lines, or the refusal of the first line that has one. A line's refusals stand in the order of
+//! `DeckWhat`; those of the expansion, which a layer above finds, come behind. `deck_line` is the line
+//! that is printed for either.
+//!
+//! ```text
+//! let text = folded(alloc, b"two gates\n.subckt inv a y\nm1 y a 0 0 n\n.ends\nx1 in out inv\n")?;
+//! let deck = read_cards(alloc, keys, None, &text)?;
+//! deck.outside()        one part: a call of inv with the nodes in and out, at line 5
+//! deck.find(b"inv")     ports a and y, and one transistor, at line 3
+//! read_cards(alloc, keys, None, b"t\nq1 a b c m\n")      is refused at line 2: BadCard
+//! ```
+//!
+//! The words of a deck are slices of its folded text and stand in one list; a part has the place of
+//! its words there, in numbers of 32 bits, so that the cards of a long text take little more than
+//! their words.
+//!
+//! The cards are those of Nagel and Pederson, "SPICE (Simulation Program with Integrated Circuit
+//! Emphasis)", 1973, in this project's profile: docs/FORMATS.md has it whole.
+#![tactic(auto)]
+
+mod cards;
+mod deck;
+mod fault;
+mod lines;
+mod parts;
+mod places;
+mod pool;
+mod reading;
+mod report;
+mod sorts;
+mod table;
+#[cfg(test)]
+mod tests;
+mod word;
+
+pub use cards::TRANSISTOR_WORDS;
+pub use deck::{Deck, Subcircuit, folded, read_cards};
+pub use fault::{DeckFault, DeckWhat};
+pub use parts::{Part, Parts};
+pub use reading::word_at;
+pub use report::deck_line;
+pub use sorts::{PartSort, Strength};
+pub use word::Word;

@@ -1,0 +1,218 @@
+//! The words and parts of a deck.
+
+ghost use Rattle.std.specs.Prelude.{◌≡◌, ◌≤◌, ◌-◌, ◌++◌, ◌∷◌, [], length, take, drop, IfOk, OnOk, OnErr};
+ghost use Rattle.spice_cards.specs.CardLines.{card_words, continued, kept_words};
+ghost use Rattle.spice_cards.specs.Pools as spec;
+ghost use Rattle.spice_cards.specs.Pools.{taken, with_inside, with_outside, with_pending, with_words};
+
+use crate::lines::DeckLines;
+use crate::parts::Parts;
+use crate::places::PartPlace;
+use crate::sorts::{LineSort, PartSort, after_sign, ends_line, is_setting, line_sort};
+use crate::word::Word;
+use line_words::words;
+use std::alloc::Global;
+use std::marker::Model;
+use ternary::NoMemory;
+
+/// The words of a deck that count, in one list, and the parts with the places of their words.
+///
+/// Behind the words of the parts stand those of the card that is being read.
+#[derive(Drop)]
+pub(crate) struct Pool<'a> {
+    words: Vec<Word<'a>>,
+    // How many of the words are those of parts.
+    kept: usize,
+    outside: Vec<PartPlace>,
+    inside: Vec<PartPlace>,
+}
+
+impl<'a> Model for Pool<'a> {
+    ghost use Rattle.std.specs.Prelude.{length};
+    ghost use Rattle.spice_cards.specs.Pools.{PoolData, IsPool, pool_of};
+
+    ghost Value = { PoolData };
+
+    ghost view = { λ pool. pool_of pool.words.items pool.kept pool.outside.items pool.inside.items };
+
+    ghost invariant = { λ pool. IsPool (length pool.words.items) pool.kept pool.outside.items pool.inside.items };
+}
+
+impl<'a> Pool<'a> {
+    /// No words.
+    pub(crate) fn new(alloc: Global) -> Pool<'a>
+        ensures { result ≡ record { outside = []; inside = []; pending = [] } }
+    {
+        Pool {
+            words: Vec::new(alloc),
+            kept: 0,
+            outside: Vec::new(alloc),
+            inside: Vec::new(alloc),
+        }
+    }
+
+    /// The words of the card that is being read.
+    pub(crate) fn pending(&self) -> &[Word<'a>]
+        ensures { result.now ≡ self.now.pending }
+    {
+        &self.words[self.kept..]
+    }
+
+    /// Begins another card: no word of it was read.
+    pub(crate) fn clear(&mut self)
+        ensures { self.new ≡ record self.old { pending = [] } }
+    {
+        self.words.truncate(self.kept);
+    }
+
+    /// Adds a word of the card that is being read.
+    pub(crate) fn add(&mut self, word: &'a [u8]) -> Result<(), NoMemory>
+        ensures ok { OnOk result
+            (self.new ≡ record self.old { pending = self.old.pending ++ word.now ∷ [] }) }
+        ensures err { OnErr result (self.new ≡ self.old) }
+    {
+        self.words.reserve(1)?;
+        self.words.push_reserved(Word::new(word));
+        Ok(())
+    }
+
+    /// Reads the words of the card that a line begins, with those of the lines that go on with it:
+    /// all, or those that are plain.
+    pub(crate) fn collect(
+        &mut self,
+        plain: bool,
+        bytes: &'a [u8],
+        later: DeckLines<'a>,
+    ) -> Result<(), NoMemory>
+        ensures ok { OnOk result
+            (self.new ≡ with_pending self.old (taken plain (card_words bytes.now later.entry))) }
+        ensures stays { self.new.inside ≡ self.old.inside }
+    {
+        self.clear();
+        self.add_words(plain, bytes)?;
+        self.add_continued(plain, later)
+    }
+
+    // Adds the words of a part of a line that count.
+    fn add_words(&mut self, plain: bool, bytes: &'a [u8]) -> Result<(), NoMemory>
+        ensures ok { OnOk result (self.new ≡ with_words self.old (taken plain (kept_words bytes.now))) }
+        ensures stays { self.new.inside ≡ self.old.inside }
+    {
+        for word in words(bytes) {
+            if ends_line(word) {
+                return Ok(());
+            }
+            if is_taken(plain, word) {
+                self.add(word)?;
+            }
+        }
+        Ok(())
+    }
+
+    // Adds the words that the lines after a card go on with.
+    fn add_continued(&mut self, plain: bool, later: DeckLines<'a>) -> Result<(), NoMemory>
+        ensures ok { OnOk result (self.new ≡ with_words self.old (taken plain (continued later.entry))) }
+        ensures stays { self.new.inside ≡ self.old.inside }
+    {
+        for line in later {
+            match line_sort(line.bytes) {
+                LineSort::Passed => {}
+                LineSort::More => self.add_words(plain, after_sign(line.bytes))?,
+                LineSort::Begins => return Ok(()),
+            }
+        }
+        Ok(())
+    }
+
+    /// Keeps the first so many words of the card that is being read, as a part outside subcircuits.
+    pub(crate) fn keep_outside(
+        &mut self,
+        line: u64,
+        sort: PartSort,
+        count: usize,
+    ) -> Result<(), NoMemory>
+        requires { count ≤ length self.old.pending }
+        ensures err { OnErr result (self.new ≡ self.old) }
+        ensures ok { OnOk result (self.new ≡ with_outside self.old
+            (record { line = line; sort = sort; words = take count self.old.pending })) }
+    {
+        let end = self.kept + count;
+        let place = PartPlace {
+            line: short(line)?,
+            sort,
+            first: short(self.kept as u64)?,
+            end: short(end as u64)?,
+        };
+        self.outside.reserve(1)?;
+        self.outside.push_reserved(place);
+        self.words.truncate(end);
+        self.kept = end;
+        Ok(())
+    }
+
+    /// Keeps them as a part inside a subcircuit.
+    pub(crate) fn keep_inside(
+        &mut self,
+        line: u64,
+        sort: PartSort,
+        count: usize,
+    ) -> Result<(), NoMemory>
+        requires { count ≤ length self.old.pending }
+        ensures err { OnErr result (self.new ≡ self.old) }
+        ensures ok { OnOk result (self.new ≡ with_inside self.old
+            (record { line = line; sort = sort; words = take count self.old.pending })) }
+    {
+        let end = self.kept + count;
+        let place = PartPlace {
+            line: short(line)?,
+            sort,
+            first: short(self.kept as u64)?,
+            end: short(end as u64)?,
+        };
+        self.inside.reserve(1)?;
+        self.inside.push_reserved(place);
+        self.words.truncate(end);
+        self.kept = end;
+        Ok(())
+    }
+
+    /// How many parts there are inside subcircuits.
+    pub(crate) fn inside(&self) -> usize
+        ensures { result ≡ length self.now.inside }
+    {
+        self.inside.len()
+    }
+
+    /// The parts outside subcircuits.
+    pub(crate) fn outside_parts(&self) -> Parts<'_, 'a>
+        ensures { result ≡ self.now.outside }
+    {
+        Parts::new(&self.words, &self.outside)
+    }
+
+    /// Of the parts inside subcircuits those from a place to another one.
+    pub(crate) fn inside_parts(&self, first: usize, end: usize) -> Parts<'_, 'a>
+        requires ordered { first ≤ end }
+        requires within { end ≤ length self.now.inside }
+        ensures { result ≡ take (end - first) (drop first self.now.inside) }
+    {
+        Parts::new(&self.words, &self.inside[first..end])
+    }
+}
+
+// Whether the word is taken from a card: all are, or those that are plain.
+fn is_taken(plain: bool, word: &[u8]) -> bool
+    ensures { result ≡ spec.is_taken plain word.now }
+{
+    !(plain && is_setting(word))
+}
+
+/// A number of 32 bits: no text that is read has more lines or words.
+pub(crate) fn short(number: u64) -> Result<u32, NoMemory>
+    ensures { IfOk result (λ same. same ≡ number) }
+{
+    match u32::try_from(number) {
+        Ok(same) => Ok(same),
+        Err(_) => Err(NoMemory),
+    }
+}
