@@ -51,6 +51,11 @@ impl Kept {
         }
     }
 
+    /// The keys from which the hashes of texts start.
+    pub fn keys(&self) -> TableKeys {
+        *self.codes.hasher()
+    }
+
     /// How many texts are kept.
     pub fn size(&self) -> usize
         ensures { result ≡ length self.now }

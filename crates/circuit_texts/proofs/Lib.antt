@@ -3,3 +3,4 @@ pub mod PairedLists
 pub mod PartLemmas
 pub mod MemberLemmas
 pub mod ReadLemmas
+pub mod ChosenLemmas

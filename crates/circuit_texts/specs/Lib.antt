@@ -2,3 +2,4 @@ pub mod Sizes
 pub mod Parts
 pub mod Building
 pub mod Reading
+pub mod Choosing

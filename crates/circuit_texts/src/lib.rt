@@ -15,8 +15,10 @@
 //! After Beatty and Bryant, "Fast Incremental Circuit Analysis Using Extracted Hierarchy", 1988.
 #![tactic(auto)]
 
+mod chosen;
 mod reads;
 mod texts;
 
+pub use chosen::{reads_at, texts_at};
 pub use reads::reads_of;
 pub use texts::{BuildFault, GroupTexts, texts_of};

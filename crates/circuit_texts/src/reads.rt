@@ -46,7 +46,11 @@ fn reads_by(
 }
 
 // The nodes that the switches at these places read, each once.
-fn reads_in(alloc: Global, graph: &Graph, switches: &[usize]) -> Result<Vec<usize>, AllocError>
+pub(crate) fn reads_in(
+    alloc: Global,
+    graph: &Graph,
+    switches: &[usize],
+) -> Result<Vec<usize>, AllocError>
     requires { All (λ place. place < length graph.now.places) switches.now }
     ensures { IfOk result (λ list.
         list.items ≡ firsts (flat_map (λ place. reads_at graph.now (place_at graph.now.places place)) switches.now)) }

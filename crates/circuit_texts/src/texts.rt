@@ -76,7 +76,7 @@ pub fn texts_of(alloc: Global, graph: &Graph, groups: &Groups) -> Result<GroupTe
 }
 
 // The fault of a group's text, told of the group with this least node.
-fn fault_at(node: usize, fault: TextFault) -> BuildFault
+pub(crate) fn fault_at(node: usize, fault: TextFault) -> BuildFault
     ensures { result ≡ at_node node fault }
 {
     match fault {

@@ -1,3 +1,4 @@
 pub mod PairLemmas
 pub mod GroupParts
 pub mod UseLemmas
+pub mod NumberLemmas

@@ -59,19 +59,19 @@ module _ (uses : List ℕ) (place : ℕ) (inside : place < length uses) where
   raised-in_use = ap (λ b. cond b 1 0) (lt-ltb 0 (slice_index uses place + 1) (omega arith))
 
   -- with one use more of a text that is used as many are in use
-  used-again : nat_lt 0 (slice_index uses place) ≡ true → used (slice_set uses place (slice_index uses place + 1)) ≡ used uses
+  pub used-again : nat_lt 0 (slice_index uses place) ≡ true → used (slice_set uses place (slice_index uses place + 1)) ≡ used uses
   used-again is =
       let before : in_use (slice_index uses place) ≡ 1 = ap (λ b. cond b 1 0) is in
       omega (arith, sum_by-set in_use uses place (slice_index uses place + 1) 0 inside, before, raised-in_use)
 
   -- and with the first use of one that isn't, one more
-  used-first : nat_lt 0 (slice_index uses place) ≡ false → used (slice_set uses place (slice_index uses place + 1)) ≡ used uses + 1
+  pub used-first : nat_lt 0 (slice_index uses place) ≡ false → used (slice_set uses place (slice_index uses place + 1)) ≡ used uses + 1
   used-first is =
       let before : in_use (slice_index uses place) ≡ 0 = ap (λ b. cond b 1 0) is in
       omega (arith, sum_by-set in_use uses place (slice_index uses place + 1) 0 inside, before, raised-in_use)
 
 -- two places of texts that are apart have two texts
-same_place : (kept : List GroupTextData) → IsDistinct same_text kept → (p q : ℕ) (text : GroupTextData) → slice_get kept p ≡ Some text →
+pub same_place : (kept : List GroupTextData) → IsDistinct same_text kept → (p q : ℕ) (text : GroupTextData) → slice_get kept p ≡ Some text →
     slice_get kept q ≡ Some text → p ≡ q
 same_place kept apart p q text at_p at_q =
     let pairs = AllPairs-from_IsDistinct same_text_decides kept apart in

@@ -1,13 +1,60 @@
--- How often the texts that are kept are used.
-use Rattle.std.specs.Prelude.{◌≡◌, ℕ, List, length, count_by, nat_lt, Some, slice_get, slice_index}
+-- Which texts the parts of a machine have, and how many of them are distinct.
+use Rattle.std.specs.Prelude.{◌≡◌, ℕ, ◌==◌, ◌<◌, ◌++◌, Bool, false, if◌then◌else◌, List, length, map, count_by, nat_lt, Option, None, Some, slice_get, slice_index, slice_index_or}
+use Rattle.std.specs.Option.{option_and_then}
+use Rattle.std.specs.List.{IsDistinct, filter_map}
 use Rattle.group_text.specs.Texts.{GroupTextData}
 use Rattle.group_text.specs.Compared.{same_text}
+use Rattle.group_text.specs.FirstTexts.{first_texts}
 
--- each kept text is used as often as it stands among these texts
-pub record CountsUses (kept texts : List GroupTextData) (uses : List ℕ) : Type 0 where
-  pub count : length uses ≡ length kept
-  pub each : (place : ℕ) (text : GroupTextData) → slice_get kept place ≡ Some text → slice_index uses place ≡ count_by (same_text text) texts
+-- the texts that have a number, in the order of their numbers, and for each part the number of its text, if it has one
+pub record UsesData : Type 0 where
+  pub known : List GroupTextData
+  pub numbers : List (Option ℕ)
 
--- how many are used at all
+-- the text of each part, if it has one
+abbrev pub texts_used : UsesData → List (Option GroupTextData)
+texts_used uses = map (option_and_then (slice_get uses.known)) uses.numbers
+
+-- the texts of those parts that have one
+abbrev pub some_texts : List (Option GroupTextData) → List GroupTextData
+some_texts texts = filter_map (λ text. text) texts
+
+-- how many distinct ones these are
+abbrev pub count_distinct : List (Option GroupTextData) → ℕ
+count_distinct texts = length (first_texts (some_texts texts))
+
+-- each of the known texts is used as often as it stands among these texts
+pub record CountsUses (known texts : List GroupTextData) (counts : List ℕ) : Type 0 where
+  pub count : length counts ≡ length known
+  pub each : (number : ℕ) (text : GroupTextData) → slice_get known number ≡ Some text → slice_index counts number ≡ count_by (same_text text) texts
+
+-- how many counts aren't 0
 abbrev pub used : List ℕ → ℕ
-used uses = count_by (nat_lt 0) uses
+used counts = count_by (nat_lt 0) counts
+
+-- the first use of a text is one distinct text more
+abbrev pub first_use : ℕ → ℕ
+first_use before = if before == 0 then 1 else 0
+
+-- the last use of a text gone is one distinct text less
+abbrev pub last_use : ℕ → ℕ
+last_use before = if before == 1 then 1 else 0
+
+-- the part has this number
+abbrev pub is_number : ℕ → Option ℕ → Bool
+is_number number None = false
+is_number number (Some other) = number == other
+
+-- no text has two numbers, each part's number is one of those, each number is counted, and so are those that a part has
+pub record AreCounted (known : List GroupTextData) (counts : List ℕ) (numbers : List (Option ℕ)) (distinct : ℕ) : Type 0 where
+  pub apart : IsDistinct same_text known
+  pub counted : length counts ≡ length known
+  pub inside : (k number : ℕ) → slice_index_or numbers k None ≡ Some number → number < length known
+  pub each : (number : ℕ) → slice_index counts number ≡ count_by (is_number number) numbers
+  pub some : distinct ≡ used counts
+
+-- further texts may have got a number, and all else is as before
+pub record IsNumbered (old new : UsesData) : Type 0 where
+  pub more : List GroupTextData
+  pub known : new.known ≡ old.known ++ more
+  pub numbers : new.numbers ≡ old.numbers

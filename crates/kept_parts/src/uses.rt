@@ -1,81 +1,157 @@
-//! How often texts are used.
-ghost use Rattle.std.specs.Prelude.{◌≡◌, ◌+◌, ◌^◌, ◌<◌, [], length, All, IsTrue, IfOk, slice_index, slice_set};
-ghost use Rattle.group_text.specs.FirstTexts.{first_texts, is_among};
-ghost use Rattle.analysis_cache.specs.Keeping.{texts_of};
-ghost use Rattle.kept_parts.specs.Uses.{CountsUses, used};
+//! Which texts the parts of a machine have, and how many of them are distinct.
+ghost use Rattle.std.specs.Prelude.{◌≡◌, ◌+◌, ◌++◌, ◌∷◌, [], ◌^◌, ◌<◌, None, Some, length, map, replicate, slice_get, slice_index_or, slice_set, IfOk, OnOk, OnErr};
+ghost use Rattle.kept_parts.specs.Uses.{IsNumbered, texts_used, count_distinct, first_use, last_use};
 
-use analysis_cache::Kept;
 use group_text::GroupText;
+use indexmap::IndexSet;
 use std::alloc::{AllocError, Global};
 use std::marker::Model;
+use table_keys::TableKeys;
+use ternary::NoMemory;
 
-/// How often each kept text is used, by the text's place, and how many are used at all.
+/// The text of each part, if it has one, and how many distinct texts these are.
+///
+/// Contracts see the number that each text has from the first time that it was used, and for each part
+/// the number of its text. So texts are compared once, when a part gets one.
 #[derive(Drop)]
 pub struct TextUses {
+    known: IndexSet<GroupText, TableKeys>,
+    // how many parts have the text with each number
     counts: Vec<usize>,
+    numbers: Vec<Option<usize>>,
     // how many counts aren't 0
     distinct: usize,
 }
 
 impl Model for TextUses {
-    ghost use Rattle.std.specs.Prelude.{◌≡◌, ℕ, List};
-    ghost use Rattle.kept_parts.specs.Uses.{used};
+    ghost use Rattle.kept_parts.specs.Uses.{AreCounted, UsesData};
 
-    ghost Value = { List ℕ };
+    ghost Value = { UsesData };
 
-    ghost view = { λ uses. uses.counts.items };
+    ghost view = { λ uses. record { known = uses.known.keys; numbers = uses.numbers.items } };
 
-    ghost invariant = { λ uses. uses.distinct ≡ used uses.counts.items };
+    ghost invariant = { λ uses. AreCounted uses.known.keys uses.counts.items uses.numbers.items uses.distinct };
 }
 
 impl TextUses {
-    /// No text is used, and none is kept.
-    pub fn new(alloc: Global) -> TextUses
-        ensures { result ≡ [] }
+    /// So many parts, none of which has a text. The hashes of texts start from these keys.
+    pub fn new(alloc: Global, keys: TableKeys, parts: usize) -> Result<TextUses, AllocError>
+        ensures { IfOk result (λ uses. uses ≡ record { known = []; numbers = replicate parts None }) }
     {
-        TextUses {
+        Ok(TextUses {
+            known: IndexSet::with_hasher(alloc, keys),
             counts: Vec::new(alloc),
+            numbers: vec![in alloc; None; parts]?,
             distinct: 0,
-        }
+        })
     }
 
-    /// How often each of the kept texts stands among these, all of which are kept.
-    ///
-    /// The texts in use are the distinct ones of these.
-    pub fn of_texts(alloc: Global, kept: &Kept, texts: &[GroupText]) -> Result<TextUses, AllocError>
-        requires { All (λ text. IsTrue (is_among (texts_of kept.now) text)) texts.now }
-        ensures uses { IfOk result (CountsUses (texts_of kept.now) texts.now) }
-        ensures distinct { IfOk result (λ uses. used uses ≡ length (first_texts texts.now)) }
+    /// A part for each of these texts.
+    pub fn of_texts(
+        alloc: Global,
+        keys: TableKeys,
+        texts: &[GroupText],
+    ) -> Result<TextUses, NoMemory>
+        ensures { IfOk result (λ uses. texts_used uses ≡ map Some texts.now) }
     {
-        let mut uses = TextUses {
-            counts: vec![in alloc; 0; kept.size()]?,
-            distinct: 0,
-        };
+        let mut uses = TextUses::new(alloc, keys, 0)?;
         for text in texts {
-            match kept.place(text) {
-                Some(place) => uses.raise(place),
-                None => unreachable!(),
-            }
+            let number = uses.number(alloc, text)?;
+            uses.push(number)?;
         }
         Ok(uses)
     }
 
-    // Counts one use more of the text at a place.
-    fn raise(&mut self, place: usize)
-        requires inside { place < length self.old }
-        requires few { slice_index self.old place < 2 ^ 63 }
-        ensures { self.new ≡ slice_set self.old place (slice_index self.old place + 1) }
+    /// The number of a text: it gets the next one, if it has none.
+    pub fn number(&mut self, alloc: Global, text: &GroupText) -> Result<usize, NoMemory>
+        ensures numbered { IsNumbered self.old self.new }
+        ensures texts { texts_used self.new ≡ texts_used self.old }
+        ensures number { IfOk result (λ number. slice_get self.new.known number ≡ Some text.now) }
     {
-        if self.counts[place] == 0 {
-            self.distinct += 1;
+        if let Some(number) = self.known.get_index_of(text) {
+            return Ok(number);
         }
-        self.counts[place] += 1;
+        let key = text.copy(alloc)?;
+        self.counts.reserve(1)?;
+        let Ok((number, _)) = self.known.insert_full(key) else {
+            return Err(NoMemory);
+        };
+        self.counts.push_reserved(0);
+        Ok(number)
     }
 
-    /// How many texts are used.
+    /// Adds a part without a text.
+    pub fn add(&mut self) -> Result<(), AllocError>
+        ensures known { self.new.known ≡ self.old.known }
+        ensures ok { OnOk result (self.new.numbers ≡ self.old.numbers ++ None ∷ []) }
+        ensures err { OnErr result (self.new ≡ self.old) }
+    {
+        self.numbers.push(None)?;
+        Ok(())
+    }
+
+    /// Takes its text from a part, if it has one.
+    pub fn free(&mut self, k: usize)
+        requires { k < length self.old.numbers }
+        ensures known { self.new.known ≡ self.old.known }
+        ensures numbers { self.new.numbers ≡ slice_set self.old.numbers k None }
+    {
+        if let Some(number) = self.numbers[k] {
+            self.numbers[k] = None;
+            let before = self.counts[number];
+            self.counts[number] = before - 1;
+            self.distinct = without_use(self.distinct, before);
+        }
+    }
+
+    // Adds a part that has the text with this number.
+    fn push(&mut self, number: usize) -> Result<(), AllocError>
+        requires { number < length self.old.known }
+        ensures known { self.new.known ≡ self.old.known }
+        ensures ok { OnOk result (self.new.numbers ≡ self.old.numbers ++ Some number ∷ []) }
+    {
+        self.numbers.push(Some(number))?;
+        let before = self.counts[number];
+        self.counts[number] = before + 1;
+        self.distinct = with_use(self.distinct, before);
+        Ok(())
+    }
+
+    /// Gives a part that has no text the text with this number.
+    pub fn set(&mut self, part: usize, number: usize)
+        requires inside { part < length self.old.numbers }
+        requires number { number < length self.old.known }
+        requires none { slice_index_or self.old.numbers part None ≡ None }
+        ensures known { self.new.known ≡ self.old.known }
+        ensures numbers { self.new.numbers ≡ slice_set self.old.numbers part (Some number) }
+    {
+        self.numbers[part] = Some(number);
+        let before = self.counts[number];
+        self.counts[number] = before + 1;
+        self.distinct = with_use(self.distinct, before);
+    }
+
+    /// How many distinct texts the parts have.
     pub fn distinct(&self) -> usize
-        ensures { result ≡ used self.now }
+        ensures { result ≡ count_distinct (texts_used self.now) }
     {
         self.distinct
     }
+}
+
+// How many distinct texts there are with one use less of a text that was used so often.
+fn without_use(distinct: usize, before: usize) -> usize
+    requires some { 0 < before }
+    requires there { before ≡ 1 → 0 < distinct }
+    ensures { result + last_use before ≡ distinct }
+{
+    if before == 1 { distinct - 1 } else { distinct }
+}
+
+// How many distinct texts there are with one use more of a text that was used so often.
+fn with_use(distinct: usize, before: usize) -> usize
+    requires { distinct < 2 ^ 63 }
+    ensures { result ≡ distinct + first_use before }
+{
+    if before == 0 { distinct + 1 } else { distinct }
 }

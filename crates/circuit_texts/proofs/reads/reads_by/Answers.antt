@@ -4,7 +4,7 @@ use Rattle.std.specs.List.{flat_map, AllZip}
 use Rattle.std.proofs.lemmas.List.{take_all, take_more, length-map}
 use Rattle.std.proofs.lemmas.Slice.Zip.{all_zipped_more}
 use Rattle.path_meaning.specs.Graphs.{place_at}
-use Rattle.group_meaning.specs.Groups.{Group, IsGroup, id_of}
+use Rattle.group_meaning.specs.Groups.{IsGroup, id_of}
 use Rattle.channel_groups.specs.declared.group.GroupId.{GroupId}
 use Rattle.channel_groups.proofs.HeldLemmas.{group_of_id}
 use Rattle.group_text.specs.Texts.{firsts}
