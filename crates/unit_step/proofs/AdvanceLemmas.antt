@@ -56,7 +56,7 @@ pub record AreChanges (joining : Bool) (parts : List HeldPart) (marks : List Boo
   pub noted : (k : ℕ) (change : Change) → IsMarked marks k → IsChange joining parts state k change → Contains changes change
   pub only : (change : Change) → Contains changes change → (k : ℕ) × IsMarked marks k × IsChange joining parts state k change
 
-module _ (joining : Bool) (parts : List HeldPart) (marks : List Bool) (waiting : List ℕ) (old : List Tern) (readers : List (SmallVec ℕ)) (room : Rooms)
+module _ (joining : Bool) (parts : List HeldPart) (marks : List Bool) (waiting : List Bool) (old : List Tern) (readers : List (SmallVec ℕ)) (room : Rooms)
     (runs : IsRunnable parts marks waiting (length old) readers room) where
   -- a part gives a node one value
   gives_once : (k node : ℕ) (v w : Tern) → Gives parts old k node v → Gives parts old k node w → v ≡ w
@@ -83,7 +83,7 @@ module _ (joining : Bool) (parts : List HeldPart) (marks : List Bool) (waiting :
 
   -- the changes that were noted when nothing was left to be evaluated are those that the marked parts make
   pub AreChanges-from_Evaluated : (now : List Bool) (changes : List Change) (done : List ℕ) →
-      Evaluated joining parts old waiting marks now changes done → ((k : ℕ) → IsMarked now k → Contains waiting k) →
+      Evaluated joining parts old waiting marks now changes done → ((k : ℕ) → IsMarked now k → IsMarked waiting k) →
       AreChanges joining parts marks old changes
   AreChanges-from_Evaluated now changes done evaluated rest = record {
     noted = λ k change marked is.
@@ -184,7 +184,7 @@ module _ (joining : Bool) (parts : List HeldPart) (marks : List Bool) (waiting :
 
       -- the marks afterwards
       pub Remarks-taken : (first second third : List Bool) (done : List ℕ) → Evaluated joining parts old waiting marks first changes done →
-          ((k : ℕ) → IsMarked first k → Contains waiting k) → length first ≡ length marks →
+          ((k : ℕ) → IsMarked first k → IsMarked waiting k) → length first ≡ length marks →
           MarksAll (λ k. (joining ≡ true) × Contains done k) first second → MarksAll (ReadsAny readers changes) second third →
           Remarks joining parts marks old new third
       Remarks-taken first second third done evaluated rest counted again read = record {

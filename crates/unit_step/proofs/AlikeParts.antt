@@ -7,7 +7,7 @@ use Rattle.group_rest.proofs.AlikeGroups.{alike_groups_have_one_text, alike_grou
 use Rattle.straight_code.specs.Code.{CodeData}
 use Rattle.group_analysis.specs.Meaning.{MeansText}
 use Rattle.unit_step.specs.declared.part.HeldPart.{HeldPart}
-use Rattle.unit_step.specs.Fitting.{IsCoded, IsPartOf}
+use Rattle.unit_step.specs.Fitting.{IsCoded}
 use Rattle.unit_step.specs.Laws.{AlikeGroupsKeepTheirParts}
 
 -- the code of the group in the one graph is its code in the other

@@ -1,12 +1,13 @@
 -- A machine that starts with the parts of a graph's groups fits the graph: all its parts are marked, so none of them has to rest.
-use Rattle.std.proofs.Common.{◌≡◌, ◌≢◌, ℕ, ◌<◌, true, false, inl, inr, List, [], ◌∷◌, ◌++◌, length, map, take, All, Some, None, Result, Ok, Err, IfOk, Vec, Global, refl, sym, ap, subst, ◌∙◌, append-nil, arith}
-use Rattle.std.specs.Prelude.{cond, Contains, slice_get, zip, count_by}
+use Rattle.std.proofs.Common.{◌≡◌, ℕ, zero, suc, ◌<◌, true, false, inl, inr, List, [], ◌∷◌, ◌++◌, length, map, take, All, Some, None, Result, Ok, Err, IfOk, Vec, Global, refl, sym, ap, subst, ◌∙◌, append-nil, arith}
+use Rattle.std.specs.Prelude.{cond, Contains, Option, slice_get, slice_index_or, zip, count_by}
 use Rattle.std.specs.List.{AllZip}
 use Rattle.std.specs.declared.rc.Rc.{Rc}
 use Rattle.std.proofs.lemmas.Bool.{lt-ltb}
-use Rattle.std.proofs.lemmas.List.{map-append, get_or-replicate, take-append-le, take_all}
+use Rattle.std.proofs.lemmas.List.{length-map, map-append, get_or-replicate, take-append-le, take_all}
 use Rattle.std.proofs.lemmas.List.Elements.{All-nil, All-cons, All-head, All-tail, All-weaker, All-contains_itself}
 use Rattle.std.proofs.lemmas.List.Sums.{sum_by-cons}
+use Rattle.std.proofs.lemmas.Slice.Zip.{AllZip-long}
 use Rattle.std.proofs.lemmas.Option.{slice_get_within, get_or_from_slice_get, slice_get_read}
 use Rattle.ternary.specs.declared.tern.Tern.{Tern}
 use Rattle.path_meaning.specs.Graphs.{GraphData, IsWired, nodes}
@@ -20,7 +21,10 @@ use Rattle.straight_code.specs.Code.{CodeData}
 use Rattle.straight_code.specs.declared.part.Part.{Part}
 use Rattle.circuit_texts.specs.Parts as made
 use Rattle.analysis_cache.specs.Keeping.{KeptData, KeepsAll, KeepsSome, texts_of}
+use Rattle.channel_groups.specs.Grouping.{GroupsData, AreOf}
+use Rattle.circuit_texts.specs.Sizes.{fault_in}
 use Rattle.circuit_texts.specs.Building.{BuildsFresh, IsCutOff}
+use Rattle.kept_parts.specs.Uses.{some_texts, count_distinct}
 use Rattle.circuit_texts.specs.Reading.{AreReads}
 use Rattle.circuit_texts.proofs.PairedLists.{partner_first, partner_second}
 use Rattle.circuit_texts.proofs.ReadLemmas.{read_inside}
@@ -29,12 +33,14 @@ use Rattle.unit_step.specs.Parts.{Stands, AreApart, has_members}
 use Rattle.unit_step.specs.Making.{held, started}
 use Rattle.unit_step.specs.declared.planning.Plan.{Plan}
 use Rattle.unit_step.specs.Planning.{IsPlan}
-use Rattle.unit_step.specs.Fitting.{IsCoded, IsPartOf, HasPart, FitsGraph}
+use Rattle.unit_step.specs.Fitting.{IsCoded, IsPartOf, HasPart, IsTextOf, FitsGraph}
+use Rattle.unit_step.specs.Finishing.{IsFresh}
+use Rattle.unit_step.proofs.PartLemmas.{one_group}
 
--- the part with a code, of the group
-pub record IsFresh (g : GraphData) (group : Group) (part : HeldPart) : Type 0 where
-  pub is_part : IsPartOf g group part
-  pub coded : part.code ≢ None
+-- all texts, of parts that each have one
+some_texts-all : (texts : List GroupTextData) → some_texts (map Some texts) ≡ texts
+some_texts-all [] = refl
+some_texts-all (text ∷ texts) = ap (λ rest. text ∷ rest) (some_texts-all texts)
 
 module _ (g : GraphData) where
   -- the part that is made of a group's text, and reads what the group reads, is the group's
@@ -117,26 +123,65 @@ module _ (g : GraphData) where
         let (group, at, is) = partner_first (IsFresh g) groups parts k part fresh there in
         (group, is)
 
+    -- which has its text
+    known_text : All (λ group. fault_in group ≡ None) groups → (uses : List (Option GroupTextData)) →
+        uses ≡ map Some (map (text_of_group g) groups) → (k : ℕ) (part : HeldPart) → Stands parts k part → (group : Group) →
+        IsPartOf g group part → IsTextOf g group (slice_index_or uses k None)
+    known_text fit uses uses_are k part stands group is_part =
+        let there : slice_get parts k ≡ Some part = slice_get_read parts (length parts) k part refl stands.inside (sym stands.here) in
+        let (other, at, is) = partner_first (IsFresh g) groups parts k part fresh there in
+        let same : other ≡ group = one_group g other group part is.is_part is_part in
+        record {
+          same = ap (λ list. slice_index_or list k None) uses_are ∙ text_at groups k group (at ∙ ap Some same);
+          fits = fit_at groups fit k group (at ∙ ap Some same);
+        }
+      where
+        text_at : (list : List Group) (i : ℕ) (one : Group) → slice_get list i ≡ Some one →
+            slice_index_or (map Some (map (text_of_group g) list)) i None ≡ Some (text_of_group g one)
+        text_at [] i one at = absurd cc
+        text_at (first ∷ list) zero one at =
+            let is : first ≡ one = cc in
+            ap (λ group. Some (text_of_group g group)) is
+        text_at (first ∷ list) (suc i) one at = text_at list i one at
+
+        fit_at : (list : List Group) → All (λ group. fault_in group ≡ None) list → (i : ℕ) (one : Group) → slice_get list i ≡ Some one →
+            fault_in one ≡ None
+        fit_at list fits i one at =
+            subst (λ group. fault_in group ≡ None) (get_or_from_slice_get list i one one at) (fits i one (slice_get_within list i one at))
+
     -- so a machine that starts with them fits the graph
-    pub FitsGraph-started : AreGroups g groups → AreApart parts → (state : List Tern) → length state ≡ nodes g → IsRailed g → IsSound state →
-        (texts : ℕ) → texts ≡ length (first_texts (map (text_of_group g) groups)) → FitsGraph g (started (Some groups) parts state texts)
-    FitsGraph-started are apart state counted railed sound texts number = record {
+    pub FitsGraph-started : (held : GroupsData) → held.groups ≡ groups → AreOf g held → All (λ group. fault_in group ≡ None) groups →
+        AreApart parts → (state : List Tern) → length state ≡ nodes g → IsRailed g → IsSound state → (uses : List (Option GroupTextData)) →
+        uses ≡ map Some (map (text_of_group g) groups) → (spare : ℕ) → FitsGraph g (started (Some held) parts state uses spare)
+    FitsGraph-started held same are fit apart state counted railed sound uses uses_are spare = record {
       covers = record {
-        groups = groups;
+        groups = held;
         kept = refl;
         are = are;
         counted = counted;
-        each = has_part;
+        each = λ i group there. has_part i group (subst (λ list. slice_get list i ≡ Some group) same there);
         whole = λ k part stands some. let (group, is) = part_fresh k part stands in (group, is.is_part);
         apart = apart;
-        number = fresh_number groups are.each parts fresh;
+        number = fresh_number groups (subst (AreGroups g) same are.are).each parts fresh ∙ ap length (sym same);
+        known = λ k part stands some group is_part. known_text fit uses uses_are k part stands group is_part;
+        textless = λ k part stands no_text.
+            let (group, is) = part_fresh k part stands in
+            elim no_text [
+              | inl none ↦ absurd (omega (arith, none, is.is_part.count, is.is_part.is_group.some))
+              | inr none ↦ absurd (is.coded none)
+            ];
+        uses_counted = ap length uses_are ∙ (length-map (map (text_of_group g) groups) Some
+            ∙ (length-map groups (text_of_group g) ∙ sym (AllZip-long (IsFresh g) groups parts fresh)));
+        quiet = λ k part stands none. absurd ((part_fresh k part stands).1.coded none);
         waits = λ k part stands some none. absurd ((part_fresh k part stands).1.coded none);
         rests = λ k part stands unmarked. absurd (unmarked (get_or-replicate (length parts) k true false stands.inside));
       };
-      coded = λ k part stands. (part_fresh k part stands).1.coded;
+      coded = λ k part stands some. (part_fresh k part stands).1.coded;
       railed = railed;
       sound = sound;
-      texts = λ others others_are. number ∙ ap (λ list. length (first_texts (map (text_of_group g) list))) (unique g groups others are others_are);
+      texts = λ others others_are.
+          ap count_distinct uses_are ∙ ap (λ list. length (first_texts list)) (some_texts-all (map (text_of_group g) groups))
+          ∙ ap (λ list. length (first_texts (map (text_of_group g) list))) (unique g groups others (subst (AreGroups g) same are.are) others_are);
     }
 
 -- what is made holds more, where what holds of it does
@@ -149,7 +194,7 @@ module _ (g : GraphData) (state : List Tern) (plan : Plan) (is_plan : IsPlan g s
   fresh_texts : BuildsFresh g (texts_of old) (new_texts (texts_of old) plan.texts.items)
   fresh_texts = record {
     texts = plan.texts.items;
-    has = record { groups = plan.groups.groups; are = is_plan.are; fit = is_plan.fit; texts_are = is_plan.texts };
+    has = record { groups = plan.groups.groups; are = is_plan.are.are; fit = is_plan.fit; texts_are = is_plan.texts };
     fresh_are = refl;
   }
 

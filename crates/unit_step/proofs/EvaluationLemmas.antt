@@ -198,8 +198,8 @@ Reports-none joining parts state k part stands none old = record {
 }
 
 -- one part more was evaluated
-pub Evaluated-more : (joining : Bool) (parts : List HeldPart) (state : List Tern) (waiting : List ℕ) (before marks : List Bool)
-    (changes more : List Change) (done : List ℕ) (k : ℕ) → IsMarked marks k → ¬ Contains waiting k → Reports joining parts state k changes more →
+pub Evaluated-more : (joining : Bool) (parts : List HeldPart) (state : List Tern) (waiting : List Bool) (before marks : List Bool)
+    (changes more : List Change) (done : List ℕ) (k : ℕ) → IsMarked marks k → ¬ IsMarked waiting k → Reports joining parts state k changes more →
     Evaluated joining parts state waiting before marks changes done →
     Evaluated joining parts state waiting before (slice_set marks k false) more (done ++ k ∷ [])
 Evaluated-more joining parts state waiting before marks changes more done k marked ready reports evaluated = record {
@@ -212,7 +212,7 @@ Evaluated-more joining parts state waiting before marks changes more done k mark
   ready = λ l there.
       elim (Contains-push_cases done k l there) [
         | inl earlier ↦ evaluated.ready l earlier
-        | inr same ↦ λ waits. ready (subst (Contains waiting) (sym same) waits)
+        | inr same ↦ λ waits. ready (subst (IsMarked waiting) (sym same) waits)
       ];
   popped = λ l was.
       elim (evaluated.popped l was) [
@@ -238,7 +238,7 @@ Evaluated-more joining parts state waiting before marks changes more done k mark
 }
 
 -- nothing was evaluated yet
-pub Evaluated-none : (joining : Bool) (parts : List HeldPart) (state : List Tern) (waiting : List ℕ) (before : List Bool) →
+pub Evaluated-none : (joining : Bool) (parts : List HeldPart) (state : List Tern) (waiting : List Bool) (before : List Bool) →
     Evaluated joining parts state waiting before before [] []
 Evaluated-none joining parts state waiting before = record {
   fewer = λ k now. now;

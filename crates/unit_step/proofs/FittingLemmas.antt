@@ -82,7 +82,7 @@ module _ (g : GraphData) (wired : IsWired g) (old : MachineData) (fits : FitsGra
     reads_no_change : (k : ℕ) (part : HeldPart) → Stands old.parts k part → 0 < part.members → (¬ IsMarked marks k) → (group : Group) →
         IsPartOf g group part → ReadsNoChange g group old.state new
     reads_no_change k part stands some unmarked group is_part node reads =
-        let (code, is) = something part.code (fits.coded k part stands) in
+        let (code, is) = something part.code (fits.coded k part stands some) in
         let contained = ((is_part.coded code is).reads node).1 reads in
         elim (same_or_not (state_at new node) (state_at old.state node)) [
           | inl same ↦ same
@@ -126,7 +126,11 @@ module _ (g : GraphData) (wired : IsWired g) (old : MachineData) (fits : FitsGra
         whole = fits.covers.whole;
         apart = fits.covers.apart;
         number = fits.covers.number;
-        waits = λ k part stands some none. absurd (fits.coded k part stands none);
+        known = fits.covers.known;
+        textless = fits.covers.textless;
+        uses_counted = fits.covers.uses_counted;
+        quiet = fits.covers.quiet;
+        waits = λ k part stands some none. absurd (fits.coded k part stands some none);
         rests = part_rests;
       };
       coded = fits.coded;
@@ -136,23 +140,26 @@ module _ (g : GraphData) (wired : IsWired g) (old : MachineData) (fits : FitsGra
     }
 
 -- a machine in which all but states, marks and counts are the same
-pub same_machine : (old new : MachineData) → new.groups ≡ old.groups → new.parts ≡ old.parts → new.texts ≡ old.texts →
+pub same_machine : (old new : MachineData) → new.groups ≡ old.groups → new.parts ≡ old.parts → new.uses ≡ old.uses →
+    new.texts ≡ old.texts → new.spare ≡ old.spare →
     record old { marks = new.marks; state = new.state; moves = new.moves; placed = new.placed } ≡ new
-same_machine old new groups parts texts = λ i. record {
+same_machine old new groups parts uses texts spare = λ i. record {
   groups = sym groups i;
   parts = sym parts i;
+  uses = sym uses i;
   marks = new.marks;
   state = new.state;
   texts = sym texts i;
   moves = new.moves;
   placed = new.placed;
+  spare = sym spare i;
 }
 
 -- a machine that advanced fits the graph again
 pub FitsGraph-advanced : (g : GraphData) → IsWired g → (joining : Bool) (old new : MachineData) → FitsGraph g old → Advances joining old new →
     FitsGraph g new
 FitsGraph-advanced g wired joining old new fits advances =
-    subst (FitsGraph g) (same_machine old new advances.groups advances.parts advances.texts)
+    subst (FitsGraph g) (same_machine old new advances.groups advances.parts advances.uses advances.texts advances.spare)
     (fits_again g wired old fits new.state joining advances.moves new.marks advances.marks new.moves new.placed)
 
 -- a step is the unit step

@@ -11,10 +11,10 @@ use Rattle.unit_step.specs.Evaluating.{Rooms}
 use Rattle.unit_step.specs.Running.{readers_of, AreOwners, IsMachine}
 
 -- the machine can run with other marks
-IsMachine-remarked : (parts : List HeldPart) (marks new_marks : List Bool) (waiting : List ℕ) (count : ℕ) (lists : List (SmallVec ℕ))
-    (owners : List (Option ℕ)) (held : ℕ) (room : Rooms) → length new_marks ≡ length marks →
-    IsMachine parts marks waiting count lists owners held room → IsMachine parts new_marks waiting count lists owners held room
-IsMachine-remarked parts marks new_marks waiting count lists owners held room counted machine = record {
+IsMachine-remarked : (parts : List HeldPart) (marks new_marks : List Bool) (waiting : List Bool) (count : ℕ) (lists : List (SmallVec ℕ))
+    (owners numbers : List (Option ℕ)) (held most : ℕ) (room : Rooms) → length new_marks ≡ length marks →
+    IsMachine parts marks waiting count lists owners numbers held most room → IsMachine parts new_marks waiting count lists owners numbers held most room
+IsMachine-remarked parts marks new_marks waiting count lists owners numbers held most room counted machine = record {
   runs = record {
     counted = counted ∙ machine.runs.counted;
     seated = machine.runs.seated;
@@ -28,19 +28,22 @@ IsMachine-remarked parts marks new_marks waiting count lists owners held room co
     parts_room = machine.runs.parts_room;
   };
   own = machine.own;
+  numbered = machine.numbered;
   number = machine.number;
+  most_members = machine.most_members;
+  most_room = machine.most_room;
 }
 
 -- and with the same room
-pub IsMachine-again : (parts : List HeldPart) (marks new_marks : List Bool) (waiting new_waiting : List ℕ) (count new_count : ℕ)
-    (lists : List (SmallVec ℕ)) (owners : List (Option ℕ)) (held : ℕ) (room new_room : Rooms) → length new_marks ≡ length marks →
-    new_waiting ≡ waiting → new_count ≡ count → new_room ≡ room → IsMachine parts marks waiting count lists owners held room →
-    IsMachine parts new_marks new_waiting new_count lists owners held new_room
-IsMachine-again parts marks new_marks waiting new_waiting count new_count lists owners held room new_room counted waits nodes rooms machine =
-    subst (λ list. IsMachine parts new_marks list new_count lists owners held new_room) (sym waits)
-    (subst (λ n. IsMachine parts new_marks waiting n lists owners held new_room) (sym nodes)
-    (subst (IsMachine parts new_marks waiting count lists owners held) (sym rooms)
-    (IsMachine-remarked parts marks new_marks waiting count lists owners held room counted machine)))
+pub IsMachine-again : (parts : List HeldPart) (marks new_marks : List Bool) (waiting new_waiting : List Bool) (count new_count : ℕ)
+    (lists : List (SmallVec ℕ)) (owners numbers : List (Option ℕ)) (held most : ℕ) (room new_room : Rooms) → length new_marks ≡ length marks →
+    new_waiting ≡ waiting → new_count ≡ count → new_room ≡ room → IsMachine parts marks waiting count lists owners numbers held most room →
+    IsMachine parts new_marks new_waiting new_count lists owners numbers held most new_room
+IsMachine-again parts marks new_marks waiting new_waiting count new_count lists owners numbers held most room new_room counted waits nodes rooms machine =
+    subst (λ list. IsMachine parts new_marks list new_count lists owners numbers held most new_room) (sym waits)
+    (subst (λ n. IsMachine parts new_marks waiting n lists owners numbers held most new_room) (sym nodes)
+    (subst (IsMachine parts new_marks waiting count lists owners numbers held most) (sym rooms)
+    (IsMachine-remarked parts marks new_marks waiting count lists owners numbers held most room counted machine)))
 
 -- the part that owns a node has a mark
 pub owner_inside : (parts : List HeldPart) (marks : List Bool) (count : ℕ) (owners : List (Option ℕ)) → AreOwners parts count owners →
@@ -60,12 +63,12 @@ at_no_owner P None none holds = holds
 at_no_owner P (Some k) none holds = absurd (none k refl)
 
 -- a node is placed where its owner and its readers are marked
-pub Places-marked : (node : ℕ) (value : Tern) (old : MachineData) (waiting : List ℕ) (lists : List (SmallVec ℕ)) (owners : List (Option ℕ)) (held : ℕ)
-    (room : Rooms) → IsMachine old.parts old.marks waiting (length old.state) lists owners held room → (owner : Option ℕ) →
+pub Places-marked : (node : ℕ) (value : Tern) (old : MachineData) (waiting : List Bool) (lists : List (SmallVec ℕ)) (owners numbers : List (Option ℕ)) (held most : ℕ)
+    (room : Rooms) → IsMachine old.parts old.marks waiting (length old.state) lists owners numbers held most room → (owner : Option ℕ) →
     owner ≡ slice_index_or owners node None → (mid new : List Bool) → MarksAll (λ k. owner ≡ Some k) old.marks mid → (read : List ℕ) →
     read ≡ readers_of lists node → MarksAll (Contains read) mid new → (placed : ℕ) →
     Places node value old (record old { marks = new; state = slice_set old.state node value; placed = placed })
-Places-marked node value old waiting lists owners held room machine owner owner_is mid new first read read_is second placed = record {
+Places-marked node value old waiting lists owners numbers held most room machine owner owner_is mid new first read read_is second placed = record {
   state = refl;
   count = second.count ∙ first.count;
   stays = λ k was. second.stays k (first.stays k was);
@@ -85,6 +88,8 @@ Places-marked node value old waiting lists owners held room machine owner owner_
       ];
   groups = refl;
   parts = refl;
+  uses = refl;
   texts = refl;
   moves = refl;
+  spare = refl;
 }

@@ -18,7 +18,7 @@ use Rattle.straight_code.specs.declared.part.Part.{Part}
 use Rattle.straight_code.specs.Parts as straight
 use Rattle.unit_step.specs.declared.part.HeldPart.{HeldPart}
 use Rattle.unit_step.specs.Parts.{Stands, IsMemberAt, HasMember, ReadsAt, AreApart, has_members}
-use Rattle.unit_step.specs.Machines.{count_marked}
+use Rattle.unit_step.specs.Machines.{IsMarked, count_marked}
 use Rattle.unit_step.specs.Marking.{IsAgenda}
 use Rattle.unit_step.specs.Evaluating.{Rooms}
 use Rattle.unit_step.specs.Running.{readers_of, AreOwners, IsMachine}
@@ -32,15 +32,23 @@ pub at_on_ok : {T E : Type 0} (P : Type 0) (result : Result T E) → OnOk result
 at_on_ok P (Ok made) fact is = fact
 at_on_ok P (Err fault) fact is = absurd (cc)
 
+-- where no part is marked none is
+none_marked : (n k : ℕ) → ¬ IsMarked (replicate n false) k
+none_marked zero k marked = absurd cc
+none_marked (suc n) zero marked = absurd cc
+none_marked (suc n) (suc k) marked = none_marked n k marked
+
 -- all of so many parts are marked and listed
-pub IsAgenda-all : (n capacity : ℕ) → n ≤ capacity → IsAgenda (replicate n true) (map (λ k. k) (range_with_len 0 n)) [] capacity
+pub IsAgenda-all : (n capacity : ℕ) → n ≤ capacity → IsAgenda (replicate n true) (replicate n false) (map (λ k. k) (range_with_len 0 n)) [] 0 capacity
 IsAgenda-all n capacity room =
     let work = map (λ k. k) (range_with_len 0 n) in
     let long : length work ≡ n = length-map-range_with_len (λ k. k) 0 n in
     let here : (i d : ℕ) → i < n → get_or work i d ≡ i = λ i d inside. get_or-map-range_with_len (λ k. k) 0 n i i d inside (omega arith) in
     let one : Bool → ℕ = λ mark. cond mark 1 0 in
     let all : count_marked (replicate n true) ≡ n * 1 = sum_by-replicate one n true in
+    let none : count_marked (replicate n false) ≡ n * 0 = sum_by-replicate one n false in
     record {
+      counted = length-replicate n false ∙ sym (length-replicate n true);
       listed = λ k marked.
           let inside : k < n = omega (arith, marked_inside (replicate n true) k marked, length-replicate n true) in
           inl (k, omega (arith, long, inside), here k k inside);
@@ -48,13 +56,16 @@ IsAgenda-all n capacity room =
           let within : i < n = omega (arith, inside, long) in
           let same : i ≡ k = sym (here i k within) ∙ is in
           get_or-replicate n k true false (omega (arith, within, same));
-      ready = λ k there (i, inside, is). absurd (omega (arith, inside));
-      waits = λ k (i, inside, is). absurd (omega (arith, inside));
+      ready = λ k there waits. none_marked n k waits;
+      waits = λ k waits. absurd (none_marked n k waits);
       once = λ i j before inside same.
           let first = here i 0 (omega (arith, before, inside, long)) in
           let second = here j 0 (omega (arith, inside, long)) in
           omega (arith, before, sym first ∙ (same ∙ second));
-      number = omega (arith, long, all);
+      number = omega (arith, long, all, none);
+      stale_is = omega (arith, none);
+      waiters_all = λ k waits. absurd (none_marked n k waits);
+      waiters_inside = λ i d within. absurd (omega (arith, within));
       room = omega (arith, room, length-replicate n true);
     }
 
@@ -70,17 +81,17 @@ pub held_all : (all made : List HeldPart) (xs : List Part) (ys : List (Vec ℕ G
 held_all all made [] ys so_far none = sym (so_far ∙ append-nil made)
 held_all all made (x ∷ xs) ys so_far none = absurd (omega (arith, none))
 
-abbrev items_of : SmallVec ℕ → List ℕ
+abbrev pub items_of : SmallVec ℕ → List ℕ
 items_of parts = parts.items
 
 -- the readers of a node whose list is replaced, and those of the others
-readers_of-set_same : (readers : List (SmallVec ℕ)) (node : ℕ) (parts : SmallVec ℕ) → node < length readers →
+pub readers_of-set_same : (readers : List (SmallVec ℕ)) (node : ℕ) (parts : SmallVec ℕ) → node < length readers →
     readers_of (slice_set readers node parts) node ≡ parts.items
 readers_of-set_same readers node parts inside =
     let within : node < length (map items_of readers) = omega (arith, inside, length-map readers items_of) in
     ap (λ lists. slice_index_or lists node []) (map-set items_of readers node parts) ∙ get_or-set_same (map items_of readers) node parts.items [] within
 
-readers_of-set_other : (readers : List (SmallVec ℕ)) (node other : ℕ) (parts : SmallVec ℕ) → other ≢ node →
+pub readers_of-set_other : (readers : List (SmallVec ℕ)) (node other : ℕ) (parts : SmallVec ℕ) → other ≢ node →
     readers_of (slice_set readers node parts) other ≡ readers_of readers other
 readers_of-set_other readers node other parts differs =
     ap (λ lists. slice_index_or lists other []) (map-set items_of readers node parts)
@@ -164,7 +175,7 @@ Owns-more k members i node old mid i_inside is inside so_far =
     })
 
 -- a number stands in a list or doesn't
-contains_or_not : (xs : List ℕ) (x : ℕ) → Contains xs x ⊎ (¬ Contains xs x)
+pub contains_or_not : (xs : List ℕ) (x : ℕ) → Contains xs x ⊎ (¬ Contains xs x)
 contains_or_not [] x = inr (λ (k, inside, here). absurd (omega (arith, inside)))
 contains_or_not (first ∷ xs) x =
     elim (cases_eq first x) [
@@ -182,7 +193,7 @@ contains_or_not (first ∷ xs) x =
 
 module _ (parts : List HeldPart) (i : ℕ) (part : HeldPart) (stands : Stands parts i part) (few : part.members ≤ length part.map.items) where
   -- what stands at the front of the part's map is a member of the part
-  member_at_front : (node : ℕ) → Contains (take part.members part.map.items) node → HasMember parts i node
+  pub member_at_front : (node : ℕ) → Contains (take part.members part.map.items) node → HasMember parts i node
   member_at_front node (place, inside, here) =
       let first : place < part.members = omega (arith, inside, length-take-le part.members part.map.items few) in
       let within : place < length part.map.items = omega (arith, first, few) in
@@ -198,7 +209,7 @@ module _ (parts : List HeldPart) (i : ℕ) (part : HeldPart) (stands : Stands pa
       }
 
   -- and each member stands there
-  front_of_member : (node : ℕ) → HasMember parts i node → Contains (take part.members part.map.items) node
+  pub front_of_member : (node : ℕ) → HasMember parts i node → Contains (take part.members part.map.items) node
   front_of_member node has =
       let same = same_part parts i part has.part stands has.stands in
       let member = subst (λ p. IsMemberAt p has.place node) (sym same) has.member in (
@@ -325,13 +336,13 @@ apart_parts parts reads share k l node one two =
         }
 
 -- a machine that starts with parts that have code can run
-pub IsMachine-started : (parts : List HeldPart) (count : ℕ) (lists : List (SmallVec ℕ)) (owners : List (Option ℕ)) (number : ℕ) (room : Rooms) →
+pub IsMachine-started : (parts : List HeldPart) (count : ℕ) (lists : List (SmallVec ℕ)) (owners numbers : List (Option ℕ)) (number most : ℕ) (room : Rooms) →
     All (IsFormed count) parts → AreApart parts → length lists ≡ count →
     ((node k : ℕ) → ReadsAt parts k node → Contains (readers_of lists node) k) →
     ((node k : ℕ) → Contains (readers_of lists node) k → ReadsAt parts k node) → AreOwners parts count owners →
-    number ≡ count_by has_members parts → HasRoomFor parts room →
-    IsMachine parts (replicate (length parts) true) [] count lists owners number room
-IsMachine-started parts count lists owners number room formed apart counted readers reads own number_is fits = record {
+    length parts ≤ length numbers → number ≡ count_by has_members parts → most ≡ room.changes → HasRoomFor parts room →
+    IsMachine parts (replicate (length parts) true) (replicate (length parts) false) count lists owners numbers number most room
+IsMachine-started parts count lists owners numbers number most room formed apart counted readers reads own numbered number_is most_is fits = record {
   runs = record {
     counted = length-replicate (length parts) true;
     seated = λ k d inside.
@@ -348,7 +359,7 @@ IsMachine-started parts count lists owners number room formed apart counted read
           };
         };
     apart = apart;
-    waits = λ k (i, inside, is). absurd (omega (arith, inside));
+    waits = λ k waits. absurd (none_marked (length parts) k waits);
     stale = λ k stale.
         let form = subst (IsFormed count) stale.stands.here (formed k stale.part stale.stands.inside) in
         absurd (form.some stale.none);
@@ -359,5 +370,20 @@ IsMachine-started parts count lists owners number room formed apart counted read
     parts_room = fits.parts_room;
   };
   own = own;
+  numbered = numbered;
   number = number_is;
+  most_members = omega (arith, fits.changes, most_is);
+  most_room = omega (arith, most_is);
 }
+
+-- as many parts are held as there are
+pub held_count : (parts : List Part) (reads : List (Vec ℕ Global)) → length reads ≡ length parts → length (map held (zip parts reads)) ≡ length parts
+held_count [] reads same = refl
+held_count (part ∷ parts) [] same = absurd (omega (arith, same))
+held_count (part ∷ parts) (nodes ∷ reads) same = omega (arith, held_count parts reads (omega (arith, same)))
+
+-- and no more
+pub held_few : (parts : List Part) (reads : List (Vec ℕ Global)) → length (map held (zip parts reads)) ≤ length parts
+held_few [] reads = omega arith
+held_few (part ∷ parts) [] = omega arith
+held_few (part ∷ parts) (nodes ∷ reads) = omega (arith, held_few parts reads)

@@ -4,8 +4,8 @@ use Rattle.std.specs.Prelude.{Contains, slice_index_or, slice_set}
 use Rattle.std.specs.List.{sum_by}
 use Rattle.std.proofs.lemmas.Bool.{cases_lt, cases_eq, false_from_ne_true}
 use Rattle.std.proofs.lemmas.List.{get_or-set_same, get_or-set_other, get_or_past, get_or_default, length-set, length_push, take_more, get_or_push, get_or_append_left}
-use Rattle.std.proofs.lemmas.List.Sums.{sum_by-set, sum_by-cons, count_by-le-length}
-use Rattle.std.proofs.lemmas.List.Elements.{Contains-push, Contains-push_cases, Contains-append_left}
+use Rattle.std.proofs.lemmas.List.Sums.{sum_by-set, sum_by-cons, sum_by_push, count_by-le-length}
+use Rattle.std.proofs.lemmas.List.Elements.{All-push, Contains-push, Contains-push_cases, Contains-append_left}
 use Rattle.unit_step.specs.declared.part.HeldPart.{HeldPart}
 use Rattle.unit_step.specs.Machines.{IsMarked, count_marked, marked_sum}
 use Rattle.unit_step.specs.Marking.{AreOnce, IsAgenda, MarksAll}
@@ -110,7 +110,7 @@ marked_sum-within f (part ∷ parts) (true ∷ marks) = omega (arith, sum_by-con
 marked_sum-within f (part ∷ parts) (false ∷ marks) = omega (arith, sum_by-cons f part parts, marked_sum-within f parts marks)
 
 -- a new number behind numbers that stand once
-AreOnce-push : (xs : List ℕ) (x : ℕ) → AreOnce xs → ¬ Contains xs x → AreOnce (xs ++ x ∷ [])
+pub AreOnce-push : (xs : List ℕ) (x : ℕ) → AreOnce xs → ¬ Contains xs x → AreOnce (xs ++ x ∷ [])
 AreOnce-push xs x once new i j before inside same =
     let length_is = length_push xs x in
     let first = get_or_append_left xs (x ∷ []) 0 i (omega (arith, length_is)) in
@@ -135,9 +135,13 @@ AreOnce-last xs x once (i, inside, here) =
     (get_or_append_left xs (x ∷ []) 0 i inside ∙ (get_or_default xs i 0 x inside ∙ (here ∙ sym (get_or_push xs x 0 (length xs) refl))))
 
 -- one part more is marked
-pub IsAgenda-marked : (marks : List Bool) (work waiting : List ℕ) (capacity k : ℕ) → k < length marks → ¬ IsMarked marks k →
-    IsAgenda marks work waiting capacity → IsAgenda (slice_set marks k true) (work ++ k ∷ []) waiting capacity
-IsAgenda-marked marks work waiting capacity k inside unmarked agenda = record {
+pub IsAgenda-marked : (marks : List Bool) (waiting : List Bool) (work waiters : List ℕ) (stale capacity k : ℕ) → k < length marks → ¬ IsMarked marks k →
+    IsAgenda marks waiting work waiters stale capacity → IsAgenda (slice_set marks k true) waiting (work ++ k ∷ []) waiters stale capacity
+IsAgenda-marked marks waiting work waiters stale capacity k inside unmarked agenda = record {
+  waiters_all = agenda.waiters_all;
+  waiters_inside = λ i d within. omega (arith, agenda.waiters_inside i d within, length-set marks k true);
+  counted = agenda.counted ∙ sym (length-set marks k true);
+  stale_is = agenda.stale_is;
   listed = λ l marked.
       elim (marked-set_cases marks k l marked) [
         | inl before ↦
@@ -164,12 +168,16 @@ IsAgenda-marked marks work waiting capacity k inside unmarked agenda = record {
 }
 
 -- the last listed part is taken out
-pub IsAgenda-popped : (marks : List Bool) (work waiting : List ℕ) (capacity k : ℕ) →
-    IsAgenda marks (work ++ k ∷ []) waiting capacity → IsAgenda (slice_set marks k false) work waiting capacity
-IsAgenda-popped marks work waiting capacity k agenda =
+pub IsAgenda-popped : (marks : List Bool) (waiting : List Bool) (work waiters : List ℕ) (stale capacity k : ℕ) →
+    IsAgenda marks waiting (work ++ k ∷ []) waiters stale capacity → IsAgenda (slice_set marks k false) waiting work waiters stale capacity
+IsAgenda-popped marks waiting work waiters stale capacity k agenda =
     let last = Contains-push work k in
     let marked = agenda.marked k last in
     record {
+      counted = agenda.counted ∙ sym (length-set marks k false);
+      waiters_all = agenda.waiters_all;
+      waiters_inside = λ i d within. omega (arith, agenda.waiters_inside i d within, length-set marks k false);
+      stale_is = agenda.stale_is;
       listed = λ l marked_now.
           let before = marked-cleared_was marks k l marked_now in
           elim (agenda.listed l before) [
@@ -185,7 +193,7 @@ IsAgenda-popped marks work waiting capacity k agenda =
           marked-kept marks k l false differs (agenda.marked l (Contains-append_left work (k ∷ []) l there));
       ready = λ l there. agenda.ready l (Contains-append_left work (k ∷ []) l there);
       waits = λ l waits.
-          let differs : l ≢ k = λ same. agenda.ready k last (subst (Contains waiting) same waits) in
+          let differs : l ≢ k = λ same. agenda.ready k last (subst (IsMarked waiting) same waits) in
           marked-kept marks k l false differs (agenda.waits l waits);
       once = AreOnce-front work k agenda.once;
       number = omega (arith, agenda.number, count_marked-cleared marks k marked, length_push work k);
@@ -226,3 +234,133 @@ pub MarksAll-more : (parts : List ℕ) (i k : ℕ) (old mid : List Bool) → i <
 MarksAll-more parts i k old mid i_inside is inside all =
     let more : take (i + 1) parts ≡ take i parts ++ k ∷ [] = take_more parts i 0 i_inside ∙ ap (λ x. take i parts ++ x ∷ []) (sym is) in
     subst (λ xs. MarksAll (Contains xs) old (slice_set mid k true)) (sym more) (MarksAll-push (take i parts) k old mid inside all)
+
+-- a part that waits goes on without waiting
+pub IsAgenda-released : (marks waiting : List Bool) (work waiters : List ℕ) (stale capacity k left : ℕ) → IsMarked waiting k → left + 1 ≡ stale →
+    IsAgenda marks waiting work waiters stale capacity → IsAgenda marks (slice_set waiting k false) (work ++ k ∷ []) waiters left capacity
+IsAgenda-released marks waiting work waiters stale capacity k left waits left_is agenda =
+    let fewer = count_marked-cleared waiting k waits in
+    record {
+      counted = length-set waiting k false ∙ agenda.counted;
+      waiters_all = λ l still. agenda.waiters_all l (marked-cleared_was waiting k l still);
+      waiters_inside = agenda.waiters_inside;
+      stale_is = omega (arith, agenda.stale_is, fewer, left_is);
+      listed = λ l marked.
+          elim (agenda.listed l marked) [
+            | inl works ↦ inl (Contains-append_left work (k ∷ []) l works)
+            | inr was ↦
+                elim (marked-cleared_cases waiting k l was) [
+                  | inl still ↦ inr still
+                  | inr same ↦ inl (subst (Contains (work ++ k ∷ [])) (sym same) (Contains-push work k))
+                ]
+          ];
+      marked = λ l there.
+          elim (Contains-push_cases work k l there) [
+            | inl before ↦ agenda.marked l before
+            | inr same ↦ subst (IsMarked marks) same (agenda.waits k waits)
+          ];
+      ready = λ l there still.
+          elim (Contains-push_cases work k l there) [
+            | inl before ↦ agenda.ready l before (marked-cleared_was waiting k l still)
+            | inr same ↦ marked-cleared waiting k (subst (IsMarked (slice_set waiting k false)) (sym same) still)
+          ];
+      waits = λ l still. agenda.waits l (marked-cleared_was waiting k l still);
+      once = AreOnce-push work k agenda.once (λ there. agenda.ready k there waits);
+      number = omega (arith, agenda.number, fewer, length_push work k);
+      room = agenda.room;
+    }
+
+-- a mark more at the end
+pub marked-push : (marks : List Bool) (k : ℕ) → IsMarked marks k → IsMarked (marks ++ true ∷ []) k
+marked-push marks k marked = get_or_append_left marks (true ∷ []) false k (marked_inside marks k marked) ∙ marked
+
+pub marked-push_cases : (marks : List Bool) (k : ℕ) → IsMarked (marks ++ true ∷ []) k → IsMarked marks k ⊎ (k ≡ length marks)
+marked-push_cases marks k marked =
+    let inside = marked_inside (marks ++ true ∷ []) k marked in
+    elim (cases_lt k (length marks)) [
+      | inl before ↦ inl (sym (get_or_append_left marks (true ∷ []) false k before) ∙ marked)
+      | inr past ↦ inr (omega (arith, inside, length_push marks true, past))
+    ]
+
+pub marked-last : (marks : List Bool) → IsMarked (marks ++ true ∷ []) (length marks)
+marked-last marks = get_or_push marks true false (length marks) refl
+
+-- one part more waits
+pub IsAgenda-waits : (marks waiting : List Bool) (work waiters : List ℕ) (stale capacity more : ℕ) → length marks + 1 ≤ more →
+    IsAgenda marks waiting work waiters stale capacity →
+    IsAgenda (marks ++ true ∷ []) (waiting ++ true ∷ []) work (waiters ++ length marks ∷ []) (stale + 1) more
+IsAgenda-waits marks waiting work waiters stale capacity more room agenda =
+    let one : Bool → ℕ = λ mark. cond mark 1 0 in
+    let worth : one true ≡ suc zero = refl in
+    let marks_more = sum_by_push one marks true in
+    let waits_more = sum_by_push one waiting true in
+    record {
+      counted = omega (arith, agenda.counted, length_push marks true, length_push waiting true);
+      waiters_all = λ l waits.
+          elim (marked-push_cases waiting l waits) [
+            | inl before ↦ Contains-append_left waiters (length marks ∷ []) l (agenda.waiters_all l before)
+            | inr last ↦
+                let here : length marks ≡ l = sym agenda.counted ∙ sym last in
+                subst (Contains (waiters ++ length marks ∷ [])) here (Contains-push waiters (length marks))
+          ];
+      waiters_inside = All-push (λ k. k < length (marks ++ true ∷ [])) waiters (length marks)
+          (λ i d within. omega (arith, agenda.waiters_inside i d within, length_push marks true)) (omega (arith, length_push marks true));
+      stale_is = omega (arith, agenda.stale_is, waits_more, worth);
+      listed = λ l marked.
+          elim (marked-push_cases marks l marked) [
+            | inl before ↦
+                elim (agenda.listed l before) [
+                  | inl works ↦ inl works
+                  | inr waits ↦ inr (marked-push waiting l waits)
+                ]
+            | inr last ↦
+                let here : l ≡ length waiting = last ∙ sym agenda.counted in
+                inr (subst (IsMarked (waiting ++ true ∷ [])) (sym here) (marked-last waiting))
+          ];
+      marked = λ l there. marked-push marks l (agenda.marked l there);
+      ready = λ l there waits.
+          elim (marked-push_cases waiting l waits) [
+            | inl before ↦ agenda.ready l there before
+            | inr last ↦ absurd (omega (arith, marked_inside marks l (agenda.marked l there), last, agenda.counted))
+          ];
+      waits = λ l waits.
+          elim (marked-push_cases waiting l waits) [
+            | inl before ↦ marked-push marks l (agenda.waits l before)
+            | inr last ↦
+                let here : l ≡ length marks = last ∙ agenda.counted in
+                subst (IsMarked (marks ++ true ∷ [])) (sym here) (marked-last marks)
+          ];
+      once = agenda.once;
+      number = omega (arith, agenda.number, marks_more, waits_more, worth);
+      room = omega (arith, room, length_push marks true);
+    }
+
+-- a part that doesn't wait is left out of the list of those that wait
+pub IsAgenda-left : (marks waiting : List Bool) (work rest : List ℕ) (stale capacity k : ℕ) → ¬ IsMarked waiting k →
+    IsAgenda marks waiting work (rest ++ k ∷ []) stale capacity → IsAgenda marks waiting work rest stale capacity
+IsAgenda-left marks waiting work rest stale capacity k ready agenda = record {
+  counted = agenda.counted;
+  listed = agenda.listed;
+  marked = agenda.marked;
+  ready = agenda.ready;
+  waits = agenda.waits;
+  once = agenda.once;
+  number = agenda.number;
+  stale_is = agenda.stale_is;
+  waiters_all = λ l waits.
+      elim (Contains-push_cases rest k l (agenda.waiters_all l waits)) [
+        | inl there ↦ there
+        | inr same ↦ absurd (ready (subst (IsMarked waiting) (sym same) waits))
+      ];
+  waiters_inside = λ i d within.
+      let here = agenda.waiters_inside i d (omega (arith, within, length_push rest k)) in
+      subst (λ n. n < length marks) (get_or_append_left rest (k ∷ []) d i within) here;
+  room = agenda.room;
+}
+
+-- a part that waits is inside
+pub waiter_inside : (marks waiting : List Bool) (work rest : List ℕ) (stale capacity k : ℕ) →
+    IsAgenda marks waiting work (rest ++ k ∷ []) stale capacity → k < length waiting
+waiter_inside marks waiting work rest stale capacity k agenda =
+    let here = agenda.waiters_inside (length rest) 0 (omega (arith, length_push rest k)) in
+    omega (arith, agenda.counted, subst (λ n. n < length marks) (get_or_push rest k 0 (length rest) refl) here)

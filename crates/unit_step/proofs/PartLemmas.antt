@@ -1,11 +1,12 @@
 -- Parts of machines and their members.
-use Rattle.std.proofs.Common.{◌≡◌, ℕ, ◌<◌, List, length, take, sym, ap, ◌∙◌, arith}
+use Rattle.std.proofs.Common.{◌≡◌, ℕ, ◌<◌, List, length, take, sym, ap, subst, ◌∙◌, arith}
 use Rattle.std.specs.Prelude.{slice_index, Contains}
 use Rattle.std.proofs.lemmas.List.{get_or_default, get_or-take, length-take}
 use Rattle.std.proofs.lemmas.List.Elements.{Contains-get_or}
 use Rattle.ternary.specs.declared.tern.Tern.{Tern}
 use Rattle.path_meaning.specs.Graphs.{GraphData}
-use Rattle.group_meaning.specs.Groups.{Group}
+use Rattle.group_meaning.specs.Groups.{Group, id_of}
+use Rattle.group_meaning.proofs.UniqueGroups.{id_member, same_by_member}
 use Rattle.unit_step.specs.declared.part.HeldPart.{HeldPart}
 use Rattle.unit_step.specs.Parts.{Stands, IsMemberAt, HasMember}
 use Rattle.unit_step.specs.Stepping.{Gives}
@@ -55,3 +56,11 @@ module _ (g : GraphData) (group : Group) (part : HeldPart) (is_part : IsPartOf g
           here = sym (get_or-take part.members part.map.items place 0 first) ∙ (there ∙ (get_or_default group.members place 0 node inside ∙ here));
         },
       )
+
+-- a part is that of one group
+pub one_group : (g : GraphData) (one two : Group) (part : HeldPart) → IsPartOf g one part → IsPartOf g two part → one ≡ two
+one_group g one two part is_one is_two =
+    let first : Contains one.members (id_of one) = id_member g one is_one.is_group in
+    let second : Contains two.members (id_of one) =
+    subst (λ members. Contains members (id_of one)) (sym is_one.members ∙ is_two.members) first in
+    same_by_member g one two is_one.is_group is_two.is_group (id_of one) first second

@@ -53,8 +53,8 @@ module _ (g : GraphData) (wired : IsWired g) (m : MachineData) (fits : FitsGraph
   -- a storage node is a member of a part
   pub storage_has_part : (node : ℕ) → IsStorage g node → (k : ℕ) × HasMember m.parts k node
   storage_has_part node storage =
-      let groups = fits.covers.groups in
-      let (i, group, inside, stands, member) = fits.covers.are.whole node storage in
+      let groups = fits.covers.groups.groups in
+      let (i, group, inside, stands, member) = fits.covers.are.are.whole node storage in
       let has = fits.covers.each i group (slice_get_read groups (length groups) i group refl inside (sym stands)) in
       let (place, there) = member_of_part g group has.part has.is_part node member in
       (has.k, record { part = has.part; stands = has.stands; place = place; member = there })
@@ -105,7 +105,7 @@ module _ (g : GraphData) (wired : IsWired g) (m : MachineData) (fits : FitsGraph
     MovesTo-marked k node has marked =
         let part = has.part in
         let some : 0 < part.members = omega (arith, has.member.inside) in
-        let (code, is) = something part.code (fits.coded k part has.stands) in
+        let (code, is) = something part.code (fits.coded k part has.stands some) in
         let given : IsGiven m.parts m.marks m.state node (state_at (code_value code.value (map (state_at m.state) part.map.items)) has.place) = record {
           k = k;
           marked = marked;

@@ -69,11 +69,11 @@ pub record Reports (joining : Bool) (parts : List HeldPart) (state : List Tern) 
   pub only : (change : Change) → Contains new change → Contains old change ⊎ IsChange joining parts state k change
 
 -- some of the marked parts were evaluated, none of which waits: they aren't marked any more, and the changes that they make are noted
-pub record Evaluated (joining : Bool) (parts : List HeldPart) (state : List Tern) (waiting : List ℕ) (before marks : List Bool)
+pub record Evaluated (joining : Bool) (parts : List HeldPart) (state : List Tern) (waiting : List Bool) (before marks : List Bool)
     (changes : List Change) (done : List ℕ) : Type 0 where
   pub fewer : (k : ℕ) → IsMarked marks k → IsMarked before k
   pub marked : (k : ℕ) → Contains done k → IsMarked before k
-  pub ready : (k : ℕ) → Contains done k → ¬ Contains waiting k
+  pub ready : (k : ℕ) → Contains done k → ¬ IsMarked waiting k
   pub popped : (k : ℕ) → IsMarked before k → IsMarked marks k ⊎ Contains done k
   pub noted : (k : ℕ) (change : Change) → Contains done k → IsChange joining parts state k change → Contains changes change
   pub only : (change : Change) → Contains changes change → (k : ℕ) × Contains done k × IsChange joining parts state k change

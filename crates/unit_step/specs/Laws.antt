@@ -1,6 +1,6 @@
 -- Laws of a machine's steps, each proved as the contract of a function in `src/laws.rt`.
 -- After Bryant, Beatty, Brace, Cho and Sheffler, "COSMOS: A Compiled Simulator for MOS Circuits", 1987.
-use Rattle.std.specs.Prelude.{ℕ, ◌≤◌, true, false}
+use Rattle.std.specs.Prelude.{ℕ, ◌≤◌, Bool, true, false, List, [], ◌∷◌, ◌++◌, None}
 use Rattle.ternary.specs.declared.tern.Tern.{Tern}
 use Rattle.path_meaning.specs.declared.TheConstants.{RAILS}
 use Rattle.path_meaning.specs.Graphs.{GraphData, IsWired}
@@ -8,10 +8,15 @@ use Rattle.path_meaning.specs.Step.{IsStep}
 use Rattle.oscillation_x.specs.Settling.{IsJoinStep}
 use Rattle.group_meaning.specs.Groups.{Group}
 use Rattle.group_rest.specs.Alike.{IsAlike}
+use Rattle.channel_groups.specs.declared.change.Change.{Change}
+use Rattle.channel_groups.specs.Changes.{undo}
+use Rattle.group_text.specs.Texts.{GroupTextData}
+use Rattle.circuit_texts.specs.Building.{Builds}
 use Rattle.unit_step.specs.declared.part.HeldPart.{HeldPart}
 use Rattle.unit_step.specs.Machines.{MachineData}
 use Rattle.unit_step.specs.Stepping.{Advances, Places}
-use Rattle.unit_step.specs.Fitting.{IsPartOf, Covers, FitsGraph}
+use Rattle.unit_step.specs.Fitting.{IsPartOf, Covers, FitsGraph, IsKeptBy}
+use Rattle.unit_step.specs.Editing.{Edits}
 
 -- a step of a machine that fits a graph is the graph's unit step, and the machine fits the graph afterwards
 abbrev pub StepsAreUnitSteps : Type 0
@@ -41,3 +46,49 @@ abbrev pub AlikeGroupsKeepTheirParts : Type 0
 AlikeGroupsKeepTheirParts =
     (g h : GraphData) (group : Group) (part : HeldPart) → IsWired g → IsWired h → IsAlike g h group → IsPartOf g group part →
     IsPartOf h group part
+
+-- the graph with an empty place more at the end
+abbrev pub with_empty_place : GraphData → GraphData
+with_empty_place g = record g { places = g.places ++ None ∷ [] }
+
+-- a machine that covers a graph covers it with an empty place more too
+abbrev pub EmptyPlacesAreCovered : Type 0
+EmptyPlacesAreCovered = (g : GraphData) (m : MachineData) → IsWired g → Covers g m → Covers (with_empty_place g) m
+
+-- and the texts whose codes its parts have are the same
+abbrev pub EmptyPlacesKeepTexts : Type 0
+EmptyPlacesKeepTexts =
+    (g : GraphData) (kept : List GroupTextData) (m : MachineData) → IsWired g → Covers g m → IsKeptBy g kept m → IsKeptBy (with_empty_place g) kept m
+
+-- where a machine fits a graph whose build was done, all texts of its parts are kept
+abbrev pub BuiltTextsAreKept : Type 0
+BuiltTextsAreKept =
+    (g : GraphData) (old new before after : List GroupTextData) (m : MachineData) → FitsGraph g m → Builds g old new before after →
+    IsKeptBy g new m
+
+-- and they are after more texts were kept
+abbrev pub MoreTextsAreKept : Type 0
+MoreTextsAreKept = (g : GraphData) (kept more : List GroupTextData) (m : MachineData) → IsKeptBy g kept m → IsKeptBy g (kept ++ more) m
+
+-- they are after a step, and after a node was placed
+abbrev pub StepsKeepTexts : Type 0
+StepsKeepTexts =
+    (g : GraphData) (kept : List GroupTextData) (joining : Bool) (old new : MachineData) → Advances joining old new → IsKeptBy g kept old →
+    IsKeptBy g kept new
+
+abbrev pub PlacingKeepsTexts : Type 0
+PlacingKeepsTexts =
+    (g : GraphData) (kept : List GroupTextData) (node : ℕ) (value : Tern) (old new : MachineData) → Places node value old new →
+    IsKeptBy g kept old → IsKeptBy g kept new
+
+-- one machine that fits a graph has the texts of another one
+abbrev pub FittingMachinesShareTexts : Type 0
+FittingMachinesShareTexts =
+    (g : GraphData) (kept : List GroupTextData) (one two : MachineData) → FitsGraph g one → FitsGraph g two → IsKeptBy g kept one →
+    IsKeptBy g kept two
+
+-- and after an edit the parts that still have code are those of groups that the edit left as they were, with their texts
+abbrev pub EditsKeepTexts : Type 0
+EditsKeepTexts =
+    (g : GraphData) (change : Change) (kept : List GroupTextData) (old new : MachineData) → IsWired (undo g change) → IsWired g →
+    Covers (undo g change) old → Edits g change old new → IsKeptBy (undo g change) kept old → IsKeptBy g kept new

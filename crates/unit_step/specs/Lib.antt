@@ -2,9 +2,12 @@ pub mod Parts
 pub mod Machines
 pub mod Stepping
 pub mod Fitting
+pub mod Editing
 pub mod Laws
 pub mod Marking
 pub mod Evaluating
 pub mod Running
 pub mod Making
 pub mod Planning
+pub mod Finishing
+pub mod Seating

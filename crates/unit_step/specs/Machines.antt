@@ -1,19 +1,29 @@
 -- A machine as contracts see it.
-use Rattle.std.specs.Prelude.{◌≡◌, ℕ, ◌+◌, Bool, true, false, List, [], ◌∷◌, length, count_by, Option, option_map, unwrap_or, slice_index_or}
+use Rattle.std.specs.Prelude.{◌≡◌, ℕ, ◌+◌, Bool, true, false, List, [], ◌∷◌, length, count_by, Option, None, Some, option_map, unwrap_or, slice_index_or}
 use Rattle.ternary.specs.declared.tern.Tern.{Tern}
 use Rattle.group_meaning.specs.Groups.{Group}
+use Rattle.channel_groups.specs.Grouping.{GroupsData}
+use Rattle.group_text.specs.Texts.{GroupTextData}
 use Rattle.unit_step.specs.declared.part.HeldPart.{HeldPart}
 
--- the groups that the machine was built for, if it was; its parts, and whether each is marked; the state of each node; the number of
--- distinct texts; how often a step changed the state, and how often a member was placed from outside
+-- the groups that the machine has, if it was built for a graph; its parts, the text of each that has a group and code, and whether each
+-- is marked; the state of each node; the number of distinct texts; how often a step changed the state, and how often a member was placed
+-- from outside; and for how many nodes more there is room
 pub record MachineData : Type 0 where
-  pub groups : Option (List Group)
+  pub groups : Option GroupsData
   pub parts : List HeldPart
+  pub uses : List (Option GroupTextData)
   pub marks : List Bool
   pub state : List Tern
   pub texts : ℕ
   pub moves : ℕ
   pub placed : ℕ
+  pub spare : ℕ
+
+-- the groups that a machine has; one that wasn't built for a graph has none
+abbrev pub groups_in : Option GroupsData → List Group
+groups_in None = []
+groups_in (Some held) = held.groups
 
 -- the part with this number is marked
 abbrev pub IsMarked : List Bool → ℕ → Type 0

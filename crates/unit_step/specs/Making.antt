@@ -5,7 +5,9 @@ use Rattle.std.specs.List.{sum_by}
 use Rattle.std.proofs.Common.{Global}
 use Rattle.smallvec.specs.SmallVec.{SmallVec}
 use Rattle.ternary.specs.declared.tern.Tern.{Tern}
-use Rattle.group_meaning.specs.Groups.{Group}
+use Rattle.channel_groups.specs.Grouping.{GroupsData}
+use Rattle.group_text.specs.Texts.{GroupTextData}
+use Rattle.kept_parts.specs.Uses.{count_distinct}
 use Rattle.straight_code.specs.Code.{CodeData}
 use Rattle.straight_code.specs.declared.part.Part.{Part}
 use Rattle.straight_code.specs.Parts as straight
@@ -23,16 +25,18 @@ ShareNone parts = (node k j l i : ℕ) → straight.IsMemberAt parts node k j �
 abbrev pub held : Part × Vec ℕ Global → HeldPart
 held (part, reads) = record { code = Some part.code; map = part.map; members = part.members; reads = reads }
 
--- a machine that starts in this state with these parts, all of them marked: it was neither moved nor placed
-abbrev pub started : Option (List Group) → List HeldPart → List Tern → ℕ → MachineData
-started groups parts state texts = record {
+-- a machine that starts in this state with these parts, all of them marked, and these texts: it was neither moved nor placed
+abbrev pub started : Option GroupsData → List HeldPart → List Tern → List (Option GroupTextData) → ℕ → MachineData
+started groups parts state uses spare = record {
   groups = groups;
   parts = parts;
+  uses = uses;
   marks = replicate (length parts) true;
   state = state;
-  texts = texts;
+  texts = count_distinct uses;
   moves = 0;
   placed = 0;
+  spare = spare;
 }
 
 -- a part that has code, over so many nodes: its nodes are there, no two places of its map have one node, and its code fits it

@@ -1,24 +1,29 @@
 -- Marks of parts, and the lists in which the marked parts stand.
-use Rattle.std.specs.Prelude.{◌≡◌, ◌≢◌, ℕ, ◌+◌, ◌<◌, ◌≤◌, ◌⊎◌, Bool, List, length, Contains, slice_index}
+use Rattle.std.specs.Prelude.{◌≡◌, ◌≢◌, ℕ, ◌+◌, ◌<◌, ◌≤◌, ◌⊎◌, Bool, List, length, All, Contains, slice_index}
 use Rattle.unit_step.specs.Machines.{IsMarked, count_marked}
 
--- a mark for each part, and the marked parts that wait for a code
+-- a mark for each part, and whether it is stale and so waits for a code
 pub record AgendaData : Type 0 where
   pub marks : List Bool
-  pub waiting : List ℕ
+  pub waiting : List Bool
 
 -- no number stands in the list twice
 abbrev pub AreOnce : List ℕ → Type 0
 AreOnce xs = (i j : ℕ) → i < j → j < length xs → slice_index xs i ≢ slice_index xs j
 
--- each marked part stands in one of two lists, once: to be evaluated, or waiting; and there is room for a list of all parts
-pub record IsAgenda (marks : List Bool) (work waiting : List ℕ) (capacity : ℕ) : Type 0 where
-  pub listed : (k : ℕ) → IsMarked marks k → Contains work k ⊎ Contains waiting k
+-- each marked part stands in the list of those that are to be evaluated, once, or waits; so many wait, and all of these are listed; and
+-- there is room for a list of all parts
+pub record IsAgenda (marks waiting : List Bool) (work waiters : List ℕ) (stale capacity : ℕ) : Type 0 where
+  pub counted : length waiting ≡ length marks
+  pub listed : (k : ℕ) → IsMarked marks k → Contains work k ⊎ IsMarked waiting k
   pub marked : (k : ℕ) → Contains work k → IsMarked marks k
-  pub ready : (k : ℕ) → Contains work k → ¬ Contains waiting k
-  pub waits : (k : ℕ) → Contains waiting k → IsMarked marks k
+  pub ready : (k : ℕ) → Contains work k → ¬ IsMarked waiting k
+  pub waits : (k : ℕ) → IsMarked waiting k → IsMarked marks k
   pub once : AreOnce work
-  pub number : length work + length waiting ≡ count_marked marks
+  pub number : length work + count_marked waiting ≡ count_marked marks
+  pub stale_is : stale ≡ count_marked waiting
+  pub waiters_all : (k : ℕ) → IsMarked waiting k → Contains waiters k
+  pub waiters_inside : All (λ k. k < length marks) waiters
   pub room : length marks ≤ capacity
 
 -- the marks that were set stay, those of these parts are set, and no other

@@ -27,10 +27,11 @@ pub record ReadsAt (parts : List HeldPart) (k node : ℕ) : Type 0 where
   pub stands : Stands parts k part
   pub reads : Contains part.reads.items node
 
--- the part with this number is stale: it has no code
+-- the part with this number is stale: it has a group, and no code
 pub record IsStale (parts : List HeldPart) (k : ℕ) : Type 0 where
   pub part : HeldPart
   pub stands : Stands parts k part
+  pub some : 0 < part.members
   pub none : part.code ≡ None
 
 -- no node is a member of two parts

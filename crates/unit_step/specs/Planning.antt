@@ -3,7 +3,7 @@ use Rattle.std.specs.Prelude.{◌≡◌, List, map, All, None}
 use Rattle.std.specs.List.{AllZip}
 use Rattle.ternary.specs.declared.tern.Tern.{Tern}
 use Rattle.path_meaning.specs.Graphs.{GraphData}
-use Rattle.group_meaning.specs.Groups.{AreGroups}
+use Rattle.channel_groups.specs.Grouping.{AreOf}
 use Rattle.group_text.specs.Texts.{text_of_group, local_nodes}
 use Rattle.circuit_texts.specs.Sizes.{fault_in}
 use Rattle.circuit_texts.specs.Reading.{AreReads}
@@ -12,7 +12,7 @@ use Rattle.unit_step.specs.declared.planning.Plan.{Plan}
 -- the plan has the groups of the graph, none of which is too large, and for each of them its text, the nodes that the text's local nodes
 -- stand for, and the nodes that it reads; and this state
 pub record IsPlan (g : GraphData) (state : List Tern) (plan : Plan) : Type 0 where
-  pub are : AreGroups g plan.groups.groups
+  pub are : AreOf g plan.groups
   pub fit : All (λ group. fault_in group ≡ None) plan.groups.groups
   pub texts : plan.texts.items ≡ map (text_of_group g) plan.groups.groups
   pub maps : map (λ nodes. nodes.items) plan.maps.items ≡ map (local_nodes g) plan.groups.groups

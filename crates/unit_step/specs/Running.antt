@@ -7,7 +7,7 @@ use Rattle.path_meaning.specs.Switching.{state_at}
 use Rattle.unit_step.specs.declared.part.HeldPart.{HeldPart}
 use Rattle.unit_step.specs.declared.evaluation.Change.{Change}
 use Rattle.unit_step.specs.Parts.{HasMember, ReadsAt, IsStale, AreApart, has_members}
-use Rattle.unit_step.specs.Machines.{members_of}
+use Rattle.unit_step.specs.Machines.{IsMarked, members_of}
 use Rattle.unit_step.specs.Evaluating.{Rooms, IsSeated}
 
 -- the parts that are listed as readers of a node
@@ -15,12 +15,12 @@ abbrev pub readers_of : List (SmallVec ℕ) → ℕ → List ℕ
 readers_of readers node = slice_index_or (map (λ parts. parts.items) readers) node []
 
 -- the parts are seated, share no members, and have marks; the stale ones wait; each node has its readers; and there is room for a step
-pub record IsRunnable (parts : List HeldPart) (marks : List Bool) (waiting : List ℕ) (count : ℕ) (lists : List (SmallVec ℕ)) (room : Rooms) : Type 0 where
+pub record IsRunnable (parts : List HeldPart) (marks : List Bool) (waiting : List Bool) (count : ℕ) (lists : List (SmallVec ℕ)) (room : Rooms) : Type 0 where
   pub counted : length marks ≡ length parts
   pub seated : All (IsSeated count room) parts
   pub apart : AreApart parts
-  pub waits : (k : ℕ) → Contains waiting k → IsStale parts k
-  pub stale : (k : ℕ) → IsStale parts k → Contains waiting k
+  pub waits : (k : ℕ) → IsMarked waiting k → IsStale parts k
+  pub stale : (k : ℕ) → IsStale parts k → IsMarked waiting k
   pub readers_counted : length lists ≡ count
   pub readers : (node k : ℕ) → ReadsAt parts k node → Contains (readers_of lists node) k
   pub reads : (node k : ℕ) → Contains (readers_of lists node) k → ReadsAt parts k node
@@ -49,9 +49,13 @@ pub record ReadsAny (readers : List (SmallVec ℕ)) (changes : List Change) (k :
   pub changes_it : Contains changes change
   pub reads : Contains (readers_of readers change.node) k
 
--- the machine can run, knows the owners of its nodes, and counts the parts with members
-pub record IsMachine (parts : List HeldPart) (marks : List Bool) (waiting : List ℕ) (count : ℕ) (lists : List (SmallVec ℕ)) (owners : List (Option ℕ))
-    (held : ℕ) (room : Rooms) : Type 0 where
+-- the machine can run, knows the owners of its nodes, has a text or none for each part, and counts the parts with members; and there is
+-- room for so many changes as it has members
+pub record IsMachine (parts : List HeldPart) (marks : List Bool) (waiting : List Bool) (count : ℕ) (lists : List (SmallVec ℕ)) (owners : List (Option ℕ))
+    (numbers : List (Option ℕ)) (held most : ℕ) (room : Rooms) : Type 0 where
   pub runs : IsRunnable parts marks waiting count lists room
   pub own : AreOwners parts count owners
+  pub numbered : length parts ≤ length numbers
   pub number : held ≡ count_by has_members parts
+  pub most_members : sum_by members_of parts ≤ most
+  pub most_room : most ≤ room.changes

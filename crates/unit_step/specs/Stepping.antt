@@ -62,8 +62,10 @@ pub record Advances (joining : Bool) (old new : MachineData) : Type 0 where
   pub marks : Remarks joining old.parts old.marks old.state new.state new.marks
   pub groups : new.groups ≡ old.groups
   pub parts : new.parts ≡ old.parts
+  pub uses : new.uses ≡ old.uses
   pub texts : new.texts ≡ old.texts
   pub placed : new.placed ≡ old.placed
+  pub spare : new.spare ≡ old.spare
 
 -- the part with this number has the node as a member or reads it
 abbrev pub Concerns : List HeldPart → ℕ → ℕ → Type 0
@@ -78,5 +80,7 @@ pub record Places (node : ℕ) (value : Tern) (old new : MachineData) : Type 0 w
   pub only : (k : ℕ) → IsMarked new.marks k → IsMarked old.marks k ⊎ Concerns old.parts k node
   pub groups : new.groups ≡ old.groups
   pub parts : new.parts ≡ old.parts
+  pub uses : new.uses ≡ old.uses
   pub texts : new.texts ≡ old.texts
   pub moves : new.moves ≡ old.moves
+  pub spare : new.spare ≡ old.spare

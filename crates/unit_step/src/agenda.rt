@@ -1,5 +1,6 @@
 //! Which parts are marked, and the list of those that can be evaluated.
-ghost use Rattle.std.specs.Prelude.{◌≡◌, ℕ, ◌<◌, true, false, slice_set, length, replicate, [], Contains, IfOk, IfSome};
+ghost use Rattle.std.specs.Prelude.{◌≡◌, ℕ, ◌<◌, ◌++◌, ◌∷◌, true, false, slice_set, slice_index_or, length, replicate, [], All, Contains, IfOk, IfSome, OnOk, OnErr};
+ghost use Rattle.std.specs.Bool.{OnTrue};
 ghost use Rattle.std.specs.Option.{IfNone};
 ghost use Rattle.unit_step.specs.Machines.{IsMarked, count_marked};
 ghost use Rattle.unit_step.specs.Marking.{MarksAll};
@@ -7,12 +8,15 @@ ghost use Rattle.unit_step.specs.Marking.{MarksAll};
 use std::alloc::{AllocError, Global};
 use std::marker::Model;
 
-// A mark for each part. The marked parts stand in a list, but for the stale ones, which wait beside it.
+// A mark for each part. The marked parts stand in a list, but for those that are stale, which wait.
 #[derive(Drop)]
 pub(crate) struct Agenda {
     marks: Vec<bool>,
+    waits: Vec<bool>,
     work: Vec<usize>,
-    waiting: Vec<usize>,
+    // how many wait, and a list that has all of these
+    stale: usize,
+    waiters: Vec<usize>,
 }
 
 impl Model for Agenda {
@@ -21,16 +25,16 @@ impl Model for Agenda {
 
     ghost Value = { AgendaData };
 
-    ghost view = { λ agenda. record { marks = agenda.marks.items; waiting = agenda.waiting.items } };
+    ghost view = { λ agenda. record { marks = agenda.marks.items; waiting = agenda.waits.items } };
 
-    ghost invariant = { λ agenda. IsAgenda agenda.marks.items agenda.work.items agenda.waiting.items (vec_capacity agenda.work) };
+    ghost invariant = { λ agenda. IsAgenda agenda.marks.items agenda.waits.items agenda.work.items agenda.waiters.items agenda.stale (vec_capacity agenda.work) };
 }
 
 impl Agenda {
     // All of so many parts are marked, and none waits.
     pub(crate) fn all(alloc: Global, parts: usize) -> Result<Agenda, AllocError>
         ensures marks { IfOk result (λ agenda. agenda.marks ≡ replicate parts true) }
-        ensures waiting { IfOk result (λ agenda. agenda.waiting ≡ []) }
+        ensures waiting { IfOk result (λ agenda. agenda.waiting ≡ replicate parts false) }
     {
         let mut work = Vec::with_capacity(alloc, parts)?;
         for k in 0..parts {
@@ -38,8 +42,10 @@ impl Agenda {
         }
         Ok(Agenda {
             marks: vec![in alloc; true; parts]?,
+            waits: vec![in alloc; false; parts]?,
             work,
-            waiting: Vec::new(alloc),
+            stale: 0,
+            waiters: Vec::new(alloc),
         })
     }
 
@@ -47,7 +53,45 @@ impl Agenda {
     pub(crate) fn marked(&self) -> usize
         ensures { result ≡ count_marked self.now.marks }
     {
-        self.work.len() + self.waiting.len()
+        self.work.len() + self.stale
+    }
+
+    // Whether no part waits.
+    pub(crate) fn none_waits(&self) -> bool
+        ensures { OnTrue result ((k : ℕ) → ¬ IsMarked self.now.waiting k) }
+    {
+        self.stale == 0
+    }
+
+    // Whether this part waits.
+    pub(crate) fn does_wait(&self, k: usize) -> bool
+        requires { k < length self.now.marks }
+        ensures { result ≡ slice_index_or self.now.waiting k false }
+    {
+        self.waits[k]
+    }
+
+    // All parts that wait are among these, each below the number of parts; some of them may not wait any
+    // more.
+    pub(crate) fn waiters(&self) -> &[usize]
+        ensures all { (k : ℕ) → IsMarked self.now.waiting k → Contains result.now k }
+        ensures inside { All (λ k. k < length self.now.marks) result.now }
+    {
+        &self.waiters
+    }
+
+    // The parts that wait can be evaluated from now on. All marks stay.
+    pub(crate) fn rouse(&mut self)
+        ensures marks { self.new.marks ≡ self.old.marks }
+        ensures waiting { (k : ℕ) → ¬ IsMarked self.new.waiting k }
+    {
+        while let Some(k) = self.waiters.pop() {
+            if self.waits[k] {
+                self.waits[k] = false;
+                self.stale -= 1;
+                self.work.push_reserved(k);
+            }
+        }
     }
 
     // Marks a part. Marking twice is one mark.
@@ -67,14 +111,50 @@ impl Agenda {
     pub(crate) fn pop(&mut self) -> Option<usize>
         ensures waiting { self.new.waiting ≡ self.old.waiting }
         ensures marked { IfSome result (λ k. IsMarked self.old.marks k) }
-        ensures ready { IfSome result (λ k. ¬ Contains self.old.waiting k) }
+        ensures ready { IfSome result (λ k. ¬ IsMarked self.old.waiting k) }
         ensures cleared { IfSome result (λ k. self.new.marks ≡ slice_set self.old.marks k false) }
         ensures none { IfNone result (self.new.marks ≡ self.old.marks) }
-        ensures rest { IfNone result ((k : ℕ) → IsMarked self.old.marks k → Contains self.old.waiting k) }
+        ensures rest { IfNone result ((k : ℕ) → IsMarked self.old.marks k → IsMarked self.old.waiting k) }
     {
         let k = self.work.pop()?;
         self.marks[k] = false;
         Some(k)
+    }
+
+    // Lets a part that is stale go on without waiting: it stays marked.
+    pub(crate) fn release(&mut self, k: usize)
+        requires { k < length self.old.marks }
+        ensures marks { self.new.marks ≡ self.old.marks }
+        ensures waiting { self.new.waiting ≡ slice_set self.old.waiting k false }
+    {
+        if self.waits[k] {
+            self.waits[k] = false;
+            self.stale -= 1;
+            self.work.push_reserved(k);
+        }
+    }
+
+    // What waits is marked.
+    pub(crate) fn waiting_parts_are_marked(&self)
+        ensures { (k : ℕ) → IsMarked self.now.waiting k → IsMarked self.now.marks k }
+    {
+        let _count = self.work.len();
+    }
+
+    // Adds a stale part, which is marked and waits.
+    pub(crate) fn wait_more(&mut self) -> Result<(), AllocError>
+        ensures ok { OnOk result (self.new ≡ record { marks = self.old.marks ++ true ∷ []; waiting = self.old.waiting ++ true ∷ [] }) }
+        ensures err { OnErr result (self.new ≡ self.old) }
+        ensures counted { length self.old.waiting ≡ length self.old.marks }
+    {
+        self.marks.reserve(1)?;
+        self.waits.reserve(1)?;
+        self.work.reserve(self.marks.len() + 1 - self.work.len())?;
+        self.waiters.push(self.marks.len())?;
+        self.marks.push_reserved(true);
+        self.waits.push_reserved(true);
+        self.stale += 1;
+        Ok(())
     }
 }
 

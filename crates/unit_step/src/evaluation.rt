@@ -49,7 +49,7 @@ pub(crate) fn evaluate_all<L: Ledger>(
     requires changes_room { marked_sum members_of parts.now agenda.old.marks ≤ vec_capacity desk.old.changes }
     requires done_room { count_marked agenda.old.marks ≤ vec_capacity desk.old.done }
     ensures evaluated { Evaluated joining parts.now state.now agenda.old.waiting agenda.old.marks agenda.new.marks desk.new.changes.items desk.new.done.items }
-    ensures rest { (k : ℕ) → IsMarked agenda.new.marks k → Contains agenda.old.waiting k }
+    ensures rest { (k : ℕ) → IsMarked agenda.new.marks k → IsMarked agenda.old.waiting k }
     ensures count { length agenda.new.marks ≡ length agenda.old.marks }
     ensures waiting { agenda.new.waiting ≡ agenda.old.waiting }
     ensures rooms { rooms desk.new ≡ rooms desk.old }

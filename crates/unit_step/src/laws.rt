@@ -2,7 +2,7 @@
 //!
 //! Each function here does nothing: its contract is the law, and its proof proves it. So a law can be
 //! cited like any other contract.
-ghost use Rattle.unit_step.specs.Laws.{StepsAreUnitSteps, JoiningStepsAreJoinSteps, PlacingKeepsCover, PlacingKeepsFit, AlikeGroupsKeepTheirParts};
+ghost use Rattle.unit_step.specs.Laws.{StepsAreUnitSteps, JoiningStepsAreJoinSteps, PlacingKeepsCover, PlacingKeepsFit, AlikeGroupsKeepTheirParts, EmptyPlacesAreCovered, EmptyPlacesKeepTexts, BuiltTextsAreKept, MoreTextsAreKept, StepsKeepTexts, PlacingKeepsTexts, FittingMachinesShareTexts, EditsKeepTexts};
 
 /// A step of a machine that fits a graph is the unit step of the graph, and the machine fits the graph
 /// afterwards; `joining` says the same of joining steps.
@@ -27,4 +27,25 @@ pub fn placing_keeps_fits()
 /// So a change of a graph that leaves a group as it is leaves its part.
 pub fn alike_groups_keep_their_parts()
     ensures { AlikeGroupsKeepTheirParts }
+{}
+
+/// An empty place at the end of a graph changes neither what a machine covers nor the texts whose codes its
+/// parts have.
+pub fn empty_places_are_covered()
+    ensures covers { EmptyPlacesAreCovered }
+    ensures texts { EmptyPlacesKeepTexts }
+{}
+
+/// The texts whose codes a machine's parts have are kept from its build on, whatever happens to it.
+///
+/// `built`: after a build, or after stale parts got their codes. `more`: after more texts were kept.
+/// `step`, `placed`: after a step, and after a node was placed. `shared`: after anything that leaves a machine
+/// that fits a graph as one that fits it, as settling does. `edited`: after an edit.
+pub fn machines_have_kept_texts()
+    ensures built { BuiltTextsAreKept }
+    ensures more { MoreTextsAreKept }
+    ensures step { StepsKeepTexts }
+    ensures placed { PlacingKeepsTexts }
+    ensures shared { FittingMachinesShareTexts }
+    ensures edited { EditsKeepTexts }
 {}

@@ -18,13 +18,23 @@
 
 mod advance;
 mod agenda;
+mod editing;
 mod evaluation;
+mod finishing;
+mod growing;
 mod laws;
 mod machine;
 mod making;
 mod part;
 mod planning;
+mod rousing;
+mod seating;
+mod waking;
 
-pub use laws::{alike_groups_keep_their_parts, placing_keeps_fits, steps_are_unit_steps};
+pub use editing::{EditRefused, NEW_NODES};
+pub use laws::{
+    alike_groups_keep_their_parts, empty_places_are_covered, machines_have_kept_texts,
+    placing_keeps_fits, steps_are_unit_steps,
+};
 pub use machine::Machine;
 pub use part::HeldPart;

@@ -1,5 +1,5 @@
 //! The machine.
-ghost use Rattle.std.specs.Prelude.{◌≡◌, ◌≢◌, ℕ, ◌+◌, ◌^◌, ◌<◌, ◌≤◌, ◌⊎◌, true, false, length, map, zip, count_by, option_map, All, None, Some, Err, IsTrue, IfSome, IfNone, IfOk, IfErr, OnOk};
+ghost use Rattle.std.specs.Prelude.{◌≡◌, ◌≢◌, ℕ, ◌+◌, ◌^◌, ◌<◌, ◌≤◌, ◌⊎◌, true, false, length, map, zip, count_by, replicate, option_map, All, None, Some, Err, IsTrue, IfSome, IfNone, IfOk, IfErr, OnOk};
 ghost use Rattle.std.specs.Bool.{OnTrue, OnFalse};
 ghost use Rattle.ternary.specs.Counts.{raised};
 ghost use Rattle.path_meaning.specs.declared.TheConstants.{RAILS};
@@ -10,7 +10,7 @@ ghost use Rattle.oscillation_x.specs.Settling.{IsJoinStep, StaysOrBecomesX};
 ghost use Rattle.straight_code.specs.Parts.{IsPart};
 ghost use Rattle.analysis_cache.specs.Keeping.{texts_of, IsGrown};
 ghost use Rattle.group_text.specs.FirstTexts.{is_among};
-ghost use Rattle.kept_parts.specs.Uses.{used};
+ghost use Rattle.kept_parts.specs.Uses.{texts_used};
 ghost use Rattle.unit_step.specs.Planning.{IsPlan};
 ghost use Rattle.circuit_texts.specs.Sizes.{TellsTooLarge};
 ghost use Rattle.circuit_texts.specs.Building.{Builds, IsCutOff};
@@ -37,6 +37,7 @@ use std::alloc::Global;
 use std::marker::Model;
 use std::sync::ledger::Ledger;
 use straight_code::Part;
+use table_keys::TableKeys;
 use ternary::{NoMemory, Steps, Tern};
 
 /// A compiled circuit: the parts of its groups, which of them are marked, and a state.
@@ -44,35 +45,37 @@ use ternary::{NoMemory, Steps, Tern};
 /// A step runs the code of the marked parts alone. All its room is taken when the machine is made.
 #[derive(Drop)]
 pub struct Machine {
-    // the groups that the machine was built for, if it was
-    groups: Option<Groups>,
-    parts: Vec<HeldPart>,
+    // the groups of the graph that the machine was built for, if it was
+    pub(crate) groups: Option<Groups>,
+    pub(crate) parts: Vec<HeldPart>,
+    // the text of each part that has a group and code
+    pub(crate) uses: TextUses,
     // how many parts have a member
-    held: usize,
-    agenda: Agenda,
+    pub(crate) held: usize,
+    // at least as many as all parts have members
+    pub(crate) most: usize,
+    pub(crate) agenda: Agenda,
     // for each node the parts that read it, and the part that it is a member of
-    readers: Vec<Readers>,
-    owners: Vec<Option<usize>>,
-    state: Vec<Tern>,
-    desk: Desk,
-    // how often each kept text is that of a part
-    uses: TextUses,
-    moves: u64,
-    placed: u64,
+    pub(crate) readers: Vec<Readers>,
+    pub(crate) owners: Vec<Option<usize>>,
+    pub(crate) state: Vec<Tern>,
+    pub(crate) desk: Desk,
+    pub(crate) moves: u64,
+    pub(crate) placed: u64,
 }
 
 impl Model for Machine {
-    ghost use Rattle.std.specs.Prelude.{length, option_map};
-    ghost use Rattle.kept_parts.specs.Uses.{used};
+    ghost use Rattle.std.specs.Prelude.{◌-◌, length, vec_len, vec_capacity};
+    ghost use Rattle.kept_parts.specs.Uses.{texts_used, count_distinct};
     ghost use Rattle.unit_step.specs.Machines.{MachineData};
     ghost use Rattle.unit_step.specs.Evaluating.{rooms};
     ghost use Rattle.unit_step.specs.Running.{IsMachine};
 
     ghost Value = { MachineData };
 
-    ghost view = { λ m. record { groups = option_map (λ held. held.groups) m.groups; parts = m.parts.items; marks = m.agenda.marks; state = m.state.items; texts = used m.uses; moves = m.moves; placed = m.placed } };
+    ghost view = { λ m. record { groups = m.groups; parts = m.parts.items; uses = texts_used m.uses; marks = m.agenda.marks; state = m.state.items; texts = count_distinct (texts_used m.uses); moves = m.moves; placed = m.placed; spare = vec_capacity m.state - vec_len m.state } };
 
-    ghost invariant = { λ m. IsMachine m.parts.items m.agenda.marks m.agenda.waiting (length m.state.items) m.readers.items m.owners.items m.held (rooms m.desk) };
+    ghost invariant = { λ m. IsMachine m.parts.items m.agenda.marks m.agenda.waiting (length m.state.items) m.readers.items m.owners.items m.uses.numbers m.held m.most (rooms m.desk) };
 }
 
 impl Machine {
@@ -122,7 +125,7 @@ impl Machine {
             reads,
             state,
         } = plan;
-        let uses = TextUses::of_texts(alloc, kept, &texts)?;
+        let uses = TextUses::of_texts(alloc, kept.keys(), &texts)?;
         let parts = parts_of(alloc, kept, &texts, maps)?;
         let held = held_parts(alloc, parts, reads)?;
         Machine::assemble(alloc, Some(groups), held, state, uses)
@@ -141,11 +144,12 @@ impl Machine {
         requires apart { ShareNone parts.items }
         requires counted { length reads.items ≡ length parts.items }
         requires below { All (λ nodes. All (λ node. node < length state.now) nodes.items) reads.items }
-        ensures { IfOk result (λ machine. machine ≡ started None (map held (zip parts.items reads.items)) state.now 0) }
+        ensures { IfOk result (λ machine. machine ≡ started None (map held (zip parts.items reads.items)) state.now (replicate (length parts.items) None) machine.spare) }
     {
         let held = held_parts(alloc, parts, reads)?;
         let copy = Vec::from_slice(alloc, state)?;
-        Machine::assemble(alloc, None, held, copy, TextUses::new(alloc))
+        let uses = TextUses::new(alloc, TableKeys::fixed(), held.len())?;
+        Machine::assemble(alloc, None, held, copy, uses)
     }
 
     // A machine of these parts, which have code, in this state.
@@ -159,7 +163,8 @@ impl Machine {
         requires formed { All (IsFormed (length state.items)) parts.items }
         requires apart { AreApart parts.items }
         requires reads { All (λ part. All (λ node. node < length state.items) part.reads.items) parts.items }
-        ensures { IfOk result (λ machine. machine ≡ started (option_map (λ found. found.groups) groups) parts.items state.items (used uses)) }
+        requires numbered { length parts.items ≤ length uses.numbers }
+        ensures { IfOk result (λ machine. machine ≡ started groups parts.items state.items (texts_used uses) machine.spare) }
     {
         let nodes = state.len();
         let held = count_held(&parts);
@@ -167,16 +172,18 @@ impl Machine {
         let readers = all_readers(alloc, &parts, nodes)?;
         let owners = all_owners(alloc, &parts, nodes)?;
         let desk = desk_for(alloc, &parts)?;
+        let most = desk.changes.capacity();
         Ok(Machine {
             groups,
             parts,
+            uses,
             held,
+            most,
             agenda,
             readers,
             owners,
             state,
             desk,
-            uses,
             moves: 0,
             placed: 0,
         })

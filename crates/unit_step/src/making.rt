@@ -115,7 +115,7 @@ pub(crate) fn all_owners(
 }
 
 // Makes a part the owner of these nodes.
-fn own(k: usize, members: &[usize], owners: &mut [Option<usize>])
+pub(crate) fn own(k: usize, members: &[usize], owners: &mut [Option<usize>])
     requires { All (λ node. node < length owners.old) members.now }
     ensures { Owns k members.now owners.old owners.new }
 {
@@ -126,10 +126,10 @@ fn own(k: usize, members: &[usize], owners: &mut [Option<usize>])
 
 // How much room the steps of these parts take.
 #[derive(Clone, Copy)]
-struct Needs {
+pub(crate) struct Needs {
     // the most that a code reads, and the most members of a part
-    values: usize,
-    outs: usize,
+    pub(crate) values: usize,
+    pub(crate) outs: usize,
     // the members of all parts
     changes: usize,
 }
@@ -145,7 +145,7 @@ pub(crate) fn desk_for(alloc: Global, parts: &[HeldPart]) -> Result<Desk, NoMemo
 }
 
 // How much room these parts need; None where it is more than there can be.
-fn needs_of(parts: &[HeldPart]) -> Option<Needs>
+pub(crate) fn needs_of(parts: &[HeldPart]) -> Option<Needs>
     ensures values { IfSome result (λ needs. All (IsCodeRoom needs.values) parts.now) }
     ensures outs { IfSome result (λ needs. All (λ part. part.members ≤ needs.outs) parts.now) }
     ensures changes { IfSome result (λ needs. sum_by members_of parts.now ≤ needs.changes) }

@@ -1,8 +1,8 @@
 -- One part more is evaluated.
 use Rattle.std.proofs.Common.{◌≡◌, ◌<◌, ℕ, [], ◌∷◌, ◌++◌, Vec, Global, vec_len, false, length, sym, ap, subst, ◌∙◌, arith}
-use Rattle.std.specs.Prelude.{slice_index_or, vec_capacity, Contains}
+use Rattle.std.specs.Prelude.{slice_index_or, vec_capacity}
 use Rattle.std.proofs.lemmas.List.{length-set}
-use Rattle.unit_step.specs.Machines.{members_of, instructions_of}
+use Rattle.unit_step.specs.Machines.{IsMarked, members_of, instructions_of}
 use Rattle.unit_step.specs.Evaluating.{Rooms, rooms, IsSeated}
 use Rattle.unit_step.proofs.MarkLemmas.{marked_inside, count_marked-cleared, marked_sum-cleared}
 use Rattle.unit_step.proofs.EvaluationLemmas.{Evaluated-more}
@@ -40,7 +40,7 @@ loop-k-preserved g c =
     let so_far = c.loop-k.invariant in
     let inside : k < length parts = omega (arith, marked_inside marks k marked, so_far.count, c.requires.counted) in
     let here : slice_index_or parts k part ≡ part = sym c.index-parts-k.is in
-    let ready : ¬ Contains c.args.agenda.now.waiting k = rw (← so_far.waiting) c.in-Some.ensures.ready in
+    let ready : ¬ IsMarked c.args.agenda.now.waiting k = rw (← so_far.waiting) c.in-Some.ensures.ready in
     let reports = c.evaluate.ensures.changes parts k (record { inside = inside; here = here }) in
     let changes_room = ap (λ (room : Rooms). room.changes) c.evaluate.ensures.rooms in
     let more = Evaluated-more c.args.joining parts c.args.state.now c.args.agenda.now.waiting c.args.agenda.now.marks marks

@@ -1,5 +1,5 @@
 -- All parts are marked and listed.
-use Rattle.std.proofs.Common.{rules, ◌≡◌, ◌∷◌, ◌++◌, [], true, sym, ap, ◌∙◌, arith}
+use Rattle.std.proofs.Common.{rules, ◌≡◌, ◌∷◌, ◌++◌, [], true, false, sym, ap, ◌∙◌, arith}
 use Rattle.std.specs.Prelude.{replicate}
 use Rattle.std.proofs.lemmas.List.FromFn.{map-range_with_len_more}
 use Rattle.unit_step.proofs.MakingLemmas.{IsAgenda-all}
@@ -20,4 +20,5 @@ invariant_of-result c =
     let last : c.loop-k.k ≡ c.args.parts = omega (arith, c.loop-k.auto.k-end, c.loop-k-test.false) in
     let work = rw last at c.loop-k.invariant.items in
     let marks : c.in_ok-vec.field-0.items ≡ replicate c.args.parts true = search rules in
-    rw (marks, work, c.new.ensures.items) (IsAgenda-all c.args.parts _ (omega (arith, c.loop-k.invariant.room)))
+    let waits : c.in_ok-vec-2.field-0.items ≡ replicate c.args.parts false = search rules in
+    rw (marks, work, waits, c.new.ensures.items) (IsAgenda-all c.args.parts _ (omega (arith, c.loop-k.invariant.room)))

@@ -17,4 +17,4 @@ invariant_of-self c =
     let inside : c.args.k < length marks = omega (arith, c.requires, ap (λ (agenda : AgendaData). length agenda.marks) c.self.view_is) in
     let unmarked = unmarked_read marks c.args.k _ inside c.index.ensures c.if-not-index.true in
     rw (c.push_reserved.ensures.items, c.push_reserved.ensures.capacity)
-    (IsAgenda-marked marks c.self.inside.work.items c.self.inside.waiting.items _ c.args.k inside unmarked c.self.invariant)
+    (IsAgenda-marked marks c.self.inside.waits.items c.self.inside.work.items c.self.inside.waiters.items c.self.inside.stale _ c.args.k inside unmarked c.self.invariant)

@@ -8,19 +8,19 @@ use Rattle.unit_step.proofs.agenda.Agenda.pop.Goals as goal
 
 pub index_mut-requires : goal.index_mut-requires
 index_mut-requires c =
-    let family : List ℕ → Type 0 = λ work. IsAgenda c.self.inside.marks.items work c.self.inside.waiting.items (vec_capacity c.self.inside.work) in
+    let family : List ℕ → Type 0 = λ work. IsAgenda c.self.inside.marks.items c.self.inside.waits.items work c.self.inside.waiters.items c.self.inside.stale (vec_capacity c.self.inside.work) in
     let agenda = subst family c.in_ok-k.ensures.items c.self.invariant in
     let marked = agenda.marked c.in_ok-k.k (Contains-push _ c.in_ok-k.k) in
     omega (arith, marked_inside c.self.inside.marks.items c.in_ok-k.k marked)
 
 pub invariant_of-self-2 : goal.invariant_of-self-2
 invariant_of-self-2 c =
-    let family : List ℕ → Type 0 = λ work. IsAgenda c.self.inside.marks.items work c.self.inside.waiting.items (vec_capacity c.self.inside.work) in
+    let family : List ℕ → Type 0 = λ work. IsAgenda c.self.inside.marks.items c.self.inside.waits.items work c.self.inside.waiters.items c.self.inside.stale (vec_capacity c.self.inside.work) in
     let agenda = subst family c.in_ok-k.ensures.items c.self.invariant in
-    rw c.pop.ensures.capacity (IsAgenda-popped c.self.inside.marks.items _ c.self.inside.waiting.items _ c.in_ok-k.k agenda)
+    rw c.pop.ensures.capacity (IsAgenda-popped c.self.inside.marks.items c.self.inside.waits.items _ c.self.inside.waiters.items c.self.inside.stale _ c.in_ok-k.k agenda)
 
 pub returns-clause-ready : goal.returns-clause-ready
 returns-clause-ready c =
-    let family : List ℕ → Type 0 = λ work. IsAgenda c.self.inside.marks.items work c.self.inside.waiting.items (vec_capacity c.self.inside.work) in
+    let family : List ℕ → Type 0 = λ work. IsAgenda c.self.inside.marks.items c.self.inside.waits.items work c.self.inside.waiters.items c.self.inside.stale (vec_capacity c.self.inside.work) in
     let agenda = subst family c.in_ok-k.ensures.items c.self.invariant in
     rw (← c.self.view_is) (agenda.ready c.in_ok-k.k (Contains-push _ c.in_ok-k.k))

@@ -1,5 +1,5 @@
 -- All that was made is of these parts, so the machine can run.
-use Rattle.std.proofs.Common.{◌≡◌, ℕ, true, length, ap, sym, subst, ◌∙◌, arith}
+use Rattle.std.proofs.Common.{◌≡◌, ℕ, true, false, length, ap, sym, subst, ◌∙◌, arith}
 use Rattle.std.specs.Prelude.{Contains, replicate, count_by}
 use Rattle.unit_step.specs.Parts.{ReadsAt, AreApart, has_members}
 use Rattle.unit_step.specs.Evaluating.{rooms}
@@ -29,6 +29,7 @@ invariant_of-result c =
     (subst (λ n. AreOwners c.deref-3.result.now n owners) nodes_are c.in_ok-owners.ensures) in
     let number = c.count_held-held.ensures ∙ ap (count_by has_members) c.deref.ensures.value in
     let fits = subst (λ list. HasRoomFor list room) c.deref-4.ensures.value c.in_ok-desk.ensures in
-    rw (marks, c.in_ok-agenda.ensures.waiting)
-    (IsMachine-started parts nodes lists owners c.count_held-held.result room c.requires.formed c.requires.apart
-    (c.in_ok-readers.ensures.count ∙ nodes_are) readers reads own number fits)
+    let waits : c.in_ok-agenda.agenda.waiting ≡ replicate (length parts) false = c.in_ok-agenda.ensures.waiting ∙ ap (λ n. replicate n false) count in
+    rw (marks, waits)
+    (IsMachine-started parts nodes lists owners c.args.uses.numbers c.count_held-held.result c.capacity-most.result room c.requires.formed c.requires.apart
+    (c.in_ok-readers.ensures.count ∙ nodes_are) readers reads own c.requires.numbered number c.capacity-most.ensures fits)

@@ -1,20 +1,30 @@
 -- The parts are those of the graph's groups, all marked, so the machine fits the graph.
-use Rattle.std.proofs.Common.{◌≡◌, Some, length, map, sym, ap, subst, ◌∙◌}
-use Rattle.std.specs.Prelude.{zip}
+use Rattle.std.proofs.Common.{◌≡◌, ℕ, Some, length, map, refl, sym, ap, subst, ◌∙◌, arith}
+use Rattle.std.specs.Prelude.{zip, slice_get}
+use Rattle.std.specs.Option.{option_and_then}
+use Rattle.std.proofs.lemmas.List.{length-map}
 use Rattle.std.proofs.lemmas.Slice.Zip.{AllZip-long}
 use Rattle.path_meaning.specs.Graphs.{nodes}
-use Rattle.group_text.specs.Texts.{text_of_group}
-use Rattle.group_text.specs.FirstTexts.{first_texts}
+use Rattle.group_text.specs.Texts.{text_of_group, local_nodes}
 use Rattle.circuit_texts.specs.Parts.{IsPartOf}
 use Rattle.circuit_texts.specs.Reading.{AreReads}
 use Rattle.circuit_texts.proofs.MemberLemmas.{AreMembers-from_groups}
-use Rattle.kept_parts.specs.Uses.{used}
+use Rattle.kept_parts.specs.Uses.{texts_used}
 use Rattle.kept_parts.proofs.GroupParts.{parts_of_groups, parts_fit}
 use Rattle.unit_step.specs.Making.{held, started}
+use Rattle.unit_step.specs.Machines.{MachineData}
 use Rattle.unit_step.specs.Fitting.{FitsGraph}
-use Rattle.unit_step.proofs.MakingLemmas.{formed_parts, apart_parts, reads_inside}
+use Rattle.unit_step.proofs.MakingLemmas.{formed_parts, apart_parts, reads_inside, held_few}
 use Rattle.unit_step.proofs.BuildLemmas.{fresh_parts, lists_inside, FitsGraph-started, if_ok}
 use Rattle.unit_step.proofs.machine.Machine.of_plan.Goals as goal
+
+pub parts_of-requires-clause-maps : goal.parts_of-requires-clause-maps
+parts_of-requires-clause-maps c =
+    let g = c.args.graph.now in
+    let groups = c.args.plan.groups.groups in
+    let plan = c.requires.plan in
+    sym (length-map c.args.plan.maps.items (λ nodes. nodes.items))
+    ∙ (ap length plan.maps ∙ length-map groups (local_nodes g) ∙ sym (ap length (c.deref-2.ensures.value ∙ plan.texts) ∙ length-map groups (text_of_group g)))
 
 pub held_parts-requires : goal.held_parts-requires
 held_parts-requires c =
@@ -35,10 +45,15 @@ assemble-requires c =
     let plan = c.requires.plan in
     let wired = c.graphs_are_wired.ensures in
     let of = parts_of_groups g groups _ _ parts (c.deref-2.ensures.value ∙ plan.texts) plan.maps c.in_ok-parts.ensures in
+    let numbers : length c.in_ok-uses.uses.numbers ≡ length groups =
+    sym (length-map c.in_ok-uses.uses.numbers (option_and_then (slice_get c.in_ok-uses.uses.known)))
+    ∙ (ap length (c.in_ok-uses.ensures ∙ ap (map Some) (c.deref.ensures.value ∙ plan.texts)) ∙ length-map (map (text_of_group g) groups) Some
+    ∙ length-map groups (text_of_group g)) in
     rw (c.in_ok-held.ensures, c.requires.counted) (record {
-      formed = formed_parts (nodes g) parts reads (parts_fit g wired groups plan.are parts of);
-      apart = apart_parts parts reads (AreMembers-from_groups g groups plan.are parts of).once;
+      formed = formed_parts (nodes g) parts reads (parts_fit g wired groups plan.are.are parts of);
+      apart = apart_parts parts reads (AreMembers-from_groups g groups plan.are.are parts of).once;
       reads = reads_inside (nodes g) parts reads (lists_inside g wired groups reads plan.reads);
+      numbered = omega (arith, numbers, held_few parts reads, sym (AllZip-long (IsPartOf g) groups parts of));
     })
 
 pub returns-clause-fits : goal.returns-clause-fits
@@ -50,15 +65,14 @@ returns-clause-fits c =
     let state = c.args.plan.state.items in
     let all = map held (zip parts reads) in
     let plan = c.requires.plan in
-    let number = used c.in_ok-uses.uses in
+    let uses = texts_used c.in_ok-uses.uses in
     let of = parts_of_groups g groups _ _ parts (c.deref-2.ensures.value ∙ plan.texts) plan.maps c.in_ok-parts.ensures in
-    let number_is : number ≡ length (first_texts (map (text_of_group g) groups)) =
-    c.in_ok-uses.ensures.distinct ∙ ap (λ list. length (first_texts list)) (c.deref.ensures.value ∙ plan.texts) in
-    let fresh = fresh_parts g groups plan.are.each parts reads of plan.reads in
-    let apart = apart_parts parts reads (AreMembers-from_groups g groups plan.are parts of).once in
-    let fits : FitsGraph g (started (Some groups) all state number) =
-    FitsGraph-started g groups all fresh plan.are apart state c.requires.counted c.requires.railed c.requires.sound number number_is in
+    let uses_are : uses ≡ map Some (map (text_of_group g) groups) = c.in_ok-uses.ensures ∙ ap (map Some) (c.deref.ensures.value ∙ plan.texts) in
+    let fresh = fresh_parts g groups plan.are.are.each parts reads of plan.reads in
+    let apart = apart_parts parts reads (AreMembers-from_groups g groups plan.are.are parts of).once in
+    let fits = λ (spare : ℕ). FitsGraph-started g groups all fresh c.args.plan.groups refl plan.are plan.fit apart state c.requires.counted
+    c.requires.railed c.requires.sound uses uses_are spare in
     let same : c.in_ok-held.held.items ≡ all = c.in_ok-held.ensures in
-    if_ok (λ machine. machine ≡ started (Some groups) c.in_ok-held.held.items state number) (FitsGraph g)
-    (λ machine is. subst (FitsGraph g) (sym (is ∙ ap (λ list. started (Some groups) list state number) same)) fits)
+    if_ok (λ (machine : MachineData). machine ≡ started (Some c.args.plan.groups) c.in_ok-held.held.items state uses machine.spare) (FitsGraph g)
+    (λ machine is. subst (FitsGraph g) (sym (is ∙ ap (λ list. started (Some c.args.plan.groups) list state uses machine.spare) same)) (fits machine.spare))
     c.assemble.result c.assemble.ensures

@@ -1,10 +1,9 @@
 -- A node is placed.
 use Rattle.std.proofs.Common.{◌≡◌, ◌<◌, None, length, refl, sym, ap, subst, ◌∙◌, arith}
-use Rattle.std.specs.Prelude.{Contains, slice_index_or, option_map}
+use Rattle.std.specs.Prelude.{Contains, slice_index_or, vec_capacity, vec_len, ◌-◌}
 use Rattle.std.proofs.lemmas.List.{get_or_default, length-set}
-use Rattle.channel_groups.specs.Grouping.{GroupsData}
 use Rattle.ternary.specs.Counts.{raised}
-use Rattle.kept_parts.specs.Uses.{used}
+use Rattle.kept_parts.specs.Uses.{texts_used, count_distinct}
 use Rattle.unit_step.specs.Machines.{MachineData}
 use Rattle.unit_step.specs.Evaluating.{rooms}
 use Rattle.unit_step.specs.Running.{readers_of}
@@ -37,7 +36,7 @@ pub invariant_of-self : goal.invariant_of-self
 invariant_of-self c =
     let i = c.self.inside in
     IsMachine-again i.parts.items i.agenda.marks c.mark_all.new.agenda.marks i.agenda.waiting c.mark_all.new.agenda.waiting
-    (length i.state.items) _ i.readers.items i.owners.items i.held (rooms i.desk) (rooms i.desk)
+    (length i.state.items) _ i.readers.items i.owners.items i.uses.numbers i.held i.most (rooms i.desk) (rooms i.desk)
     (c.mark_all.ensures.marks.count ∙ c.mark_owner.ensures.marks.count) (c.mark_all.ensures.waiting ∙ c.mark_owner.ensures.waiting)
     (length-set i.state.items c.args.node c.args.value) refl c.self.invariant
 
@@ -51,15 +50,17 @@ returns-clause-places c =
     let lists : c.deref.result.now ≡ readers_of i.readers.items node =
     c.deref.ensures ∙ readers_read i.readers.items node c.index.result.now (omega (arith, inside, c.self.invariant.runs.readers_counted)) c.index.ensures in
     let old : MachineData = record {
-      groups = option_map (λ (held : GroupsData). held.groups) i.groups;
+      groups = i.groups;
       parts = i.parts.items;
+      uses = texts_used i.uses;
       marks = i.agenda.marks;
       state = i.state.items;
-      texts = used i.uses;
+      texts = count_distinct (texts_used i.uses);
       moves = i.moves;
       placed = i.placed;
+      spare = vec_capacity i.state - vec_len i.state;
     } in
-    let places = Places-marked node c.args.value old i.agenda.waiting i.readers.items i.owners.items i.held (rooms i.desk) c.self.invariant
+    let places = Places-marked node c.args.value old i.agenda.waiting i.readers.items i.owners.items i.uses.numbers i.held i.most (rooms i.desk) c.self.invariant
     c.index-owner.result.now owner_is c.mark_owner.new.agenda.marks c.mark_all.new.agenda.marks c.mark_owner.ensures.marks c.deref.result.now lists
     c.mark_all.ensures.marks c.placed_after-self-inside.result in
     rw (← c.self.view_is) places
@@ -74,15 +75,17 @@ returns-clause-covers c =
     let lists : c.deref.result.now ≡ readers_of i.readers.items node =
     c.deref.ensures ∙ readers_read i.readers.items node c.index.result.now (omega (arith, inside, c.self.invariant.runs.readers_counted)) c.index.ensures in
     let old : MachineData = record {
-      groups = option_map (λ (held : GroupsData). held.groups) i.groups;
+      groups = i.groups;
       parts = i.parts.items;
+      uses = texts_used i.uses;
       marks = i.agenda.marks;
       state = i.state.items;
-      texts = used i.uses;
+      texts = count_distinct (texts_used i.uses);
       moves = i.moves;
       placed = i.placed;
+      spare = vec_capacity i.state - vec_len i.state;
     } in
-    let places = Places-marked node c.args.value old i.agenda.waiting i.readers.items i.owners.items i.held (rooms i.desk) c.self.invariant
+    let places = Places-marked node c.args.value old i.agenda.waiting i.readers.items i.owners.items i.uses.numbers i.held i.most (rooms i.desk) c.self.invariant
     c.index-owner.result.now owner_is c.mark_owner.new.agenda.marks c.mark_all.new.agenda.marks c.mark_owner.ensures.marks c.deref.result.now lists
     c.mark_all.ensures.marks c.placed_after-self-inside.result in
     rw (← c.self.view_is) (λ covers. placing_keeps_cover c.args.graph.now node c.args.value old _ c.graphs_are_wired.ensures covers places)
@@ -97,15 +100,17 @@ returns-clause-fits c =
     let lists : c.deref.result.now ≡ readers_of i.readers.items node =
     c.deref.ensures ∙ readers_read i.readers.items node c.index.result.now (omega (arith, inside, c.self.invariant.runs.readers_counted)) c.index.ensures in
     let old : MachineData = record {
-      groups = option_map (λ (held : GroupsData). held.groups) i.groups;
+      groups = i.groups;
       parts = i.parts.items;
+      uses = texts_used i.uses;
       marks = i.agenda.marks;
       state = i.state.items;
-      texts = used i.uses;
+      texts = count_distinct (texts_used i.uses);
       moves = i.moves;
       placed = i.placed;
+      spare = vec_capacity i.state - vec_len i.state;
     } in
-    let places = Places-marked node c.args.value old i.agenda.waiting i.readers.items i.owners.items i.held (rooms i.desk) c.self.invariant
+    let places = Places-marked node c.args.value old i.agenda.waiting i.readers.items i.owners.items i.uses.numbers i.held i.most (rooms i.desk) c.self.invariant
     c.index-owner.result.now owner_is c.mark_owner.new.agenda.marks c.mark_all.new.agenda.marks c.mark_owner.ensures.marks c.deref.result.now lists
     c.mark_all.ensures.marks c.placed_after-self-inside.result in
     rw (← c.self.view_is)

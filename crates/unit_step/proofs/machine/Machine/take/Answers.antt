@@ -21,7 +21,7 @@ invariant_of-self g c =
     let final = with_items_is i.state n (omega (arith, c.advance-changed.auto.state, c.deref_mut.ensures.len)) in
     let nodes = ap length final ∙ (c.advance-changed.auto.state ∙ ap length c.deref_mut.ensures.value) in
     IsMachine-again i.parts.items i.agenda.marks c.advance-changed.new.agenda.marks i.agenda.waiting c.advance-changed.new.agenda.waiting
-    (length i.state.items) _ i.readers.items i.owners.items i.held (rooms i.desk) (rooms c.advance-changed.new.desk)
+    (length i.state.items) _ i.readers.items i.owners.items i.uses.numbers i.held i.most (rooms i.desk) (rooms c.advance-changed.new.desk)
     step.marks.count step.waiting nodes step.rooms c.self.invariant
 
 pub returns-clause-advances : goal.returns-clause-advances
@@ -44,8 +44,10 @@ returns-clause-advances g c =
           (subst (λ list. Remarks joining list marks old n new_marks) c.deref.ensures.value step.marks));
       groups = refl;
       parts = refl;
+      uses = refl;
       texts = refl;
       placed = refl;
+      spare = refl;
     })
 
 pub returns-clause-ticks : goal.returns-clause-ticks

@@ -1,0 +1,94 @@
+-- The new part comes behind the others, and its members are its own.
+use Rattle.std.proofs.Common.{◌≡◌, ◌+◌, ◌<◌, ◌++◌, ◌∷◌, [], ℕ, List, Option, None, length, refl, sym, ap, subst, ◌∙◌, arith}
+use Rattle.std.specs.Prelude.{Contains, slice_index_or, All}
+use Rattle.std.proofs.lemmas.List.{with_items_is, length_push}
+use Rattle.channel_groups.proofs.StoreLemmas.{same_more}
+use Rattle.group_text.specs.Texts.{GroupTextData}
+use Rattle.kept_parts.specs.Uses.{UsesData, texts_used}
+use Rattle.kept_parts.proofs.NumberLemmas.{texts_added}
+use Rattle.unit_step.specs.Machines.{MachineData}
+use Rattle.unit_step.specs.Evaluating.{rooms}
+use Rattle.unit_step.specs.Parts.{HasMember}
+use Rattle.unit_step.specs.Marking.{AgendaData}
+use Rattle.unit_step.specs.Making.{Owns}
+use Rattle.unit_step.proofs.SeatingLemmas.{IsMachine-roomier, IsMachine-seated}
+use Rattle.unit_step.proofs.machine.Machine.seat.Goals as goal
+
+pub invariant_of-self-in_err-widen : goal.invariant_of-self-in_err-widen
+invariant_of-self-in_err-widen c =
+    let i = c.self.inside in
+    let members = c.args.members.now in
+    rw c.reserve.ensures.items
+    (IsMachine-roomier i.parts.items i.agenda.marks i.agenda.waiting (length i.state.items) i.readers.items i.owners.items i.uses.numbers i.held i.most (rooms i.desk) c.self.invariant i.uses.numbers (rooms c.widen.new.desk) (omega arith)
+    c.widen.ensures.values c.widen.ensures.outs c.widen.ensures.changes c.widen.ensures.parts)
+
+pub invariant_of-self-in_err-add : goal.invariant_of-self-in_err-add
+invariant_of-self-in_err-add c =
+    let i = c.self.inside in
+    let members = c.args.members.now in
+    let same = ap (λ (uses : UsesData). length uses.numbers) c.in_err-add.ensures.err in
+    rw c.reserve.ensures.items
+    (IsMachine-roomier i.parts.items i.agenda.marks i.agenda.waiting (length i.state.items) i.readers.items i.owners.items i.uses.numbers i.held i.most (rooms i.desk) c.self.invariant c.add.new.self.numbers (rooms c.widen.new.desk)
+    (omega (arith, same)) c.widen.ensures.values c.widen.ensures.outs c.widen.ensures.changes c.widen.ensures.parts)
+
+pub invariant_of-self-in_err-wait_more : goal.invariant_of-self-in_err-wait_more
+invariant_of-self-in_err-wait_more c =
+    let i = c.self.inside in
+    let members = c.args.members.now in
+    let more = ap length c.in_ok-add.ensures.ok in
+    rw (c.reserve.ensures.items, c.in_err-wait_more.ensures.err)
+    (IsMachine-roomier i.parts.items i.agenda.marks i.agenda.waiting (length i.state.items) i.readers.items i.owners.items i.uses.numbers i.held i.most (rooms i.desk) c.self.invariant c.add.new.self.numbers (rooms c.widen.new.desk)
+    (omega (arith, more, length_push i.uses.numbers None)) c.widen.ensures.values c.widen.ensures.outs c.widen.ensures.changes c.widen.ensures.parts)
+
+pub invariant_of-self-2 : goal.invariant_of-self-2
+invariant_of-self-2 c =
+    let i = c.self.inside in
+    let members = c.args.members.now in
+    let e = c.in_ok-part.part in
+    let room = rooms c.widen.new.desk in
+    let most : c.in-Some.most ≡ i.most + length members = omega (arith, c.in-Some.ensures) in
+    let parts = c.push_reserved.ensures.items ∙ ap (λ xs. xs ++ e ∷ []) c.reserve.ensures.items in
+    let count : c.len-2.result ≡ length i.parts.items = omega (arith, c.len-2.ensures, c.reserve.ensures.len, i.parts.ok.0) in
+    let before : c.len.result ≡ length i.parts.items = omega (arith, c.len.ensures, c.reserve.ensures.len, i.parts.ok.0) in
+    let owners = with_items_is i.owners c.own.new.owners (omega (arith, c.own.auto.owners, c.deref_mut.ensures.len)) in
+    let owns : Owns (length i.parts.items) members i.owners.items c.own.new.owners =
+    subst (λ n. Owns n members i.owners.items c.own.new.owners) count
+    (subst (λ list. Owns c.len-2.result members list c.own.new.owners) c.deref_mut.ensures.value c.own.ensures) in
+    let marks = ap (λ (agenda : AgendaData). agenda.marks) c.in_ok-wait_more.ensures.ok in
+    let waits = ap (λ (agenda : AgendaData). agenda.waiting) c.in_ok-wait_more.ensures.ok in
+    let waiting : length i.agenda.waiting ≡ length i.parts.items = c.wait_more.ensures.counted ∙ c.self.invariant.runs.counted in
+    let numbers = ap length c.in_ok-add.ensures.ok ∙ length_push i.uses.numbers None in
+    let roomier = IsMachine-roomier i.parts.items i.agenda.marks i.agenda.waiting (length i.state.items) i.readers.items i.owners.items i.uses.numbers i.held i.most (rooms i.desk) c.self.invariant i.uses.numbers room (omega arith)
+    c.widen.ensures.values c.widen.ensures.outs c.widen.ensures.changes c.widen.ensures.parts in
+    let inside : All (λ node. node < length i.state.items) members =
+    subst (λ n. All (λ node. node < n) members) (ap (λ (m : MachineData). length m.state) (sym c.self.view_is)) c.requires.inside in
+    let free : (k node : ℕ) → Contains members node → ¬ HasMember i.parts.items k node =
+    λ k node there has. c.requires.free k node there (subst (λ list. HasMember list k node) (ap (λ (m : MachineData). m.parts) c.self.view_is) has) in
+    rw (parts, marks, waits, owners, most)
+    (IsMachine-seated i.parts.items i.agenda.marks i.agenda.waiting (length i.state.items) i.readers.items i.owners.items i.uses.numbers i.held i.most
+    room roomier members e c.in_ok-part.ensures c.requires.some inside c.requires.once free c.own.new.owners owns c.add.new.self.numbers numbers
+    (omega (arith, most, c.in_ok-widen.ensures.more_changes)) (omega (arith, before, c.in_ok-widen.ensures.more_parts)) waiting)
+
+pub returns-clause-ok : goal.returns-clause-ok
+returns-clause-ok c =
+    let i = c.self.inside in
+    let e = c.in_ok-part.part in
+    rw (← c.self.view_is) (record {
+      part = e;
+      is_new = c.in_ok-part.ensures;
+      parts = c.push_reserved.ensures.items ∙ ap (λ xs. xs ++ e ∷ []) c.reserve.ensures.items;
+      uses = λ k.
+          ap (λ (list : List (Option GroupTextData)). slice_index_or list k None) (texts_added i.uses c.add.new.self c.add.ensures.known c.in_ok-add.ensures.ok)
+          ∙ same_more GroupTextData (texts_used i.uses) k;
+      more_uses =
+          ap length (texts_added i.uses c.add.new.self c.add.ensures.known c.in_ok-add.ensures.ok) ∙ length_push (texts_used i.uses) None;
+      marks = ap (λ (agenda : AgendaData). agenda.marks) c.in_ok-wait_more.ensures.ok;
+      groups = refl;
+      state = refl;
+      moves = refl;
+      placed = refl;
+      spare = refl;
+    })
+
+pub returns-clause-counted : goal.returns-clause-counted
+returns-clause-counted c = rw (← c.self.view_is) c.self.invariant.runs.counted

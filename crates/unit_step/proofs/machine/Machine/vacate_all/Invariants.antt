@@ -1,0 +1,7 @@
+-- The nodes so far are cleared.
+use Rattle.std.proofs.Common.{take}
+use Rattle.unit_step.specs.Seating.{Clears}
+use Rattle.unit_step.proofs.machine.Machine.vacate_all.Given as goal
+
+abbrev pub invariant-loop-node : goal.invariant-loop-node
+invariant-loop-node l = Clears (take l.node-index l.nodes) l.fn.self l.self

@@ -1,0 +1,60 @@
+//! Nodes that are added to a machine.
+ghost use Rattle.std.specs.Prelude.{◌≡◌, ℕ, ◌+◌, ◌-◌, ◌++◌, ◌≤◌, None, length, replicate, vec_capacity, OnOk, OnErr};
+ghost use Rattle.unit_step.specs.Running.{readers_of};
+ghost use Rattle.unit_step.specs.Editing.{with_new_nodes};
+
+use crate::machine::Machine;
+use crate::part::Readers;
+use smallvec::SmallVec;
+use std::alloc::{AllocError, Global};
+use ternary::Tern;
+
+impl Machine {
+    // Adds nodes, up to so many: they are X, and no part has or reads them.
+    pub(crate) fn add_nodes(&mut self, nodes: usize) -> Result<(), AllocError>
+        requires { nodes ≤ length self.old.state + self.old.spare }
+        ensures ok { OnOk result (self.new ≡ record self.old { state = with_new_nodes self.old.state nodes; spare = self.new.spare }) }
+        ensures err { OnErr result (self.new ≡ self.old) }
+    {
+        let more = nodes.saturating_sub(self.state.len());
+        self.readers.reserve(more)?;
+        self.owners.reserve(more)?;
+        let alloc = *self.state.allocator();
+        grow(&mut self.state, nodes);
+        grow_owners(&mut self.owners, nodes);
+        grow_readers(alloc, &mut self.readers, nodes);
+        Ok(())
+    }
+}
+
+// Adds X for each new node, up to so many nodes, in room that is there.
+pub(crate) fn grow(state: &mut Vec<Tern>, nodes: usize)
+    requires { nodes ≤ vec_capacity state.old }
+    ensures state { state.new.items ≡ with_new_nodes state.old.items nodes }
+    ensures capacity { vec_capacity state.new ≡ vec_capacity state.old }
+{
+    for _node in state.len()..nodes {
+        state.push_reserved(Tern::Unk);
+    }
+}
+
+// Adds nodes without an owner, up to so many, in room that is there.
+fn grow_owners(owners: &mut Vec<Option<usize>>, nodes: usize)
+    requires { nodes ≤ vec_capacity owners.old }
+    ensures { owners.new.items ≡ owners.old.items ++ replicate (nodes - length owners.old.items) None }
+{
+    for _node in owners.len()..nodes {
+        owners.push_reserved(None);
+    }
+}
+
+// Adds nodes without readers, up to so many, in room that is there.
+fn grow_readers(alloc: Global, readers: &mut Vec<Readers>, nodes: usize)
+    requires { nodes ≤ vec_capacity readers.old }
+    ensures count { length readers.new.items ≡ length readers.old.items + (nodes - length readers.old.items) }
+    ensures same { (node : ℕ) → readers_of readers.new.items node ≡ readers_of readers.old.items node }
+{
+    for _node in readers.len()..nodes {
+        readers.push_reserved(SmallVec::new(alloc));
+    }
+}

@@ -1,0 +1,166 @@
+//! Parts that lose their group in an edit, and parts for the groups that an edit makes.
+ghost use Rattle.std.specs.Prelude.{◌≡◌, ◌≢◌, ℕ, ◌+◌, ◌++◌, ◌<◌, ◌≤◌, ◌∷◌, [], true, false, None, length, vec_capacity, slice_index, slice_index_or, slice_set, All, Contains, IfOk, OnOk, OnErr};
+ghost use Rattle.unit_step.specs.Parts.{HasMember};
+ghost use Rattle.unit_step.specs.Evaluating.{rooms};
+ghost use Rattle.unit_step.specs.Seating.{Disowns, Unlists, Vacates, Seats, Clears, Renews, one_of, IsVacant, IsStalePartOf};
+
+use crate::evaluation::Desk;
+use crate::machine::Machine;
+use crate::making::own;
+use crate::part::{HeldPart, Readers};
+use std::alloc::{AllocError, Global};
+use std::mem;
+use ternary::NoMemory;
+
+impl Machine {
+    // Takes a part's group away: it has no members and no code any more, and reads nothing.
+    pub(crate) fn vacate(&mut self, k: usize)
+        requires { k < length self.old.parts }
+        ensures { Vacates k self.old self.new }
+    {
+        let alloc = *self.state.allocator();
+        let gone = mem::replace(&mut self.parts[k], no_part(alloc));
+        disown(&gone.map[..gone.members], &mut self.owners);
+        unlist(k, &gone.reads, &mut self.readers);
+        self.agenda.release(k);
+        self.uses.free(k);
+        self.held -= count_one(&gone);
+        self.most -= gone.members;
+    }
+
+    // Seats a part for a group with these members, which are no members of other parts: it is stale and
+    // marked.
+    pub(crate) fn seat(&mut self, members: &[usize]) -> Result<(), NoMemory>
+        requires some { 0 < length members.now }
+        requires inside { All (λ node. node < length self.old.state) members.now }
+        requires once { (i j : ℕ) → i < length members.now → j < length members.now → slice_index members.now i ≡ slice_index members.now j → i ≡ j }
+        requires free { (k node : ℕ) → Contains members.now node → ¬ HasMember self.old.parts k node }
+        ensures ok { OnOk result (Seats members.now self.old self.new) }
+        ensures counted { length self.old.marks ≡ length self.old.parts }
+        ensures state { self.new.state ≡ self.old.state }
+        ensures spare { self.new.spare ≡ self.old.spare }
+    {
+        let part = part_of(*self.state.allocator(), members)?;
+        let Some(most) = self.most.checked_add(members.len()) else {
+            return Err(NoMemory);
+        };
+        self.parts.reserve(1)?;
+        widen(&mut self.desk, most, self.parts.len() + 1)?;
+        self.uses.add()?;
+        self.agenda.wait_more()?;
+        own(self.parts.len(), members, &mut self.owners);
+        self.parts.push_reserved(part);
+        self.held += 1;
+        self.most = most;
+        Ok(())
+    }
+
+    // Takes its group away from the part that has this node as a member, if there is one.
+    fn vacate_owner(&mut self, node: usize)
+        ensures { Clears (node ∷ []) self.old self.new }
+    {
+        if let Some(k) = owner_of(&self.owners, node) {
+            self.vacate(k);
+        }
+    }
+
+    // Takes their groups away from the parts that have these nodes as members.
+    pub(crate) fn vacate_all(&mut self, nodes: &[usize])
+        ensures { Clears nodes.now self.old self.new }
+    {
+        for node in nodes {
+            self.vacate_owner(*node);
+        }
+    }
+
+    // Seats a part for a group with these members, in place of the parts that have them.
+    pub(crate) fn renew(&mut self, members: &[usize]) -> Result<(), NoMemory>
+        requires some { 0 < length members.now }
+        requires inside { All (λ node. node < length self.old.state) members.now }
+        requires once { (i j : ℕ) → i < length members.now → j < length members.now → slice_index members.now i ≡ slice_index members.now j → i ≡ j }
+        ensures ok { OnOk result (Renews members.now self.old self.new) }
+        ensures state { self.new.state ≡ self.old.state }
+        ensures spare { self.new.spare ≡ self.old.spare }
+    {
+        self.vacate_all(members);
+        self.seat(members)
+    }
+}
+
+// The part that has this node as a member, if there is one.
+pub(crate) fn owner_of(owners: &[Option<usize>], node: usize) -> Option<usize>
+    ensures { result ≡ slice_index_or owners.now node None }
+{
+    if node < owners.len() {
+        owners[node]
+    } else {
+        None
+    }
+}
+
+// How many parts with members a part is.
+fn count_one(part: &HeldPart) -> usize
+    ensures { result ≡ one_of part.now }
+{
+    if part.members > 0 { 1 } else { 0 }
+}
+
+// A part without a group.
+fn no_part(alloc: Global) -> HeldPart
+    ensures { IsVacant result }
+{
+    HeldPart {
+        code: None,
+        map: Vec::new(alloc),
+        members: 0,
+        reads: Vec::new(alloc),
+    }
+}
+
+// The stale part of a group with these members.
+fn part_of(alloc: Global, members: &[usize]) -> Result<HeldPart, AllocError>
+    ensures { IfOk result (IsStalePartOf members.now) }
+{
+    Ok(HeldPart {
+        code: None,
+        map: Vec::from_slice(alloc, members)?,
+        members: members.len(),
+        reads: Vec::new(alloc),
+    })
+}
+
+// Takes their owner from these nodes.
+fn disown(members: &[usize], owners: &mut [Option<usize>])
+    requires { All (λ node. node < length owners.old) members.now }
+    ensures { Disowns members.now owners.old owners.new }
+{
+    for node in members {
+        owners[*node] = None;
+    }
+}
+
+// Takes a part out of the readers of these nodes.
+fn unlist(k: usize, nodes: &[usize], readers: &mut [Readers])
+    requires { All (λ node. node < length readers.old) nodes.now }
+    ensures { Unlists k nodes.now readers.old readers.new }
+{
+    for node in nodes {
+        readers[*node].retain(|one| *one != k);
+    }
+}
+
+// Makes room for so many changes and so many parts.
+fn widen(desk: &mut Desk, changes: usize, parts: usize) -> Result<(), AllocError>
+    ensures values { (rooms desk.new).values ≡ (rooms desk.old).values }
+    ensures outs { (rooms desk.new).outs ≡ (rooms desk.old).outs }
+    ensures changes { (rooms desk.old).changes ≤ (rooms desk.new).changes }
+    ensures parts { (rooms desk.old).parts ≤ (rooms desk.new).parts }
+    ensures more_changes { OnOk result (changes ≤ (rooms desk.new).changes) }
+    ensures more_parts { OnOk result (parts ≤ (rooms desk.new).parts) }
+{
+    desk.changes.clear();
+    desk.done.clear();
+    desk.changes.reserve(changes)?;
+    desk.done.reserve(parts)?;
+    Ok(())
+}
