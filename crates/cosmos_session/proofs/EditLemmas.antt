@@ -1,28 +1,38 @@
 -- A session after an edit of its circuit is one still, and the edit is answered by its refusal.
 -- The plan: edits of switches keep the nodes, those that make names add some, whose states are X; so what speaks of nodes holds as before. The
--- machine is let go.
-use Rattle.std.proofs.Common.{◌≡◌, ℕ, ◌+◌, ◌-◌, ◌<◌, ◌≤◌, Bool, true, false, List, [], ◌∷◌, ◌++◌, length, replicate, None, Some, is_some, nat_lt, nat_le, refl, sym, ap, subst, ◌∙◌, arith, length-append}
+-- machine covered the graph before, and covers the graph after.
+use Rattle.std.proofs.Common.{◌≡◌, ℕ, ◌+◌, ◌-◌, ◌<◌, ◌≤◌, Bool, true, false, List, [], ◌∷◌, ◌++◌, length, replicate, Option, None, Some, Result, IfSome, OnOk, is_some, nat_lt, nat_le, refl, sym, ap, subst, ◌∙◌, arith, length-append, append-nil}
 use Rattle.std.specs.Prelude.{if◌then◌else◌}
 use Rattle.std.proofs.lemmas.List.{length-replicate, get_or_append_left}
 use Rattle.std.proofs.lemmas.List.Elements.{All-weaker}
 use Rattle.ternary.specs.declared.tern.Tern.{Tern}
 use Rattle.ternary.specs.declared.tern.Tern.TheVariants.{Zero, Unk}
 use Rattle.strength_order.specs.declared.TheConstants.{LEAST_SIZE_LEVEL}
-use Rattle.path_meaning.specs.declared.TheConstants.{GND, VDD}
+use Rattle.path_meaning.specs.declared.TheConstants.{GND, VDD, RAILS}
+use Rattle.path_meaning.specs.declared.switching.SwitchKind.{SwitchKind}
 use Rattle.path_meaning.specs.Graphs.{nodes}
+use Rattle.channel_groups.specs.declared.change.Change.{Change}
+use Rattle.channel_groups.specs.Changes.{undo}
+use Rattle.unit_step.specs.Machines.{MachineData}
+use Rattle.unit_step.specs.Fitting.{Covers}
+use Rattle.unit_step.specs.Editing.{with_new_nodes}
+use Rattle.unit_step.proofs.KeptLemmas.{edits_keep_texts}
 use Rattle.netlist.specs.declared.TheConstants.{MOST_NODES, MOST_SWITCHES}
+use Rattle.netlist.specs.declared.fault.EditFault.{EditFault}
 use Rattle.netlist.specs.declared.fault.EditFault.TheVariants as edit
 use Rattle.netlist.specs.Faults.{MakingFault}
 use Rattle.netlist.specs.Names.{node_of}
 use Rattle.netlist.specs.Circuits.{CircuitData, IsCircuit}
-use Rattle.netlist.specs.Edits.{is_strength, add_fault, strength_fault, switch_numbered, wire_fault, with_node, with_nodes, with_new_node, with_wires}
-use Rattle.script_lang.specs.declared.command.Command.TheVariants.{Wire}
+use Rattle.netlist.specs.Edits.{answer_of, is_strength, add_fault, rail_fault, strength_fault, switch_numbered, wire_fault, with_node, with_nodes, with_new_node, with_transistor, with_wires}
+use Rattle.script_lang.specs.declared.command.Command.TheVariants.{Add, Wire}
+use Rattle.cosmos_session.specs.declared.fault.Refusal.TheVariants.{Rail}
 use Rattle.cosmos_session.specs.Sessions.{SessionData, HeldSession, IsReady, IsSession}
-use Rattle.cosmos_session.specs.Refusals.{making_refusal, edit_refusal}
+use Rattle.cosmos_session.specs.Refusals.{making_refusal, edit_refusal, rail_refusal, strength_for}
 use Rattle.cosmos_session.specs.Effects.{with_circuit}
-use Rattle.cosmos_session.specs.Machines.{IsHeldSession}
+use Rattle.cosmos_session.specs.Machines.{Serves, Survives, IsHeldSession}
 use Rattle.cosmos_session.specs.Outcomes.{Does}
-use Rattle.cosmos_session.specs.Stages.{StageData}
+use Rattle.cosmos_session.specs.Stages.{StageData, EditsFrom}
+use Rattle.cosmos_session.proofs.UndoLemmas.{Undoes}
 
 -- ---- nodes
 
@@ -40,6 +50,11 @@ nodes-with_nodes-most [] c = omega arith
 nodes-with_nodes-most (name ∷ names) c = omega (arith, nodes-with_nodes-most names (with_node c name), nodes-with_node c name)
 
 -- ---- sessions
+
+-- what holds of one that is there, and leads to another fact, gives that fact of it
+IfSome-weaker : {X : Type 0} {P Q : X → Type 0} (found : Option X) → ((x : X) → P x → Q x) → IfSome found P → IfSome found Q
+IfSome-weaker None leads holds = tt
+IfSome-weaker (Some x) leads holds = leads x holds
 
 -- a session is ready with another circuit of more nodes, whose states are X
 pub IsReady-grown : (session : SessionData) (c : CircuitData) → IsCircuit c → nodes session.circuit.graph ≤ nodes c.graph → IsReady session →
@@ -73,14 +88,70 @@ IsSession-grown session c is_circuit more is = record {
   high = is.high;
 }
 
--- and so is one without its machine, with such a circuit
-pub held-grown : (session : HeldSession) (c : CircuitData) (stage : StageData) →
-    stage ≡ record { state = session.core.state ++ replicate (nodes c.graph - length session.core.state) Unk; machine = None } → IsCircuit c →
-    nodes session.core.circuit.graph ≤ nodes c.graph → IsHeldSession session →
-    IsHeldSession (record { core = record session.core { circuit = c; state = stage.state }; machine = stage.machine })
-held-grown session c stage is is_circuit more held =
-    subst (λ (other : StageData). IsHeldSession (record { core = record session.core { circuit = c; state = other.state }; machine = other.machine })) (sym is)
-    (record { core = IsSession-grown session.core c is_circuit more held.core; machine = tt })
+-- where no node is new, no state is
+pub same_states : (state : List Tern) (count : ℕ) → count ≤ length state → with_new_nodes state count ≡ state
+same_states state count few =
+    let none : count - length state ≡ 0 = omega (few, arith) in
+    ap (λ (n : ℕ). state ++ replicate n Unk) none ∙ append-nil state
+
+-- an edit of the circuit, told to the machine
+module _ (session : HeldSession) (c : CircuitData) (change : Change) (undoes : Undoes c.graph session.core.circuit.graph change)
+    (held : IsHeldSession session) where
+  -- the machine covers the graph before
+  pub covers-before : IfSome session.machine (Covers (undo c.graph change))
+  covers-before = by session.machine held.machine
+    where
+      by : (found : Option MachineData) → IfSome found (Serves session.core.circuit.graph session.core.state session.core.kept) →
+          IfSome found (Covers (undo c.graph change))
+      by None serves = tt
+      by (Some machine) serves = undoes.covers machine serves.covers
+
+  module _ (stage : StageData) (is_circuit : IsCircuit c) (more : nodes session.core.circuit.graph ≤ nodes c.graph)
+      (grown : stage.state ≡ with_new_nodes session.core.state (nodes c.graph))
+      (edited : IfSome stage.machine (EditsFrom c.graph change session.machine)) where
+    -- a machine that is there serves
+    serves-edited : (machine : MachineData) → EditsFrom c.graph change session.machine machine → Serves c.graph stage.state session.core.kept machine
+    serves-edited machine from =
+        let serves = subst (λ (m : Option MachineData). IfSome m (Serves session.core.circuit.graph session.core.state session.core.kept)) from.was
+        held.machine in
+        record {
+          covers = from.edits.covers;
+          same = from.edits.state ∙ ap (λ (state : List Tern). with_new_nodes state (nodes c.graph)) serves.same ∙ sym grown;
+          known = edits_keep_texts c.graph change session.core.kept from.before machine undoes.wired is_circuit.wired
+              (undoes.covers from.before serves.covers) from.edits (undoes.texts session.core.kept from.before serves.covers serves.known);
+        }
+
+    -- a session is one after it
+    pub held-edited : IsHeldSession (record { core = record session.core { circuit = c; state = stage.state }; machine = stage.machine })
+    held-edited = record {
+      core = subst (λ (state : List Tern). IsSession (record session.core { circuit = c; state = state })) (sym grown)
+          (IsSession-grown session.core c is_circuit more held.core);
+      machine = IfSome-weaker stage.machine serves-edited edited;
+    }
+
+    -- and the machine, where there is one, was there before
+    pub survives-edited : IfSome stage.machine (Survives session.machine)
+    survives-edited = IfSome-weaker stage.machine
+        (λ machine from. record { before = from.before; was = from.was; moves = from.edits.moves; placed = from.edits.placed }) edited
+
+-- what no command did to the machine, no edit did
+pub survives-same : (found : Option MachineData) → IfSome found (Survives found)
+survives-same None = tt
+survives-same (Some machine) = record { before = machine; was = refl; moves = refl; placed = refl }
+
+-- and what survived one edit, and then another, survived both
+pub survives-both : (old mid new : Option MachineData) → IfSome mid (Survives old) → IfSome new (Survives mid) → IfSome new (Survives old)
+survives-both old mid new first second = IfSome-weaker new one second
+  where
+    one : (machine : MachineData) → Survives mid machine → Survives old machine
+    one machine survives =
+        let earlier = subst (λ (m : Option MachineData). IfSome m (Survives old)) survives.was first in
+        record {
+          before = earlier.before;
+          was = earlier.was;
+          moves = survives.moves ∙ earlier.moves;
+          placed = survives.placed ∙ earlier.placed;
+        }
 
 -- ---- refusals
 
@@ -109,16 +180,41 @@ unrefused_strength c number strength none = by (is_some (switch_numbered c numbe
     by true false none = absurd (cc)
     by false accepted none = absurd (cc)
 
+-- a node that may be edited is made an input node
+pub input_made : (found : Option ℕ) (node : ℕ) (answer : Result (Unit {0}) EditFault) (Made : Type 0) → rail_refusal found ≡ None → found ≡ Some node →
+    answer ≡ answer_of (rail_fault node) → OnOk answer Made → Made
+input_made found node answer Made none there answered made = by (nat_lt node RAILS) (subst (λ (f : Option ℕ). rail_refusal f ≡ None) there none) answered
+  where
+    by : (rail : Bool) → (if rail then Some Rail else None) ≡ None → answer ≡ answer_of (if rail then Some edit.Rail else None) → Made
+    by true refused is = absurd (cc)
+    by false allowed is = subst (λ (other : Result (Unit {0}) EditFault). OnOk other Made) is made
+
+-- a transistor that is added: what its command does
+pub added_does : (session : SessionData) (c : CircuitData) (stage : StageData) (kind : SwitchKind) (strength : Option ℕ) (given : ℕ)
+    (gate source drain : List ℕ) → given ≡ strength_for kind strength → add_fault session.circuit given gate source drain ≡ None →
+    c ≡ with_transistor session.circuit kind given gate source drain → stage.state ≡ with_new_nodes session.state (nodes c.graph) →
+    Does session (Add kind gate source drain strength) (record session { circuit = c; state = stage.state }) []
+added_does session c stage kind strength given gate source drain same none is grown = record {
+  allowed = ap making_refusal (subst (λ (n : ℕ). add_fault session.circuit n gate source drain ≡ None) same none);
+  lines = [];
+  effect = (
+    ap (λ (state : List Tern). record session { circuit = c; state = state }) grown
+        ∙ ap (with_circuit session) (is ∙ ap (λ (n : ℕ). with_transistor session.circuit kind n gate source drain) same),
+    refl,
+  );
+  text_is = refl;
+}
+
 -- a transistor whose terminals are set: what its command does
 pub rewired_does : (session : SessionData) (c : CircuitData) (stage : StageData) (number : ℕ) (gate source drain : List ℕ) →
     wire_fault session.circuit number gate source drain ≡ None → c ≡ with_wires session.circuit number gate source drain →
-    stage ≡ record { state = session.state ++ replicate (nodes c.graph - length session.state) Unk; machine = None } →
+    stage.state ≡ with_new_nodes session.state (nodes c.graph) →
     Does session (Wire number gate source drain) (record session { circuit = c; state = stage.state }) []
 rewired_does session c stage number gate source drain none is grown = record {
   allowed = ap edit_refusal none;
   lines = [];
   effect = (
-    ap (λ (other : StageData). record session { circuit = c; state = other.state }) grown ∙ ap (with_circuit session) is,
+    ap (λ (state : List Tern). record session { circuit = c; state = state }) grown ∙ ap (with_circuit session) is,
     refl,
   );
   text_is = refl;

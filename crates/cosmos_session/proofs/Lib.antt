@@ -9,7 +9,10 @@ pub mod BeatLemmas
 pub mod ClockLemmas
 pub mod RestLemmas
 pub mod GrownLemmas
+pub mod RoomLemmas
 pub mod MachineLemmas
+pub mod TickLemmas
+pub mod UndoLemmas
 pub mod BuildLemmas
 pub mod MoveLemmas
 pub mod ReportLemmas

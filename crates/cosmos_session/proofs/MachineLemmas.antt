@@ -1,6 +1,6 @@
 -- A session and its machine: what serves the data serves them after nodes were placed, after a step and after a phase.
 -- The plan: what is done to the machine is read by cases on whether there is one; its state is the session's before and after.
-use Rattle.std.proofs.Common.{◌≡◌, ℕ, ◌≤◌, Bool, true, false, List, [], ◌∷◌, length, map, All, Option, None, Some, IfSome, is_some, refl, sym, ap, subst, ◌∙◌, inl, inr, arith}
+use Rattle.std.proofs.Common.{◌≡◌, ℕ, ◌≤◌, ◌<◌, Bool, true, false, List, [], ◌∷◌, length, map, All, Option, None, Some, IfSome, refl, sym, ap, subst, ◌∙◌, inl, inr, arith}
 use Rattle.std.specs.Prelude.{Contains, if◌then◌else◌, ◌⊎◌, nat_lt}
 use Rattle.std.proofs.lemmas.List.Elements.{All-nil, All-cons, All-head, All-tail, All-weaker, All-contains}
 use Rattle.std.proofs.lemmas.Bool.Decides.{nat_tests}
@@ -8,7 +8,7 @@ use Rattle.ternary.specs.declared.tern.Tern.{Tern}
 use Rattle.ternary.specs.Counts.{raised}
 use Rattle.strength_order.specs.declared.TheConstants.{INPUT_LEVEL}
 use Rattle.path_meaning.specs.declared.TheConstants.{RAILS}
-use Rattle.path_meaning.specs.Graphs.{GraphData, IsWired, nodes, level_of}
+use Rattle.path_meaning.specs.Graphs.{GraphData, nodes, level_of}
 use Rattle.path_meaning.specs.Rails.{IsSound}
 use Rattle.path_meaning.specs.Step.{IsStep}
 use Rattle.oscillation_x.specs.Settling.{Settles}
@@ -17,8 +17,10 @@ use Rattle.unit_step.specs.declared.part.HeldPart.{HeldPart}
 use Rattle.unit_step.specs.Parts.{HasMember}
 use Rattle.unit_step.specs.Machines.{MachineData, IsMarked}
 use Rattle.unit_step.specs.Stepping.{Concerns, ReadsChange}
-use Rattle.unit_step.specs.Fitting.{FitsGraph}
-use Rattle.unit_step.proofs.ResponseLemmas.{member_is_storage}
+use Rattle.unit_step.specs.Fitting.{Covers, FitsGraph, IsKeptBy}
+use Rattle.unit_step.proofs.PartLemmas.{member_in_group}
+use Rattle.unit_step.proofs.KeptLemmas.{placing_keeps_texts, fitting_machines_share_texts}
+use Rattle.group_meaning.proofs.GroupLemmas.{member_storage}
 use Rattle.netlist.specs.Names.{node_of}
 use Rattle.netlist.specs.Circuits.{CircuitData}
 use Rattle.netlist.specs.Edits.{node_named}
@@ -26,7 +28,7 @@ use Rattle.cosmos_session.specs.declared.fault.Refusal.TheVariants.{Rail, NotInp
 use Rattle.cosmos_session.specs.Sessions.{SessionData, HeldSession, ClockData, IsSession}
 use Rattle.cosmos_session.specs.Refusals.{first_refusal, set_refusal, clock_refusal, cycle_refusal, is_input}
 use Rattle.cosmos_session.specs.Effects.{assigned, moved_to, one_more}
-use Rattle.cosmos_session.specs.Machines.{Serves, IsHeldSession, ConcernsNamed, PlacesIn, StepsMachine, moves_of, placed_of}
+use Rattle.cosmos_session.specs.Machines.{Serves, FitsIn, IsHeldSession, ConcernsNamed, PlacesIn, StepsMachine, moves_of, placed_of}
 use Rattle.cosmos_session.specs.Stages.{StageData, PutsNode, PutsIn, Assigns, AssignsIn, Ticks, TicksIn, TakesStep, TakesPhase, MovesBy, IsSettled}
 use Rattle.cosmos_session.proofs.RefusalLemmas.{none_of_all}
 use Rattle.cosmos_session.proofs.StateLemmas.{length-assigned, length-settles, sound-assigned, sound-step, sound-settles}
@@ -35,11 +37,13 @@ use Rattle.cosmos_session.proofs.ClockLemmas.{IsSession-state}
 -- ---- input nodes
 
 -- an input node is no member of a part
-pub no_member : (g : GraphData) → IsWired g → (machine : MachineData) → FitsGraph g machine → (node : ℕ) → level_of g node ≡ INPUT_LEVEL →
+pub no_member : (g : GraphData) (machine : MachineData) → Covers g machine → (node : ℕ) → level_of g node ≡ INPUT_LEVEL →
     (k : ℕ) → ¬ HasMember machine.parts k node
-no_member g wired machine fits node input k has =
-    let storage = member_is_storage g wired machine fits k node has in
-    absurd (omega (arith, storage.below, input))
+no_member g machine covers node input k has =
+    let some : 0 < has.part.members = omega (arith, has.member.inside) in
+    let (group, is_part) = covers.whole k has.part has.stands some in
+    let storage = member_storage g group is_part.is_group node (member_in_group g group has.part is_part has.place node has.member) in
+    absurd (omega (storage.below, input, arith))
 
 -- a node that is an input node by the test is one
 input_level : (c : CircuitData) (node : ℕ) → is_input c node ≡ true → level_of c.graph node ≡ INPUT_LEVEL
@@ -98,11 +102,12 @@ cycle_inputs c (clock ∷ clocks) none = clock_inputs c (clock ∷ clocks) none
 -- nothing was placed yet
 assigns-none : (c : CircuitData) (names : List (List ℕ)) (machine : MachineData) → Assigns c names machine machine
 assigns-none c names machine = record {
-  fits = λ fits. fits;
+  covers = λ covers. covers;
+  known = λ kept known. known;
   parts = refl;
   moves = refl;
   marks = λ k marked. inl marked;
-  unplaced = λ fits inputs. refl;
+  unplaced = λ covers inputs. refl;
 }
 
 pub assigns_in-none : (c : CircuitData) (names : List (List ℕ)) (machine : Option MachineData) → AssignsIn c names machine machine
@@ -110,14 +115,16 @@ assigns_in-none c names None = refl
 assigns_in-none c names (Some machine) = (machine, refl, assigns-none c names machine)
 
 -- one more of the names was placed
-assigns-more : (c : CircuitData) → IsWired c.graph → (names : List (List ℕ)) (name : List ℕ) (value : Tern) (old mid new : MachineData) →
+assigns-more : (c : CircuitData) (names : List (List ℕ)) (name : List ℕ) (value : Tern) (old mid new : MachineData) →
     Contains names name → Assigns c names old mid → PutsNode c.graph (node_named c name) value mid new → Assigns c names old new
-assigns-more c wired names name value old mid new named so_far puts = record {
-  fits = λ fits. puts.fits (so_far.fits fits);
+assigns-more c names name value old mid new named so_far puts = record {
+  covers = λ covers. puts.covers (so_far.covers covers);
+  known = λ kept known. placing_keeps_texts c.graph kept (node_named c name) value mid new puts.places (so_far.known kept known);
   parts = puts.places.parts ∙ so_far.parts;
   moves = puts.places.moves ∙ so_far.moves;
   marks = λ k marked. marked_by k (puts.places.only k marked);
-  unplaced = λ fits inputs. puts.unplaced (no_member c.graph wired mid (so_far.fits fits) (node_named c name) (input_of inputs)) ∙ so_far.unplaced fits inputs;
+  unplaced = λ covers inputs. puts.unplaced (no_member c.graph mid (so_far.covers covers) (node_named c name) (input_of inputs))
+      ∙ so_far.unplaced covers inputs;
 }
   where
     marked_by : (k : ℕ) → IsMarked mid.marks k ⊎ Concerns mid.parts k (node_named c name) → IsMarked old.marks k ⊎ ConcernsNamed c names old.parts k
@@ -131,50 +138,55 @@ assigns-more c wired names name value old mid new named so_far puts = record {
     input_of : All (λ other. level_of c.graph (node_named c other) ≡ INPUT_LEVEL) names → level_of c.graph (node_named c name) ≡ INPUT_LEVEL
     input_of inputs = All-contains (λ (other : List ℕ). level_of c.graph (node_named c other) ≡ INPUT_LEVEL) names name inputs named
 
-pub assigns_in-more : (c : CircuitData) → IsWired c.graph → (names : List (List ℕ)) (name : List ℕ) (value : Tern) (old mid new : Option MachineData) →
+pub assigns_in-more : (c : CircuitData) (names : List (List ℕ)) (name : List ℕ) (value : Tern) (old mid new : Option MachineData) →
     Contains names name → AssignsIn c names old mid → PutsIn c.graph (node_named c name) value mid new → AssignsIn c names old new
-assigns_in-more c wired names name value None mid new named none puts =
+assigns_in-more c names name value None mid new named none puts =
     subst (λ (m : Option MachineData). PutsIn c.graph (node_named c name) value m new) none puts
-assigns_in-more c wired names name value (Some old) mid new named (between, there, so_far) puts =
+assigns_in-more c names name value (Some old) mid new named (between, there, so_far) puts =
     let (next, is, put) = subst (λ (m : Option MachineData). PutsIn c.graph (node_named c name) value m new) there puts in
-    (next, is, assigns-more c wired names name value old between next named so_far put)
+    (next, is, assigns-more c names name value old between next named so_far put)
 
 -- no clock ticked yet
 ticks-none : (g : GraphData) (clocks : List ClockData) (machine : MachineData) → Ticks g clocks machine machine
-ticks-none g clocks machine = record { fits = λ fits. fits; moves = refl; unplaced = λ fits inputs. refl }
+ticks-none g clocks machine = record {
+  fits = λ fits. fits;
+  known = λ kept known. known;
+  moves = refl;
+  unplaced = λ fits inputs. refl;
+}
 
 pub ticks_in-none : (g : GraphData) (clocks : List ClockData) (machine : Option MachineData) → TicksIn g clocks machine machine
 ticks_in-none g clocks None = refl
 ticks_in-none g clocks (Some machine) = (machine, refl, ticks-none g clocks machine)
 
 -- one more of the clocks ticked
-ticks-more : (g : GraphData) → IsWired g → (clocks : List ClockData) (clock : ClockData) (value : Tern) (old mid new : MachineData) →
+ticks-more : (g : GraphData) (clocks : List ClockData) (clock : ClockData) (value : Tern) (old mid new : MachineData) →
     (All (λ other. level_of g other.node ≡ INPUT_LEVEL) clocks → level_of g clock.node ≡ INPUT_LEVEL) → Ticks g clocks old mid →
     PutsNode g clock.node value mid new → Ticks g clocks old new
-ticks-more g wired clocks clock value old mid new input_of so_far puts = record {
+ticks-more g clocks clock value old mid new input_of so_far puts = record {
   fits = λ fits. puts.fits (so_far.fits fits);
+  known = λ kept known. placing_keeps_texts g kept clock.node value mid new puts.places (so_far.known kept known);
   moves = puts.places.moves ∙ so_far.moves;
-  unplaced = λ fits inputs. puts.unplaced (no_member g wired mid (so_far.fits fits) clock.node (input_of inputs)) ∙ so_far.unplaced fits inputs;
+  unplaced = λ fits inputs. puts.unplaced (no_member g mid (so_far.fits fits).covers clock.node (input_of inputs)) ∙ so_far.unplaced fits inputs;
 }
 
-pub ticks_in-more : (g : GraphData) → IsWired g → (clocks : List ClockData) (clock : ClockData) (value : Tern) (old mid new : Option MachineData) →
+pub ticks_in-more : (g : GraphData) (clocks : List ClockData) (clock : ClockData) (value : Tern) (old mid new : Option MachineData) →
     (All (λ other. level_of g other.node ≡ INPUT_LEVEL) clocks → level_of g clock.node ≡ INPUT_LEVEL) → TicksIn g clocks old mid →
     PutsIn g clock.node value mid new → TicksIn g clocks old new
-ticks_in-more g wired clocks clock value None mid new input_of none puts =
+ticks_in-more g clocks clock value None mid new input_of none puts =
     subst (λ (m : Option MachineData). PutsIn g clock.node value m new) none puts
-ticks_in-more g wired clocks clock value (Some old) mid new input_of (between, there, so_far) puts =
+ticks_in-more g clocks clock value (Some old) mid new input_of (between, there, so_far) puts =
     let (next, is, put) = subst (λ (m : Option MachineData). PutsIn g clock.node value m new) there puts in
-    (next, is, ticks-more g wired clocks clock value old between next input_of so_far put)
+    (next, is, ticks-more g clocks clock value old between next input_of so_far put)
 
 -- ---- sessions after it
 
--- a machine that fits serves a state that is its own
-serves_there : (g : GraphData) (kept : List GroupTextData) (states : List Tern) (old : MachineData) (new : Option MachineData) (next : MachineData) →
-    new ≡ Some next → IfSome new (λ machine. machine.state ≡ states) → FitsGraph g next → (before : List Tern) → Serves g before kept old →
-    IfSome new (Serves g states kept)
-serves_there g kept states old new next there same fits before serves =
+-- a machine that covers serves a state that is its own
+pub serves_there : (g : GraphData) (kept : List GroupTextData) (states : List Tern) (new : Option MachineData) (next : MachineData) →
+    new ≡ Some next → IfSome new (λ machine. machine.state ≡ states) → Covers g next → IsKeptBy g kept next → IfSome new (Serves g states kept)
+serves_there g kept states new next there same covers known =
     subst (λ (m : Option MachineData). IfSome m (Serves g states kept)) (sym there)
-    (record { fits = fits; same = subst (λ (m : Option MachineData). IfSome m (λ machine. machine.state ≡ states)) there same; known = serves.known })
+    (record { covers = covers; same = subst (λ (m : Option MachineData). IfSome m (λ machine. machine.state ≡ states)) there same; known = known })
 
 -- the machine serves after named nodes were placed
 serves-assigned : (c : CircuitData) (names : List (List ℕ)) (kept : List GroupTextData) (before states : List Tern) (old new : Option MachineData) →
@@ -183,7 +195,7 @@ serves-assigned : (c : CircuitData) (names : List (List ℕ)) (kept : List Group
 serves-assigned c names kept before states None new serves none same =
     subst (λ (m : Option MachineData). IfSome m (Serves c.graph states kept)) (sym none) tt
 serves-assigned c names kept before states (Some machine) new serves (next, there, assigns) same =
-    serves_there c.graph kept states machine new next there same (assigns.fits serves.fits) before serves
+    serves_there c.graph kept states new next there same (assigns.covers serves.covers) (assigns.known kept serves.known)
 
 -- a session is one after named nodes past the rails were placed
 pub held-assigned : (session : HeldSession) (list : List (List ℕ × Tern)) (stage : StageData) → All (λ item. RAILS ≤ node_named session.core.circuit item.0) list →
@@ -208,20 +220,26 @@ places-assigned c names (Some machine) new (next, there, assigns) =
     record { machine = next; there = there; parts = assigns.parts; moves = assigns.moves; marks = assigns.marks }
 
 -- where all of the nodes are input nodes no member was placed
-pub unplaced-assigned : (c : CircuitData) (names : List (List ℕ)) (old new : Option MachineData) → IfSome old (FitsGraph c.graph) → AssignsIn c names old new →
+pub unplaced-assigned : (c : CircuitData) (names : List (List ℕ)) (old new : Option MachineData) → IfSome old (Covers c.graph) → AssignsIn c names old new →
     All (λ name. level_of c.graph (node_named c name) ≡ INPUT_LEVEL) names → placed_of new ≡ placed_of old
-unplaced-assigned c names None new fits none inputs = ap placed_of none
-unplaced-assigned c names (Some machine) new fits (next, there, assigns) inputs = ap placed_of there ∙ assigns.unplaced fits inputs
+unplaced-assigned c names None new covers none inputs = ap placed_of none
+unplaced-assigned c names (Some machine) new covers (next, there, assigns) inputs = ap placed_of there ∙ assigns.unplaced covers inputs
 
--- a machine that serves fits
-pub fits-serves : (g : GraphData) (states : List Tern) (kept : List GroupTextData) (machine : Option MachineData) → IfSome machine (Serves g states kept) →
-    IfSome machine (FitsGraph g)
-fits-serves g states kept None serves = tt
-fits-serves g states kept (Some machine) serves = serves.fits
+-- a machine that serves covers
+pub covers-serves : (g : GraphData) (states : List Tern) (kept : List GroupTextData) (machine : Option MachineData) → IfSome machine (Serves g states kept) →
+    IfSome machine (Covers g)
+covers-serves g states kept None serves = tt
+covers-serves g states kept (Some machine) serves = serves.covers
+
+-- the machine that fits is the one that is there
+pub fits_there : (g : GraphData) (found : Option MachineData) (machine : MachineData) → FitsIn g found → found ≡ Some machine → FitsGraph g machine
+fits_there g found machine built there =
+    let same : Some built.machine ≡ Some machine = sym built.there ∙ there in
+    let is : built.machine ≡ machine = cc in
+    subst (FitsGraph g) is built.fits
 
 -- what clocks' ticks leave of the machine
 pub record StaysPut (old new : Option MachineData) : Type 0 where
-  pub there : is_some new ≡ true
   pub moves : moves_of new ≡ moves_of old
   pub placed : placed_of new ≡ placed_of old
 
@@ -250,12 +268,13 @@ served g states kept machine before was serves = subst (λ (m : Option MachineDa
 abbrev pub moved_on : HeldSession → StageData → ℕ → HeldSession
 moved_on session stage count = record { core = record session.core { state = stage.state; count = count }; machine = stage.machine }
 
-module _ (session : HeldSession) (stage : StageData) (count : ℕ) (counted : count ≡ one_more session.core.count) (held : IsHeldSession session) where
+module _ (session : HeldSession) (spare : ℕ) (stage : StageData) (count : ℕ) (counted : count ≡ one_more session.core.count)
+    (held : IsHeldSession session) (built : FitsIn session.core.circuit.graph session.machine) where
   -- the data are those after unit steps to the stage's state
   moved_core : (record session.core { state = stage.state; count = count }) ≡ moved_to session.core stage.state
   moved_core = ap (λ (n : ℕ). record session.core { state = stage.state; count = n }) counted
 
-  module _ (moves : MovesBy (TakesStep session.core.circuit.graph) (record { state = session.core.state; machine = session.machine }) stage) where
+  module _ (moves : MovesBy (TakesStep session.core.circuit.graph) (record { state = session.core.state; machine = session.machine; spare = spare }) stage) where
     -- the step is one of the session's states
     step_is : IsStep session.core.circuit.graph session.core.state stage.state
     step_is =
@@ -272,7 +291,12 @@ module _ (session : HeldSession) (stage : StageData) (count : ℕ) (counted : co
           core = session-moved session.core stage.state count step_is.count
               (sound-step circuit ready.netlist session.core.state stage.state step_is ready.sound) held.core;
           machine = subst (λ (m : Option MachineData). IfSome m (Serves circuit.graph stage.state session.core.kept)) (sym moves.there)
-              (record { fits = moves.leads.fits; same = moves.to; known = serves.known });
+              (record {
+                covers = moves.leads.fits.covers;
+                same = moves.to;
+                known = fitting_machines_share_texts circuit.graph session.core.kept moves.before moves.after
+                    (fits_there circuit.graph session.machine moves.before built moves.was) moves.leads.fits serves.known;
+              });
         }
 
     -- which the machine did
@@ -280,6 +304,7 @@ module _ (session : HeldSession) (stage : StageData) (count : ℕ) (counted : co
     machine-stepped = record {
       machine = moves.after;
       there = moves.there;
+      fits = moves.leads.fits;
       moved = λ changed. moves.leads.moved (λ same. changed (sym moves.to ∙ same ∙ moves.from)) ∙ ap (λ n. raised n 1) (ap moves_of (sym moves.was));
       rested = λ same. moves.leads.rested (moves.to ∙ same ∙ sym moves.from) ∙ ap moves_of (sym moves.was);
       placed = moves.leads.placed ∙ ap placed_of (sym moves.was);
@@ -289,7 +314,7 @@ module _ (session : HeldSession) (stage : StageData) (count : ℕ) (counted : co
 
   module _ (steps : ℕ) (joined : Bool)
       (moves : MovesBy (λ before after. TakesPhase session.core.circuit.graph session.core.limit before after steps joined)
-      (record { state = session.core.state; machine = session.machine }) stage) where
+      (record { state = session.core.state; machine = session.machine; spare = spare }) stage) where
     -- the states settle
     settles_is : Settles session.core.circuit.graph session.core.state session.core.limit stage.state steps joined
     settles_is =
@@ -308,8 +333,17 @@ module _ (session : HeldSession) (stage : StageData) (count : ℕ) (counted : co
               (length-settles circuit.graph session.core.state limit stage.state steps joined ready.states settles_is)
               (sound-settles circuit ready.netlist session.core.state limit stage.state steps joined ready.states settles_is ready.sound) held.core;
           machine = subst (λ (m : Option MachineData). IfSome m (Serves circuit.graph stage.state session.core.kept)) (sym moves.there)
-              (record { fits = moves.leads.fits; same = moves.to; known = serves.known });
+              (record {
+                covers = moves.leads.fits.covers;
+                same = moves.to;
+                known = fitting_machines_share_texts circuit.graph session.core.kept moves.before moves.after
+                    (fits_there circuit.graph session.machine moves.before built moves.was) moves.leads.fits serves.known;
+              });
         }
+
+    -- the machine fits still
+    pub fits-settled : FitsIn session.core.circuit.graph stage.machine
+    fits-settled = record { machine = moves.after; there = moves.there; fits = moves.leads.fits }
 
     -- which the machine did
     pub machine-settled : IsSettled session (moved_on session stage count) steps joined

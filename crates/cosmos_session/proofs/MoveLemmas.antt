@@ -1,5 +1,5 @@
 -- The moves of a machine through phases: they add up along the lines, and where the last line tells of rest no part is marked.
-use Rattle.std.proofs.Common.{◌≡◌, ℕ, ◌+◌, ◌<◌, Bool, true, false, List, [], ◌∷◌, ◌++◌, Option, None, Some, is_some, refl, sym, ap, subst, ◌∙◌, arith, append_assoc}
+use Rattle.std.proofs.Common.{◌≡◌, ℕ, ◌+◌, ◌<◌, Bool, false, List, [], ◌∷◌, ◌++◌, Option, None, Some, refl, sym, ap, subst, ◌∙◌, arith, append_assoc}
 use Rattle.std.specs.List.{range_with_len}
 use Rattle.ternary.specs.declared.tern.Tern.{Tern}
 use Rattle.ternary.specs.Counts.{raised}
@@ -11,7 +11,7 @@ use Rattle.group_text.specs.Texts.{GroupTextData}
 use Rattle.cosmos_session.specs.Sessions.{SessionData, HeldSession, places_of}
 use Rattle.cosmos_session.specs.Lines.{Line, Wave, Unmet, Reported}
 use Rattle.cosmos_session.specs.Effects.{IsPhase, AreBeats, with_beat, wave_by, places_in}
-use Rattle.cosmos_session.specs.Machines.{EndsAtRest, MovesMachine, StepsMachine, SettlesMachine, moves_of, placed_of, steps_in}
+use Rattle.cosmos_session.specs.Machines.{FitsIn, IsBuilt, EndsAtRest, MovesMachine, StepsMachine, SettlesMachine, moves_of, placed_of, steps_in}
 use Rattle.cosmos_session.specs.Stages.{Readied, IsSettled, PhaseMoves, BeatsMove, BeatsMoveOn}
 use Rattle.cosmos_session.proofs.MachineLemmas.{StaysPut}
 use Rattle.cosmos_session.proofs.BeatLemmas.{beats-append, one_beat, clocks-beats, cycles-next}
@@ -54,13 +54,12 @@ ends_nowhere limit ends =
 -- ---- machines
 
 -- no phase, no move
-pub moves-none : (limit : ℕ) (machine : Option MachineData) → is_some machine ≡ true → MovesMachine limit machine machine []
-moves-none limit None some = absurd (cc)
-moves-none limit (Some machine) some = record {
+pub moves-none : (limit : ℕ) (found : Option MachineData) (machine : MachineData) → found ≡ Some machine → MovesMachine limit found found []
+moves-none limit found machine there = record {
   machine = machine;
-  there = refl;
-  moves = raised-none machine.moves;
-  placed = refl;
+  there = there;
+  moves = ap moves_of (sym there) ∙ raised-none (moves_of found);
+  placed = ap placed_of (sym there);
   rests = λ ends k marked. absurd (ends_nowhere limit ends);
 }
 
@@ -127,8 +126,12 @@ limit-beats (place ∷ places) session new lines (mid, front, back, phase, beats
     limit-beats places mid new back beats ∙ ap (λ (s : SessionData). s.limit) phase.moved
 
 -- no place yet
-pub beats_move-none : (session : HeldSession) → is_some session.machine ≡ true → BeatsMove [] session session
-beats_move-none session some = record { lines = []; beats = (refl, refl); moves = moves-none session.core.limit session.machine some }
+pub beats_move-none : (session : HeldSession) → IsBuilt session → BeatsMove [] session session
+beats_move-none session built = record {
+  lines = [];
+  beats = (refl, refl);
+  moves = moves-none session.core.limit session.machine built.machine built.there;
+}
 
 -- one more place
 pub beats_move-more : (start now put new : HeldSession) (done : List ℕ) (place : ℕ) → BeatsMove done start now → put.core ≡ with_beat now.core place →
@@ -177,6 +180,12 @@ module _ (old mid new : HeldSession) (asked told : List GroupTextData) (ready : 
   counts_placed : placed_of mid.machine ≡ placed_of old.machine
   counts_placed = ap placed_of ready.machine.there ∙ ready.machine.placed
 
+  -- and leaves a machine that fits
+  pub built-readied : IsBuilt mid
+  built-readied =
+      subst (λ (m : Option MachineData). FitsIn mid.core.circuit.graph m) (sym ready.machine.there)
+      (record { machine = ready.machine.machine; there = refl; fits = ready.machine.fits })
+
   -- and keeps all data but what is kept
   built_same : mid.core ≡ record old.core { kept = mid.core.kept; fresh = mid.core.fresh }
   built_same =
@@ -189,6 +198,7 @@ module _ (old mid new : HeldSession) (asked told : List GroupTextData) (ready : 
       record {
         machine = steps.machine;
         there = steps.there;
+        fits = steps.fits;
         moved = λ changed. steps.moved (λ same. changed (same ∙ state)) ∙ ap (λ (n : ℕ). raised n 1) counts_moves;
         rested = λ same. steps.rested (same ∙ sym state) ∙ counts_moves;
         placed = steps.placed ∙ counts_placed;
@@ -196,23 +206,26 @@ module _ (old mid new : HeldSession) (asked told : List GroupTextData) (ready : 
       }
 
   -- a phase after it
-  pub phase-readied : PhaseMoves mid new → SettlesMachine old Phase new
-  phase-readied phase = record {
+  pub phase-readied : PhaseMoves mid new → IsBuilt new → SettlesMachine old Phase new
+  phase-readied phase built = record {
     mid = mid.core;
     same = built_same;
     lines = phase.lines;
     effect = phase.phase;
+    built = built;
     moves = moves-from mid.core.limit old.core.limit old.machine mid.machine new.machine phase.lines
         (ap (λ (s : SessionData). s.limit) ready.build.grown) counts_moves counts_placed phase.moves;
   }
 
   -- cycles after it
-  pub cycle-readied : (times : ℕ) → BeatsMove (places_in (places_of mid.core.clocks) times) mid new → SettlesMachine old (Cycle times) new
-  cycle-readied times beats = record {
+  pub cycle-readied : (times : ℕ) → IsBuilt new → BeatsMove (places_in (places_of mid.core.clocks) times) mid new →
+      SettlesMachine old (Cycle times) new
+  cycle-readied times built beats = record {
     mid = mid.core;
     same = built_same;
     lines = beats.lines;
     effect = beats.beats;
+    built = built;
     moves = moves-from mid.core.limit old.core.limit old.machine mid.machine new.machine beats.lines
         (ap (λ (s : SessionData). s.limit) ready.build.grown) counts_moves counts_placed beats.moves;
   }

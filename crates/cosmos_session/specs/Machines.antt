@@ -1,16 +1,14 @@
 -- The machine of a session: what it is at any moment, and what a command does to it.
 -- After Bryant, Beatty, Brace, Cho and Sheffler, "COSMOS: A Compiled Simulator for MOS Circuits", 1987.
-use Rattle.std.specs.Prelude.{◌≡◌, ◌≢◌, ℕ, ◌+◌, ◌<◌, ◌⊎◌, false, List, [], ◌∷◌, ◌++◌, map, Contains, Option, None, Some, IfSome}
+use Rattle.std.specs.Prelude.{◌≡◌, ◌≢◌, ℕ, ◌+◌, ◌<◌, ◌⊎◌, Bool, true, false, List, [], ◌∷◌, ◌++◌, map, Contains, Option, None, Some, IfSome, is_some}
 use Rattle.ternary.specs.declared.tern.Tern.{Tern}
 use Rattle.ternary.specs.Counts.{raised}
 use Rattle.path_meaning.specs.Graphs.{GraphData}
 use Rattle.group_text.specs.Texts.{GroupTextData}
-use Rattle.group_text.specs.FirstTexts.{new_texts}
-use Rattle.circuit_texts.specs.Building.{HasTexts}
 use Rattle.unit_step.specs.declared.part.HeldPart.{HeldPart}
 use Rattle.unit_step.specs.Machines.{MachineData, IsMarked}
 use Rattle.unit_step.specs.Stepping.{Concerns, ReadsChange}
-use Rattle.unit_step.specs.Fitting.{FitsGraph}
+use Rattle.unit_step.specs.Fitting.{Covers, FitsGraph, IsKeptBy}
 use Rattle.netlist.specs.Circuits.{CircuitData}
 use Rattle.netlist.specs.Edits.{node_named}
 use Rattle.script_lang.specs.declared.command.Command.{Command}
@@ -19,17 +17,15 @@ use Rattle.cosmos_session.specs.Sessions.{SessionData, HeldSession, IsSession}
 use Rattle.cosmos_session.specs.Lines.{Line, Wave, Unmet, Reported}
 use Rattle.cosmos_session.specs.Effects.{Effect}
 
--- each text of the graph's groups is kept
-pub record AllKept (g : GraphData) (kept : List GroupTextData) : Type 0 where
-  pub texts : List GroupTextData
-  pub has : HasTexts g texts
-  pub none : new_texts kept texts ≡ []
+-- a machine as contracts of a session see it: how much room it has for new nodes isn't told
+abbrev pub without_room : MachineData → MachineData
+without_room machine = record machine { spare = 0 }
 
--- the machine serves these: it fits the graph, its state is this, and each text of the graph's groups is kept
+-- the machine serves these: it covers the graph, its state is this, and each text whose code a part has is kept
 pub record Serves (g : GraphData) (states : List Tern) (kept : List GroupTextData) (machine : MachineData) : Type 0 where
-  pub fits : FitsGraph g machine
+  pub covers : Covers g machine
   pub same : machine.state ≡ states
-  pub known : AllKept g kept
+  pub known : IsKeptBy g kept machine
 
 -- the machine is that of the data: it serves their circuit, their state and what they keep
 abbrev pub IsMachineOf : SessionData → MachineData → Type 0
@@ -39,6 +35,16 @@ IsMachineOf session machine = Serves session.circuit.graph session.state session
 pub record IsHeldSession (session : HeldSession) : Type 0 where
   pub core : IsSession session.core
   pub machine : IfSome session.machine (IsMachineOf session.core)
+
+-- there is a machine, and it fits the graph
+pub record FitsIn (g : GraphData) (found : Option MachineData) : Type 0 where
+  pub machine : MachineData
+  pub there : found ≡ Some machine
+  pub fits : FitsGraph g machine
+
+-- the session has a machine, which fits its circuit
+abbrev pub IsBuilt : HeldSession → Type 0
+IsBuilt session = FitsIn session.core.circuit.graph session.machine
 
 -- how often the machine moved; where there is none, never
 abbrev pub moves_of : Option MachineData → ℕ
@@ -66,10 +72,12 @@ pub record EndsAtRest (limit : ℕ) (lines : List Line) : Type 0 where
   pub last : lines ≡ front ++ Wave n k false values ∷ []
   pub few : k < limit
 
--- a step was done by the machine: it moved once where something changed, and those parts alone are marked that read a node which did
+-- a step was done by the machine, which fits the circuit: it moved once where something changed, and those parts alone are marked that
+-- read a node which did
 pub record StepsMachine (old new : HeldSession) : Type 0 where
   pub machine : MachineData
   pub there : new.machine ≡ Some machine
+  pub fits : FitsGraph new.core.circuit.graph machine
   pub moved : new.core.state ≢ old.core.state → machine.moves ≡ raised (moves_of old.machine) 1
   pub rested : new.core.state ≡ old.core.state → machine.moves ≡ moves_of old.machine
   pub placed : machine.placed ≡ placed_of old.machine
@@ -84,12 +92,13 @@ pub record MovesMachine (limit : ℕ) (old new : Option MachineData) (lines : Li
   pub placed : machine.placed ≡ placed_of old
   pub rests : EndsAtRest limit lines → (k : ℕ) → ¬ IsMarked machine.marks k
 
--- the phases of a command were done by the machine, from the data after its build
+-- the phases of a command were done by the machine, which fits the circuit, from the data after its build
 pub record SettlesMachine (old : HeldSession) (command : Command) (new : HeldSession) : Type 0 where
   pub mid : SessionData
   pub same : mid ≡ record old.core { kept = mid.kept; fresh = mid.fresh }
   pub lines : List Line
   pub effect : Effect mid command new.core lines
+  pub built : IsBuilt new
   pub moves : MovesMachine old.core.limit old.machine new.machine lines
 
 -- the part with this number has a named node as a member or reads one
@@ -111,17 +120,29 @@ abbrev pub PlacesIn : CircuitData → List (List ℕ) → Option MachineData →
 PlacesIn c names None new = new ≡ None
 PlacesIn c names (Some machine) new = PlacesNamed c names machine new
 
--- there is a machine, which neither moved nor had a member placed
+-- there is a machine, which fits the circuit, and neither moved nor had a member placed
 pub record BuildsMachine (old new : HeldSession) : Type 0 where
   pub machine : MachineData
   pub there : new.machine ≡ Some machine
+  pub fits : FitsGraph new.core.circuit.graph machine
   pub moves : machine.moves ≡ moves_of old.machine
   pub placed : machine.placed ≡ placed_of old.machine
 
+-- the machine was there before, and neither moved since nor had a member placed
+pub record Survives (old : Option MachineData) (machine : MachineData) : Type 0 where
+  pub before : MachineData
+  pub was : old ≡ Some before
+  pub moves : machine.moves ≡ before.moves
+  pub placed : machine.placed ≡ before.placed
+
+-- the circuit was edited: where there is a machine, it was there before
+abbrev pub EditsMachine : HeldSession → HeldSession → Type 0
+EditsMachine old new = IfSome new.machine (Survives old.machine)
+
 -- what an accepted command does to the machine
 abbrev pub IsMachineAfter : HeldSession → Command → HeldSession → Type 0
-IsMachineAfter old (Input names) new = new.machine ≡ None
-IsMachineAfter old (Store name size) new = new.machine ≡ None
+IsMachineAfter old (Input names) new = EditsMachine old new
+IsMachineAfter old (Store name size) new = EditsMachine old new
 IsMachineAfter old (Set list) new =
     PlacesIn old.core.circuit (map (λ item. item.0) list) old.machine new.machine × (placed_of new.machine ≡ placed_of old.machine)
 IsMachineAfter old (Charge list) new = PlacesIn old.core.circuit (map (λ item. item.0) list) old.machine new.machine
@@ -132,9 +153,35 @@ IsMachineAfter old Phase new = SettlesMachine old Phase new
 IsMachineAfter old (Clock list) new = new.machine ≡ old.machine
 IsMachineAfter old (Cycle times) new = SettlesMachine old (Cycle times) new
 IsMachineAfter old (Expect list) new = new.machine ≡ old.machine
-IsMachineAfter old (Add kind gate source drain strength) new = new.machine ≡ None
-IsMachineAfter old (Del number) new = new.machine ≡ None
-IsMachineAfter old (Strength number strength) new = new.machine ≡ None
-IsMachineAfter old (Kind number kind) new = new.machine ≡ None
-IsMachineAfter old (Wire number gate source drain) new = new.machine ≡ None
+IsMachineAfter old (Add kind gate source drain strength) new = EditsMachine old new
+IsMachineAfter old (Del number) new = EditsMachine old new
+IsMachineAfter old (Strength number strength) new = EditsMachine old new
+IsMachineAfter old (Kind number kind) new = EditsMachine old new
+IsMachineAfter old (Wire number gate source drain) new = EditsMachine old new
 IsMachineAfter old Report new = BuildsMachine old new
+
+-- the command edits the circuit
+abbrev pub edits : Command → Bool
+edits (Input names) = true
+edits (Store name size) = true
+edits (Set list) = false
+edits (Charge list) = false
+edits (Watch names) = false
+edits (Limit number) = false
+edits Step = false
+edits Phase = false
+edits (Clock list) = false
+edits (Cycle times) = false
+edits (Expect list) = false
+edits (Add kind gate source drain strength) = true
+edits (Del number) = true
+edits (Strength number strength) = true
+edits (Kind number kind) = true
+edits (Wire number gate source drain) = true
+edits Report = false
+
+-- where an accepted command found a machine and leaves none, it edited the circuit
+abbrev pub OnlyEditsLoseMachines : Type 0
+OnlyEditsLoseMachines =
+    (old new : HeldSession) (command : Command) → IsMachineAfter old command new → is_some old.machine ≡ true → new.machine ≡ None →
+    edits command ≡ true

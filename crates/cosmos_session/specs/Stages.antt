@@ -1,9 +1,9 @@
 -- The state of a session's nodes, and the machine that moves it, where there is one: what calls inside the session do to both.
-use Rattle.std.specs.Prelude.{◌≡◌, ◌≢◌, ℕ, ◌<◌, ◌⊎◌, Bool, false, List, ◌++◌, All, Option, None, Some, Result, Ok, Err}
+use Rattle.std.specs.Prelude.{◌≡◌, ◌≢◌, ℕ, ◌-◌, ◌<◌, ◌⊎◌, Bool, false, List, ◌++◌, All, Option, None, Some, Result, Ok, Err, vec_len, vec_capacity}
 use Rattle.ternary.specs.declared.tern.Tern.{Tern}
 use Rattle.ternary.specs.Counts.{raised}
 use Rattle.strength_order.specs.declared.TheConstants.{INPUT_LEVEL}
-use Rattle.path_meaning.specs.Graphs.{GraphData, level_of}
+use Rattle.path_meaning.specs.Graphs.{GraphData, nodes, level_of, place_at}
 use Rattle.path_meaning.specs.Step.{IsStep}
 use Rattle.oscillation_x.specs.Settling.{Settles}
 use Rattle.group_text.specs.Texts.{GroupTextData}
@@ -14,7 +14,9 @@ use Rattle.circuit_texts.specs.Building.{IsCutOff}
 use Rattle.unit_step.specs.Parts.{HasMember}
 use Rattle.unit_step.specs.Machines.{MachineData, IsMarked}
 use Rattle.unit_step.specs.Stepping.{Places, ReadsChange}
-use Rattle.unit_step.specs.Fitting.{FitsGraph}
+use Rattle.unit_step.specs.Fitting.{Covers, FitsGraph, IsKeptBy}
+use Rattle.unit_step.specs.Editing.{Edits}
+use Rattle.channel_groups.specs.declared.change.Change.{Change}
 use Rattle.netlist.specs.Circuits.{CircuitData}
 use Rattle.netlist.specs.Edits.{node_named}
 use Rattle.cosmos_session.specs.declared.fault.ApplyFault.{ApplyFault}
@@ -25,13 +27,14 @@ use Rattle.cosmos_session.specs.Sessions.{SessionData, HeldSession, ClockData}
 use Rattle.cosmos_session.specs.Lines.{Line, text_of}
 use Rattle.cosmos_session.specs.Effects.{IsUnitStep, IsPhase, AreBeats, IsReported, moved_to}
 use Rattle.cosmos_session.specs.Preparing.{IsBuild}
-use Rattle.cosmos_session.specs.Machines.{ConcernsNamed, BuildsMachine, MovesMachine, moves_of, placed_of}
+use Rattle.cosmos_session.specs.Machines.{ConcernsNamed, BuildsMachine, MovesMachine, moves_of, placed_of, without_room}
 use Rattle.cosmos_session.specs.Outcomes.{Sent}
 
--- the state, and the machine, where there is one
+-- the state, the machine, where there is one, and for how many nodes more there is room
 pub record StageData : Type 0 where
   pub state : List Tern
   pub machine : Option MachineData
+  pub spare : ℕ
 
 -- the state that stands alone, or is the machine's
 abbrev pub state_held : Held → List Tern
@@ -41,11 +44,42 @@ state_held (Built machine) = machine.state
 -- the machine, where there is one
 abbrev pub machine_held : Held → Option MachineData
 machine_held (Still state) = None
-machine_held (Built machine) = Some machine
+machine_held (Built machine) = Some (without_room machine)
+
+-- for how many nodes more there is room
+abbrev pub spare_held : Held → ℕ
+spare_held (Still state) = vec_capacity state - vec_len state
+spare_held (Built machine) = machine.spare
+
+-- the machine that is there fits the graph: it is the one from before with its stale parts made, or a new one; its state is the one from
+-- before, and it neither moved nor had a member placed
+pub record BuiltFrom (g : GraphData) (old new : StageData) : Type 0 where
+  pub machine : MachineData
+  pub there : new.machine ≡ Some machine
+  pub fits : FitsGraph g machine
+  pub same : machine.state ≡ old.state
+  pub state : new.state ≡ old.state
+  pub moves : machine.moves ≡ moves_of old.machine
+  pub placed : machine.placed ≡ placed_of old.machine
+
+-- how a graph was before another switch, or none, came to stand at a place
+abbrev pub before_place : GraphData → ℕ → Change
+before_place g place = record { nodes = nodes g; place = Some (place, place_at g.places place); level = None }
+
+-- how a graph was before a node got another level
+abbrev pub before_level : GraphData → ℕ → Change
+before_level g node = record { nodes = nodes g; place = None; level = Some (node, level_of g node) }
+
+-- the machine is the one from before, after an edit of the graph
+pub record EditsFrom (g : GraphData) (change : Change) (old : Option MachineData) (machine : MachineData) : Type 0 where
+  pub before : MachineData
+  pub was : old ≡ Some before
+  pub edits : Edits g change before machine
 
 -- a node was placed in a machine
 pub record PutsNode (g : GraphData) (node : ℕ) (value : Tern) (old new : MachineData) : Type 0 where
   pub places : Places node value old new
+  pub covers : Covers g old → Covers g new
   pub fits : FitsGraph g old → FitsGraph g new
   pub unplaced : ((k : ℕ) → ¬ HasMember old.parts k node) → new.placed ≡ old.placed
 
@@ -54,24 +88,26 @@ abbrev pub PutsIn : GraphData → ℕ → Tern → Option MachineData → Option
 PutsIn g node value None new = new ≡ None
 PutsIn g node value (Some machine) new = (next : MachineData) × (new ≡ Some next) × PutsNode g node value machine next
 
--- named nodes were placed in a machine: it fits a graph that it fitted, it didn't move, those parts alone are marked more that the nodes
--- concern, and where all are input nodes no member was placed
+-- named nodes were placed in a machine: it covers a graph that it covered, its texts are kept that were, it didn't move, those parts alone
+-- are marked more that the nodes concern, and where all are input nodes no member was placed
 pub record Assigns (c : CircuitData) (names : List (List ℕ)) (old new : MachineData) : Type 0 where
-  pub fits : FitsGraph c.graph old → FitsGraph c.graph new
+  pub covers : Covers c.graph old → Covers c.graph new
+  pub known : (kept : List GroupTextData) → IsKeptBy c.graph kept old → IsKeptBy c.graph kept new
   pub parts : new.parts ≡ old.parts
   pub moves : new.moves ≡ old.moves
   pub marks : (k : ℕ) → IsMarked new.marks k → IsMarked old.marks k ⊎ ConcernsNamed c names old.parts k
-  pub unplaced : FitsGraph c.graph old → All (λ name. level_of c.graph (node_named c name) ≡ INPUT_LEVEL) names → new.placed ≡ old.placed
+  pub unplaced : Covers c.graph old → All (λ name. level_of c.graph (node_named c name) ≡ INPUT_LEVEL) names → new.placed ≡ old.placed
 
 -- named nodes were placed in the machine, if there is one
 abbrev pub AssignsIn : CircuitData → List (List ℕ) → Option MachineData → Option MachineData → Type 0
 AssignsIn c names None new = new ≡ None
 AssignsIn c names (Some machine) new = (next : MachineData) × (new ≡ Some next) × Assigns c names machine next
 
--- clocks' nodes were placed in a machine: it fits a graph that it fitted, it didn't move, and where all are input nodes no member was
--- placed
+-- clocks' nodes were placed in a machine: it fits a graph that it fitted, its texts are kept that were, it didn't move, and where all are
+-- input nodes no member was placed
 pub record Ticks (g : GraphData) (clocks : List ClockData) (old new : MachineData) : Type 0 where
   pub fits : FitsGraph g old → FitsGraph g new
+  pub known : (kept : List GroupTextData) → IsKeptBy g kept old → IsKeptBy g kept new
   pub moves : new.moves ≡ old.moves
   pub unplaced : FitsGraph g old → All (λ clock. level_of g clock.node ≡ INPUT_LEVEL) clocks → new.placed ≡ old.placed
 

@@ -1,17 +1,16 @@
 //! Edits of the circuit's transistors.
 
-ghost use Rattle.std.specs.Prelude.{◌≡◌, None, OnOk};
+ghost use Rattle.std.specs.Prelude.{OnOk};
 ghost use Rattle.script_lang.specs.declared.command.Command.TheVariants as asked;
+ghost use Rattle.cosmos_session.specs.Machines.{EditsMachine};
 ghost use Rattle.cosmos_session.specs.Outcomes.{Quietly};
 
 use crate::fault::ApplyFault;
+use crate::regrouping::{change_at, change_of};
 use crate::session::Session;
 use netlist::usual_strength;
 use path_meaning::SwitchKind;
 use script_lang::Name;
-
-/// The most nodes that a transistor's names make.
-const TERMINALS: usize = 3;
 
 impl Session {
     /// `add`: adds a transistor; each node that its names make is X.
@@ -24,15 +23,15 @@ impl Session {
         strength: Option<u64>,
     ) -> Result<(), ApplyFault>
         ensures quiet { Quietly self.old (asked.Add kind gate.now source.now drain.now strength) self.new result }
-        ensures machine { OnOk result (self.new.machine ≡ None) }
+        ensures machine { OnOk result (EditsMachine self.old self.new) }
     {
         let strength = strength.unwrap_or(usual_strength(kind));
-        let room = Vec::with_capacity(self.alloc, self.stage.state().len() + TERMINALS)?;
+        self.stage.reserve()?;
+        let change = change_at(self.circuit.graph(), self.circuit.graph().places());
         let (gate, source, drain) = (gate.items(), source.items(), drain.items());
         match self.circuit.add_switch(kind, strength, gate, source, drain) {
             Ok(_) => {
-                let nodes = self.circuit.graph().nodes();
-                self.stage.regrow(nodes, room);
+                self.stage.edit(self.alloc, self.circuit.graph(), &change);
                 Ok(())
             }
             Err(fault) => Err(ApplyFault::of_edit(fault)),
@@ -42,11 +41,12 @@ impl Session {
     /// `del`: removes the transistor with this number.
     pub(crate) fn del(&mut self, number: u64) -> Result<(), ApplyFault>
         ensures quiet { Quietly self.old (asked.Del number) self.new result }
-        ensures machine { OnOk result (self.new.machine ≡ None) }
+        ensures machine { OnOk result (EditsMachine self.old self.new) }
     {
+        let change = change_of(self.circuit.graph(), number);
         match self.circuit.del(number) {
             Ok(()) => {
-                self.stage.unbuild(self.alloc);
+                self.stage.edit(self.alloc, self.circuit.graph(), &change);
                 Ok(())
             }
             Err(fault) => Err(ApplyFault::of_edit(fault)),
@@ -56,11 +56,12 @@ impl Session {
     /// `strength`: sets the strength of the transistor with this number.
     pub(crate) fn set_strength(&mut self, number: u64, strength: u64) -> Result<(), ApplyFault>
         ensures quiet { Quietly self.old (asked.Strength number strength) self.new result }
-        ensures machine { OnOk result (self.new.machine ≡ None) }
+        ensures machine { OnOk result (EditsMachine self.old self.new) }
     {
+        let change = change_of(self.circuit.graph(), number);
         match self.circuit.set_strength(number, strength) {
             Ok(()) => {
-                self.stage.unbuild(self.alloc);
+                self.stage.edit(self.alloc, self.circuit.graph(), &change);
                 Ok(())
             }
             Err(fault) => Err(ApplyFault::of_edit(fault)),
@@ -70,11 +71,12 @@ impl Session {
     /// `type`: sets the kind of the transistor with this number.
     pub(crate) fn set_kind(&mut self, number: u64, kind: SwitchKind) -> Result<(), ApplyFault>
         ensures quiet { Quietly self.old (asked.Kind number kind) self.new result }
-        ensures machine { OnOk result (self.new.machine ≡ None) }
+        ensures machine { OnOk result (EditsMachine self.old self.new) }
     {
+        let change = change_of(self.circuit.graph(), number);
         match self.circuit.set_kind(number, kind) {
             Ok(()) => {
-                self.stage.unbuild(self.alloc);
+                self.stage.edit(self.alloc, self.circuit.graph(), &change);
                 Ok(())
             }
             Err(fault) => Err(ApplyFault::of_edit(fault)),
@@ -91,14 +93,14 @@ impl Session {
         drain: &Name,
     ) -> Result<(), ApplyFault>
         ensures quiet { Quietly self.old (asked.Wire number gate.now source.now drain.now) self.new result }
-        ensures machine { OnOk result (self.new.machine ≡ None) }
+        ensures machine { OnOk result (EditsMachine self.old self.new) }
     {
-        let room = Vec::with_capacity(self.alloc, self.stage.state().len() + TERMINALS)?;
+        self.stage.reserve()?;
+        let change = change_of(self.circuit.graph(), number);
         let (gate, source, drain) = (gate.items(), source.items(), drain.items());
         match self.circuit.rewire(number, gate, source, drain) {
             Ok(()) => {
-                let nodes = self.circuit.graph().nodes();
-                self.stage.regrow(nodes, room);
+                self.stage.edit(self.alloc, self.circuit.graph(), &change);
                 Ok(())
             }
             Err(fault) => Err(ApplyFault::of_edit(fault)),

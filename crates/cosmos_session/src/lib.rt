@@ -7,8 +7,9 @@
 //! command, `refusal_of`, or else a group that is too large, and changes nothing.
 //!
 //! Unit steps are the compiled machine's. It is built at the first command that needs it, over the
-//! analyses that are kept, and stays until the circuit is edited; `IsMachineAfter` says what each
-//! command does to it. The state is held once, by the machine where there is one.
+//! analyses that are kept. An edit makes the parts of the groups that it touches stale, and the next
+//! command that needs the machine gives these their codes; `IsMachineAfter` says what each command does
+//! to it. The state is held once, by the machine where there is one.
 //!
 //! ```text
 //! let mut session = Session::new(alloc, circuit)?;
@@ -26,10 +27,12 @@ mod clock;
 mod edits;
 mod expecting;
 mod fault;
+mod laws;
 mod moving;
 mod preparing;
 mod quiet;
 mod refusals;
+mod regrouping;
 mod reporting;
 mod session;
 mod stage;
@@ -37,6 +40,7 @@ mod stepping;
 mod waves;
 
 pub use fault::{ApplyFault, Refusal};
+pub use laws::only_edits_lose_the_machine;
 pub use session::Session;
 
 /// The most entries of the watch list.

@@ -1,21 +1,33 @@
-//! What a session's machine does: unit steps, and phases that end at rest.
+//! What a session's machine does: it takes states that are set, unit steps, and phases that end at rest.
 
-ghost use Rattle.std.specs.Prelude.{◌≡◌, ◌≢◌, ℕ, ◌<◌, ◌≤◌, false};
+ghost use Rattle.std.specs.Prelude.{◌≡◌, ◌≢◌, ℕ, ◌<◌, ◌≤◌, false, length, slice_set};
 ghost use Rattle.std.specs.Bool.{OnTrue, OnFalse};
 ghost use Rattle.ternary.specs.Counts.{raised};
+ghost use Rattle.path_meaning.specs.declared.TheConstants.{RAILS};
 ghost use Rattle.path_meaning.specs.Step.{IsStep};
 ghost use Rattle.oscillation_x.specs.Settling.{Settles};
 ghost use Rattle.unit_step.specs.Machines.{IsMarked};
 ghost use Rattle.unit_step.specs.Stepping.{Advances};
 ghost use Rattle.unit_step.specs.Fitting.{FitsGraph};
-ghost use Rattle.cosmos_session.specs.Stages.{TakesStep, TakesPhase};
+ghost use Rattle.cosmos_session.specs.Machines.{without_room};
+ghost use Rattle.cosmos_session.specs.Stages.{PutsNode, TakesStep, TakesPhase};
 
 use oscillation_x::{MOST_LIMIT, Settled, Stepper, settle};
 use path_meaning::Graph;
 use std::marker::Brand;
 use std::sync::ledger::{Blank, Ledger};
-use ternary::Steps;
+use ternary::{Steps, Tern};
 use unit_step::Machine;
+
+/// Gives a node that is no rail this state.
+pub(crate) fn place(machine: &mut Machine, graph: &Graph, node: usize, value: Tern)
+    requires inside { node < length machine.old.state }
+    requires no_rail { RAILS ≤ node }
+    ensures state { machine.new.state ≡ slice_set machine.old.state node value }
+    ensures puts { PutsNode graph.now node value (without_room machine.old) (without_room machine.new) }
+{
+    machine.set_node(graph, node, value);
+}
 
 /// Takes a unit step of a graph that the machine fits.
 pub(crate) fn take_step(machine: &mut Machine, graph: &Graph)

@@ -10,12 +10,13 @@ ghost use Rattle.path_meaning.specs.declared.TheConstants.{RAILS};
 ghost use Rattle.script_lang.specs.Forms.{AreBeats, IsTimes};
 ghost use Rattle.cosmos_session.specs.Refusals as refusal;
 ghost use Rattle.cosmos_session.specs.Effects as effect;
-ghost use Rattle.cosmos_session.specs.Machines.{IsMachineAfter};
+ghost use Rattle.cosmos_session.specs.Machines.{EditsMachine, IsMachineAfter};
 ghost use Rattle.cosmos_session.specs.Stages.{PutsIn, AssignsIn};
 ghost use Rattle.cosmos_session.specs.Outcomes.{Quietly};
 
 use crate::clock::Clock;
 use crate::fault::{ApplyFault, Refusal};
+use crate::regrouping::change_of_level;
 use crate::session::Session;
 use crate::stage::Stage;
 use crate::{MOST_WATCHED, refusals};
@@ -28,27 +29,50 @@ impl Session {
     /// `input`: makes the named nodes input nodes.
     pub(crate) fn input(&mut self, names: &NameList) -> Result<(), ApplyFault>
         ensures quiet { Quietly self.old (asked.Input names.now) self.new result }
-        ensures machine { OnOk result (self.new.machine ≡ None) }
+        ensures machine { OnOk result (EditsMachine self.old self.new) }
     {
         if let Some(refusal) = refusals::input_refusal(&self.circuit, names.items()) {
             return Err(ApplyFault::Refused(refusal));
         }
-        make_inputs(&mut self.circuit, names.items());
-        self.stage.unbuild(self.alloc);
+        self.make_inputs(names.items());
         Ok(())
+    }
+
+    // Makes these named nodes, which are in use and no rails, input nodes.
+    fn make_inputs(&mut self, names: &[Name])
+        requires { All (λ name. refusal.rail_refusal (node_of self.old.core.circuit.names name) ≡ None) names.now }
+        ensures made { self.new.core ≡ record self.old.core { circuit = effect.with_inputs self.old.core.circuit names.now } }
+        ensures machine { EditsMachine self.old self.new }
+    {
+        for name in names {
+            self.make_input(name.items());
+        }
+    }
+
+    // Makes a named node, which is in use and no rail, an input node.
+    fn make_input(&mut self, name: &[u8])
+        requires { refusal.rail_refusal (node_of self.old.core.circuit.names name.now) ≡ None }
+        ensures made { self.new.core ≡ record self.old.core { circuit = with_input self.old.core.circuit (node_named self.old.core.circuit name.now) } }
+        ensures machine { EditsMachine self.old self.new }
+    {
+        let node = self.circuit.find(name).unwrap();
+        let change = change_of_level(self.circuit.graph(), node);
+        let _made = self.circuit.make_input(node);
+        self.stage.edit(self.alloc, self.circuit.graph(), &change);
     }
 
     /// `store`: makes the named node a storage node of this size.
     pub(crate) fn store(&mut self, name: &Name, size: u64) -> Result<(), ApplyFault>
         ensures quiet { Quietly self.old (asked.Store name.now size) self.new result }
-        ensures machine { OnOk result (self.new.machine ≡ None) }
+        ensures machine { OnOk result (EditsMachine self.old self.new) }
     {
         let Some(node) = self.circuit.find(name.items()) else {
             return Err(ApplyFault::Refused(Refusal::UnknownNode));
         };
+        let change = change_of_level(self.circuit.graph(), node);
         match self.circuit.make_store(node, size) {
             Ok(()) => {
-                self.stage.unbuild(self.alloc);
+                self.stage.edit(self.alloc, self.circuit.graph(), &change);
                 Ok(())
             }
             Err(_) if node < RAILS => Err(ApplyFault::Refused(Refusal::Rail)),
@@ -118,28 +142,6 @@ impl Session {
         self.clocks = named_clocks(self.alloc, &self.circuit, list.items())?;
         Ok(())
     }
-}
-
-// Makes these named nodes, which are in use and no rails, input nodes.
-fn make_inputs(circuit: &mut Circuit, names: &[Name])
-    requires { All (λ name. refusal.rail_refusal (node_of circuit.old.names name) ≡ None) names.now }
-    ensures made { circuit.new ≡ effect.with_inputs circuit.old names.now }
-    ensures nodes { nodes circuit.new.graph ≡ nodes circuit.old.graph }
-    ensures netlist { IsCircuit circuit.new }
-{
-    for name in names {
-        make_input(circuit, name.items());
-    }
-    circuit.graph();
-}
-
-// Makes a named node, which is in use and no rail, an input node.
-fn make_input(circuit: &mut Circuit, name: &[u8])
-    requires { refusal.rail_refusal (node_of circuit.old.names name.now) ≡ None }
-    ensures { circuit.new ≡ with_input circuit.old (node_named circuit.old name.now) }
-{
-    let node = circuit.find(name).unwrap();
-    let _made = circuit.make_input(node);
 }
 
 // Gives these named nodes, which are in use and no rails, their states, from left to right.

@@ -1,8 +1,10 @@
 //! Reports: how many groups and texts there are, and how many texts were new.
 
-ghost use Rattle.std.specs.Prelude.{◌≡◌, ◌≤◌, true, is_some, OnOk};
+ghost use Rattle.std.specs.Prelude.{◌≡◌, ◌≤◌, List, OnOk};
+ghost use Rattle.group_text.specs.Texts.{GroupTextData};
+ghost use Rattle.circuit_texts.specs.Building.{HasTexts};
 ghost use Rattle.script_lang.specs.declared.command.Command.TheVariants as asked;
-ghost use Rattle.cosmos_session.specs.Machines.{BuildsMachine};
+ghost use Rattle.cosmos_session.specs.Machines.{BuildsMachine, IsBuilt};
 ghost use Rattle.cosmos_session.specs.Stages.{IsReportPut};
 ghost use Rattle.cosmos_session.specs.Sinks.{faults_applied};
 ghost use Rattle.cosmos_session.specs.Outcomes.{Obeys};
@@ -33,9 +35,11 @@ impl Session {
         send_text(out, line.bytes())
     }
 
-    // Puts the line of a report, with the machine's numbers, and begins to count anew. The machine is there.
+    // Puts the line of a report, with the machine's numbers, and begins to count anew. The machine fits, and
+    // no group is too large.
     fn put_report(&mut self, line: &mut LineBuf)
-        requires there { is_some self.old.machine ≡ true }
+        requires built { IsBuilt self.old }
+        requires texts { (texts : List GroupTextData) × HasTexts self.old.core.circuit.graph texts }
         requires room { REPORT_LINE_ROOM ≤ line.old.spare }
         ensures reported { IsReportPut self.old self.new line.old.bytes line.new.bytes }
         ensures machine { self.new.machine ≡ self.old.machine }

@@ -4,7 +4,7 @@ ghost use Rattle.std.specs.Prelude.{◌≡◌, not, None, option_map, IfOk, IfEr
 ghost use Rattle.script_lang.specs.Forms.{IsFormed};
 ghost use Rattle.cosmos_session.specs.Sessions.{start_of, HeldSession};
 ghost use Rattle.cosmos_session.specs.Preparing.{NamesNode};
-ghost use Rattle.cosmos_session.specs.Machines.{IsMachineOf, IsHeldSession, IsMachineAfter};
+ghost use Rattle.cosmos_session.specs.Machines.{IsMachineOf, IsHeldSession, IsMachineAfter, without_room};
 ghost use Rattle.cosmos_session.specs.Sinks.{faults_applied};
 ghost use Rattle.cosmos_session.specs.Outcomes.{Obeys};
 
@@ -26,7 +26,7 @@ use unit_step::Machine;
 /// the texts whose analyses are kept, and how many were analysed since the last report.
 ///
 /// Beside these data contracts see the machine that moves the state, where there is one: it is built
-/// at the first command that wants it, and stays until the circuit is edited.
+/// at the first command that wants it, and lives through edits of the circuit.
 #[derive(Drop)]
 pub struct Session {
     pub(crate) alloc: Global,
@@ -100,10 +100,11 @@ impl Session {
         !self.missed
     }
 
-    /// The machine that moves the state, where there is one: it fits the circuit, has the state, and
-    /// no text of the circuit's groups is new.
+    /// The machine that moves the state, where there is one: it covers the circuit, has the state, and
+    /// each text whose code a part has is kept. After a unit step, a phase, a cycle or a report it fits the
+    /// circuit, until an edit makes some of its parts stale. How much room it has for new nodes isn't told.
     pub fn machine(&self) -> Option<&Machine>
-        ensures value { option_map (λ machine. machine.now) result ≡ self.now.machine }
+        ensures value { option_map (λ machine. without_room machine.now) result ≡ self.now.machine }
         ensures machine { IfSome self.now.machine (IsMachineOf self.now.core) }
     {
         self.stage.machine()
@@ -114,8 +115,11 @@ impl Session {
     /// A refusal comes exactly where the command has one, the first of its causes, and changes nothing; a
     /// command that needs the circuit built is refused last where a group is too large, and the first such
     /// group is told. Before `step`, `phase`, `cycle` and `report` the circuit is built where it isn't: the
-    /// analyst is given each text of its groups that isn't kept, once, and its code is kept. The machine then
-    /// stays until an edit.
+    /// analyst is given each text of its groups that isn't kept, once, and its code is kept.
+    ///
+    /// The machine then stays. An edit makes the parts of the groups that it touches stale, and no others;
+    /// these get their codes at the next build. Only an edit can end with no machine where there was one: it
+    /// lacked memory for that, and is accepted, and the next build makes another machine.
     ///
     /// A fault of the sink ends the command: nothing is written after the one call that failed, so its count
     /// rose by one, and at no other answer. Then a front of the command's lines was written, and the data are

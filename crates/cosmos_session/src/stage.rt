@@ -1,20 +1,32 @@
 //! The state of a session's nodes, and the machine that moves it, where there is one.
 
-ghost use Rattle.std.specs.Prelude.{◌≡◌, ◌<◌, ◌≤◌, ◌-◌, ◌++◌, [], true, None, Some, is_some, length, replicate, vec_capacity, count_by, option_map, slice_set, IfSome};
-ghost use Rattle.ternary.specs.declared.tern.Tern.TheVariants.{Unk};
+ghost use Rattle.std.specs.Prelude.{◌≡◌, ◌+◌, ◌<◌, ◌≤◌, ◌⊎◌, true, None, Some, Err, is_some, length, count_by, option_map, slice_set, IfSome, IfErr, OnOk, OnErr};
 ghost use Rattle.path_meaning.specs.declared.TheConstants.{RAILS};
+ghost use Rattle.path_meaning.specs.Graphs.{nodes, IsWired};
+ghost use Rattle.path_meaning.specs.Rails.{IsRailed, IsSound};
+ghost use Rattle.channel_groups.specs.Changes.{undo};
+ghost use Rattle.analysis_cache.specs.Keeping.{texts_of, IsGrown};
+ghost use Rattle.circuit_texts.specs.Sizes.{TellsTooLarge};
+ghost use Rattle.circuit_texts.specs.Building.{Builds, IsCutOff};
+ghost use Rattle.unit_step.specs.declared.editing.TheConstants.{NEW_NODES};
 ghost use Rattle.unit_step.specs.Parts.{has_members};
-ghost use Rattle.unit_step.specs.Fitting.{FitsGraph};
-ghost use Rattle.cosmos_session.specs.Stages.{PutsIn, MovesBy, TakesStep, TakesPhase};
+ghost use Rattle.unit_step.specs.Fitting.{Covers};
+ghost use Rattle.unit_step.specs.Editing.{with_new_nodes};
+ghost use Rattle.cosmos_session.specs.Machines.{Serves, FitsIn, without_room};
+ghost use Rattle.cosmos_session.specs.Stages.{PutsIn, MovesBy, TakesStep, TakesPhase, EditsFrom, BuiltFrom};
 
-use crate::moving::{settle_to_rest, take_step};
+use crate::moving::{place, settle_to_rest, take_step};
+use crate::regrouping::regrouped;
+use analysis_cache::{Analyst, Kept};
+use channel_groups::Change;
+use circuit_texts::BuildFault;
 use oscillation_x::{MOST_LIMIT, Settled};
 use path_meaning::{Graph, RAILS};
 use std::alloc::Global;
 use std::marker::Model;
 use std::mem;
-use ternary::Tern;
-use unit_step::Machine;
+use ternary::{NoMemory, Tern};
+use unit_step::{Machine, NEW_NODES};
 
 // The state alone, or the machine that moves it.
 #[derive(Drop)]
@@ -30,29 +42,21 @@ pub(crate) struct Stage {
 }
 
 impl Model for Stage {
-    ghost use Rattle.cosmos_session.specs.Stages.{StageData, state_held, machine_held};
+    ghost use Rattle.cosmos_session.specs.Stages.{StageData, state_held, machine_held, spare_held};
 
     ghost Value = { StageData };
 
-    ghost view = { λ stage. record { state = state_held stage.held; machine = machine_held stage.held } };
+    ghost view = { λ stage. record { state = state_held stage.held; machine = machine_held stage.held; spare = spare_held stage.held } };
 }
 
 impl Stage {
     /// This state, and no machine.
     pub(crate) fn still(state: Vec<Tern>) -> Stage
-        ensures { result ≡ record { state = state.items; machine = None } }
+        ensures state { result.state ≡ state.items }
+        ensures machine { result.machine ≡ None }
     {
         Stage {
             held: Held::Still(state),
-        }
-    }
-
-    /// A machine, and its state.
-    pub(crate) fn built(machine: Machine) -> Stage
-        ensures { result ≡ record { state = machine.state; machine = Some machine } }
-    {
-        Stage {
-            held: Held::Built(machine),
         }
     }
 
@@ -68,7 +72,7 @@ impl Stage {
 
     /// The machine, where there is one.
     pub(crate) fn machine(&self) -> Option<&Machine>
-        ensures value { option_map (λ machine. machine.now) result ≡ self.now.machine }
+        ensures value { option_map (λ machine. without_room machine.now) result ≡ self.now.machine }
         ensures state { IfSome result (λ machine. machine.now.state ≡ self.now.state) }
     {
         match &self.held {
@@ -84,27 +88,69 @@ impl Stage {
         let _ = &self.held;
     }
 
-    /// Lets go of the machine, if there is one, and keeps its state.
-    pub(crate) fn unbuild(&mut self, alloc: Global)
-        ensures { self.new ≡ record { state = self.old.state; machine = None } }
+    /// Takes room for the states of as many new nodes as one edit makes at most.
+    ///
+    /// At want of memory too the state and the machine are as before.
+    pub(crate) fn reserve(&mut self) -> Result<(), NoMemory>
+        ensures room { OnOk result (NEW_NODES ≤ self.new.spare) }
+        ensures state { self.new.state ≡ self.old.state }
+        ensures machine { self.new.machine ≡ self.old.machine }
     {
-        let held = mem::replace(&mut self.held, Held::Still(Vec::new(alloc)));
-        self.held = Held::Still(match held {
-            Held::Still(state) => state,
-            Held::Built(machine) => machine.into_state(),
-        });
+        match &mut self.held {
+            Held::Still(state) => {
+                state.reserve(NEW_NODES)?;
+                Ok(())
+            }
+            Held::Built(machine) => machine.reserve(),
+        }
     }
 
-    /// Lets go of the machine, if there is one, and goes on with its state and X for each further node, up
-    /// to so many, in room that is there.
-    pub(crate) fn regrow(&mut self, nodes: usize, room: Vec<Tern>)
-        requires empty { room.items ≡ [] }
-        requires least { length self.old.state ≤ nodes }
-        requires space { nodes ≤ vec_capacity room }
-        ensures { self.new ≡ record { state = self.old.state ++ replicate (nodes - length self.old.state) Unk; machine = None } }
+    /// Goes on after an edit of the graph: each new node is X, in room that is there, and the machine, if
+    /// there is one, is made stale round the edit. Where that lacks memory, the machine alone is let go.
+    pub(crate) fn edit(&mut self, alloc: Global, graph: &Graph, change: &Change)
+        requires covers { IfSome self.old.machine (Covers (undo graph.now change.now)) }
+        requires wired { IsWired (undo graph.now change.now) }
+        requires room { nodes graph.now ≤ length self.old.state + self.old.spare }
+        ensures state { self.new.state ≡ with_new_nodes self.old.state (nodes graph.now) }
+        ensures machine { IfSome self.new.machine (EditsFrom graph.now change.now self.old.machine) }
     {
-        let state = grown(self.state(), nodes, room);
-        self.held = Held::Still(state);
+        let held = mem::replace(&mut self.held, Held::Still(Vec::new(alloc)));
+        self.held = regrouped(held, graph, change);
+    }
+
+    /// Gets a machine that fits the graph: the stale parts of the one that is there get their codes, and
+    /// where there is none one is built.
+    ///
+    /// Texts that aren't kept are analysed first, each once, and kept. The refusals are those of a build;
+    /// after them the state and the machine are as before.
+    #[tactic(auto, using(crate::proofs::RoomLemmas::built_finished, crate::proofs::RoomLemmas::built_anew))]
+    pub(crate) fn build<A: Analyst>(
+        &mut self,
+        alloc: Global,
+        graph: &Graph,
+        kept: &mut Kept,
+        analyst: &mut A,
+    ) -> Result<(), BuildFault>
+        requires counted { length self.old.state ≡ nodes graph.now }
+        requires railed { IsRailed graph.now }
+        requires sound { IsSound self.old.state }
+        requires serves { IfSome self.old.machine (Serves graph.now self.old.state (texts_of kept.old)) }
+        ensures built { OnOk result (BuiltFrom graph.now self.old self.new) }
+        ensures builds { OnOk result (Builds graph.now (texts_of kept.old) (texts_of kept.new) (A.analysed analyst.old) (A.analysed analyst.new)) }
+        ensures cut_off { result ≡ Err BuildFault.NoMemory → IsCutOff graph.now (texts_of kept.old) (texts_of kept.new) (A.analysed analyst.old) (A.analysed analyst.new) }
+        ensures refused { IfErr result (λ fault. (fault ≡ BuildFault.NoMemory)
+            ⊎ (TellsTooLarge graph.now fault × (kept.new ≡ kept.old) × (A.analysed analyst.new ≡ A.analysed analyst.old))) }
+        ensures err { OnErr result (self.new ≡ self.old) }
+        ensures grown { IsGrown kept.old kept.new }
+    {
+        match &mut self.held {
+            Held::Built(machine) => machine.finish(graph, kept, analyst),
+            Held::Still(state) => {
+                let machine = Machine::build(alloc, graph, state, kept, analyst)?;
+                self.held = Held::Built(machine);
+                Ok(())
+            }
+        }
     }
 
     /// Gives a node that is no rail this state.
@@ -116,14 +162,14 @@ impl Stage {
     {
         match &mut self.held {
             Held::Still(state) => state[node] = value,
-            Held::Built(machine) => machine.set_node(graph, node, value),
+            Held::Built(machine) => place(machine, graph, node, value),
         }
     }
 
-    /// Has the machine, which is there, take a unit step.
+    /// Has the machine, which fits the graph, take a unit step.
+    #[tactic(auto, using(crate::proofs::RoomLemmas::fits_inside))]
     pub(crate) fn step(&mut self, graph: &Graph)
-        requires there { is_some self.old.machine ≡ true }
-        requires fits { IfSome self.old.machine (FitsGraph graph.now) }
+        requires { FitsIn graph.now self.old.machine }
         ensures { MovesBy (TakesStep graph.now) self.old self.new }
     {
         if let Held::Built(machine) = &mut self.held {
@@ -131,10 +177,10 @@ impl Stage {
         }
     }
 
-    /// Has the machine, which is there, settle.
+    /// Has the machine, which fits the graph, settle.
+    #[tactic(auto, using(crate::proofs::RoomLemmas::fits_inside))]
     pub(crate) fn settle(&mut self, graph: &Graph, limit: u64) -> Settled
-        requires there { is_some self.old.machine ≡ true }
-        requires fits { IfSome self.old.machine (FitsGraph graph.now) }
+        requires fits { FitsIn graph.now self.old.machine }
         requires low { 1 ≤ limit }
         requires high { limit ≤ MOST_LIMIT }
         ensures { MovesBy (λ before after. TakesPhase graph.now limit before after result.steps result.joined) self.old self.new }
@@ -169,19 +215,4 @@ impl Stage {
             Held::Still(_) => 0,
         }
     }
-}
-
-// A copy of states, and X for each further node, up to so many, in room that is there.
-fn grown(old: &[Tern], nodes: usize, room: Vec<Tern>) -> Vec<Tern>
-    requires empty { room.items ≡ [] }
-    requires least { length old.now ≤ nodes }
-    requires space { nodes ≤ vec_capacity room }
-    ensures { result.items ≡ old.now ++ replicate (nodes - length old.now) Unk }
-{
-    let mut state = room;
-    state.extend_from_slice(old).unwrap();
-    for _node in old.len()..nodes {
-        state.push_reserved(Tern::Unk);
-    }
-    state
 }

@@ -1,6 +1,6 @@
 //! Unit steps, phases and cycles, and their waveform lines.
 
-ghost use Rattle.std.specs.Prelude.{◌≡◌, ◌<◌, ◌≤◌, [], ◌∷◌, true, is_some, length, slice_set, All, IfErr, IfSome, OnOk};
+ghost use Rattle.std.specs.Prelude.{◌≡◌, ◌<◌, ◌≤◌, [], ◌∷◌, length, slice_set, All, IfErr, IfSome, OnOk};
 ghost use Rattle.std.specs.List.{range_with_len};
 ghost use Rattle.path_meaning.specs.Graphs.{level_of};
 ghost use Rattle.path_meaning.specs.Switching.{state_at};
@@ -9,7 +9,7 @@ ghost use Rattle.script_lang.specs.declared.command.Command.TheVariants as asked
 ghost use Rattle.script_lang.specs.Forms.{IsTimes};
 ghost use Rattle.cosmos_session.specs.Sessions.{places_of, IsReady};
 ghost use Rattle.cosmos_session.specs.Effects as effect;
-ghost use Rattle.cosmos_session.specs.Machines.{StepsMachine, SettlesMachine, moves_of, placed_of};
+ghost use Rattle.cosmos_session.specs.Machines.{IsBuilt, StepsMachine, SettlesMachine, moves_of, placed_of};
 ghost use Rattle.cosmos_session.specs.Stages.{IsStepSent, IsUnitStepDone, IsSettled, PhaseMoves, BeatsMove, BeatsMoveOn, PutsIn, TicksIn};
 ghost use Rattle.cosmos_session.specs.Sinks.{IsSinkFault, faults_applied, refusals_sent};
 ghost use Rattle.cosmos_session.specs.Outcomes.{Obeys, TakesBeats, IsPhaseSent, Sent};
@@ -81,7 +81,7 @@ impl Session {
         self.run_cycles(times, &mut room, out)
     }
 
-    // Runs the clocks through all their places, so many times. The machine is there, and the clocks' nodes
+    // Runs the clocks through all their places, so many times. The machine fits, and the clocks' nodes
     // are input nodes.
     fn run_cycles<S: Sink>(
         &mut self,
@@ -89,12 +89,13 @@ impl Session {
         room: &mut WaveRoom,
         out: &mut S,
     ) -> Result<(), ApplyFault>
-        requires there { is_some self.old.machine ≡ true }
+        requires built { IsBuilt self.old }
         requires inputs { All (λ clock. level_of self.old.core.circuit.graph clock.node ≡ INPUT_LEVEL) self.old.core.clocks }
         requires ready { IsReady self.old.core }
         requires room { length self.old.core.watched ≤ room.old }
         ensures beats { TakesBeats (effect.places_in (places_of self.old.core.clocks) times) self.old.core self.new.core (S.written out.old) (S.written out.new) result }
         ensures moves { OnOk result (BeatsMove (effect.places_in (places_of self.old.core.clocks) times) self.old self.new) }
+        ensures built { IsBuilt self.new }
         ensures cause { IfErr result IsSinkFault }
         ensures faults { S.faults out.new ≡ faults_applied (S.faults out.old) result }
         ensures refusals { S.refusals out.new ≡ refusals_sent (S.refusals out.old) result }
@@ -105,10 +106,10 @@ impl Session {
         Ok(())
     }
 
-    // Runs the clocks through all their places once. The machine is there, and the clocks' nodes are input
+    // Runs the clocks through all their places once. The machine fits, and the clocks' nodes are input
     // nodes.
     fn run_cycle<S: Sink>(&mut self, room: &mut WaveRoom, out: &mut S) -> Result<(), ApplyFault>
-        requires there { is_some self.old.machine ≡ true }
+        requires built { IsBuilt self.old }
         requires inputs { All (λ clock. level_of self.old.core.circuit.graph clock.node ≡ INPUT_LEVEL) self.old.core.clocks }
         requires room { length self.old.core.watched ≤ room.old }
         ensures beats { TakesBeats (range_with_len 0 (places_of self.old.core.clocks)) self.old.core self.new.core (S.written out.old) (S.written out.new) result }
@@ -117,7 +118,7 @@ impl Session {
         ensures watched { self.new.core.watched ≡ self.old.core.watched }
         ensures clocks { self.new.core.clocks ≡ self.old.core.clocks }
         ensures circuit { self.new.core.circuit ≡ self.old.core.circuit }
-        ensures there { is_some self.new.machine ≡ true }
+        ensures built { IsBuilt self.new }
         ensures cause { IfErr result IsSinkFault }
         ensures faults { S.faults out.new ≡ faults_applied (S.faults out.old) result }
         ensures refusals { S.refusals out.new ≡ refusals_sent (S.refusals out.old) result }
@@ -129,22 +130,22 @@ impl Session {
         Ok(())
     }
 
-    // Gives each clock's node its state at a place. The machine is there, and the nodes are input nodes.
+    // Gives each clock's node its state at a place. The machine fits, and the nodes are input nodes.
     fn put_clocks(&mut self, place: usize)
-        requires there { is_some self.old.machine ≡ true }
+        requires built { IsBuilt self.old }
         requires place { place < places_of self.old.core.clocks }
         requires inputs { All (λ clock. level_of self.old.core.circuit.graph clock.node ≡ INPUT_LEVEL) self.old.core.clocks }
         ensures beat { self.new.core ≡ effect.with_beat self.old.core place }
-        ensures there { is_some self.new.machine ≡ true }
+        ensures built { IsBuilt self.new }
         ensures moves { moves_of self.new.machine ≡ moves_of self.old.machine }
         ensures placed { placed_of self.new.machine ≡ placed_of self.old.machine }
     {
         put_states(&self.clocks, place, self.circuit.graph(), &mut self.stage);
     }
 
-    // Takes a unit step, and sends its waveform line. The machine is there.
+    // Takes a unit step, and sends its waveform line. The machine fits.
     fn step_and_send<S: Sink>(&mut self, room: &mut WaveRoom, out: &mut S) -> Result<(), ApplyFault>
-        requires there { is_some self.old.machine ≡ true }
+        requires built { IsBuilt self.old }
         requires room { length self.old.core.watched ≤ room.old }
         ensures step { IsStepSent self.old.core self.new.core (S.written out.old) (S.written out.new) result }
         ensures machine { StepsMachine self.old self.new }
@@ -156,9 +157,9 @@ impl Session {
         self.send_wave(1, false, room, out)
     }
 
-    // Takes a unit step, and counts its waveform line. The machine is there.
+    // Takes a unit step, and counts its waveform line. The machine fits.
     fn take_step(&mut self)
-        requires { is_some self.old.machine ≡ true }
+        requires { IsBuilt self.old }
         ensures step { IsUnitStepDone self.old.core self.new.core }
         ensures machine { StepsMachine self.old self.new }
     {
@@ -166,17 +167,17 @@ impl Session {
         self.count = self.count.saturating_add(1);
     }
 
-    // Does what a phase does, and sends its waveform line. The machine is there.
+    // Does what a phase does, and sends its waveform line. The machine fits.
     fn settle_and_send<S: Sink>(
         &mut self,
         room: &mut WaveRoom,
         out: &mut S,
     ) -> Result<(), ApplyFault>
-        requires there { is_some self.old.machine ≡ true }
+        requires built { IsBuilt self.old }
         requires room { length self.old.core.watched ≤ room.old }
         ensures phase { IsPhaseSent self.old.core self.new.core (S.written out.old) (S.written out.new) result }
         ensures moves { PhaseMoves self.old self.new }
-        ensures there { is_some self.new.machine ≡ true }
+        ensures built { IsBuilt self.new }
         ensures watched { self.new.core.watched ≡ self.old.core.watched }
         ensures clocks { self.new.core.clocks ≡ self.old.core.clocks }
         ensures circuit { self.new.core.circuit ≡ self.old.core.circuit }
@@ -189,10 +190,11 @@ impl Session {
         self.send_wave(settled.steps, settled.joined, room, out)
     }
 
-    // Settles, and counts the waveform line. The machine is there.
+    // Settles, and counts the waveform line. The machine fits.
     fn settle(&mut self) -> Settled
-        requires { is_some self.old.machine ≡ true }
-        ensures { IsSettled self.old self.new result.steps result.joined }
+        requires { IsBuilt self.old }
+        ensures settled { IsSettled self.old self.new result.steps result.joined }
+        ensures built { IsBuilt self.new }
     {
         let settled = self.stage.settle(self.circuit.graph(), self.limit);
         self.count = self.count.saturating_add(1);

@@ -93,7 +93,7 @@ fn commands_write_their_lines(rt: HostRuntime) -> Result<(), Fail> {
 const PAIR: &[u8] = b"p a Vdd b\nn a Gnd b\np b Vdd c\nn b Gnd c\n";
 
 // Lines of a script in turn, with the numbers of marked groups, of moves and of placed members after them.
-const MARKS: [(&[u8], Option<(usize, u64, u64)>); 9] = [
+const MARKS: [(&[u8], Option<(usize, u64, u64)>); 12] = [
     (b"input a", None),
     (b"watch a b c", None),
     (b"set a=0", None),
@@ -102,11 +102,15 @@ const MARKS: [(&[u8], Option<(usize, u64, u64)>); 9] = [
     (b"set a=1", Some((1, 2, 0))),
     (b"phase", Some((1, 4, 0))),
     (b"phase", Some((0, 5, 0))),
-    (b"input c", None),
+    // an edit makes the last inverter stale, and the machine goes on from its moves
+    (b"limit 9", Some((0, 5, 0))),
+    (b"del 4", Some((1, 5, 0))),
+    (b"set a=0", Some((2, 5, 0))),
+    (b"phase", Some((0, 6, 0))),
 ];
 
 #[test]
-fn the_machine_stays_until_an_edit(rt: HostRuntime) -> Result<(), Fail> {
+fn the_machine_lives_through_edits(rt: HostRuntime) -> Result<(), Fail> {
     let mut session = session_of(rt.alloc(), PAIR)?;
     let mut analyst = SymbolicAnalyst::new(rt.alloc());
     let mut out = HonestSink::new(rt.alloc());

@@ -38,7 +38,7 @@ loop-name-preserved c =
       state = assigned-more circuit list place item c.loop-name.stage.state c.assign_one.new.stage.state inside c.loop-name-item.is set
           ∙ c.loop-name.invariant.state;
       count = ap length set ∙ length-set c.loop-name.stage.state (node_named circuit item.0) item.1 ∙ c.loop-name.invariant.count;
-      machine = assigns_in-more circuit c.assign_one.ensures.netlist.wired (map (λ (one : List ℕ × Tern). one.0) list) (item.0) (item.1)
+      machine = assigns_in-more circuit (map (λ (one : List ℕ × Tern). one.0) list) (item.0) (item.1)
           c.args.stage.now.machine c.loop-name.stage.machine c.assign_one.new.stage.machine
           (contains-map (λ (one : List ℕ × Tern). one.0) list place item inside (sym c.loop-name-item.is)) c.loop-name.invariant.machine put;
     }

@@ -18,7 +18,7 @@ loop-clock-preserved c =
       state = states_with-more c.args.clocks.now k c.args.place clock c.loop-clock.stage.state c.put_state.new.stage.state inside c.clock-item.is set
           ∙ c.loop-clock.invariant.state;
       nodes = ap length set ∙ length-set c.loop-clock.stage.state clock.node (state_at clock.states c.args.place) ∙ c.loop-clock.invariant.nodes;
-      machine = ticks_in-more c.args.graph.now c.graphs_are_wired.ensures c.args.clocks.now clock (state_at clock.states c.args.place) c.args.stage.now.machine
+      machine = ticks_in-more c.args.graph.now c.args.clocks.now clock (state_at clock.states c.args.place) c.args.stage.now.machine
           c.loop-clock.stage.machine c.put_state.new.stage.machine
           (λ inputs. rw c.clock-item.is (inputs k clock inside))
           c.loop-clock.invariant.machine c.put_state.ensures.machine;

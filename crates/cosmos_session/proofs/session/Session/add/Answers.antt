@@ -1,20 +1,59 @@
-use Rattle.std.proofs.Common.{◌≡◌, ◌-◌, ◌++◌, length, replicate, None}
-use Rattle.ternary.specs.declared.tern.Tern.TheVariants.{Unk}
-use Rattle.path_meaning.specs.Graphs.{nodes}
+use Rattle.std.proofs.Common.{length, ap, ◌∙◌, rules}
+use Rattle.path_meaning.specs.Graphs.{GraphData}
 use Rattle.netlist.specs.Circuits.{CircuitData}
 use Rattle.netlist.proofs.EditLemmas.{nodes-with_transistor}
-use Rattle.cosmos_session.specs.Stages.{StageData}
+use Rattle.cosmos_session.specs.Stages.{before_place}
 use Rattle.cosmos_session.specs.contracts.session.Session.{the_view}
-use Rattle.cosmos_session.proofs.EditLemmas.{held-grown}
+use Rattle.cosmos_session.proofs.UndoLemmas.{Undoes, undoes-by, undoes-with_transistor}
+use Rattle.cosmos_session.proofs.EditLemmas.{covers-before, held-edited, added_does}
 use Rattle.cosmos_session.proofs.session.Session.add.Goals as goal
 
-pub invariant_of-self : goal.invariant_of-self
-invariant_of-self c =
+pub edit-requires-clause-covers : goal.edit-requires-clause-covers
+edit-requires-clause-covers c =
     let session = the_view c.self.inside in
     let circuit : CircuitData = c.add_switch.new.self in
-    let stage : StageData = c.regrow.new.self in
-    let is : stage ≡ record { state = session.core.state ++ replicate (nodes circuit.graph - length session.core.state) Unk; machine = None } =
-    rw (c.nodes-nodes.ensures, c.graph.ensures.value) at c.regrow.ensures in
-    held-grown session circuit stage is c.graph.ensures.netlist
+    let change = c.change_at-change.result in
+    let undoes : Undoes circuit.graph session.core.circuit.graph change =
+    undoes-by session.core.circuit circuit change c.in-Ok.ensures.ok
+    (c.change_at-change.ensures ∙ ap (λ (g : GraphData). before_place g c.places.result) c.graph.ensures.value
+    ∙ ap (before_place session.core.circuit.graph) (c.places.ensures ∙ ap (λ (g : GraphData). length g.places) c.graph-2.ensures.value))
+    (undoes-with_transistor session.core.circuit c.args.kind c.unwrap_or-strength.result c.items-gate.result.now c.items-source.result.now c.items-drain.result.now c.self.invariant.core.ready.netlist) in
+    rw (c.graph-in-Ok.ensures.value, c.reserve.ensures.machine) (covers-before session circuit change undoes c.self.invariant)
+
+pub edit-requires-clause-wired : goal.edit-requires-clause-wired
+edit-requires-clause-wired c =
+    let session = the_view c.self.inside in
+    let circuit : CircuitData = c.add_switch.new.self in
+    let change = c.change_at-change.result in
+    let undoes : Undoes circuit.graph session.core.circuit.graph change =
+    undoes-by session.core.circuit circuit change c.in-Ok.ensures.ok
+    (c.change_at-change.ensures ∙ ap (λ (g : GraphData). before_place g c.places.result) c.graph.ensures.value
+    ∙ ap (before_place session.core.circuit.graph) (c.places.ensures ∙ ap (λ (g : GraphData). length g.places) c.graph-2.ensures.value))
+    (undoes-with_transistor session.core.circuit c.args.kind c.unwrap_or-strength.result c.items-gate.result.now c.items-source.result.now c.items-drain.result.now c.self.invariant.core.ready.netlist) in
+    rw c.graph-in-Ok.ensures.value undoes.wired
+
+pub invariant_of-self-in-Ok : goal.invariant_of-self-in-Ok
+invariant_of-self-in-Ok c =
+    let session = the_view c.self.inside in
+    let circuit : CircuitData = c.add_switch.new.self in
+    let change = c.change_at-change.result in
+    let undoes : Undoes circuit.graph session.core.circuit.graph change =
+    undoes-by session.core.circuit circuit change c.in-Ok.ensures.ok
+    (c.change_at-change.ensures ∙ ap (λ (g : GraphData). before_place g c.places.result) c.graph.ensures.value
+    ∙ ap (before_place session.core.circuit.graph) (c.places.ensures ∙ ap (λ (g : GraphData). length g.places) c.graph-2.ensures.value))
+    (undoes-with_transistor session.core.circuit c.args.kind c.unwrap_or-strength.result c.items-gate.result.now c.items-source.result.now c.items-drain.result.now c.self.invariant.core.ready.netlist) in
+    held-edited session circuit change undoes c.self.invariant c.edit.new.self c.graph-in-Ok.ensures.netlist
     (rw c.in-Ok.ensures.ok (nodes-with_transistor session.core.circuit c.args.kind c.unwrap_or-strength.result c.items-gate.result.now c.items-source.result.now c.items-drain.result.now))
-    c.self.invariant
+    (rw (c.graph-in-Ok.ensures.value, c.reserve.ensures.state) at c.edit.ensures.state)
+    (rw (c.graph-in-Ok.ensures.value, c.reserve.ensures.machine) at c.edit.ensures.machine)
+
+pub returns-in-Ok-clause-quiet : goal.returns-in-Ok-clause-quiet
+returns-in-Ok-clause-quiet c =
+    let session = the_view c.self.inside in
+    let circuit : CircuitData = c.add_switch.new.self in
+    rw (← c.self.view_is)
+    (added_does session.core circuit c.edit.new.self c.args.kind c.args.strength c.unwrap_or-strength.result c.args.gate.now c.args.source.now c.args.drain.now
+    (search rules)
+    (rw (c.items-gate.ensures, c.items-source.ensures, c.items-drain.ensures) at c.in-Ok.ensures.allowed)
+    (rw (c.items-gate.ensures, c.items-source.ensures, c.items-drain.ensures) at c.in-Ok.ensures.ok)
+    (rw (c.graph-in-Ok.ensures.value, c.reserve.ensures.state) at c.edit.ensures.state))

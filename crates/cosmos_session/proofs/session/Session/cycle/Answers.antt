@@ -26,4 +26,4 @@ returns-clause-obeys g c =
 pub returns-clause-machine : goal.returns-clause-machine
 returns-clause-machine g c =
     on_ok-map _ _ c.run_cycles.result
-    (cycle-readied c.args.self.now c.prepare.new.self c.run_cycles.new.self _ _ c.in_ok-prepare.ensures c.args.times) c.run_cycles.ensures.moves
+    (cycle-readied c.args.self.now c.prepare.new.self c.run_cycles.new.self _ _ c.in_ok-prepare.ensures c.args.times c.run_cycles.ensures.built) c.run_cycles.ensures.moves

@@ -13,4 +13,4 @@ returns-clause-obeys g c =
 pub returns-clause-machine : goal.returns-clause-machine
 returns-clause-machine g c =
     on_ok _ c.settle_and_send.result
-    (phase-readied c.args.self.now c.prepare.new.self c.settle_and_send.new.self _ _ c.in_ok-prepare.ensures c.settle_and_send.ensures.moves)
+    (phase-readied c.args.self.now c.prepare.new.self c.settle_and_send.new.self _ _ c.in_ok-prepare.ensures c.settle_and_send.ensures.moves c.settle_and_send.ensures.built)

@@ -1,8 +1,17 @@
-use Rattle.std.proofs.Common.{◌≡◌, refl, rules}
+use Rattle.std.proofs.Common.{◌≡◌, List, refl, sym, subst, rules}
+use Rattle.group_text.specs.Texts.{GroupTextData}
+use Rattle.circuit_texts.specs.Building.{HasTexts}
 use Rattle.script_lang.specs.declared.command.Command.TheVariants as asked
+use Rattle.cosmos_session.specs.Sessions.{SessionData}
 use Rattle.cosmos_session.specs.Lines.{text_of}
 use Rattle.cosmos_session.proofs.OutcomeLemmas.{ready_obeys, sent_text}
 use Rattle.cosmos_session.proofs.session.Session.report.Goals as goal
+
+pub put_report-requires-clause-texts : goal.put_report-requires-clause-texts
+put_report-requires-clause-texts g c =
+    let news = c.in_ok-prepare.ensures.build.news in
+    subst (λ (s : SessionData). (list : List GroupTextData) × HasTexts s.circuit.graph list) (sym c.in_ok-prepare.ensures.build.grown)
+    (news.texts, news.has)
 
 pub returns-clause-obeys : goal.returns-clause-obeys
 returns-clause-obeys g c =

@@ -9,8 +9,8 @@ use Rattle.cosmos_session.proofs.MachineLemmas.{StaysPut}
 use Rattle.cosmos_session.proofs.MoveLemmas.{beats_on-more}
 use Rattle.cosmos_session.proofs.session.Session.run_cycle.Goals as goal
 
-pub put_clocks-requires-clause-there : goal.put_clocks-requires-clause-there
-put_clocks-requires-clause-there g c = c.loop-place.invariant.there
+pub put_clocks-requires-clause-built : goal.put_clocks-requires-clause-built
+put_clocks-requires-clause-built g c = c.loop-place.invariant.built
 
 pub put_clocks-requires-clause-place : goal.put_clocks-requires-clause-place
 put_clocks-requires-clause-place g c = omega (arith, ap places_of c.loop-place.invariant.clocks, c.loop-place.invariant.end)
@@ -60,7 +60,7 @@ loop-place-preserved g c =
     let next = c.settle_and_send.new.self in
     let beat : SessionData = with_beat now.core place in
     let stays : StaysPut now.machine put.machine =
-    record { there = c.put_clocks.ensures.there; moves = c.put_clocks.ensures.moves; placed = c.put_clocks.ensures.placed } in
+    record { moves = c.put_clocks.ensures.moves; placed = c.put_clocks.ensures.placed } in
     record {
       end = c.loop-place.invariant.end;
       done = rw (places-next place) (beat_done start.core now.core next.core beat.state
@@ -69,7 +69,7 @@ loop-place-preserved g c =
           (rw c.put_clocks.ensures.beat at c.in_ok-settle_and_send.ensures.phase));
       moves = rw (places-next place) (beats_on-more start now put next (range_with_len 0 place) place c.loop-place.invariant.moves
           c.put_clocks.ensures.beat stays c.settle_and_send.ensures.moves);
-      there = c.settle_and_send.ensures.there;
+      built = c.settle_and_send.ensures.built;
       clocks = c.settle_and_send.ensures.clocks ∙ ap (λ (s : SessionData). s.clocks) c.put_clocks.ensures.beat ∙ c.loop-place.invariant.clocks;
       circuit = c.settle_and_send.ensures.circuit ∙ ap (λ (s : SessionData). s.circuit) c.put_clocks.ensures.beat ∙ c.loop-place.invariant.circuit;
       watched = c.settle_and_send.ensures.watched ∙ ap (λ (s : SessionData). s.watched) c.put_clocks.ensures.beat ∙ c.loop-place.invariant.watched;

@@ -1,7 +1,8 @@
 -- The places before this one are done, with their lines sent, by the machine that is there.
-use Rattle.std.proofs.Common.{◌≡◌, true, is_some}
+use Rattle.std.proofs.Common.{◌≡◌}
 use Rattle.std.specs.List.{range_with_len}
 use Rattle.cosmos_session.specs.Sessions.{places_of}
+use Rattle.cosmos_session.specs.Machines.{IsBuilt}
 use Rattle.cosmos_session.specs.Stages.{BeatsMoveOn}
 use Rattle.cosmos_session.proofs.BeatLemmas.{BeatsDone}
 use Rattle.cosmos_session.proofs.session.Session.run_cycle.Given as goal
@@ -11,7 +12,7 @@ invariant-loop-place g l = record {
   end : l.place-end ≡ places_of l.fn.self.core.clocks;
   done : BeatsDone l.fn.self.core l.self.core (range_with_len 0 l.place) (g.S.Sink.written l.fn.out) (g.S.Sink.written l.out);
   moves : BeatsMoveOn (range_with_len 0 l.place) l.fn.self l.self;
-  there : is_some l.self.machine ≡ true;
+  built : IsBuilt l.self;
   clocks : l.self.core.clocks ≡ l.fn.self.core.clocks;
   circuit : l.self.core.circuit ≡ l.fn.self.core.circuit;
   watched : l.self.core.watched ≡ l.fn.self.core.watched;

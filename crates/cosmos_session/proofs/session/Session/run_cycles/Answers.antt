@@ -13,8 +13,8 @@ loop-cycle-init g c =
     record {
       done = beats_done-none start.core (places_of start.core.clocks) (g.S.Sink.written c.args.out.now);
       moves = subst (λ (places : List ℕ). BeatsMove places start start) (sym (no_cycle (places_of start.core.clocks)))
-          (beats_move-none start c.requires.there);
-      there = c.requires.there;
+          (beats_move-none start c.requires.built);
+      built = c.requires.built;
       clocks = refl;
       circuit = refl;
       watched = refl;
@@ -23,8 +23,8 @@ loop-cycle-init g c =
       refusals = refl;
     }
 
-pub run_cycle-requires-clause-there : goal.run_cycle-requires-clause-there
-run_cycle-requires-clause-there g c = c.loop-cycle.invariant.there
+pub run_cycle-requires-clause-built : goal.run_cycle-requires-clause-built
+run_cycle-requires-clause-built g c = c.loop-cycle.invariant.built
 
 pub run_cycle-requires-clause-inputs : goal.run_cycle-requires-clause-inputs
 run_cycle-requires-clause-inputs g c = rw (c.loop-cycle.invariant.clocks, c.loop-cycle.invariant.circuit) c.requires.inputs
@@ -47,7 +47,7 @@ loop-cycle-preserved g c = record {
       c.loop-cycle.invariant.done c.in_ok-run_cycle.ensures.beats;
   moves = cycle_moves c.args.self.now c.loop-cycle.self c.run_cycle.new.self c.loop-cycle._cycle c.loop-cycle.invariant.moves
       c.in_ok-run_cycle.ensures.moves;
-  there = c.run_cycle.ensures.there;
+  built = c.run_cycle.ensures.built;
   clocks = c.run_cycle.ensures.clocks ∙ c.loop-cycle.invariant.clocks;
   circuit = c.run_cycle.ensures.circuit ∙ c.loop-cycle.invariant.circuit;
   watched = c.run_cycle.ensures.watched ∙ c.loop-cycle.invariant.watched;

@@ -1,7 +1,8 @@
 -- The cycles before this one are run, with their lines sent, by the machine that is there.
-use Rattle.std.proofs.Common.{◌≡◌, true, is_some}
+use Rattle.std.proofs.Common.{◌≡◌}
 use Rattle.cosmos_session.specs.Sessions.{places_of}
 use Rattle.cosmos_session.specs.Effects.{places_in}
+use Rattle.cosmos_session.specs.Machines.{IsBuilt}
 use Rattle.cosmos_session.specs.Stages.{BeatsMove}
 use Rattle.cosmos_session.proofs.BeatLemmas.{BeatsDone}
 use Rattle.cosmos_session.proofs.session.Session.run_cycles.Given as goal
@@ -10,7 +11,7 @@ abbrev pub invariant-loop-cycle : goal.invariant-loop-cycle
 invariant-loop-cycle g l = record {
   done : BeatsDone l.fn.self.core l.self.core (places_in (places_of l.fn.self.core.clocks) l._cycle) (g.S.Sink.written l.fn.out) (g.S.Sink.written l.out);
   moves : BeatsMove (places_in (places_of l.fn.self.core.clocks) l._cycle) l.fn.self l.self;
-  there : is_some l.self.machine ≡ true;
+  built : IsBuilt l.self;
   clocks : l.self.core.clocks ≡ l.fn.self.core.clocks;
   circuit : l.self.core.circuit ≡ l.fn.self.core.circuit;
   watched : l.self.core.watched ≡ l.fn.self.core.watched;

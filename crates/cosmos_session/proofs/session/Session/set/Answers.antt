@@ -5,7 +5,7 @@ use Rattle.cosmos_session.specs.Stages.{AssignsIn}
 use Rattle.cosmos_session.specs.contracts.session.Session.{the_view}
 use Rattle.cosmos_session.proofs.RefusalLemmas.{set_known}
 use Rattle.cosmos_session.proofs.StateLemmas.{set_past}
-use Rattle.cosmos_session.proofs.MachineLemmas.{held-assigned, places-assigned, unplaced-assigned, fits-serves, set_inputs}
+use Rattle.cosmos_session.proofs.MachineLemmas.{held-assigned, places-assigned, unplaced-assigned, covers-serves, set_inputs}
 use Rattle.cosmos_session.proofs.session.Session.set.Goals as goal
 
 pub returns-in-Some-clause-quiet : goal.returns-in-Some-clause-quiet
@@ -36,6 +36,6 @@ returns-clause-machine c =
     rw (← c.self.view_is) (
       places-assigned session.core.circuit names session.machine c.assign.new.stage.machine placed,
       unplaced-assigned session.core.circuit names session.machine c.assign.new.stage.machine
-          (fits-serves session.core.circuit.graph session.core.state session.core.kept session.machine c.self.invariant.machine) placed
+          (covers-serves session.core.circuit.graph session.core.state session.core.kept session.machine c.self.invariant.machine) placed
           (set_inputs session.core.circuit list (sym (rw (c.in_default.is, c.items.ensures) at c.set_refusal.ensures))),
     )

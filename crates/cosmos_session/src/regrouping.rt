@@ -1,0 +1,103 @@
+//! What an edit of the circuit does to a session's state and its machine.
+
+ghost use Rattle.std.specs.Prelude.{◌≡◌, ◌≢◌, ◌+◌, ◌-◌, ◌≤◌, length, vec_capacity, IfSome, IfOk, IfErr};
+ghost use Rattle.path_meaning.specs.Graphs.{nodes, IsWired};
+ghost use Rattle.channel_groups.specs.Changes.{undo};
+ghost use Rattle.unit_step.specs.Fitting.{Covers};
+ghost use Rattle.unit_step.specs.Editing.{with_new_nodes, Edits};
+ghost use Rattle.cosmos_session.specs.Stages.{state_held, machine_held, spare_held, before_place, before_level, EditsFrom};
+
+use crate::stage::Held;
+use channel_groups::Change;
+use path_meaning::Graph;
+use std::marker::Brand;
+use std::sync::ledger::{Blank, Ledger};
+use ternary::{Steps, Tern};
+use unit_step::{EditRefused, Machine};
+
+/// How the graph is before what stands at a place is changed; past the last place nothing stands.
+pub(crate) fn change_at(graph: &Graph, place: usize) -> Change
+    ensures { result ≡ before_place graph.now place }
+{
+    let there = if place < graph.places() {
+        graph.switch_at(place)
+    } else {
+        None
+    };
+    Change {
+        nodes: graph.nodes(),
+        place: Some((place, there)),
+        level: None,
+    }
+}
+
+/// How the graph is before what stands at the place of a transistor's number is changed.
+pub(crate) fn change_of(graph: &Graph, number: u64) -> Change
+    ensures { result ≡ before_place graph.now (number - 1) }
+{
+    change_at(graph, (number as usize).saturating_sub(1))
+}
+
+/// How the graph is before the level of a node is changed.
+pub(crate) fn change_of_level(graph: &Graph, node: usize) -> Change
+    requires { node + 1 ≤ nodes graph.now }
+    ensures { result ≡ before_level graph.now node }
+{
+    Change {
+        nodes: graph.nodes(),
+        place: None,
+        level: Some((node, graph.level(node))),
+    }
+}
+
+/// The state, or the machine, after an edit of the graph, with X for each new node, in room that is
+/// there. Where the machine's edit lacks memory, it is the state that is handed back.
+pub(crate) fn regrouped(held: Held, graph: &Graph, change: &Change) -> Held
+    requires covers { IfSome (machine_held held) (Covers (undo graph.now change.now)) }
+    requires wired { IsWired (undo graph.now change.now) }
+    requires room { nodes graph.now ≤ length (state_held held) + spare_held held }
+    ensures state { state_held result ≡ with_new_nodes (state_held held) (nodes graph.now) }
+    ensures machine { IfSome (machine_held result) (EditsFrom graph.now change.now (machine_held held)) }
+{
+    match held {
+        Held::Still(mut state) => {
+            grow(&mut state, graph.nodes());
+            Held::Still(state)
+        }
+        Held::Built(machine) => {
+            match edit_uncounted::<Brand>(machine, graph, change, Blank::new(1)) {
+                Ok(machine) => Held::Built(machine),
+                Err(refused) => Held::Still(refused.state),
+            }
+        }
+    }
+}
+
+// The machine after an edit, without counting the looks at nodes and switches.
+fn edit_uncounted<L: Ledger>(
+    machine: Machine,
+    graph: &Graph,
+    change: &Change,
+    blank: Blank,
+) -> Result<Machine, EditRefused>
+    requires name { blank.name ≡ L.name }
+    requires parts { blank.parts ≡ L.parts }
+    requires some { blank.parts ≢ 0 }
+    requires covers { Covers (undo graph.now change.now) machine }
+    requires wired { IsWired (undo graph.now change.now) }
+    requires room { nodes graph.now ≤ length machine.state + machine.spare }
+    ensures edits { IfOk result (Edits graph.now change.now machine) }
+    ensures refused { IfErr result (λ refused. refused.state.items ≡ with_new_nodes machine.state (nodes graph.now)) }
+{
+    machine.edit(graph, change, &mut Steps::<L>::new(blank))
+}
+
+// Adds X for each new node, up to so many nodes, in room that is there.
+fn grow(state: &mut Vec<Tern>, nodes: usize)
+    requires { nodes ≤ vec_capacity state.old }
+    ensures { state.new.items ≡ with_new_nodes state.old.items nodes }
+{
+    for _node in state.len()..nodes {
+        state.push_reserved(Tern::Unk);
+    }
+}
