@@ -4,8 +4,9 @@
 //! the netlist's circuit, writing a line for each step and each phase, and for each expectation that
 //! isn't met. `cosmos check NET` reads the netlist and writes how many nodes, transistors and names it
 //! has; `cosmos groups NET` writes its channel-connected groups, and `cosmos compile NET` a listing of
-//! it. `cosmos gen PART KIND SEED N` reads nothing and writes a generated netlist or script. All other
-//! words are answered by the usage line.
+//! it. `cosmos gen PART KIND SEED N` reads nothing and writes a generated netlist or script, and
+//! `cosmos large KIND SEED N` one line that sums up the run of both. All other words are answered by the
+//! usage line.
 //!
 //! The exit status is that of `cosmos_app::run`, whose contract says what is written: 0 where all went
 //! well, 1 where an expectation wasn't met, 2 for words that are no command line, 3 and 4 for a refused

@@ -13,3 +13,6 @@ pub mod CountLemmas
 pub mod PieceLemmas
 pub mod FeedingLemmas
 pub mod FirstRefusedLemmas
+mod WaveLemmas
+mod AlikeLemmas
+mod CountingLemmas

@@ -21,13 +21,15 @@ use Rattle.circuit_listing.specs.Faithful.{IsFaithful}
 use Rattle.circuit_texts.specs.Sizes.{AllFit, TellsTooLarge}
 use Rattle.group_report.specs.Report.{IsReport}
 use Rattle.net_gen.specs.declared.families.GenPart.{GenPart}
+use Rattle.net_gen.specs.declared.families.GenPart.TheVariants as part
 use Rattle.cosmos_session.specs.Sessions.{start_of}
 use Rattle.cosmos_app.specs.declared.status.Status.{Status}
 use Rattle.cosmos_app.specs.declared.status.Status.TheVariants as status
 use Rattle.cosmos_app.specs.Codes.{Cause, plain_cause, size_cause, cause_line, net_code}
 use Rattle.cosmos_app.specs.Samples.{Sample, text_of}
-use Rattle.cosmos_app.specs.Requests.{Question, Simulate, Check, Groups, Compile, Request, About, Generate, Unclear, request_of}
+use Rattle.cosmos_app.specs.Requests.{Question, Simulate, Check, Groups, Compile, Request, About, Generate, SumUp, Unclear, request_of}
 use Rattle.cosmos_app.specs.Runs.{Answer, plain_answer, plain_reading, IsScriptAnswer}
+use Rattle.cosmos_app.specs.Summaries.{IsSummedUp}
 
 -- the answer is the line of a refusal alone, for this cause
 abbrev pub IsRefusalFor : FaultPlace → Cause → Status → Answer → Type 0
@@ -105,10 +107,20 @@ IsAnswerIn Compile holds = IsCompiled
 abbrev pub IsGenerated : GenPart → Sample → Answer → Type 0
 IsGenerated part sample answer = answer ≡ plain_answer status.Done (text_of part sample)
 
+-- the answer that sums up the run of a script in a circuit, from the start
+abbrev pub IsSummary : List ℕ → CircuitData → Answer → Type 0
+IsSummary script circuit answer =
+    IsSummedUp (nodes circuit.graph) (count_by is_some circuit.graph.places) (cut_line script) (start_of circuit) (lines_in script) answer
+
+-- the answer of a request to sum up a sample: that of its script in the circuit of its netlist, or the refusal of its netlist
+abbrev pub IsSampleSummary : Sample → Answer → Type 0
+IsSampleSummary sample answer = IsOver (IsSummary (text_of part.Script sample)) (netlist_of (text_of part.Net sample)) answer
+
 -- the answer to a request, by what the names hold
 abbrev pub IsAnswerTo : Request → (List ℕ → List ℕ) → Answer → Type 0
 IsAnswerTo (About net question) holds answer = IsOver (IsAnswerIn question holds) (netlist_of (holds net)) answer
 IsAnswerTo (Generate part sample) holds answer = IsGenerated part sample answer
+IsAnswerTo (SumUp sample) holds answer = IsSampleSummary sample answer
 IsAnswerTo Unclear holds answer = IsUsage answer
 
 -- the answer of the words

@@ -3,6 +3,8 @@ pub mod Codes
 pub mod Samples
 pub mod Requests
 pub mod Runs
+pub mod Summaries
+pub mod Countings
 pub mod Answers
 pub mod Stops
 pub mod Turns

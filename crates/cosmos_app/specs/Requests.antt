@@ -15,10 +15,11 @@ pub data Question : Type 0 where
   Groups : Question
   Compile : Question
 
--- what words ask for: a question about the netlist with this name, a part of a sample, or nothing that there is
+-- what words ask for: a question about the netlist with this name, a part of a sample, a sample's run summed up, or nothing that there is
 pub data Request : Type 0 where
   About : List ℕ → Question → Request
   Generate : GenPart → Sample → Request
+  SumUp : Sample → Request
   Unclear : Request
 
 -- what a word alone asks about a netlist
@@ -48,11 +49,22 @@ abbrev pub generation : List ℕ → List ℕ → List ℕ → List ℕ → List
 generation command part kind seed rows =
     if bytes_eq command (codes "gen") then generate (part_of part) (sample_of kind seed rows) else Unclear
 
--- what words ask for, by their number: `sim NET SCRIPT`, `check NET`, `groups NET`, `compile NET` and `gen PART KIND SEED N`, and nothing else
+-- a sample's run summed up, where the words tell one
+abbrev pub sum_up : Option Sample → Request
+sum_up (Some sample) = SumUp sample
+sum_up None = Unclear
+
+-- `large KIND SEED N`
+abbrev pub summary : List ℕ → List ℕ → List ℕ → List ℕ → Request
+summary command kind seed rows = if bytes_eq command (codes "large") then sum_up (sample_of kind seed rows) else Unclear
+
+-- what words ask for, by their number: `sim NET SCRIPT`, `check NET`, `groups NET`, `compile NET`, `gen PART KIND SEED N` and
+-- `large KIND SEED N`, and nothing else
 abbrev pub request_of : List (List ℕ) → Request
 request_of (command ∷ net ∷ script ∷ []) = simulation command net script
 request_of (command ∷ net ∷ []) = about net (question_of command)
 request_of (command ∷ part ∷ kind ∷ seed ∷ rows ∷ []) = generation command part kind seed rows
+request_of (command ∷ kind ∷ seed ∷ rows ∷ []) = summary command kind seed rows
 request_of _ = Unclear
 
 -- a question of the code, as it is meant here
@@ -66,6 +78,7 @@ question_seen code_question_is.Compile = Compile
 abbrev pub request_seen : code_request.Request → Request
 request_seen (code_request_is.About net question) = About net.now (question_seen question)
 request_seen (code_request_is.Generate part sample) = Generate part (sample_seen sample)
+request_seen (code_request_is.SumUp sample) = SumUp (sample_seen sample)
 request_seen code_request_is.Unclear = Unclear
 
 -- the bytes of the words

@@ -5,7 +5,7 @@ use Rattle.cosmos_app.specs.declared.stop.Stop.{Stop}
 use Rattle.netlist.specs.Circuits.{CircuitData}
 use Rattle.sim_read.specs.declared.fault.NetRefusal.{NetRefusal}
 use Rattle.sim_read.specs.Meaning.{netlist_of}
-use Rattle.cosmos_app.specs.Requests.{Question, Simulate, Request, About, Generate, Unclear}
+use Rattle.cosmos_app.specs.Requests.{Question, Simulate, Request, About, Generate, SumUp, Unclear}
 
 -- the started names, where they are told
 abbrev pub Started : Type 0
@@ -40,4 +40,5 @@ QuestionStarts net question known old new =
 abbrev pub RequestStarts : Request → Option (List ℕ → List ℕ) → Started → Started → Type 0
 RequestStarts (About net question) known old new = QuestionStarts net question known old new
 RequestStarts (Generate part sample) known old new = new ≡ old
+RequestStarts (SumUp sample) known old new = new ≡ old
 RequestStarts Unclear known old new = new ≡ old

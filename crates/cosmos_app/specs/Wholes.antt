@@ -7,7 +7,7 @@ use Rattle.sim_read.specs.Meaning.{netlist_of}
 use Rattle.port_edge.specs.Taken.{Taken, with_files}
 use Rattle.cosmos_app.specs.declared.status.Status.{Status}
 use Rattle.cosmos_app.specs.declared.status.Status.TheVariants.{ReadFault, WriteFault, NoMemory}
-use Rattle.cosmos_app.specs.Requests.{Question, Simulate, Request, About, Generate, Unclear}
+use Rattle.cosmos_app.specs.Requests.{Question, Simulate, Request, About, Generate, SumUp, Unclear}
 
 -- the files that a question needs beside the netlist
 abbrev pub scripts_of : Question → List (List ℕ)
@@ -23,6 +23,7 @@ needed question net (Err refusal) = net ∷ []
 abbrev pub files_of : Request → (List ℕ → List ℕ) → List (List ℕ)
 files_of (About net question) holds = needed question net (netlist_of (holds net))
 files_of (Generate part sample) holds = []
+files_of (SumUp sample) holds = []
 files_of Unclear holds = []
 
 -- each of these files was started, and read to its end or to the first byte too many

@@ -12,11 +12,14 @@
 //! run(alloc, ["sim", "inverter.sim", "inverter.cmd"], files, out)   is Status::Done
 //! run(alloc, ["check", "inverter.sim"], files, out)                 is Status::Done, and writes
 //!     `ok nodes 4 switches 2 names 2`
+//! run(alloc, ["large", "inverters", "1", "2"], files, out)          is Status::Done, and writes
+//!     `large nodes 5 switches 4 lines 4 steps 4 marks 0 zeros 4 ones 4 unknown 0`
 //! ```
 #![tactic(auto)]
 
 mod codes;
 mod compile;
+mod counting;
 mod generated;
 mod laws;
 mod reading;
@@ -27,6 +30,7 @@ mod sample;
 mod script;
 mod status;
 mod stop;
+mod summary;
 mod top;
 
 pub use laws::scripts_end_at_their_first_refused_line;

@@ -39,8 +39,8 @@ pub(crate) fn report_check<S: Sink>(
     }
 }
 
-// How many places of a graph hold a switch.
-fn switches(graph: &Graph) -> u64
+/// How many places of a graph hold a switch.
+pub(crate) fn switches(graph: &Graph) -> u64
     ensures { result ≡ count_by is_some graph.now.places }
 {
     let mut count = 0;

@@ -22,6 +22,8 @@ pub(crate) enum Request<'a> {
         part: GenPart,
         sample: Sample,
     },
+    /// The run of a sample's script in its netlist's circuit, summed up.
+    SumUp(Sample),
     /// Nothing that there is.
     Unclear,
 }
@@ -39,8 +41,8 @@ pub(crate) enum Question<'a> {
     Compile,
 }
 
-/// What the words of a command line ask for: `sim NET SCRIPT`, `check NET`, `groups NET`, `compile NET`
-/// and `gen PART KIND SEED N`, and nothing else.
+/// What the words of a command line ask for: `sim NET SCRIPT`, `check NET`, `groups NET`, `compile NET`,
+/// `gen PART KIND SEED N` and `large KIND SEED N`, and nothing else.
 pub(crate) fn request_of(words: &[String]) -> Request<'_>
     ensures { spec.request_seen result ≡ spec.request_of (spec.names_of words.now) }
 {
@@ -50,6 +52,8 @@ pub(crate) fn request_of(words: &[String]) -> Request<'_>
         simulation(command, net, script)
     } else if let [command, part, kind, seed, rows] = words {
         generation(command, part, kind, seed, rows)
+    } else if let [command, kind, seed, rows] = words {
+        summary(command, kind, seed, rows)
     } else {
         Request::Unclear
     }
@@ -75,6 +79,27 @@ fn generation<'a>(command: &str, part: &str, kind: &str, seed: &str, rows: &str)
         generate(part_of(part), sample_of(kind, seed, rows))
     } else {
         Request::Unclear
+    }
+}
+
+// What four words ask for.
+fn summary<'a>(command: &str, kind: &str, seed: &str, rows: &str) -> Request<'a>
+    ensures { spec.request_seen result ≡ spec.summary command.now kind.now seed.now rows.now }
+{
+    if command == "large" {
+        sum_up(sample_of(kind, seed, rows))
+    } else {
+        Request::Unclear
+    }
+}
+
+// A sample's run summed up, where the words tell one.
+fn sum_up<'a>(sample: Option<Sample>) -> Request<'a>
+    ensures { spec.request_seen result ≡ spec.sum_up (option_map samples.sample_seen sample) }
+{
+    match sample {
+        Some(sample) => Request::SumUp(sample),
+        None => Request::Unclear,
     }
 }
 

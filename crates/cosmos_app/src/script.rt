@@ -76,8 +76,8 @@ fn end_of(session: &Session) -> End
     }
 }
 
-// Runs one line; the one that holds the first byte too many of the script is refused.
-fn run_line<S: Sink, A: Analyst>(
+/// Runs one line; the one that holds the first byte too many of the script is refused.
+pub(crate) fn run_line<S: Sink, A: Analyst>(
     alloc: Global,
     session: &mut Session,
     cut: Option<u64>,

@@ -22,6 +22,7 @@ use crate::request::{Question, Request, request_of};
 use crate::script::run_lines;
 use crate::status::Status;
 use crate::stop::{End, Stop};
+use crate::summary::sum_up;
 use cosmos_session::Session;
 use group_analysis::Analyst;
 use line_words::MOST_FILE_BYTES;
@@ -40,7 +41,10 @@ use std::alloc::Global;
 /// or the line of its first group that is too large. `gen PART KIND SEED N` writes the netlist or the
 /// script, by PART `net` or `script`, that `net_gen::generate` makes of the family KIND, `inverters`,
 /// `passes` or `columns`, from the seed SEED, a decimal within 64 bits, with N rows, a decimal from 1 to
-/// 10,000; it reads no file. All other words are answered by the usage line.
+/// 10,000; it reads no file. `large KIND SEED N` makes both texts, runs the script in the netlist's circuit
+/// as `sim` does, and writes one line that sums the run up: how many nodes and transistors the circuit has,
+/// and of the waveform lines how many there are, the sum of their steps, how many have the mark, and how
+/// many values are 0, 1 and X; an expectation that isn't met counts for nothing. All other words are answered by the usage line.
 ///
 /// A netlist or a script with a refused line ends the run with the line of that refusal. A file is
 /// read to its end, or to the first byte too many, before any refusal of it is answered. After a call
@@ -121,6 +125,7 @@ fn answer<F: Files, S: Sink, A: Analyst>(
     match request_of(words) {
         Request::About { net, question } => answer_about(alloc, net, question, files, out, analyst),
         Request::Generate { part, sample } => write_part(alloc, part, sample, out),
+        Request::SumUp(sample) => sum_up(alloc, files.keys(), sample, out, analyst),
         Request::Unclear => refuse_words(out),
     }
 }

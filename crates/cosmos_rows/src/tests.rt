@@ -97,19 +97,34 @@ const CHECKS: [(&[u8], Status, &[u8]); 8] = [
 ];
 
 // words, status and text
-const SAMPLES: [([&str; 5], Status, &[u8]); 3] = [
+const SAMPLES: [(&[&str], Status, &[u8]); 6] = [
     (
-        ["gen", "net", "inverters", "1", "1"],
+        &["gen", "net", "inverters", "1", "1"],
         Status::Done,
         b"| units: 1 tech: cosmos format: MIT\np w0 Vdd w1\nn w0 Gnd w1\n",
     ),
     (
-        ["gen", "script", "inverters", "01", "1"],
+        &["gen", "script", "inverters", "01", "1"],
         Status::Done,
         b"input w0\nwatch w0 w1\nlimit 1000000\nset w0=0\nphase\nset w0=0\nphase\nset w0=1\nphase\nset w0=1\nphase\n",
     ),
     (
-        ["gen", "net", "passes", "1", "10001"],
+        &["gen", "net", "passes", "1", "10001"],
+        Status::Usage,
+        b"bad command line\n",
+    ),
+    (
+        &["large", "inverters", "1", "1"],
+        Status::Done,
+        b"large nodes 4 switches 2 lines 4 steps 2 marks 0 zeros 4 ones 4 unknown 0\n",
+    ),
+    (
+        &["large", "inverters", "2147483649", "2"],
+        Status::Done,
+        b"large nodes 5 switches 4 lines 4 steps 4 marks 0 zeros 4 ones 4 unknown 0\n",
+    ),
+    (
+        &["large", "inverters", "1", "0"],
         Status::Usage,
         b"bad command line\n",
     ),

@@ -17,3 +17,9 @@ returns-in-Unclear-clause-whole g c =
     at_ok c.refuse_words.result
     (whole_unasked (g.F.Files.holds c.args.files.now) (request_of (names_of c.args.words.now)) (g.F.Files.taken c.args.files.now)
     (λ holds. ap (λ asked. files_of asked holds) (sym c.request_of.ensures ∙ ap request_seen c.in-Unclear.is)))
+
+pub returns-in-SumUp-clause-whole : goal.returns-in-SumUp-clause-whole
+returns-in-SumUp-clause-whole g c =
+    at_ok c.sum_up.result
+    (whole_unasked (g.F.Files.holds c.args.files.now) (request_of (names_of c.args.words.now)) (g.F.Files.taken c.args.files.now)
+    (λ holds. ap (λ asked. files_of asked holds) (sym c.request_of.ensures ∙ ap request_seen c.in-SumUp.is)))
