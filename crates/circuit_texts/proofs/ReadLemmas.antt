@@ -1,8 +1,12 @@
 -- What the switches of a group read, each node once, is what the group reads.
 use Rattle.std.proofs.Common.{◌≡◌, ◌==◌, ℕ, zero, suc, ◌<◌, Bool, true, false, inl, inr, List, [], ◌∷◌, ◌++◌, Option, Some, None, refl, sym, ap, subst, ◌∙◌, arith, eqb-true}
-use Rattle.std.specs.Prelude.{Contains, if◌then◌else◌}
+use Rattle.std.specs.Prelude.{Contains, nat_eq, if◌then◌else◌}
 use Rattle.std.specs.List.{flat_map}
+use Rattle.std.specs.List.Sorted.{IsPermutation}
+use Rattle.std.proofs.lemmas.Bool.{cases_eq, eq-eqb, ne_eqb}
 use Rattle.std.proofs.lemmas.Bool.Decides.{Decides-eqb}
+use Rattle.std.proofs.lemmas.List.Sorted.{Contains-permutation, IsPermutation-sym}
+use Rattle.std.proofs.lemmas.Map.Keys.{IsDistinct-IsPermutation}
 use Rattle.std.proofs.lemmas.List.Elements.{Contains-append_left, Contains-append_right, Contains-append_cases}
 use Rattle.std.proofs.lemmas.Map.Made.{IsDistinct-from_AllPairs}
 use Rattle.strength_order.specs.declared.TheConstants.{INPUT_LEVEL}
@@ -15,6 +19,14 @@ use Rattle.group_text.proofs.LocalNodes.{Contains-firsts, Contains-from_firsts, 
 use Rattle.group_rest.specs.Rest.{SwitchReads, Reads}
 use Rattle.group_rest.proofs.ReadNodes.{piece_of}
 use Rattle.circuit_texts.specs.Reading.{AreReads, inputs_of, reads_at}
+
+-- equal numbers are equal the other way round
+eqb_flips : (x y : ℕ) → nat_eq x y ≡ nat_eq y x
+eqb_flips x y =
+    elim (cases_eq x y) [
+      | inl same ↦ eq-eqb x y same ∙ sym (eq-eqb y x (sym same))
+      | inr differs ↦ ne_eqb x y differs ∙ sym (ne_eqb y x (λ same. differs (sym same)))
+    ]
 
 -- what stands in a list of one item is that item
 only_item : (x y : ℕ) → Contains (x ∷ []) y → x ≡ y
@@ -98,6 +110,20 @@ module _ (g : GraphData) where
                 Contains-firsts all node (Contains-flat_map pieces group.switches reads.place node reads.inside piece),
           );
           once = IsDistinct-from_AllPairs Decides-eqb (firsts all) (firsts-apart all);
+        }
+
+    -- so it is in another order
+    pub AreReads-permuted : (nodes : List ℕ) →
+        IsPermutation (firsts (flat_map (λ place. reads_at g (place_at g.places place)) group.switches)) nodes → AreReads g group nodes
+    AreReads-permuted nodes permuted =
+        let all = firsts (flat_map (λ (place : ℕ). reads_at g (place_at g.places place)) group.switches) in
+        let are = AreReads-firsts in
+        record {
+          each = λ node. (
+            λ there. (are.each node).0 (Contains-permutation nodes all node (IsPermutation-sym all nodes permuted) there),
+            λ reads. Contains-permutation all nodes node permuted ((are.each node).1 reads),
+          );
+          once = IsDistinct-IsPermutation nat_eq eqb_flips all nodes permuted are.once;
         }
 
     -- a node that the group reads is there

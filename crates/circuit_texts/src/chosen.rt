@@ -8,7 +8,7 @@ ghost use Rattle.circuit_texts.specs.Sizes.{IsFirstTooLarge, fault_in};
 ghost use Rattle.circuit_texts.specs.Reading.{AreReads};
 ghost use Rattle.circuit_texts.specs.Choosing.{chosen};
 
-use crate::reads::reads_in;
+use crate::reads::sorted_reads;
 use crate::texts::{BuildFault, GroupTexts, fault_at};
 use channel_groups::{GroupId, Groups};
 use group_text::text_of;
@@ -46,7 +46,8 @@ pub fn texts_at(
     Ok(GroupTexts { texts, maps })
 }
 
-/// The nodes that each of the groups with these ids reads, each once, in the ids' order.
+/// The nodes that each of the groups with these ids reads, each once, in the ids' order. The nodes of a
+/// group ascend.
 pub fn reads_at(
     alloc: Global,
     graph: &Graph,
@@ -60,7 +61,7 @@ pub fn reads_at(
     let mut lists = Vec::new(alloc);
     for &id in ids {
         let group = groups.group(id);
-        lists.push(reads_in(alloc, graph, group.switches())?)?;
+        lists.push(sorted_reads(alloc, graph, group.switches())?)?;
     }
     Ok(lists)
 }

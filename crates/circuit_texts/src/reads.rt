@@ -1,6 +1,7 @@
 //! The nodes that groups read.
 ghost use Rattle.std.specs.Prelude.{◌≡◌, ◌<◌, length, map, nat_eq, All, IfOk, OnOk};
 ghost use Rattle.std.specs.List.{AllZip, flat_map};
+ghost use Rattle.std.specs.List.Sorted.{IsPermutation};
 ghost use Rattle.indexmap.specs.IndexSet.{insert_all};
 ghost use Rattle.path_meaning.specs.Graphs.{nodes, place_at, FitsPlace};
 ghost use Rattle.group_meaning.specs.Groups.{AreGroups, id_of};
@@ -16,7 +17,7 @@ use strength_order::INPUT_LEVEL;
 use ternary::NoMemory;
 
 /// The nodes that each group of a graph reads, each once, in the groups' order: the gates of the
-/// group's switches, and the input nodes at their ends.
+/// group's switches, and the input nodes at their ends. The nodes of a group ascend.
 pub fn reads_of(alloc: Global, graph: &Graph, groups: &Groups) -> Result<Vec<Vec<usize>>, NoMemory>
     requires { AreGroups graph.now groups.now.groups }
     ensures { IfOk result (λ lists. AllZip (λ group list. AreReads graph.now group list.items) groups.now.groups lists.items) }
@@ -40,17 +41,28 @@ fn reads_by(
     let mut lists = Vec::new(alloc);
     for &id in ids {
         let group = groups.group(id);
-        lists.push(reads_in(alloc, graph, group.switches())?)?;
+        lists.push(sorted_reads(alloc, graph, group.switches())?)?;
     }
     Ok(lists)
 }
 
-// The nodes that the switches at these places read, each once.
-pub(crate) fn reads_in(
+// The nodes that the switches at these places read, each once, in ascending order.
+pub(crate) fn sorted_reads(
     alloc: Global,
     graph: &Graph,
     switches: &[usize],
 ) -> Result<Vec<usize>, AllocError>
+    requires { All (λ place. place < length graph.now.places) switches.now }
+    ensures { IfOk result (λ list.
+        IsPermutation (firsts (flat_map (λ place. reads_at graph.now (place_at graph.now.places place)) switches.now)) list.items) }
+{
+    let mut reads = reads_in(alloc, graph, switches)?;
+    reads.sort_unstable();
+    Ok(reads)
+}
+
+// The nodes that the switches at these places read, each once.
+fn reads_in(alloc: Global, graph: &Graph, switches: &[usize]) -> Result<Vec<usize>, AllocError>
     requires { All (λ place. place < length graph.now.places) switches.now }
     ensures { IfOk result (λ list.
         list.items ≡ firsts (flat_map (λ place. reads_at graph.now (place_at graph.now.places place)) switches.now)) }

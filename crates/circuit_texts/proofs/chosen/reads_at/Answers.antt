@@ -1,6 +1,7 @@
 -- Each chosen group before the next one has its list.
 use Rattle.std.proofs.Common.{◌≡◌, ℕ, ◌+◌, ◌<◌, List, All, [], ◌∷◌, ◌++◌, length, take, sym, ap, subst, ◌∙◌}
 use Rattle.std.specs.List.{flat_map}
+use Rattle.std.specs.List.Sorted.{IsPermutation}
 use Rattle.std.proofs.lemmas.Slice.Zip.{all_zipped_more}
 use Rattle.path_meaning.specs.Graphs.{place_at}
 use Rattle.group_meaning.specs.Groups.{IsGroup}
@@ -9,12 +10,12 @@ use Rattle.group_text.specs.Texts.{firsts}
 use Rattle.group_text.proofs.GroupLemmas.{switches_inside}
 use Rattle.circuit_texts.specs.Reading.{AreReads, reads_at}
 use Rattle.circuit_texts.specs.Choosing.{chosen}
-use Rattle.circuit_texts.proofs.ReadLemmas.{AreReads-firsts}
+use Rattle.circuit_texts.proofs.ReadLemmas.{AreReads-permuted}
 use Rattle.circuit_texts.proofs.ChosenLemmas.{chosen-more}
 use Rattle.circuit_texts.proofs.chosen.reads_at.Goals as goal
 
-pub reads_in-requires : goal.reads_in-requires
-reads_in-requires c =
+pub sorted_reads-requires : goal.sorted_reads-requires
+sorted_reads-requires c =
     let graph = c.args.graph.now in
     let group = c.group-group.result.now in
     let is_group : IsGroup graph group = IsGroup-found graph c.args.groups.now.groups _ group c.requires.groups.each c.group-group.ensures in
@@ -27,10 +28,11 @@ loop-id-preserved c =
     let group = c.group-group.result.now in
     let i = c.loop-id.id-index in
     let ids = c.args.ids.now in
-    let list = c.in_ok-reads_in.field-0 in
+    let list = c.in_ok-sorted_reads.field-0 in
     let pieces : ℕ → List ℕ = λ place. reads_at graph (place_at graph.places place) in
-    let made : list.items ≡ firsts (flat_map pieces group.switches) = c.in_ok-reads_in.ensures ∙ ap (λ xs. firsts (flat_map pieces xs)) c.switches.ensures in
-    let are : AreReads graph group list.items = subst (AreReads graph group) (sym made) (AreReads-firsts graph group) in
+    let made : IsPermutation (firsts (flat_map pieces group.switches)) list.items =
+    subst (λ xs. IsPermutation (firsts (flat_map pieces xs)) list.items) c.switches.ensures c.in_ok-sorted_reads.ensures in
+    let are : AreReads graph group list.items = AreReads-permuted graph group list.items made in
     let grown : chosen groups (take (i + 1) ids) ≡ chosen groups (take i ids) ++ group ∷ [] =
     chosen-more groups ids i _ group c.loop-id-test.true c.group-group.ensures in
     rw (grown, c.in_ok-push.ensures.items)
