@@ -1,7 +1,7 @@
 //! Edits of the graph under a machine.
-ghost use Rattle.std.specs.Prelude.{◌≡◌, ℕ, ◌+◌, ◌*◌, ◌≤◌, ◌<◌, ◌-◌, ◌++◌, ◌↔◌, length, vec_capacity, option_map, find, Contains, IfOk, IfErr, OnOk, OnErr};
+ghost use Rattle.std.specs.Prelude.{◌≡◌, ℕ, ◌+◌, ◌*◌, ◌≤◌, ◌<◌, ◌-◌, ◌++◌, ◌↔◌, List, length, vec_capacity, option_map, find, Contains, IfOk, IfErr, OnOk, OnErr};
 ghost use Rattle.path_meaning.specs.Graphs.{nodes, IsWired};
-ghost use Rattle.group_meaning.specs.Groups.{Group};
+ghost use Rattle.group_meaning.specs.Groups.{Group, AreGroups};
 ghost use Rattle.channel_groups.specs.Grouping.{AreOf, has_member};
 ghost use Rattle.channel_groups.specs.Changes.{undo, touched_size};
 ghost use Rattle.unit_step.specs.declared.editing.TheConstants.{NEW_NODES};
@@ -49,8 +49,9 @@ impl Machine {
     ///
     /// The groups that the edit touches, as `Groups::regroup` says, are stale and marked: they wait for
     /// `finish`. Every other group keeps its part, with its code and its mark. New nodes are X, all other
-    /// nodes stay. The work is that of `regroup`, and of the members and the reads of the touched groups. At
-    /// want of memory the states are handed back.
+    /// nodes stay. The work is that of `regroup`, and of the members and the reads of the touched groups: the
+    /// bound on `regroup`'s steps holds whatever the answer, `found` being the groups of the graph. At want of
+    /// memory the states are handed back.
     pub fn edit<L: Ledger>(
         self,
         graph: &Graph,
@@ -62,8 +63,8 @@ impl Machine {
         requires room { nodes graph.now ≤ length self.state + self.spare }
         ensures edits { IfOk result (Edits graph.now change.now self) }
         ensures refused { IfErr result (λ refused. refused.state.items ≡ with_new_nodes self.state (nodes graph.now)) }
-        ensures ticks { IfOk result (λ machine.
-            steps.new ≤ steps.old + 8 * touched_size graph.now change.now (groups_in self.groups) (groups_in machine.groups)) }
+        ensures ticks { (found : List Group) → AreGroups graph.now found →
+            steps.new ≤ steps.old + 8 * touched_size graph.now change.now (groups_in self.groups) found }
     {
         let mut machine = self;
         match machine.follow(graph, change, steps) {
@@ -89,8 +90,8 @@ impl Machine {
         ensures ok { OnOk result (Edits graph.now change.now self.old self.new) }
         ensures state { with_new_nodes self.new.state (nodes graph.now) ≡ with_new_nodes self.old.state (nodes graph.now) }
         ensures room { nodes graph.now ≤ length self.new.state + self.new.spare }
-        ensures ticks { OnOk result (
-            steps.new ≤ steps.old + 8 * touched_size graph.now change.now (groups_in self.old.groups) (groups_in self.new.groups)) }
+        ensures ticks { (found : List Group) → AreGroups graph.now found →
+            steps.new ≤ steps.old + 8 * touched_size graph.now change.now (groups_in self.old.groups) found }
     {
         graphs_are_wired(graph);
         let alloc = *self.state.allocator();

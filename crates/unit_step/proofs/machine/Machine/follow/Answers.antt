@@ -1,10 +1,11 @@
 -- The machine with its new nodes loses the parts that have the changed nodes, and gets new stale ones.
-use Rattle.std.proofs.Common.{◌≡◌, ◌++◌, ℕ, Option, Some, None, length, sym, ap, subst, ◌∙◌, arith}
+use Rattle.std.proofs.Common.{◌≡◌, ◌++◌, ◌+◌, ◌*◌, ◌≤◌, ℕ, List, Option, Some, None, length, sym, ap, subst, ◌∙◌, arith}
 use Rattle.std.specs.Prelude.{◌↔◌, Contains}
 use Rattle.path_meaning.specs.Graphs.{nodes}
-use Rattle.channel_groups.specs.Changes.{undo, nodes_before, nodes_after}
+use Rattle.channel_groups.specs.Changes.{undo, nodes_before, nodes_after, touched_size}
+use Rattle.group_meaning.specs.Groups.{Group}
 use Rattle.channel_groups.specs.Grouping.{GroupsData}
-use Rattle.unit_step.specs.Machines.{MachineData}
+use Rattle.unit_step.specs.Machines.{MachineData, groups_in}
 use Rattle.unit_step.specs.Editing.{with_new_nodes, Edits}
 use Rattle.unit_step.specs.Seating.{Clears, IsWithAny, RenewsAll}
 use Rattle.unit_step.proofs.CoveringLemmas.{counted_grown, grown_again, member_below, follows}
@@ -107,3 +108,42 @@ returns-clause-ok g c =
     subst (Edits graph change old) (ap (λ (m : MachineData). record m { groups = Some now }) (sym c.self-3.view_is))
     (follows graph change old covers c.requires.wired c.graphs_are_wired.ensures now c.in_ok-regroup.ensures.ok spare found all found_are nodes_are
     cleared made clears renews c.stale_parts_are_marked.ensures.apart c.stale_parts_are_marked.ensures.waits)
+
+-- the groups that are regrouped are those that the machine had
+held_in : (held : GroupsData) (old : Option GroupsData) → Some held ≡ old → held.groups ≡ groups_in old
+held_in held old is = ap groups_in is
+
+pub returns-in_err-regroup-clause-ticks : goal.returns-in_err-regroup-clause-ticks
+returns-in_err-regroup-clause-ticks g c = λ found are.
+    let held = c.in-Some.ensures.value ∙ ap (λ (m : MachineData). m.groups) (c.self-2.view_is ∙ c.in_ok-add_nodes.ensures.ok
+    ∙ ap (λ n. record c.args.self.now { state = with_new_nodes c.args.self.now.state n; spare = c.add_nodes.new.self.spare }) c.nodes.ensures) in
+    subst (λ (groups : List Group). c.regroup.new.steps ≤ c.args.steps.now + 8 * touched_size c.args.graph.now c.args.change.now groups found)
+    (held_in c.in-Some.groups c.args.self.now.groups held) (c.regroup.ensures.step found are)
+
+pub returns-in_err-nodes_after-clause-ticks : goal.returns-in_err-nodes_after-clause-ticks
+returns-in_err-nodes_after-clause-ticks g c = λ found are.
+    let held = c.in-Some.ensures.value ∙ ap (λ (m : MachineData). m.groups) (c.self-2.view_is ∙ c.in_ok-add_nodes.ensures.ok
+    ∙ ap (λ n. record c.args.self.now { state = with_new_nodes c.args.self.now.state n; spare = c.add_nodes.new.self.spare }) c.nodes.ensures) in
+    subst (λ (groups : List Group). c.regroup.new.steps ≤ c.args.steps.now + 8 * touched_size c.args.graph.now c.args.change.now groups found)
+    (held_in c.in-Some.groups c.args.self.now.groups held) (c.regroup.ensures.step found are)
+
+pub returns-in_err-extend_from_slice-clause-ticks : goal.returns-in_err-extend_from_slice-clause-ticks
+returns-in_err-extend_from_slice-clause-ticks g c = λ found are.
+    let held = c.in-Some.ensures.value ∙ ap (λ (m : MachineData). m.groups) (c.self-2.view_is ∙ c.in_ok-add_nodes.ensures.ok
+    ∙ ap (λ n. record c.args.self.now { state = with_new_nodes c.args.self.now.state n; spare = c.add_nodes.new.self.spare }) c.nodes.ensures) in
+    subst (λ (groups : List Group). c.regroup.new.steps ≤ c.args.steps.now + 8 * touched_size c.args.graph.now c.args.change.now groups found)
+    (held_in c.in-Some.groups c.args.self.now.groups held) (c.regroup.ensures.step found are)
+
+pub returns-in_err-renew_all-clause-ticks : goal.returns-in_err-renew_all-clause-ticks
+returns-in_err-renew_all-clause-ticks g c = λ found are.
+    let held = c.in-Some.ensures.value ∙ ap (λ (m : MachineData). m.groups) (c.self-2.view_is ∙ c.in_ok-add_nodes.ensures.ok
+    ∙ ap (λ n. record c.args.self.now { state = with_new_nodes c.args.self.now.state n; spare = c.add_nodes.new.self.spare }) c.nodes.ensures) in
+    subst (λ (groups : List Group). c.regroup.new.steps ≤ c.args.steps.now + 8 * touched_size c.args.graph.now c.args.change.now groups found)
+    (held_in c.in-Some.groups c.args.self.now.groups held) (c.regroup.ensures.step found are)
+
+pub returns-clause-ticks : goal.returns-clause-ticks
+returns-clause-ticks g c = λ found are.
+    let held = c.in-Some.ensures.value ∙ ap (λ (m : MachineData). m.groups) (c.self-2.view_is ∙ c.in_ok-add_nodes.ensures.ok
+    ∙ ap (λ n. record c.args.self.now { state = with_new_nodes c.args.self.now.state n; spare = c.add_nodes.new.self.spare }) c.nodes.ensures) in
+    subst (λ (groups : List Group). c.regroup.new.steps ≤ c.args.steps.now + 8 * touched_size c.args.graph.now c.args.change.now groups found)
+    (held_in c.in-Some.groups c.args.self.now.groups held) (c.regroup.ensures.step found are)
