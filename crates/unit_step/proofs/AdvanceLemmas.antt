@@ -18,7 +18,8 @@ use Rattle.unit_step.specs.Machines.{IsMarked}
 use Rattle.unit_step.specs.Stepping.{Gives, IsGiven, Moves, after, StaysMarked, Remarks}
 use Rattle.unit_step.specs.Marking.{MarksAll}
 use Rattle.unit_step.specs.Evaluating.{Rooms, rooms, IsSeated, IsChange, Evaluated}
-use Rattle.unit_step.specs.Running.{readers_of, IsRunnable, AreAgreed, IsTaken, ReadsAny}
+use Rattle.unit_step.specs.Running.{IsRunnable, AreAgreed, IsTaken, ReadsAny}
+use Rattle.unit_step.specs.Readers.{readers_of}
 use Rattle.unit_step.proofs.CaseLemmas.{same_or_not, after-differs}
 use Rattle.unit_step.proofs.PartLemmas.{same_part, HasMember-from_Gives}
 

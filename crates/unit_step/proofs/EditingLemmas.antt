@@ -5,7 +5,8 @@ use Rattle.std.proofs.lemmas.List.{map-append}
 use Rattle.smallvec.specs.SmallVec.{SmallVec}
 use Rattle.unit_step.specs.declared.part.HeldPart.{HeldPart}
 use Rattle.unit_step.specs.Evaluating.{Rooms}
-use Rattle.unit_step.specs.Running.{readers_of, IsMachine}
+use Rattle.unit_step.specs.Running.{IsMachine}
+use Rattle.unit_step.specs.Readers.{readers_of}
 use Rattle.ternary.specs.declared.tern.Tern.{Tern}
 use Rattle.ternary.specs.declared.tern.Tern.TheVariants.{Unk}
 

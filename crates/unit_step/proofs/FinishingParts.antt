@@ -76,17 +76,3 @@ known_more known more (n ∷ numbers) (text ∷ texts) are =
     let first : slice_get known n ≡ Some text = cc in
     let rest : map (slice_get known) numbers ≡ map Some texts = cc in
     ap₂ (λ one list. one ∷ list) (slice_get-grown known more n text first) (known_more known more numbers texts rest)
-
--- a place that is in the list once isn't among those before it
-pub not_before : (places : List ℕ) (i k : ℕ) → AreOnce places → i < length places → k ≡ get_or places i 0 → ¬ Contains (take i places) k
-not_before places i k once inside is (j, within, here) =
-    let front : length (take i places) ≡ i = length-take-le i places (omega arith) in
-    let before : j < i = omega (arith, within, front) in
-    let there : get_or places j 0 ≡ k =
-    sym (get_or-take i places j 0 before) ∙ (get_or_default (take i places) j 0 k within ∙ here) in
-    once j i before inside (there ∙ is)
-
--- what stands in a list is read with a default
-pub get_or-same : (xs ys : List (Option ℕ)) (k : ℕ) → slice_get xs k ≡ slice_get ys k → get_or xs k None ≡ get_or ys k None
-get_or-same xs ys k same =
-    sym (unwrap_or-slice_get xs k None) ∙ (ap (λ found. unwrap_or found None) same ∙ unwrap_or-slice_get ys k None)

@@ -28,9 +28,11 @@ use Rattle.unit_step.specs.Machines.{MachineData, IsMarked, members_of}
 use Rattle.unit_step.specs.Making.{held, IsFormed, IsCodeRoom}
 use Rattle.unit_step.specs.Editing.{Finishes}
 use Rattle.unit_step.specs.Evaluating.{Rooms, IsSeated}
-use Rattle.unit_step.specs.Running.{readers_of, IsRunnable, AreOwners, IsMachine}
+use Rattle.unit_step.specs.Running.{IsRunnable, AreOwners, IsMachine}
+use Rattle.unit_step.specs.Readers.{readers_of}
 use Rattle.unit_step.specs.Fitting.{IsPartOf, Covers}
-use Rattle.unit_step.specs.Finishing.{IsFresh, IsSlotOf, AreWaiting, Puts, ListsAll, HaveSameReaders}
+use Rattle.unit_step.specs.Finishing.{IsFresh, IsSlotOf, AreWaiting, Puts}
+use Rattle.unit_step.specs.Readers.{ListsAll, HaveSameReaders}
 use Rattle.unit_step.proofs.PartLemmas.{same_part, one_group, member_of_part, member_from_part, place_in_group}
 use Rattle.unit_step.proofs.KeptLemmas.{made_at}
 use Rattle.unit_step.proofs.MakingLemmas.{formed_parts, reads_inside}

@@ -15,7 +15,7 @@ pub mod KeptLemmas
 pub mod EditingLemmas
 pub mod FinishingTexts
 pub mod FinishingFits
-pub mod FinishingReaders
+pub mod ReadersLemmas
 pub mod FinishingParts
 pub mod SlotLemmas
 pub mod SeatingLemmas

@@ -8,7 +8,8 @@ use Rattle.unit_step.specs.Machines.{MachineData}
 use Rattle.unit_step.specs.Stepping.{Places}
 use Rattle.unit_step.specs.Marking.{MarksAll}
 use Rattle.unit_step.specs.Evaluating.{Rooms}
-use Rattle.unit_step.specs.Running.{readers_of, AreOwners, IsMachine}
+use Rattle.unit_step.specs.Running.{AreOwners, IsMachine}
+use Rattle.unit_step.specs.Readers.{readers_of}
 
 -- the machine can run with other marks
 IsMachine-remarked : (parts : List HeldPart) (marks new_marks : List Bool) (waiting : List Bool) (count : ℕ) (lists : List (SmallVec ℕ))

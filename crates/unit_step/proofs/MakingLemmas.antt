@@ -21,8 +21,10 @@ use Rattle.unit_step.specs.Parts.{Stands, IsMemberAt, HasMember, ReadsAt, AreApa
 use Rattle.unit_step.specs.Machines.{IsMarked, count_marked}
 use Rattle.unit_step.specs.Marking.{IsAgenda}
 use Rattle.unit_step.specs.Evaluating.{Rooms}
-use Rattle.unit_step.specs.Running.{readers_of, AreOwners, IsMachine}
-use Rattle.unit_step.specs.Making.{ShareNone, held, Lists, Owns, HasRoomFor, IsFormed, AreListed, AreOwned}
+use Rattle.unit_step.specs.Running.{AreOwners, IsMachine}
+use Rattle.unit_step.specs.Readers.{readers_of}
+use Rattle.unit_step.specs.Making.{ShareNone, held, Owns, HasRoomFor, IsFormed, AreOwned}
+use Rattle.unit_step.specs.Readers.{Lists, AreListed}
 use Rattle.unit_step.proofs.MarkLemmas.{marked_inside}
 use Rattle.unit_step.proofs.PartLemmas.{same_part}
 use Rattle.unit_step.proofs.TakingLemmas.{readers_read}
@@ -96,60 +98,6 @@ pub readers_of-set_other : (readers : List (SmallVec ℕ)) (node other : ℕ) (p
 readers_of-set_other readers node other parts differs =
     ap (λ lists. slice_index_or lists other []) (map-set items_of readers node parts)
     ∙ get_or-set_other (map items_of readers) node other parts.items [] differs
-
-module _ (k : ℕ) (nodes : List ℕ) (i node : ℕ) (old mid : List (SmallVec ℕ)) (before after : SmallVec ℕ) (i_inside : i < length nodes)
-    (is : node ≡ get_or nodes i 0) (inside : node < length mid) (was : before ≡ get_or mid node before)
-    (pushed : after.items ≡ before.items ++ k ∷ []) (so_far : Lists k (take i nodes) old mid) where
-  -- at the node the part comes behind the readers that were there
-  here : readers_of (slice_set mid node after) node ≡ readers_of mid node ++ k ∷ []
-  here = readers_of-set_same mid node after inside ∙ (pushed ∙ ap (λ xs. xs ++ k ∷ []) (readers_read mid node before inside was))
-
-  grown : (other l : ℕ) → Contains (readers_of mid other) l → Contains (readers_of (slice_set mid node after) other) l
-  grown other l there =
-      elim (cases_eq other node) [
-        | inl same ↦
-            let at_node : Contains (readers_of mid node) l = subst (λ n. Contains (readers_of mid n) l) same there in
-            subst (λ n. Contains (readers_of (slice_set mid node after) n) l) (sym same)
-            (subst (λ xs. Contains xs l) (sym here) (Contains-append_left (readers_of mid node) (k ∷ []) l at_node))
-        | inr differs ↦ subst (λ xs. Contains xs l) (sym (readers_of-set_other mid node other after differs)) there
-      ]
-
-  older : (other l : ℕ) → Contains (readers_of mid other) l → Contains (readers_of old other) l ⊎ (Contains (take i nodes ++ node ∷ []) other × (l ≡ k))
-  older other l there =
-      elim (so_far.only other l there) [
-        | inl before_it ↦ inl before_it
-        | inr (among, is_k) ↦ inr (Contains-append_left (take i nodes) (node ∷ []) other among, is_k)
-      ]
-
-  -- the part is listed at one node more
-  pub Lists-more : Lists k (take (i + 1) nodes) old (slice_set mid node after)
-  Lists-more =
-      let more : take (i + 1) nodes ≡ take i nodes ++ node ∷ [] = take_more nodes i 0 i_inside ∙ ap (λ n. take i nodes ++ n ∷ []) (sym is) in
-      subst (λ xs. Lists k xs old (slice_set mid node after)) (sym more) (record {
-        count = length-set mid node after ∙ so_far.count;
-        stays = λ other l there. grown other l (so_far.stays other l there);
-        listed = λ other there.
-            elim (Contains-push_cases (take i nodes) node other there) [
-              | inl before_it ↦ grown other k (so_far.listed other before_it)
-              | inr same ↦
-                  subst (λ n. Contains (readers_of (slice_set mid node after) n) k) same
-                  (subst (λ xs. Contains xs k) (sym here) (Contains-push (readers_of mid node) k))
-            ];
-        only = λ other l there.
-            elim (cases_eq other node) [
-              | inl same ↦
-                  let listed : Contains (readers_of mid node ++ k ∷ []) l =
-                  subst (λ xs. Contains xs l) here (subst (λ n. Contains (readers_of (slice_set mid node after) n) l) same there) in
-                  elim (Contains-push_cases (readers_of mid node) k l listed) [
-                    | inl before_it ↦ older other l (subst (λ n. Contains (readers_of mid n) l) (sym same) before_it)
-                    | inr is_it ↦ inr (
-                      subst (Contains (take i nodes ++ node ∷ [])) (sym same) (Contains-push (take i nodes) node),
-                      sym is_it,
-                    )
-                  ]
-              | inr differs ↦ older other l (subst (λ xs. Contains xs l) (readers_of-set_other mid node other after differs) there)
-            ];
-      })
 
 -- one node more is owned
 pub Owns-more : (k : ℕ) (members : List ℕ) (i node : ℕ) (old mid : List (Option ℕ)) → i < length members → node ≡ get_or members i 0 →
@@ -241,27 +189,6 @@ module _ (parts : List HeldPart) (i : ℕ) (part : HeldPart) (stands : Stands pa
           | inr none ↦ so_far.member node k (sym (owns.stays node none) ∙ is)
         ];
   }
-
--- one part more is listed
-pub AreListed-more : (parts : List HeldPart) (i : ℕ) (part : HeldPart) → Stands parts i part → (count : ℕ) (lists new : List (SmallVec ℕ)) →
-    Lists i part.reads.items lists new → AreListed parts count i lists →
-    AreListed parts count (i + 1) new
-AreListed-more parts i part stands count lists new listed so_far = record {
-  counted = listed.count ∙ so_far.counted;
-  readers = λ node k below reads.
-      elim (cases_eq k i) [
-        | inl same ↦
-            let one = same_part parts i part reads.part stands (subst (λ n. Stands parts n reads.part) same reads.stands) in
-            let contained = subst (λ (p : HeldPart). Contains p.reads.items node) (sym one) reads.reads in
-            subst (Contains (readers_of new node)) (sym same) (listed.listed node contained)
-        | inr differs ↦ listed.stays node k (so_far.readers node k (omega (arith, below, differs)) reads)
-      ];
-  reads = λ node k there.
-      elim (listed.only node k there) [
-        | inl before ↦ so_far.reads node k before
-        | inr (among, same) ↦ record { part = part; stands = subst (λ n. Stands parts n part) (sym same) stands; reads = among }
-      ];
-}
 
 -- two places of a map whose nodes are apart have two nodes
 places_apart : (xs : List ℕ) → IsDistinct nat_eq xs → (i j : ℕ) → i < length xs → j < length xs → slice_index xs i ≡ slice_index xs j → i ≡ j

@@ -10,9 +10,11 @@ use Rattle.unit_step.specs.declared.part.HeldPart.{HeldPart}
 use Rattle.unit_step.specs.Parts.{Stands, HasMember, ReadsAt, IsStale}
 use Rattle.unit_step.specs.Machines.{IsMarked, members_of}
 use Rattle.unit_step.specs.Evaluating.{Rooms, IsSeated}
-use Rattle.unit_step.specs.Running.{readers_of, IsMachine}
+use Rattle.unit_step.specs.Running.{IsMachine}
+use Rattle.unit_step.specs.Readers.{readers_of}
 use Rattle.unit_step.specs.Making.{Owns}
-use Rattle.unit_step.specs.Seating.{Disowns, Unlists, IsVacant, IsStalePartOf, one_of}
+use Rattle.unit_step.specs.Seating.{Disowns, IsVacant, IsStalePartOf, one_of}
+use Rattle.unit_step.specs.Readers.{Unlists}
 use Rattle.unit_step.proofs.PartLemmas.{same_part}
 use Rattle.unit_step.proofs.MarkLemmas.{marked-cleared, marked-cleared_was, marked-kept, marked-push, marked-push_cases, marked-last}
 use Rattle.unit_step.proofs.MakingLemmas.{member_at_front, front_of_member, contains_or_not}
@@ -124,8 +126,8 @@ module _ (parts : List HeldPart) (marks waiting : List Bool) (count : ℕ) (list
                 (machine.runs.stale l (IsStale-was parts k e inside vacant l stale));
             readers_counted = unlists.count ∙ machine.runs.readers_counted;
             readers = λ node l reads.
-                unlists.stays node l (reads_not_k parts k e inside vacant l node reads)
-                (machine.runs.readers node l (ReadsAt-was parts k e inside vacant l node reads));
+                unlists.stays node l (machine.runs.readers node l (ReadsAt-was parts k e inside vacant l node reads))
+                (reads_not_k parts k e inside vacant l node reads);
             reads = λ node l there. let (reads, differs) = reads_then node l there in ReadsAt-other parts k e inside l node differs reads;
             changes_room = omega (arith, machine.runs.changes_room, members, no_members);
             parts_room = omega (arith, machine.runs.parts_room, length-set parts k e);

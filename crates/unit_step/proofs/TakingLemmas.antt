@@ -10,7 +10,8 @@ use Rattle.ternary.specs.declared.tern.Tern.TheVariants.{Zero}
 use Rattle.path_meaning.specs.Switching.{state_at}
 use Rattle.unit_step.specs.declared.evaluation.Change.{Change}
 use Rattle.unit_step.specs.Marking.{MarksAll}
-use Rattle.unit_step.specs.Running.{readers_of, AreAgreed, IsTaken, ReadsAny}
+use Rattle.unit_step.specs.Running.{AreAgreed, IsTaken, ReadsAny}
+use Rattle.unit_step.specs.Readers.{readers_of}
 
 -- what stands at the front stands in the list
 Contains-from_take : {X : Type 0} (n : ℕ) (xs : List X) (x : X) → Contains (take n xs) x → Contains xs x

@@ -1,7 +1,6 @@
--- How stale parts get their code: where the parts of groups wait, what each becomes, and who reads what afterwards.
-use Rattle.std.specs.Prelude.{◌≡◌, ◌≢◌, ℕ, ◌<◌, ◌⊎◌, Bool, false, List, [], length, map, filter, All, Contains, Some, None, slice_get, slice_index, slice_index_or}
+-- How stale parts get their code: where the parts of groups wait, and what each becomes.
+use Rattle.std.specs.Prelude.{◌≡◌, ◌≢◌, ℕ, Bool, false, List, [], length, map, filter, All, Contains, Some, None, slice_get, slice_index, slice_index_or}
 use Rattle.std.specs.List.{AllZip}
-use Rattle.smallvec.specs.SmallVec.{SmallVec}
 use Rattle.path_meaning.specs.Graphs.{GraphData}
 use Rattle.group_meaning.specs.Groups.{Group, AreGroups}
 use Rattle.group_text.specs.Texts.{text_of_group, local_nodes}
@@ -11,27 +10,12 @@ use Rattle.unit_step.specs.declared.part.HeldPart.{HeldPart}
 use Rattle.unit_step.specs.declared.waking.Waking.{Waking}
 use Rattle.unit_step.specs.Parts.{Stands, IsStale}
 use Rattle.unit_step.specs.Marking.{AreOnce}
-use Rattle.unit_step.specs.Running.{readers_of}
 use Rattle.unit_step.specs.Fitting.{IsPartOf}
 
 -- the part with a code, of the group
 pub record IsFresh (g : GraphData) (group : Group) (part : HeldPart) : Type 0 where
   pub is_part : IsPartOf g group part
   pub coded : part.code ≢ None
-
--- the part that stood under this number was stale, and this one is its group's, with code
-pub record IsRoused (g : GraphData) (old : List HeldPart) (k : ℕ) (part : HeldPart) : Type 0 where
-  pub was : HeldPart
-  pub stood : Stands old k was
-  pub stale : was.code ≡ None
-  pub group : Group
-  pub was_part : IsPartOf g group was
-  pub fresh : IsFresh g group part
-
--- each part stays, and has code if it has a member, or was stale and got its code
-pub record Rouses (g : GraphData) (old new : List HeldPart) : Type 0 where
-  pub count : length new ≡ length old
-  pub each : (k : ℕ) (part : HeldPart) → Stands new k part → (Stands old k part × (0 < part.members → part.code ≢ None)) ⊎ IsRoused g old k part
 
 -- the stale part with this number is the group's
 pub record IsSlotOf (g : GraphData) (parts : List HeldPart) (group : Group) (k : ℕ) : Type 0 where
@@ -78,51 +62,3 @@ pub record Puts {X : Type 0} (places : List ℕ) (items old new : List X) : Type
   pub count : length new ≡ length old
   pub put : (k : ℕ) → Contains places k → (i : ℕ) × (x : X) × (slice_get places i ≡ Some k) × (slice_get items i ≡ Some x) × (slice_get new k ≡ Some x)
   pub stays : (k : ℕ) → ¬ Contains places k → slice_get new k ≡ slice_get old k
-
--- a part with this number reads the node
-pub record ReadsAs (slots : List ℕ) (fresh : List HeldPart) (k node : ℕ) : Type 0 where
-  pub i : ℕ
-  pub part : HeldPart
-  pub slot : slice_get slots i ≡ Some k
-  pub there : slice_get fresh i ≡ Some part
-  pub reads : Contains part.reads.items node
-
--- the parts with these numbers are listed as readers of what they read too
-pub record ListsAll (slots : List ℕ) (fresh : List HeldPart) (old new : List (SmallVec ℕ)) : Type 0 where
-  pub count : length new ≡ length old
-  pub stays : (node l : ℕ) → Contains (readers_of old node) l → Contains (readers_of new node) l
-  pub listed : (node k : ℕ) → ReadsAs slots fresh k node → Contains (readers_of new node) k
-  pub only : (node l : ℕ) → Contains (readers_of new node) l → Contains (readers_of old node) l ⊎ ReadsAs slots fresh l node
-
--- each node has the readers that it had
-pub record HaveSameReaders (old new : List (SmallVec ℕ)) : Type 0 where
-  pub count : length new ≡ length old
-  pub stays : (node l : ℕ) → Contains (readers_of old node) l → Contains (readers_of new node) l
-  pub only : (node l : ℕ) → Contains (readers_of new node) l → Contains (readers_of old node) l
-
--- the part with this number may be listed as a reader of these nodes, and nothing else changed
-pub record ListsSome (k : ℕ) (nodes : List ℕ) (old new : List (SmallVec ℕ)) : Type 0 where
-  pub count : length new ≡ length old
-  pub stays : (node l : ℕ) → Contains (readers_of old node) l → Contains (readers_of new node) l
-  pub only : (node l : ℕ) → Contains (readers_of new node) l → Contains (readers_of old node) l ⊎ (Contains nodes node × (l ≡ k))
-
--- the part with this number is no reader of these nodes any more, and nothing else changed
-pub record Unlists (k : ℕ) (nodes : List ℕ) (old new : List (SmallVec ℕ)) : Type 0 where
-  pub count : length new ≡ length old
-  pub gone : (node : ℕ) → Contains nodes node → ¬ Contains (readers_of new node) k
-  pub stays : (node l : ℕ) → Contains (readers_of old node) l → l ≢ k → Contains (readers_of new node) l
-  pub only : (node l : ℕ) → Contains (readers_of new node) l → Contains (readers_of old node) l
-
--- the parts with these numbers are listed as readers of what they read, as far as this place
-pub record AreListedTo (slots : List ℕ) (fresh : List HeldPart) (end : ℕ) (old new : List (SmallVec ℕ)) : Type 0 where
-  pub count : length new ≡ length old
-  pub stays : (node l : ℕ) → Contains (readers_of old node) l → Contains (readers_of new node) l
-  pub listed : (node k : ℕ) (how : ReadsAs slots fresh k node) → how.i < end → Contains (readers_of new node) k
-  pub only : (node l : ℕ) → Contains (readers_of new node) l → Contains (readers_of old node) l ⊎ ReadsAs slots fresh l node
-
--- they are taken off the lists, as far as this place
-pub record AreOffTo (slots : List ℕ) (fresh : List HeldPart) (end : ℕ) (old new : List (SmallVec ℕ)) : Type 0 where
-  pub count : length new ≡ length old
-  pub gone : (node k : ℕ) (how : ReadsAs slots fresh k node) → how.i < end → ¬ Contains (readers_of new node) k
-  pub stays : (node l : ℕ) → Contains (readers_of old node) l → (¬ Contains slots l) → Contains (readers_of new node) l
-  pub only : (node l : ℕ) → Contains (readers_of new node) l → Contains (readers_of old node) l

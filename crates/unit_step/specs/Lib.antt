@@ -6,6 +6,7 @@ pub mod Editing
 pub mod Laws
 pub mod Marking
 pub mod Evaluating
+pub mod Readers
 pub mod Running
 pub mod Making
 pub mod Planning

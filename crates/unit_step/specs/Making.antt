@@ -1,9 +1,8 @@
 -- What a machine is made of: parts with the nodes that they read, who owns and who reads a node, and room for the steps.
-use Rattle.std.specs.Prelude.{◌≡◌, ◌≢◌, ℕ, ◌+◌, ◌*◌, ◌<◌, ◌≤◌, ◌⊎◌, true, List, length, replicate, All, Contains, Option, Some, None, Vec, slice_index, slice_index_or}
+use Rattle.std.specs.Prelude.{◌≡◌, ◌≢◌, ℕ, ◌+◌, ◌*◌, ◌<◌, ◌≤◌, true, List, length, replicate, All, Contains, Option, Some, None, Vec, slice_index, slice_index_or}
 use Rattle.std.specs.declared.rc.Rc.{Rc}
 use Rattle.std.specs.List.{sum_by}
 use Rattle.std.proofs.Common.{Global}
-use Rattle.smallvec.specs.SmallVec.{SmallVec}
 use Rattle.ternary.specs.declared.tern.Tern.{Tern}
 use Rattle.channel_groups.specs.Grouping.{GroupsData}
 use Rattle.group_text.specs.Texts.{GroupTextData}
@@ -14,8 +13,7 @@ use Rattle.straight_code.specs.Parts as straight
 use Rattle.unit_step.specs.declared.part.HeldPart.{HeldPart}
 use Rattle.unit_step.specs.Machines.{MachineData, members_of}
 use Rattle.unit_step.specs.Evaluating.{Rooms}
-use Rattle.unit_step.specs.Parts.{HasMember, ReadsAt}
-use Rattle.unit_step.specs.Running.{readers_of}
+use Rattle.unit_step.specs.Parts.{HasMember}
 
 -- no node is a member of two parts
 abbrev pub ShareNone : List Part → Type 0
@@ -49,13 +47,6 @@ pub record IsFormed (count : ℕ) (part : HeldPart) : Type 0 where
   pub inputs : (code : Rc CodeData Global) → part.code ≡ Some code → length part.map.items ≡ code.value.inputs
   pub outputs : (code : Rc CodeData Global) → part.code ≡ Some code → length code.value.outputs ≡ part.members
 
--- the part with this number is listed as a reader of these nodes too
-pub record Lists (k : ℕ) (nodes : List ℕ) (old new : List (SmallVec ℕ)) : Type 0 where
-  pub count : length new ≡ length old
-  pub stays : (node l : ℕ) → Contains (readers_of old node) l → Contains (readers_of new node) l
-  pub listed : (node : ℕ) → Contains nodes node → Contains (readers_of new node) k
-  pub only : (node l : ℕ) → Contains (readers_of new node) l → Contains (readers_of old node) l ⊎ (Contains nodes node × (l ≡ k))
-
 -- the part with this number becomes the owner of these nodes, and all other nodes keep theirs
 pub record Owns (k : ℕ) (members : List ℕ) (old new : List (Option ℕ)) : Type 0 where
   pub count : length new ≡ length old
@@ -73,12 +64,6 @@ pub record HasRoomFor (parts : List HeldPart) (room : Rooms) : Type 0 where
   pub outs : All (λ part. part.members ≤ room.outs) parts
   pub changes : sum_by members_of parts ≤ room.changes
   pub parts_room : length parts ≤ room.parts
-
--- the parts with a lower number are listed as readers of the nodes that they read, and no others
-pub record AreListed (parts : List HeldPart) (count i : ℕ) (lists : List (SmallVec ℕ)) : Type 0 where
-  pub counted : length lists ≡ count
-  pub readers : (node k : ℕ) → k < i → ReadsAt parts k node → Contains (readers_of lists node) k
-  pub reads : (node k : ℕ) → Contains (readers_of lists node) k → ReadsAt parts k node
 
 -- the members of the parts with a lower number have their owners, and no other node has one
 pub record AreOwned (parts : List HeldPart) (count i : ℕ) (owners : List (Option ℕ)) : Type 0 where

@@ -1,5 +1,5 @@
 -- What lets a machine run, and how the changes of a step are taken over.
-use Rattle.std.specs.Prelude.{◌≡◌, ◌≢◌, ℕ, ◌≤◌, Bool, List, [], length, map, count_by, All, Contains, Option, None, Some, slice_index_or}
+use Rattle.std.specs.Prelude.{◌≡◌, ◌≢◌, ℕ, ◌≤◌, Bool, List, length, count_by, All, Contains, Option, None, Some, slice_index_or}
 use Rattle.std.specs.List.{sum_by}
 use Rattle.smallvec.specs.SmallVec.{SmallVec}
 use Rattle.ternary.specs.declared.tern.Tern.{Tern}
@@ -7,12 +7,9 @@ use Rattle.path_meaning.specs.Switching.{state_at}
 use Rattle.unit_step.specs.declared.part.HeldPart.{HeldPart}
 use Rattle.unit_step.specs.declared.evaluation.Change.{Change}
 use Rattle.unit_step.specs.Parts.{HasMember, ReadsAt, IsStale, AreApart, has_members}
+use Rattle.unit_step.specs.Readers.{readers_of}
 use Rattle.unit_step.specs.Machines.{IsMarked, members_of}
 use Rattle.unit_step.specs.Evaluating.{Rooms, IsSeated}
-
--- the parts that are listed as readers of a node
-abbrev pub readers_of : List (SmallVec ℕ) → ℕ → List ℕ
-readers_of readers node = slice_index_or (map (λ parts. parts.items) readers) node []
 
 -- the parts are seated, share no members, and have marks; the stale ones wait; each node has its readers; and there is room for a step
 pub record IsRunnable (parts : List HeldPart) (marks : List Bool) (waiting : List Bool) (count : ℕ) (lists : List (SmallVec ℕ)) (room : Rooms) : Type 0 where

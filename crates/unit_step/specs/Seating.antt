@@ -1,25 +1,16 @@
 -- Parts that lose their group in an edit, and parts for new groups.
 use Rattle.std.specs.Prelude.{◌≡◌, ◌≢◌, ℕ, ◌+◌, ◌<◌, ◌≤◌, ◌⊎◌, ◌↔◌, List, [], ◌∷◌, ◌++◌, true, if◌then◌else◌, length, Contains, Option, None, Some, slice_set, slice_index_or}
-use Rattle.smallvec.specs.SmallVec.{SmallVec}
 use Rattle.path_meaning.specs.Graphs.{GraphData}
 use Rattle.group_meaning.specs.Groups.{Group, AreGroups}
 use Rattle.unit_step.specs.declared.part.HeldPart.{HeldPart}
 use Rattle.unit_step.specs.Parts.{Stands, HasMember, has_members}
 use Rattle.unit_step.specs.Machines.{MachineData, IsMarked}
-use Rattle.unit_step.specs.Running.{readers_of}
 
 -- these nodes have no owner any more, and all other nodes keep theirs
 pub record Disowns (members : List ℕ) (old new : List (Option ℕ)) : Type 0 where
   pub count : length new ≡ length old
   pub gone : (node : ℕ) → Contains members node → slice_index_or new node None ≡ None
   pub stays : (node : ℕ) → ¬ Contains members node → slice_index_or new node None ≡ slice_index_or old node None
-
--- the part with this number isn't listed as a reader of these nodes any more
-pub record Unlists (k : ℕ) (nodes : List ℕ) (old new : List (SmallVec ℕ)) : Type 0 where
-  pub count : length new ≡ length old
-  pub stays : (node l : ℕ) → l ≢ k → Contains (readers_of old node) l → Contains (readers_of new node) l
-  pub only : (node l : ℕ) → Contains (readers_of new node) l → Contains (readers_of old node) l
-  pub gone : (node : ℕ) → Contains nodes node → ¬ Contains (readers_of new node) k
 
 -- the part has no group: it has no members and no code, and reads nothing
 pub record IsVacant (part : HeldPart) : Type 0 where

@@ -7,11 +7,13 @@ ghost use Rattle.unit_step.specs.Machines.{marked_sum, instructions_of};
 ghost use Rattle.unit_step.specs.Stepping.{Moves, Remarks};
 ghost use Rattle.unit_step.specs.Marking.{MarksAll};
 ghost use Rattle.unit_step.specs.Evaluating.{rooms};
-ghost use Rattle.unit_step.specs.Running.{readers_of, IsRunnable, AreAgreed, IsTaken, ReadsAny};
+ghost use Rattle.unit_step.specs.Running.{IsRunnable, AreAgreed, IsTaken, ReadsAny};
+ghost use Rattle.unit_step.specs.Readers.{readers_of};
 
 use crate::agenda::{Agenda, mark_all};
 use crate::evaluation::{Change, Desk, evaluate_all};
-use crate::part::{HeldPart, Readers};
+use crate::part::HeldPart;
+use crate::readers::ReaderLists;
 use std::sync::ledger::Ledger;
 use ternary::{Steps, Tern};
 
@@ -23,7 +25,7 @@ use ternary::{Steps, Tern};
 pub(crate) fn advance<L: Ledger>(
     joining: bool,
     parts: &[HeldPart],
-    readers: &[Readers],
+    readers: &ReaderLists,
     state: &mut [Tern],
     agenda: &mut Agenda,
     desk: &mut Desk,
@@ -59,7 +61,7 @@ fn mark_again(joining: bool, done: &[usize], agenda: &mut Agenda)
 }
 
 // Writes the changes into the state, and marks the parts that read a node that changes.
-fn take_over(changes: &[Change], readers: &[Readers], state: &mut [Tern], agenda: &mut Agenda)
+fn take_over(changes: &[Change], readers: &ReaderLists, state: &mut [Tern], agenda: &mut Agenda)
     requires inside { (change : Change) → Contains changes.now change → change.node < length state.old }
     requires agreed { AreAgreed changes.now }
     requires readers { length readers.now ≡ length state.old }
@@ -70,6 +72,6 @@ fn take_over(changes: &[Change], readers: &[Readers], state: &mut [Tern], agenda
 {
     for change in changes {
         state[change.node] = change.value;
-        mark_all(&readers[change.node], agenda);
+        mark_all(readers.of(change.node), agenda);
     }
 }

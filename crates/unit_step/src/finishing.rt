@@ -10,8 +10,8 @@ ghost use Rattle.unit_step.specs.Editing.{Finishes};
 ghost use Rattle.unit_step.specs.Finishing.{IsWaking};
 
 use crate::machine::Machine;
-use crate::making::{held_parts, needs_of};
-use crate::rousing::{list_all, numbers_of, put_parts, put_texts, widen};
+use crate::making::{held_parts, needs_of, widen_for_codes};
+use crate::rousing::{numbers_of, put_parts, put_texts};
 use crate::waking::{Waking, ids_at, least_members, owners_of};
 use analysis_cache::{Analyst, Kept};
 use circuit_texts::{BuildFault, GroupTexts, reads_at, texts_at};
@@ -97,8 +97,8 @@ impl Machine {
             return Err(NoMemory);
         };
         let numbers = numbers_of(alloc, &texts, &mut self.uses)?;
-        widen(&mut self.desk, needs.values, needs.outs)?;
-        list_all(&slots, &fresh, &mut self.readers)?;
+        widen_for_codes(&mut self.desk, needs.values, needs.outs)?;
+        self.readers.list_all(&slots, &fresh, &self.parts)?;
         put_texts(&slots, &numbers, &mut self.uses);
         put_parts(&slots, fresh, &mut self.parts);
         self.agenda.rouse();

@@ -1,11 +1,8 @@
 //! Nodes that are added to a machine.
 ghost use Rattle.std.specs.Prelude.{◌≡◌, ℕ, ◌+◌, ◌-◌, ◌++◌, ◌≤◌, None, length, replicate, vec_capacity, OnOk, OnErr};
-ghost use Rattle.unit_step.specs.Running.{readers_of};
 ghost use Rattle.unit_step.specs.Editing.{with_new_nodes};
 
 use crate::machine::Machine;
-use crate::part::Readers;
-use smallvec::SmallVec;
 use std::alloc::{AllocError, Global};
 use ternary::Tern;
 
@@ -17,12 +14,10 @@ impl Machine {
         ensures err { OnErr result (self.new ≡ self.old) }
     {
         let more = nodes.saturating_sub(self.state.len());
-        self.readers.reserve(more)?;
         self.owners.reserve(more)?;
-        let alloc = *self.state.allocator();
+        self.readers.grow(nodes)?;
         grow(&mut self.state, nodes);
         grow_owners(&mut self.owners, nodes);
-        grow_readers(alloc, &mut self.readers, nodes);
         Ok(())
     }
 }
@@ -45,16 +40,5 @@ fn grow_owners(owners: &mut Vec<Option<usize>>, nodes: usize)
 {
     for _node in owners.len()..nodes {
         owners.push_reserved(None);
-    }
-}
-
-// Adds nodes without readers, up to so many, in room that is there.
-fn grow_readers(alloc: Global, readers: &mut Vec<Readers>, nodes: usize)
-    requires { nodes ≤ vec_capacity readers.old }
-    ensures count { length readers.new.items ≡ length readers.old.items + (nodes - length readers.old.items) }
-    ensures same { (node : ℕ) → readers_of readers.new.items node ≡ readers_of readers.old.items node }
-{
-    for _node in readers.len()..nodes {
-        readers.push_reserved(SmallVec::new(alloc));
     }
 }

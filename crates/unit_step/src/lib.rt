@@ -27,6 +27,7 @@ mod machine;
 mod making;
 mod part;
 mod planning;
+mod readers;
 mod rousing;
 mod seating;
 mod waking;

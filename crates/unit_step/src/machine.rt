@@ -24,9 +24,10 @@ ghost use Rattle.unit_step.specs.Fitting.{Covers, FitsGraph};
 use crate::advance::advance;
 use crate::agenda::{Agenda, mark_all};
 use crate::evaluation::Desk;
-use crate::making::{all_owners, all_readers, count_held, desk_for, held_parts};
-use crate::part::{HeldPart, Readers};
+use crate::making::{all_owners, count_held, desk_for, held_parts};
+use crate::part::HeldPart;
 use crate::planning::{Plan, plan_of};
+use crate::readers::ReaderLists;
 use analysis_cache::{Analyst, Kept};
 use channel_groups::Groups;
 use circuit_texts::BuildFault;
@@ -56,7 +57,7 @@ pub struct Machine {
     pub(crate) most: usize,
     pub(crate) agenda: Agenda,
     // for each node the parts that read it, and the part that it is a member of
-    pub(crate) readers: Vec<Readers>,
+    pub(crate) readers: ReaderLists,
     pub(crate) owners: Vec<Option<usize>>,
     pub(crate) state: Vec<Tern>,
     pub(crate) desk: Desk,
@@ -75,7 +76,7 @@ impl Model for Machine {
 
     ghost view = { λ m. record { groups = m.groups; parts = m.parts.items; uses = texts_used m.uses; marks = m.agenda.marks; state = m.state.items; texts = count_distinct (texts_used m.uses); moves = m.moves; placed = m.placed; spare = vec_capacity m.state - vec_len m.state } };
 
-    ghost invariant = { λ m. IsMachine m.parts.items m.agenda.marks m.agenda.waiting (length m.state.items) m.readers.items m.owners.items m.uses.numbers m.held m.most (rooms m.desk) };
+    ghost invariant = { λ m. IsMachine m.parts.items m.agenda.marks m.agenda.waiting (length m.state.items) m.readers m.owners.items m.uses.numbers m.held m.most (rooms m.desk) };
 }
 
 impl Machine {
@@ -169,7 +170,7 @@ impl Machine {
         let nodes = state.len();
         let held = count_held(&parts);
         let agenda = Agenda::all(alloc, parts.len())?;
-        let readers = all_readers(alloc, &parts, nodes)?;
+        let readers = ReaderLists::of_parts(alloc, &parts, nodes)?;
         let owners = all_owners(alloc, &parts, nodes)?;
         let desk = desk_for(alloc, &parts)?;
         let most = desk.changes.capacity();
@@ -256,7 +257,7 @@ impl Machine {
         self.state[node] = value;
         let owner = self.owners[node];
         mark_owner(owner, &mut self.agenda);
-        mark_all(&self.readers[node], &mut self.agenda);
+        mark_all(self.readers.of(node), &mut self.agenda);
         self.placed = placed_after(self.placed, owner);
     }
 

@@ -4,12 +4,11 @@ ghost use Rattle.std.specs.List.{sum_by};
 ghost use Rattle.unit_step.specs.Parts.{HasMember, ReadsAt, AreApart, has_members};
 ghost use Rattle.unit_step.specs.Machines.{members_of};
 ghost use Rattle.unit_step.specs.Evaluating.{rooms};
-ghost use Rattle.unit_step.specs.Running.{readers_of, AreOwners};
-ghost use Rattle.unit_step.specs.Making.{held, Lists, Owns, HasRoomFor, IsCodeRoom};
+ghost use Rattle.unit_step.specs.Running.{AreOwners};
+ghost use Rattle.unit_step.specs.Making.{held, Owns, HasRoomFor, IsCodeRoom};
 
 use crate::evaluation::Desk;
-use crate::part::{HeldPart, Readers};
-use smallvec::SmallVec;
+use crate::part::HeldPart;
 use std::alloc::{AllocError, Global};
 use straight_code::{Code, Part};
 use ternary::{NoMemory, Tern};
@@ -53,47 +52,6 @@ pub(crate) fn count_held(parts: &[HeldPart]) -> usize
         }
     }
     count
-}
-
-// For each of so many nodes the parts that read it.
-pub(crate) fn all_readers(
-    alloc: Global,
-    parts: &[HeldPart],
-    nodes: usize,
-) -> Result<Vec<Readers>, NoMemory>
-    requires { All (λ part. All (λ node. node < nodes) part.reads.items) parts.now }
-    ensures count { IfOk result (λ lists. length lists.items ≡ nodes) }
-    ensures readers { IfOk result (λ lists. (node k : ℕ) → ReadsAt parts.now k node → Contains (readers_of lists.items node) k) }
-    ensures reads { IfOk result (λ lists. (node k : ℕ) → Contains (readers_of lists.items node) k → ReadsAt parts.now k node) }
-{
-    let mut readers = no_readers(alloc, nodes)?;
-    for (k, part) in parts.iter().enumerate() {
-        list_reader(k, &part.reads, &mut readers)?;
-    }
-    Ok(readers)
-}
-
-// No readers for each of so many nodes.
-fn no_readers(alloc: Global, nodes: usize) -> Result<Vec<Readers>, AllocError>
-    ensures count { IfOk result (λ lists. length lists.items ≡ nodes) }
-    ensures none { IfOk result (λ lists. (node k : ℕ) → ¬ Contains (readers_of lists.items node) k) }
-{
-    let mut readers = Vec::new(alloc);
-    for _ in 0..nodes {
-        readers.push(SmallVec::new(alloc))?;
-    }
-    Ok(readers)
-}
-
-// Lists a part as a reader of these nodes.
-fn list_reader(k: usize, nodes: &[usize], readers: &mut [Readers]) -> Result<(), NoMemory>
-    requires { All (λ node. node < length readers.old) nodes.now }
-    ensures { OnOk result (Lists k nodes.now readers.old readers.new) }
-{
-    for node in nodes {
-        readers[*node].push(k).map_err(|_| NoMemory)?;
-    }
-    Ok(())
 }
 
 // For each of so many nodes the part that it is a member of, if there is one.
@@ -194,4 +152,44 @@ fn desk_of(alloc: Global, needs: Needs, parts: usize) -> Result<Desk, AllocError
         changes: Vec::with_capacity(alloc, needs.changes)?,
         done: Vec::with_capacity(alloc, parts)?,
     })
+}
+
+// Takes room for so many changes and so many parts, beside what there is.
+pub(crate) fn widen_for_parts(
+    desk: &mut Desk,
+    changes: usize,
+    parts: usize,
+) -> Result<(), AllocError>
+    ensures values { (rooms desk.new).values ≡ (rooms desk.old).values }
+    ensures outs { (rooms desk.new).outs ≡ (rooms desk.old).outs }
+    ensures changes { (rooms desk.old).changes ≤ (rooms desk.new).changes }
+    ensures parts { (rooms desk.old).parts ≤ (rooms desk.new).parts }
+    ensures more_changes { OnOk result (changes ≤ (rooms desk.new).changes) }
+    ensures more_parts { OnOk result (parts ≤ (rooms desk.new).parts) }
+{
+    desk.changes.clear();
+    desk.done.clear();
+    desk.changes.reserve(changes)?;
+    desk.done.reserve(parts)?;
+    Ok(())
+}
+
+// Takes room for so many values and outputs, beside what there is.
+pub(crate) fn widen_for_codes(desk: &mut Desk, values: usize, outs: usize) -> Result<(), AllocError>
+    ensures values { OnOk result (values ≤ length desk.new.values.items) }
+    ensures outs { OnOk result (outs ≤ length desk.new.out.items) }
+    ensures more_values { length desk.old.values.items ≤ length desk.new.values.items }
+    ensures more_outs { length desk.old.out.items ≤ length desk.new.out.items }
+    ensures changes { vec_capacity desk.new.changes ≡ vec_capacity desk.old.changes }
+    ensures done { vec_capacity desk.new.done ≡ vec_capacity desk.old.done }
+    ensures changes_are { desk.new.changes ≡ desk.old.changes }
+    ensures done_are { desk.new.done ≡ desk.old.done }
+{
+    if desk.values.len() < values {
+        desk.values.resize(values, false)?;
+    }
+    if desk.out.len() < outs {
+        desk.out.resize(outs, Tern::Unk)?;
+    }
+    Ok(())
 }

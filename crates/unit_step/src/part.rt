@@ -1,6 +1,5 @@
 //! The parts of a machine.
 
-use smallvec::SmallVec;
 use std::rc::Rc;
 use straight_code::Code;
 
@@ -16,6 +15,3 @@ pub struct HeldPart {
     pub members: usize,
     pub reads: Vec<usize>,
 }
-
-/// The parts that read a node: most nodes have few.
-pub(crate) type Readers = SmallVec<usize, 4>;

@@ -1,13 +1,11 @@
 //! Parts that lose their group in an edit, and parts for the groups that an edit makes.
 ghost use Rattle.std.specs.Prelude.{◌≡◌, ◌≢◌, ℕ, ◌+◌, ◌++◌, ◌<◌, ◌≤◌, ◌∷◌, [], true, false, None, length, vec_capacity, slice_index, slice_index_or, slice_set, All, Contains, IfOk, OnOk, OnErr};
 ghost use Rattle.unit_step.specs.Parts.{HasMember};
-ghost use Rattle.unit_step.specs.Evaluating.{rooms};
-ghost use Rattle.unit_step.specs.Seating.{Disowns, Unlists, Vacates, Seats, Clears, Renews, one_of, IsVacant, IsStalePartOf};
+ghost use Rattle.unit_step.specs.Seating.{Disowns, Vacates, Seats, Clears, Renews, one_of, IsVacant, IsStalePartOf};
 
-use crate::evaluation::Desk;
 use crate::machine::Machine;
-use crate::making::own;
-use crate::part::{HeldPart, Readers};
+use crate::making::{own, widen_for_parts};
+use crate::part::HeldPart;
 use std::alloc::{AllocError, Global};
 use std::mem;
 use ternary::NoMemory;
@@ -21,7 +19,7 @@ impl Machine {
         let alloc = *self.state.allocator();
         let gone = mem::replace(&mut self.parts[k], no_part(alloc));
         disown(&gone.map[..gone.members], &mut self.owners);
-        unlist(k, &gone.reads, &mut self.readers);
+        self.readers.unlist(k, &gone.reads, &self.parts);
         self.agenda.release(k);
         self.uses.free(k);
         self.held -= count_one(&gone);
@@ -45,7 +43,7 @@ impl Machine {
             return Err(NoMemory);
         };
         self.parts.reserve(1)?;
-        widen(&mut self.desk, most, self.parts.len() + 1)?;
+        widen_for_parts(&mut self.desk, most, self.parts.len() + 1)?;
         self.uses.add()?;
         self.agenda.wait_more()?;
         own(self.parts.len(), members, &mut self.owners);
@@ -137,30 +135,4 @@ fn disown(members: &[usize], owners: &mut [Option<usize>])
     for node in members {
         owners[*node] = None;
     }
-}
-
-// Takes a part out of the readers of these nodes.
-fn unlist(k: usize, nodes: &[usize], readers: &mut [Readers])
-    requires { All (λ node. node < length readers.old) nodes.now }
-    ensures { Unlists k nodes.now readers.old readers.new }
-{
-    for node in nodes {
-        readers[*node].retain(|one| *one != k);
-    }
-}
-
-// Makes room for so many changes and so many parts.
-fn widen(desk: &mut Desk, changes: usize, parts: usize) -> Result<(), AllocError>
-    ensures values { (rooms desk.new).values ≡ (rooms desk.old).values }
-    ensures outs { (rooms desk.new).outs ≡ (rooms desk.old).outs }
-    ensures changes { (rooms desk.old).changes ≤ (rooms desk.new).changes }
-    ensures parts { (rooms desk.old).parts ≤ (rooms desk.new).parts }
-    ensures more_changes { OnOk result (changes ≤ (rooms desk.new).changes) }
-    ensures more_parts { OnOk result (parts ≤ (rooms desk.new).parts) }
-{
-    desk.changes.clear();
-    desk.done.clear();
-    desk.changes.reserve(changes)?;
-    desk.done.reserve(parts)?;
-    Ok(())
 }

@@ -5,7 +5,7 @@ use Rattle.std.proofs.lemmas.List.{get_or_default}
 use Rattle.std.proofs.lemmas.List.Elements.{Contains-get_or}
 use Rattle.ternary.specs.declared.tern.Tern.TheVariants.{Zero}
 use Rattle.unit_step.specs.declared.evaluation.Change.{Change}
-use Rattle.unit_step.proofs.TakingLemmas.{IsTaken-more, MarksAll-readers, readers_read}
+use Rattle.unit_step.proofs.TakingLemmas.{IsTaken-more, MarksAll-readers}
 use Rattle.unit_step.proofs.advance.take_over.Goals as goal
 
 first : Change
@@ -17,15 +17,9 @@ bounds-state-change c =
     let inside = c.requires.inside _ (Contains-get_or c.args.changes.now c.loop-change.change-index first c.loop-change-test.true) in
     omega (arith, inside, c.loop-change.auto.state)
 
-pub offset_bounds-readers-change : goal.offset_bounds-readers-change
+pub of-requires : goal.of-requires
 unfolding first
-offset_bounds-readers-change c =
-    let inside = c.requires.inside _ (Contains-get_or c.args.changes.now c.loop-change.change-index first c.loop-change-test.true) in
-    omega (arith, inside, c.requires.readers)
-
-pub bounds-readers-change : goal.bounds-readers-change
-unfolding first
-bounds-readers-change c =
+of-requires c =
     let inside = c.requires.inside _ (Contains-get_or c.args.changes.now c.loop-change.change-index first c.loop-change-test.true) in
     omega (arith, inside, c.requires.readers)
 
@@ -34,8 +28,7 @@ unfolding first
 mark_all-requires c = λ k there.
     let change = get_or c.args.changes.now c.loop-change.change-index first in
     let inside = c.requires.inside change (Contains-get_or c.args.changes.now c.loop-change.change-index first c.loop-change-test.true) in
-    let within : change.node < length c.args.readers.now = omega (arith, inside, c.requires.readers) in
-    let lists = c.deref.ensures ∙ readers_read c.args.readers.now change.node c.index-readers-change.result within c.index-readers-change.is in
+    let lists = c.of.ensures in
     let part = c.requires.parts change.node k (rw lists at there) in
     omega (arith, part, c.loop-change.invariant.marks.count)
 
@@ -48,12 +41,11 @@ loop-change-preserved c =
     let change = get_or changes i first in
     let is = get_or_default changes i first change test in
     let inside = c.requires.inside change (Contains-get_or changes i first test) in
-    let within : change.node < length c.args.readers.now = omega (arith, inside, c.requires.readers) in
     let here : change.node < length c.loop-change.state = omega (arith, inside, c.loop-change.auto.state) in
-    let lists = c.deref.ensures ∙ readers_read c.args.readers.now change.node c.index-readers-change.result within c.index-readers-change.is in
+    let lists = c.of.ensures in
     record {
       taken = IsTaken-more changes i change c.args.state.now c.loop-change.state c.requires.agreed test is here c.loop-change.invariant.taken;
-      marks = MarksAll-readers c.args.readers.now changes i change c.deref.result.now c.args.agenda.now.marks c.loop-change.agenda.marks
+      marks = MarksAll-readers c.args.readers.now changes i change c.of.result.now c.args.agenda.now.marks c.loop-change.agenda.marks
           c.mark_all.new.agenda.marks test is lists c.loop-change.invariant.marks c.mark_all.ensures.marks;
       waiting = c.mark_all.ensures.waiting ∙ c.loop-change.invariant.waiting;
     }

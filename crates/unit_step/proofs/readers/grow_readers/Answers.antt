@@ -1,9 +1,9 @@
 -- One node more is there.
 use Rattle.std.proofs.Common.{◌≡◌, [], ◌∷◌, ◌++◌, length, ap, ◌∙◌, rules, arith}
 use Rattle.std.proofs.lemmas.List.{length_push}
-use Rattle.unit_step.specs.Running.{readers_of}
+use Rattle.unit_step.specs.Readers.{readers_of}
 use Rattle.unit_step.proofs.EditingLemmas.{readers_more}
-use Rattle.unit_step.proofs.growing.grow_readers.Goals as goal
+use Rattle.unit_step.proofs.readers.grow_readers.Goals as goal
 
 pub loop-node-preserved : goal.loop-node-preserved
 loop-node-preserved c =

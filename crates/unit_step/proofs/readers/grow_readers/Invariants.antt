@@ -1,8 +1,8 @@
 -- Each node before this one is there.
 use Rattle.std.proofs.Common.{◌≡◌, ◌≤◌, ◌-◌, ℕ, length}
 use Rattle.std.specs.Prelude.{vec_capacity}
-use Rattle.unit_step.specs.Running.{readers_of}
-use Rattle.unit_step.proofs.growing.grow_readers.Given as goal
+use Rattle.unit_step.specs.Readers.{readers_of}
+use Rattle.unit_step.proofs.readers.grow_readers.Given as goal
 
 abbrev pub invariant-loop-node : goal.invariant-loop-node
 invariant-loop-node l = record {

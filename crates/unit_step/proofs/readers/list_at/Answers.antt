@@ -1,40 +1,68 @@
--- The part is listed at one node more, or the node has its readers still.
-use Rattle.std.proofs.Common.{◌≡◌, ℕ, ◌<◌, [], ◌∷◌, ◌++◌, true, false, get_or, length, refl, sym, ap, ◌∙◌, arith, rules}
+-- The part enters the list of one node more, or the node has its readers still.
+use Rattle.std.proofs.Common.{◌≡◌, ℕ, ◌<◌, true, false, get_or, length, take, refl, sym, subst, ap, ◌∙◌, arith, rules}
 use Rattle.std.specs.Result.{is_ok}
+use Rattle.std.proofs.lemmas.List.{get_or_default}
 use Rattle.smallvec.specs.SmallVec.{SmallVec}
-use Rattle.unit_step.proofs.MakingLemmas.{at_on_ok, Lists-more}
-use Rattle.unit_step.proofs.FinishingReaders.{at_on_err, ListsSome-failed, ListsSome-all}
-use Rattle.unit_step.proofs.rousing.list_at.Goals as goal
+use Rattle.unit_step.specs.Readers.{readers_of, Adds}
+use Rattle.unit_step.proofs.MakingLemmas.{at_on_ok}
+use Rattle.unit_step.proofs.ReadersLemmas.{at_on_err, AreEachOnce-here, IsLastIf-here, ListsLast-none, ListsLast-more, ListsSome-failed, ListsSome-all}
+use Rattle.unit_step.proofs.readers.list_at.Goals as goal
+
+pub loop-node-init : goal.loop-node-init
+loop-node-init c = ListsLast-none c.args.k (take 0 c.args.nodes.now) c.args.lists.now c.requires.none c.requires.each refl
+
+pub add-requires-clause-once : goal.add-requires-clause-once
+add-requires-clause-once c =
+    let i = c.loop-node.node-index in
+    let node = get_or c.args.nodes.now i 0 in
+    let inside : node < length c.loop-node.lists = omega (arith, c.requires.below i 0 c.loop-node-test.true, c.loop-node.auto.lists) in
+    let found = c.index-lists-node.result in
+    let list = get_or c.loop-node.lists node found in
+    let read = get_or_default c.loop-node.lists node found list inside in
+    AreEachOnce-here c.loop-node.lists node list list inside read c.loop-node.invariant.each
+
+pub add-requires-clause-last : goal.add-requires-clause-last
+add-requires-clause-last c =
+    let i = c.loop-node.node-index in
+    let node = get_or c.args.nodes.now i 0 in
+    let inside : node < length c.loop-node.lists = omega (arith, c.requires.below i 0 c.loop-node-test.true, c.loop-node.auto.lists) in
+    let found = c.index-lists-node.result in
+    let list = get_or c.loop-node.lists node found in
+    let read = get_or_default c.loop-node.lists node found list inside in
+    IsLastIf-here c.loop-node.lists node list list inside read c.args.k (c.loop-node.invariant.last node)
 
 pub returns-then-is_err-clause-some : goal.returns-then-is_err-clause-some
 returns-then-is_err-clause-some c =
     let nodes = c.args.nodes.now in
     let i = c.loop-node.node-index in
-    let inside : get_or nodes i 0 < length c.loop-node.readers = omega (arith, c.requires i 0 c.loop-node-test.true, c.loop-node.auto.readers) in
-    let failed : is_ok c.push.result ≡ false = search rules in
-    let same : c.push.new.self.items ≡ c.index-readers-node.result.items =
-    ap (λ (list : SmallVec ℕ). list.items) (at_on_err _ c.push.result c.push.ensures.err failed)
-    ∙ ap (λ (list : SmallVec ℕ). list.items) (sym c.index-readers-node.is) in
-    ListsSome-failed c.args.k nodes i (get_or nodes i 0) c.args.readers.now c.loop-node.readers c.index-readers-node.result c.push.new.self
-    inside c.index-readers-node.is same c.loop-node.invariant
+    let node = get_or nodes i 0 in
+    let inside : node < length c.loop-node.lists = omega (arith, c.requires.below i 0 c.loop-node-test.true, c.loop-node.auto.lists) in
+    let failed : is_ok c.add.result ≡ false = search rules in
+    let found = c.index-lists-node.result in
+    let list = get_or c.loop-node.lists node found in
+    let read = get_or_default c.loop-node.lists node found list inside in
+    ListsSome-failed c.args.k nodes i node c.args.lists.now c.loop-node.lists list c.add.new.list
+    c.loop-node-test.true refl inside read (at_on_err _ c.add.result c.add.ensures.err failed) c.loop-node.invariant
 
 pub loop-node-preserved : goal.loop-node-preserved
 loop-node-preserved c =
     let nodes = c.args.nodes.now in
     let i = c.loop-node.node-index in
-    let inside : get_or nodes i 0 < length c.loop-node.readers = omega (arith, c.requires i 0 c.loop-node-test.true, c.loop-node.auto.readers) in
-    let ok : is_ok c.push.result ≡ true = search rules in
-    let pushed : c.push.new.self.items ≡ c.index-readers-node.result.items ++ c.args.k ∷ [] =
-    at_on_ok _ c.push.result c.push.ensures.ok ok ∙ ap (λ (list : SmallVec ℕ). list.items ++ c.args.k ∷ []) (sym c.index-readers-node.is) in
-    Lists-more c.args.k nodes i (get_or nodes i 0) c.args.readers.now c.loop-node.readers c.index-readers-node.result c.push.new.self
-    c.loop-node-test.true refl inside c.index-readers-node.is pushed c.loop-node.invariant
+    let node = get_or nodes i 0 in
+    let inside : node < length c.loop-node.lists = omega (arith, c.requires.below i 0 c.loop-node-test.true, c.loop-node.auto.lists) in
+    let ok : is_ok c.add.result ≡ true = search rules in
+    let found = c.index-lists-node.result in
+    let list = get_or c.loop-node.lists node found in
+    let read = get_or_default c.loop-node.lists node found list inside in
+    ListsLast-more c.args.k nodes i node c.args.lists.now c.loop-node.lists list c.add.new.list
+    c.loop-node-test.true refl inside read (at_on_ok _ c.add.result c.add.ensures.ok ok) c.loop-node.invariant
 
 pub returns-clause-some : goal.returns-clause-some
 returns-clause-some c =
-    (ListsSome-all c.args.k c.args.nodes.now c.loop-node.node-index c.args.readers.now c.loop-node.readers (omega (arith, c.loop-node-test.false))
+    (ListsSome-all c.args.k c.args.nodes.now c.loop-node.node-index c.args.lists.now c.loop-node.lists (omega (arith, c.loop-node-test.false))
     c.loop-node.invariant).0
 
 pub returns-clause-ok : goal.returns-clause-ok
 returns-clause-ok c =
-    (ListsSome-all c.args.k c.args.nodes.now c.loop-node.node-index c.args.readers.now c.loop-node.readers (omega (arith, c.loop-node-test.false))
+    (ListsSome-all c.args.k c.args.nodes.now c.loop-node.node-index c.args.lists.now c.loop-node.lists (omega (arith, c.loop-node-test.false))
     c.loop-node.invariant).1

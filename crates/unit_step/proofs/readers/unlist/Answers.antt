@@ -1,15 +1,36 @@
 -- The part is taken off one list more.
-use Rattle.std.proofs.Common.{◌≡◌, ℕ, ◌<◌, get_or, length, filter, refl, sym, ap, ◌∙◌, arith}
-use Rattle.smallvec.specs.SmallVec.{SmallVec}
-use Rattle.unit_step.proofs.FinishingReaders.{is_other, Unlists-more}
-use Rattle.unit_step.proofs.rousing.unlist.Goals as goal
+use Rattle.std.proofs.Common.{◌≡◌, ℕ, ◌<◌, get_or, length, take, refl, sym, subst, arith}
+use Rattle.std.proofs.lemmas.List.{get_or_default, take_all}
+use Rattle.unit_step.specs.Readers.{Unlists}
+use Rattle.unit_step.proofs.ReadersLemmas.{AreEachOnce-here, Unlists-none, Unlists-more}
+use Rattle.unit_step.proofs.readers.unlist.Goals as goal
 
-pub loop-node-preserved : goal.loop-node-preserved
-loop-node-preserved c =
+pub loop-read-init : goal.loop-read-init
+loop-read-init c = Unlists-none c.args.k (take 0 c.args.nodes.now) c.args.lists.now c.requires.each refl
+
+pub take_off-spot-requires : goal.take_off-spot-requires
+take_off-spot-requires c =
+    let i = c.loop-read.read in
+    let node = get_or c.args.nodes.now i 0 in
+    let inside : node < length c.loop-read.lists = omega (arith, c.requires.below i 0 c.loop-read-test.true, c.loop-read.auto.lists) in
+    let found = c.index-lists-node.result in
+    let list = get_or c.loop-read.lists node found in
+    let read = get_or_default c.loop-read.lists node found list inside in
+    AreEachOnce-here c.loop-read.lists node list list inside read c.loop-read.invariant.each
+
+pub loop-read-preserved : goal.loop-read-preserved
+loop-read-preserved c =
     let nodes = c.args.nodes.now in
-    let i = c.loop-node.node-index in
-    let inside : get_or nodes i 0 < length c.loop-node.readers = omega (arith, c.requires i 0 c.loop-node-test.true, c.loop-node.auto.readers) in
-    let left : c.take_off.new.parts.items ≡ filter (is_other c.args.k) c.index-readers-node.result.items =
-    c.take_off.ensures ∙ ap (λ (list : SmallVec ℕ). filter (is_other c.args.k) list.items) (sym c.index-readers-node.is) in
-    Unlists-more c.args.k nodes i (get_or nodes i 0) c.args.readers.now c.loop-node.readers c.index-readers-node.result c.take_off.new.parts
-    c.loop-node-test.true refl inside c.index-readers-node.is left c.loop-node.invariant
+    let i = c.loop-read.read in
+    let node = get_or nodes i 0 in
+    let inside : node < length c.loop-read.lists = omega (arith, c.requires.below i 0 c.loop-read-test.true, c.loop-read.auto.lists) in
+    let found = c.index-lists-node.result in
+    let list = get_or c.loop-read.lists node found in
+    let read = get_or_default c.loop-read.lists node found list inside in
+    Unlists-more c.args.k nodes i node c.args.lists.now c.loop-read.lists list c.take_off-spot.new.list
+    c.loop-read-test.true refl inside read c.take_off-spot.ensures c.loop-read.invariant
+
+pub returns : goal.returns
+returns c =
+    subst (λ nodes. Unlists c.args.k nodes c.args.lists.now c.loop-read.lists)
+    (take_all c.loop-read.read c.args.nodes.now (omega (arith, c.loop-read-test.false))) c.loop-read.invariant

@@ -2,10 +2,8 @@
 use Rattle.std.proofs.Common.{◌≡◌, ◌+◌, ◌-◌, ◌++◌, ℕ, List, None, Option, length, ap, ◌∙◌, arith}
 use Rattle.std.specs.Prelude.{replicate, slice_index_or}
 use Rattle.std.proofs.lemmas.List.{length-append, length-replicate}
-use Rattle.smallvec.specs.SmallVec.{SmallVec}
 use Rattle.ternary.specs.declared.tern.Tern.TheVariants.{Unk}
 use Rattle.unit_step.specs.Evaluating.{rooms}
-use Rattle.unit_step.specs.Running.{readers_of}
 use Rattle.unit_step.proofs.EditingLemmas.{none_more, IsMachine-grown}
 use Rattle.unit_step.proofs.machine.Machine.add_nodes.Goals as goal
 
@@ -16,19 +14,18 @@ invariant_of-self-2 c =
     let count = length i.state.items in
     let own = c.self.invariant.own.counted in
     let read = c.self.invariant.runs.readers_counted in
-    let states : length c.grow.new.state.items ≡ count + (nodes - count) =
-    ap length c.grow.ensures.state ∙ (length-append i.state.items (replicate (nodes - count) Unk) ∙ ap (λ n. count + n) (length-replicate (nodes - count) Unk)) in
-    let before : c.reserve-2.new.self.items ≡ i.owners.items = c.reserve-2.ensures.items in
+    let states : length c.grow-2.new.state.items ≡ count + (nodes - count) =
+    ap length c.grow-2.ensures.state ∙ (length-append i.state.items (replicate (nodes - count) Unk) ∙ ap (λ n. count + n) (length-replicate (nodes - count) Unk)) in
+    let before : c.reserve.new.self.items ≡ i.owners.items = c.reserve.ensures.items in
     let owners_are : c.grow_owners.new.owners.items ≡ i.owners.items ++ replicate (nodes - count) None =
     c.grow_owners.ensures ∙ ap (λ (list : List (Option ℕ)). list ++ replicate (nodes - length list) None) before
     ∙ ap (λ n. i.owners.items ++ replicate (nodes - n) None) own in
-    let owners_count : length c.grow_owners.new.owners.items ≡ length c.grow.new.state.items =
+    let owners_count : length c.grow_owners.new.owners.items ≡ length c.grow-2.new.state.items =
     ap length owners_are ∙ (length-append i.owners.items (replicate (nodes - count) None)
     ∙ omega (arith, length-replicate {A = Option ℕ} (nodes - count) None, own, states)) in
-    let lists : c.reserve.new.self.items ≡ i.readers.items = c.reserve.ensures.items in
-    let lists_count : length c.grow_readers.new.readers.items ≡ length c.grow.new.state.items =
-    omega (arith, c.grow_readers.ensures.count, ap length lists, read, states) in
-    IsMachine-grown i.parts.items i.agenda.marks i.agenda.waiting count (length c.grow.new.state.items) i.readers.items c.grow_readers.new.readers.items
+    let lists_count : length c.grow.new.self ≡ length c.grow-2.new.state.items =
+    omega (arith, c.in_ok-grow.ensures.count, read, states) in
+    IsMachine-grown i.parts.items i.agenda.marks i.agenda.waiting count (length c.grow-2.new.state.items) i.readers c.grow.new.self
     i.owners.items c.grow_owners.new.owners.items i.uses.numbers i.held i.most (rooms i.desk) c.self.invariant (omega (arith, states)) lists_count
-    (λ node. c.grow_readers.ensures.same node ∙ ap (λ (list : List (SmallVec ℕ)). readers_of list node) lists) owners_count
+    c.grow.ensures.same owners_count
     (λ node. ap (λ list. slice_index_or list node None) owners_are ∙ none_more i.owners.items (nodes - count) node)

@@ -3,7 +3,8 @@ use Rattle.std.proofs.Common.{◌≡◌, ℕ, true, false, length, ap, sym, subs
 use Rattle.std.specs.Prelude.{Contains, replicate, count_by}
 use Rattle.unit_step.specs.Parts.{ReadsAt, AreApart, has_members}
 use Rattle.unit_step.specs.Evaluating.{rooms}
-use Rattle.unit_step.specs.Running.{readers_of, AreOwners}
+use Rattle.unit_step.specs.Running.{AreOwners}
+use Rattle.unit_step.specs.Readers.{readers_of}
 use Rattle.unit_step.specs.Making.{HasRoomFor}
 use Rattle.unit_step.proofs.MakingLemmas.{IsMachine-started}
 use Rattle.unit_step.proofs.machine.Machine.assemble.Goals as goal
@@ -15,7 +16,7 @@ pub invariant_of-result : goal.invariant_of-result
 invariant_of-result c =
     let parts = c.args.parts.items in
     let nodes = length c.args.state.items in
-    let lists = c.in_ok-readers.readers.items in
+    let lists = c.in_ok-readers.readers in
     let owners = c.in_ok-owners.owners.items in
     let room = rooms c.in_ok-desk.desk in
     let count : c.len.result ≡ length parts = omega (arith, c.len.ensures, c.args.parts.ok.0) in

@@ -17,7 +17,8 @@ use Rattle.unit_step.specs.Evaluating.{rooms}
 use Rattle.unit_step.specs.Running.{IsMachine}
 use Rattle.unit_step.specs.Fitting.{Covers}
 use Rattle.unit_step.specs.Editing.{Finishes}
-use Rattle.unit_step.specs.Finishing.{IsWaking, Puts, ListsAll, HaveSameReaders}
+use Rattle.unit_step.specs.Finishing.{IsWaking, Puts}
+use Rattle.unit_step.specs.Readers.{ListsAll, HaveSameReaders}
 use Rattle.unit_step.proofs.FinishingRoused.{IsMachine-wider, HaveSameReaders-refl, AreMade-held, parts_counted, unlisted, known_inside, IsMachine-roused, Finishes-roused}
 use Rattle.unit_step.proofs.machine.Machine.rouse.Goals as goal
 
@@ -33,12 +34,12 @@ held_parts-requires c =
     parts_counted g c.graphs_are_wired.ensures waking.groups waking.some slots i.parts.items waking.are waking.waiting parts c.args.waking.reads.items of
     waking.reads
 
-pub invariant_of-self-in_err-widen : goal.invariant_of-self-in_err-widen
-invariant_of-self-in_err-widen c =
+pub invariant_of-self-in_err-widen_for_codes : goal.invariant_of-self-in_err-widen_for_codes
+invariant_of-self-in_err-widen_for_codes c =
     let i = c.self.inside in
-    IsMachine-wider i.parts.items i.agenda.marks i.agenda.waiting _ i.readers.items i.readers.items i.owners.items i.uses.numbers c.numbers_of.new.uses.numbers
-    i.held i.most _ _ (omega (arith, c.widen.ensures.more_values)) (omega (arith, c.widen.ensures.more_outs)) c.widen.ensures.changes c.widen.ensures.done
-    c.numbers_of.ensures.parts (HaveSameReaders-refl i.readers.items) c.self.invariant
+    IsMachine-wider i.parts.items i.agenda.marks i.agenda.waiting _ i.readers i.readers i.owners.items i.uses.numbers c.numbers_of.new.uses.numbers
+    i.held i.most _ _ (omega (arith, c.widen_for_codes.ensures.more_values)) (omega (arith, c.widen_for_codes.ensures.more_outs)) c.widen_for_codes.ensures.changes c.widen_for_codes.ensures.done
+    c.numbers_of.ensures.parts (HaveSameReaders-refl i.readers) c.self.invariant
 
 pub list_all-requires-clause-counted : goal.list_all-requires-clause-counted
 list_all-requires-clause-counted c =
@@ -66,8 +67,14 @@ list_all-requires-clause-below c =
     let fresh = c.in_ok-fresh.fresh.items in
     let made = AreMade-held g c.graphs_are_wired.ensures waking.groups waking.some slots i.parts.items waking.are waking.waiting parts
     c.args.waking.reads.items fresh (length i.state.items) of waking.reads c.in_ok-fresh.ensures covers.counted in
-    rw (c.deref-5.ensures.value, c.deref_mut.ensures.value)
+    rw c.deref-5.ensures.value
     (subst (λ n. All (λ (part : HeldPart). All (λ node. node < n) part.reads.items) fresh) (sym c.self.invariant.runs.readers_counted) made.below)
+
+pub list_all-requires-clause-once : goal.list_all-requires-clause-once
+list_all-requires-clause-once c =
+    let i = c.self.inside in
+    let waking = subst (λ (m : MachineData). IsWaking c.args.graph.now m.parts c.args.waking) (sym c.self.view_is) c.requires.waking in
+    rw c.deref-4.ensures.value waking.waiting.once
 
 pub list_all-requires-clause-unlisted : goal.list_all-requires-clause-unlisted
 list_all-requires-clause-unlisted c =
@@ -78,20 +85,15 @@ list_all-requires-clause-unlisted c =
     let slots = c.args.waking.slots.items in
     let parts = c.in_ok-parts_of.field-0.items in
     let of = parts_of_groups g waking.some _ _ parts (c.deref.ensures.value ∙ waking.texts) waking.maps c.in_ok-parts_of.ensures in
-    rw (c.deref-4.ensures.value, c.deref_mut.ensures.value)
-    (unlisted g (the_view i) covers waking.groups waking.some slots waking.waiting i.readers.items c.self.invariant.runs.reads)
+    rw c.deref-4.ensures.value
+    (unlisted g (the_view i) covers waking.groups waking.some slots waking.waiting i.readers c.self.invariant.runs.reads)
 
 pub invariant_of-self-in_err-list_all : goal.invariant_of-self-in_err-list_all
 invariant_of-self-in_err-list_all c =
     let i = c.self.inside in
-    let final = with_items_is i.readers c.list_all.new.readers (omega (arith, c.list_all.auto.readers, c.deref_mut.ensures.len)) in
-    let same : HaveSameReaders i.readers.items c.list_all.new.readers =
-    subst (λ old. HaveSameReaders old c.list_all.new.readers) c.deref_mut.ensures.value c.in_err-list_all.ensures.err in
-    subst (λ (lists : List (SmallVec ℕ)). IsMachine i.parts.items i.agenda.marks i.agenda.waiting (length i.state.items) lists i.owners.items
-    c.numbers_of.new.uses.numbers i.held i.most (rooms c.widen.new.desk)) (sym final)
-    (IsMachine-wider i.parts.items i.agenda.marks i.agenda.waiting _ i.readers.items c.list_all.new.readers i.owners.items i.uses.numbers
-    c.numbers_of.new.uses.numbers i.held i.most _ _ (omega (arith, c.widen.ensures.more_values)) (omega (arith, c.widen.ensures.more_outs))
-    c.widen.ensures.changes c.widen.ensures.done c.numbers_of.ensures.parts same c.self.invariant)
+    IsMachine-wider i.parts.items i.agenda.marks i.agenda.waiting _ i.readers c.list_all.new.self i.owners.items i.uses.numbers
+    c.numbers_of.new.uses.numbers i.held i.most _ _ (omega (arith, c.widen_for_codes.ensures.more_values)) (omega (arith, c.widen_for_codes.ensures.more_outs))
+    c.widen_for_codes.ensures.changes c.widen_for_codes.ensures.done c.numbers_of.ensures.parts c.in_err-list_all.ensures.err c.self.invariant
 
 pub put_texts-requires-clause-inside : goal.put_texts-requires-clause-inside
 put_texts-requires-clause-inside c =
@@ -105,7 +107,7 @@ put_texts-requires-clause-inside c =
     let fresh = c.in_ok-fresh.fresh.items in
     let made = AreMade-held g c.graphs_are_wired.ensures waking.groups waking.some slots i.parts.items waking.are waking.waiting parts
     c.args.waking.reads.items fresh (length i.state.items) of waking.reads c.in_ok-fresh.ensures covers.counted in
-    rw c.deref-6.ensures.value
+    rw c.deref-7.ensures.value
     (λ k d inside. omega (arith, made.inside k d inside, c.self.invariant.numbered, ap length c.numbers_of.ensures.parts))
 
 pub put_texts-requires-clause-counted : goal.put_texts-requires-clause-counted
@@ -134,7 +136,7 @@ put_texts-requires-clause-counted c =
       length-map waking.some (text_of_group g),
       made.long,
     ) in
-    omega (arith, ap length c.deref-7.ensures.value, ap length c.deref-6.ensures.value, long)
+    omega (arith, ap length c.deref-8.ensures.value, ap length c.deref-7.ensures.value, long)
 
 pub put_texts-requires-clause-known : goal.put_texts-requires-clause-known
 put_texts-requires-clause-known c =
@@ -142,7 +144,7 @@ put_texts-requires-clause-known c =
     let texts = c.args.waking.texts.items in
     let numbered : map (slice_get c.numbers_of.new.uses.known) numbers ≡ map Some texts =
     c.in_ok-numbers.ensures.numbers ∙ ap (map Some) c.deref-3.ensures.value in
-    rw c.deref-7.ensures.value (known_inside c.numbers_of.new.uses.known numbers texts numbered)
+    rw c.deref-8.ensures.value (known_inside c.numbers_of.new.uses.known numbers texts numbered)
 
 pub put_parts-requires-clause-inside : goal.put_parts-requires-clause-inside
 put_parts-requires-clause-inside c =
@@ -156,7 +158,7 @@ put_parts-requires-clause-inside c =
     let fresh = c.in_ok-fresh.fresh.items in
     let made = AreMade-held g c.graphs_are_wired.ensures waking.groups waking.some slots i.parts.items waking.are waking.waiting parts
     c.args.waking.reads.items fresh (length i.state.items) of waking.reads c.in_ok-fresh.ensures covers.counted in
-    rw (c.deref-8.ensures.value, c.deref_mut-2.ensures.value) made.inside
+    rw (c.deref-9.ensures.value, c.deref_mut.ensures.value) made.inside
 
 pub put_parts-requires-clause-counted : goal.put_parts-requires-clause-counted
 put_parts-requires-clause-counted c =
@@ -170,7 +172,7 @@ put_parts-requires-clause-counted c =
     let fresh = c.in_ok-fresh.fresh.items in
     let made = AreMade-held g c.graphs_are_wired.ensures waking.groups waking.some slots i.parts.items waking.are waking.waiting parts
     c.args.waking.reads.items fresh (length i.state.items) of waking.reads c.in_ok-fresh.ensures covers.counted in
-    omega (arith, ap length c.deref-8.ensures.value, made.counted)
+    omega (arith, ap length c.deref-9.ensures.value, made.counted)
 
 pub invariant_of-self-2 : goal.invariant_of-self-2
 invariant_of-self-2 c =
@@ -189,32 +191,28 @@ invariant_of-self-2 c =
     let numbered : map (slice_get c.numbers_of.new.uses.known) numbers ≡ map Some texts =
     c.in_ok-numbers.ensures.numbers ∙ ap (map Some) c.deref-3.ensures.value in
     let new = c.put_parts.new.parts in
-    let puts : Puts slots fresh i.parts.items new = rw (c.deref-8.ensures.value, c.deref_mut-2.ensures.value) at c.put_parts.ensures in
+    let puts : Puts slots fresh i.parts.items new = rw (c.deref-9.ensures.value, c.deref_mut.ensures.value) at c.put_parts.ensures in
     let text_puts : Puts slots (map Some numbers) c.numbers_of.new.uses.numbers c.put_texts.new.uses.numbers =
-    rw (c.deref-6.ensures.value, c.deref-7.ensures.value) at c.put_texts.ensures.puts in
+    rw (c.deref-7.ensures.value, c.deref-8.ensures.value) at c.put_texts.ensures.puts in
     let parts_now : List HeldPart = (with_items i.parts new).items in
-    let final_parts = with_items_is i.parts new (omega (arith, c.put_parts.auto.parts, c.deref_mut-2.ensures.len)) in
-    let lists_now : List (SmallVec ℕ) = (with_items i.readers c.list_all.new.readers).items in
-    let final_lists = with_items_is i.readers c.list_all.new.readers (omega (arith, c.list_all.auto.readers, c.deref_mut.ensures.len)) in
-    let listed : ListsAll slots fresh i.readers.items c.list_all.new.readers =
-    rw (c.deref-4.ensures.value, c.deref-5.ensures.value, c.deref_mut.ensures.value) at c.in_ok-list_all.ensures.ok in
-    let wide = rooms c.widen.new.desk in
+    let final_parts = with_items_is i.parts new (omega (arith, c.put_parts.auto.parts, c.deref_mut.ensures.len)) in
+    let lists_now = c.list_all.new.self in
+    let listed : ListsAll slots fresh i.readers lists_now = rw (c.deref-4.ensures.value, c.deref-5.ensures.value) at c.in_ok-list_all.ensures.ok in
+    let wide = rooms c.widen_for_codes.new.desk in
     let values_room : All (IsCodeRoom wide.values) fresh =
     All-weaker (IsCodeRoom c.in-Some.needs.values) (IsCodeRoom wide.values)
-    (λ part room code has. omega (arith, room code has, c.in_ok-widen.ensures.values)) fresh
+    (λ part room code has. omega (arith, room code has, c.in_ok-widen_for_codes.ensures.values)) fresh
     (subst (All (IsCodeRoom c.in-Some.needs.values)) c.deref-2.ensures.value c.in-Some.ensures.values) in
     let outs_room : All (λ (part : HeldPart). part.members ≤ wide.outs) fresh =
     All-weaker (λ (part : HeldPart). part.members ≤ c.in-Some.needs.outs) (λ (part : HeldPart). part.members ≤ wide.outs)
-    (λ part room. omega (arith, room, c.in_ok-widen.ensures.outs)) fresh
+    (λ part room. omega (arith, room, c.in_ok-widen_for_codes.ensures.outs)) fresh
     (subst (All (λ (part : HeldPart). part.members ≤ c.in-Some.needs.outs)) c.deref-2.ensures.value c.in-Some.ensures.outs) in
     let base = IsMachine-roused g (the_view i) covers waking.groups waking.some slots waking.waiting fresh new (length i.state.items) made puts
-    i.readers.items c.list_all.new.readers i.agenda.marks i.agenda.waiting c.rouse.new.self.waiting i.owners.items i.uses.numbers c.put_texts.new.uses.numbers
-    i.held i.most (rooms i.desk) wide listed values_room outs_room (omega (arith, c.widen.ensures.more_values)) (omega (arith, c.widen.ensures.more_outs))
-    c.widen.ensures.changes c.widen.ensures.done c.rouse.ensures.waiting (text_puts.count ∙ ap length c.numbers_of.ensures.parts) c.self.invariant in
-    let with_lists = subst (λ (lists : List (SmallVec ℕ)). IsMachine new i.agenda.marks c.rouse.new.self.waiting (length i.state.items) lists i.owners.items
-    c.put_texts.new.uses.numbers i.held i.most wide) (sym final_lists) base in
+    i.readers lists_now i.agenda.marks i.agenda.waiting c.rouse.new.self.waiting i.owners.items i.uses.numbers c.put_texts.new.uses.numbers
+    i.held i.most (rooms i.desk) wide listed values_room outs_room (omega (arith, c.widen_for_codes.ensures.more_values)) (omega (arith, c.widen_for_codes.ensures.more_outs))
+    c.widen_for_codes.ensures.changes c.widen_for_codes.ensures.done c.rouse.ensures.waiting (text_puts.count ∙ ap length c.numbers_of.ensures.parts) c.self.invariant in
     let with_parts = subst (λ (list : List HeldPart). IsMachine list i.agenda.marks c.rouse.new.self.waiting (length i.state.items) lists_now i.owners.items
-    c.put_texts.new.uses.numbers i.held i.most wide) (sym final_parts) with_lists in
+    c.put_texts.new.uses.numbers i.held i.most wide) (sym final_parts) base in
     subst (λ (marks : List Bool). IsMachine parts_now marks c.rouse.new.self.waiting (length i.state.items) lists_now i.owners.items c.put_texts.new.uses.numbers i.held i.most wide)
     (sym c.rouse.ensures.marks) with_parts
 
@@ -235,11 +233,11 @@ returns-clause-finishes c =
     let numbered : map (slice_get c.numbers_of.new.uses.known) numbers ≡ map Some texts =
     c.in_ok-numbers.ensures.numbers ∙ ap (map Some) c.deref-3.ensures.value in
     let new = c.put_parts.new.parts in
-    let puts : Puts slots fresh i.parts.items new = rw (c.deref-8.ensures.value, c.deref_mut-2.ensures.value) at c.put_parts.ensures in
+    let puts : Puts slots fresh i.parts.items new = rw (c.deref-9.ensures.value, c.deref_mut.ensures.value) at c.put_parts.ensures in
     let text_puts : Puts slots (map Some numbers) c.numbers_of.new.uses.numbers c.put_texts.new.uses.numbers =
-    rw (c.deref-6.ensures.value, c.deref-7.ensures.value) at c.put_texts.ensures.puts in
+    rw (c.deref-7.ensures.value, c.deref-8.ensures.value) at c.put_texts.ensures.puts in
     let parts_now : List HeldPart = (with_items i.parts new).items in
-    let final_parts = with_items_is i.parts new (omega (arith, c.put_parts.auto.parts, c.deref_mut-2.ensures.len)) in
+    let final_parts = with_items_is i.parts new (omega (arith, c.put_parts.auto.parts, c.deref_mut.ensures.len)) in
     let v = the_view i in
     let sound = subst (λ (m : MachineData). IsSound m.state) (sym c.self.view_is) c.requires.sound in
     let mid_are : texts_used c.numbers_of.new.uses ≡ v.uses = c.numbers_of.ensures.same in

@@ -14,13 +14,13 @@ use Rattle.unit_step.specs.Making.{Owns}
 use Rattle.unit_step.proofs.SeatingLemmas.{IsMachine-roomier, IsMachine-seated}
 use Rattle.unit_step.proofs.machine.Machine.seat.Goals as goal
 
-pub invariant_of-self-in_err-widen : goal.invariant_of-self-in_err-widen
-invariant_of-self-in_err-widen c =
+pub invariant_of-self-in_err-widen_for_parts : goal.invariant_of-self-in_err-widen_for_parts
+invariant_of-self-in_err-widen_for_parts c =
     let i = c.self.inside in
     let members = c.args.members.now in
     rw c.reserve.ensures.items
-    (IsMachine-roomier i.parts.items i.agenda.marks i.agenda.waiting (length i.state.items) i.readers.items i.owners.items i.uses.numbers i.held i.most (rooms i.desk) c.self.invariant i.uses.numbers (rooms c.widen.new.desk) (omega arith)
-    c.widen.ensures.values c.widen.ensures.outs c.widen.ensures.changes c.widen.ensures.parts)
+    (IsMachine-roomier i.parts.items i.agenda.marks i.agenda.waiting (length i.state.items) i.readers i.owners.items i.uses.numbers i.held i.most (rooms i.desk) c.self.invariant i.uses.numbers (rooms c.widen_for_parts.new.desk) (omega arith)
+    c.widen_for_parts.ensures.values c.widen_for_parts.ensures.outs c.widen_for_parts.ensures.changes c.widen_for_parts.ensures.parts)
 
 pub invariant_of-self-in_err-add : goal.invariant_of-self-in_err-add
 invariant_of-self-in_err-add c =
@@ -28,8 +28,8 @@ invariant_of-self-in_err-add c =
     let members = c.args.members.now in
     let same = ap (λ (uses : UsesData). length uses.numbers) c.in_err-add.ensures.err in
     rw c.reserve.ensures.items
-    (IsMachine-roomier i.parts.items i.agenda.marks i.agenda.waiting (length i.state.items) i.readers.items i.owners.items i.uses.numbers i.held i.most (rooms i.desk) c.self.invariant c.add.new.self.numbers (rooms c.widen.new.desk)
-    (omega (arith, same)) c.widen.ensures.values c.widen.ensures.outs c.widen.ensures.changes c.widen.ensures.parts)
+    (IsMachine-roomier i.parts.items i.agenda.marks i.agenda.waiting (length i.state.items) i.readers i.owners.items i.uses.numbers i.held i.most (rooms i.desk) c.self.invariant c.add.new.self.numbers (rooms c.widen_for_parts.new.desk)
+    (omega (arith, same)) c.widen_for_parts.ensures.values c.widen_for_parts.ensures.outs c.widen_for_parts.ensures.changes c.widen_for_parts.ensures.parts)
 
 pub invariant_of-self-in_err-wait_more : goal.invariant_of-self-in_err-wait_more
 invariant_of-self-in_err-wait_more c =
@@ -37,15 +37,15 @@ invariant_of-self-in_err-wait_more c =
     let members = c.args.members.now in
     let more = ap length c.in_ok-add.ensures.ok in
     rw (c.reserve.ensures.items, c.in_err-wait_more.ensures.err)
-    (IsMachine-roomier i.parts.items i.agenda.marks i.agenda.waiting (length i.state.items) i.readers.items i.owners.items i.uses.numbers i.held i.most (rooms i.desk) c.self.invariant c.add.new.self.numbers (rooms c.widen.new.desk)
-    (omega (arith, more, length_push i.uses.numbers None)) c.widen.ensures.values c.widen.ensures.outs c.widen.ensures.changes c.widen.ensures.parts)
+    (IsMachine-roomier i.parts.items i.agenda.marks i.agenda.waiting (length i.state.items) i.readers i.owners.items i.uses.numbers i.held i.most (rooms i.desk) c.self.invariant c.add.new.self.numbers (rooms c.widen_for_parts.new.desk)
+    (omega (arith, more, length_push i.uses.numbers None)) c.widen_for_parts.ensures.values c.widen_for_parts.ensures.outs c.widen_for_parts.ensures.changes c.widen_for_parts.ensures.parts)
 
 pub invariant_of-self-2 : goal.invariant_of-self-2
 invariant_of-self-2 c =
     let i = c.self.inside in
     let members = c.args.members.now in
     let e = c.in_ok-part.part in
-    let room = rooms c.widen.new.desk in
+    let room = rooms c.widen_for_parts.new.desk in
     let most : c.in-Some.most ≡ i.most + length members = omega (arith, c.in-Some.ensures) in
     let parts = c.push_reserved.ensures.items ∙ ap (λ xs. xs ++ e ∷ []) c.reserve.ensures.items in
     let count : c.len-2.result ≡ length i.parts.items = omega (arith, c.len-2.ensures, c.reserve.ensures.len, i.parts.ok.0) in
@@ -58,16 +58,16 @@ invariant_of-self-2 c =
     let waits = ap (λ (agenda : AgendaData). agenda.waiting) c.in_ok-wait_more.ensures.ok in
     let waiting : length i.agenda.waiting ≡ length i.parts.items = c.wait_more.ensures.counted ∙ c.self.invariant.runs.counted in
     let numbers = ap length c.in_ok-add.ensures.ok ∙ length_push i.uses.numbers None in
-    let roomier = IsMachine-roomier i.parts.items i.agenda.marks i.agenda.waiting (length i.state.items) i.readers.items i.owners.items i.uses.numbers i.held i.most (rooms i.desk) c.self.invariant i.uses.numbers room (omega arith)
-    c.widen.ensures.values c.widen.ensures.outs c.widen.ensures.changes c.widen.ensures.parts in
+    let roomier = IsMachine-roomier i.parts.items i.agenda.marks i.agenda.waiting (length i.state.items) i.readers i.owners.items i.uses.numbers i.held i.most (rooms i.desk) c.self.invariant i.uses.numbers room (omega arith)
+    c.widen_for_parts.ensures.values c.widen_for_parts.ensures.outs c.widen_for_parts.ensures.changes c.widen_for_parts.ensures.parts in
     let inside : All (λ node. node < length i.state.items) members =
     subst (λ n. All (λ node. node < n) members) (ap (λ (m : MachineData). length m.state) (sym c.self.view_is)) c.requires.inside in
     let free : (k node : ℕ) → Contains members node → ¬ HasMember i.parts.items k node =
     λ k node there has. c.requires.free k node there (subst (λ list. HasMember list k node) (ap (λ (m : MachineData). m.parts) c.self.view_is) has) in
     rw (parts, marks, waits, owners, most)
-    (IsMachine-seated i.parts.items i.agenda.marks i.agenda.waiting (length i.state.items) i.readers.items i.owners.items i.uses.numbers i.held i.most
+    (IsMachine-seated i.parts.items i.agenda.marks i.agenda.waiting (length i.state.items) i.readers i.owners.items i.uses.numbers i.held i.most
     room roomier members e c.in_ok-part.ensures c.requires.some inside c.requires.once free c.own.new.owners owns c.add.new.self.numbers numbers
-    (omega (arith, most, c.in_ok-widen.ensures.more_changes)) (omega (arith, before, c.in_ok-widen.ensures.more_parts)) waiting)
+    (omega (arith, most, c.in_ok-widen_for_parts.ensures.more_changes)) (omega (arith, before, c.in_ok-widen_for_parts.ensures.more_parts)) waiting)
 
 pub returns-clause-ok : goal.returns-clause-ok
 returns-clause-ok c =

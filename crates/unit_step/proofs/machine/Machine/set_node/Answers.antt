@@ -6,8 +6,7 @@ use Rattle.ternary.specs.Counts.{raised}
 use Rattle.kept_parts.specs.Uses.{texts_used, count_distinct}
 use Rattle.unit_step.specs.Machines.{MachineData}
 use Rattle.unit_step.specs.Evaluating.{rooms}
-use Rattle.unit_step.specs.Running.{readers_of}
-use Rattle.unit_step.proofs.TakingLemmas.{readers_read}
+use Rattle.unit_step.specs.Readers.{readers_of}
 use Rattle.unit_step.proofs.PlacingLemmas.{placing_keeps_cover, placing_keeps_fit}
 use Rattle.unit_step.proofs.MachineLemmas.{IsMachine-again, owner_inside, at_owner, at_no_owner, Places-marked}
 use Rattle.unit_step.proofs.machine.Machine.set_node.Goals as goal
@@ -27,8 +26,7 @@ mark_all-requires c = λ k there.
     let i = c.self.inside in
     let node = c.args.node in
     let inside : node < length i.state.items = omega (arith, c.requires.inside, ap (λ (m : MachineData). length m.state) c.self.view_is) in
-    let lists : c.deref.result.now ≡ readers_of i.readers.items node =
-    c.deref.ensures ∙ readers_read i.readers.items node c.index.result.now (omega (arith, inside, c.self.invariant.runs.readers_counted)) c.index.ensures in
+    let lists : c.of.result.now ≡ readers_of i.readers node = c.of.ensures in
     let reads = c.self.invariant.runs.reads node k (subst (λ xs. Contains xs k) lists there) in
     omega (arith, reads.stands.inside, c.self.invariant.runs.counted, c.mark_owner.ensures.marks.count)
 
@@ -36,7 +34,7 @@ pub invariant_of-self : goal.invariant_of-self
 invariant_of-self c =
     let i = c.self.inside in
     IsMachine-again i.parts.items i.agenda.marks c.mark_all.new.agenda.marks i.agenda.waiting c.mark_all.new.agenda.waiting
-    (length i.state.items) _ i.readers.items i.owners.items i.uses.numbers i.held i.most (rooms i.desk) (rooms i.desk)
+    (length i.state.items) _ i.readers i.owners.items i.uses.numbers i.held i.most (rooms i.desk) (rooms i.desk)
     (c.mark_all.ensures.marks.count ∙ c.mark_owner.ensures.marks.count) (c.mark_all.ensures.waiting ∙ c.mark_owner.ensures.waiting)
     (length-set i.state.items c.args.node c.args.value) refl c.self.invariant
 
@@ -47,8 +45,7 @@ returns-clause-places c =
     let inside : node < length i.state.items = omega (arith, c.requires.inside, ap (λ (m : MachineData). length m.state) c.self.view_is) in
     let owner_is : c.index-owner.result.now ≡ slice_index_or i.owners.items node None =
     c.index-owner.ensures ∙ get_or_default i.owners.items node c.index-owner.result.now None (omega (arith, inside, c.self.invariant.own.counted)) in
-    let lists : c.deref.result.now ≡ readers_of i.readers.items node =
-    c.deref.ensures ∙ readers_read i.readers.items node c.index.result.now (omega (arith, inside, c.self.invariant.runs.readers_counted)) c.index.ensures in
+    let lists : c.of.result.now ≡ readers_of i.readers node = c.of.ensures in
     let old : MachineData = record {
       groups = i.groups;
       parts = i.parts.items;
@@ -60,8 +57,8 @@ returns-clause-places c =
       placed = i.placed;
       spare = vec_capacity i.state - vec_len i.state;
     } in
-    let places = Places-marked node c.args.value old i.agenda.waiting i.readers.items i.owners.items i.uses.numbers i.held i.most (rooms i.desk) c.self.invariant
-    c.index-owner.result.now owner_is c.mark_owner.new.agenda.marks c.mark_all.new.agenda.marks c.mark_owner.ensures.marks c.deref.result.now lists
+    let places = Places-marked node c.args.value old i.agenda.waiting i.readers i.owners.items i.uses.numbers i.held i.most (rooms i.desk) c.self.invariant
+    c.index-owner.result.now owner_is c.mark_owner.new.agenda.marks c.mark_all.new.agenda.marks c.mark_owner.ensures.marks c.of.result.now lists
     c.mark_all.ensures.marks c.placed_after-self-inside.result in
     rw (← c.self.view_is) places
 
@@ -72,8 +69,7 @@ returns-clause-covers c =
     let inside : node < length i.state.items = omega (arith, c.requires.inside, ap (λ (m : MachineData). length m.state) c.self.view_is) in
     let owner_is : c.index-owner.result.now ≡ slice_index_or i.owners.items node None =
     c.index-owner.ensures ∙ get_or_default i.owners.items node c.index-owner.result.now None (omega (arith, inside, c.self.invariant.own.counted)) in
-    let lists : c.deref.result.now ≡ readers_of i.readers.items node =
-    c.deref.ensures ∙ readers_read i.readers.items node c.index.result.now (omega (arith, inside, c.self.invariant.runs.readers_counted)) c.index.ensures in
+    let lists : c.of.result.now ≡ readers_of i.readers node = c.of.ensures in
     let old : MachineData = record {
       groups = i.groups;
       parts = i.parts.items;
@@ -85,8 +81,8 @@ returns-clause-covers c =
       placed = i.placed;
       spare = vec_capacity i.state - vec_len i.state;
     } in
-    let places = Places-marked node c.args.value old i.agenda.waiting i.readers.items i.owners.items i.uses.numbers i.held i.most (rooms i.desk) c.self.invariant
-    c.index-owner.result.now owner_is c.mark_owner.new.agenda.marks c.mark_all.new.agenda.marks c.mark_owner.ensures.marks c.deref.result.now lists
+    let places = Places-marked node c.args.value old i.agenda.waiting i.readers i.owners.items i.uses.numbers i.held i.most (rooms i.desk) c.self.invariant
+    c.index-owner.result.now owner_is c.mark_owner.new.agenda.marks c.mark_all.new.agenda.marks c.mark_owner.ensures.marks c.of.result.now lists
     c.mark_all.ensures.marks c.placed_after-self-inside.result in
     rw (← c.self.view_is) (λ covers. placing_keeps_cover c.args.graph.now node c.args.value old _ c.graphs_are_wired.ensures covers places)
 
@@ -97,8 +93,7 @@ returns-clause-fits c =
     let inside : node < length i.state.items = omega (arith, c.requires.inside, ap (λ (m : MachineData). length m.state) c.self.view_is) in
     let owner_is : c.index-owner.result.now ≡ slice_index_or i.owners.items node None =
     c.index-owner.ensures ∙ get_or_default i.owners.items node c.index-owner.result.now None (omega (arith, inside, c.self.invariant.own.counted)) in
-    let lists : c.deref.result.now ≡ readers_of i.readers.items node =
-    c.deref.ensures ∙ readers_read i.readers.items node c.index.result.now (omega (arith, inside, c.self.invariant.runs.readers_counted)) c.index.ensures in
+    let lists : c.of.result.now ≡ readers_of i.readers node = c.of.ensures in
     let old : MachineData = record {
       groups = i.groups;
       parts = i.parts.items;
@@ -110,8 +105,8 @@ returns-clause-fits c =
       placed = i.placed;
       spare = vec_capacity i.state - vec_len i.state;
     } in
-    let places = Places-marked node c.args.value old i.agenda.waiting i.readers.items i.owners.items i.uses.numbers i.held i.most (rooms i.desk) c.self.invariant
-    c.index-owner.result.now owner_is c.mark_owner.new.agenda.marks c.mark_all.new.agenda.marks c.mark_owner.ensures.marks c.deref.result.now lists
+    let places = Places-marked node c.args.value old i.agenda.waiting i.readers i.owners.items i.uses.numbers i.held i.most (rooms i.desk) c.self.invariant
+    c.index-owner.result.now owner_is c.mark_owner.new.agenda.marks c.mark_all.new.agenda.marks c.mark_owner.ensures.marks c.of.result.now lists
     c.mark_all.ensures.marks c.placed_after-self-inside.result in
     rw (← c.self.view_is)
     (λ fits. placing_keeps_fit c.args.graph.now node c.args.value old _ c.graphs_are_wired.ensures c.requires.no_rail fits places)

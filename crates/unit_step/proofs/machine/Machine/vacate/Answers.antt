@@ -9,7 +9,8 @@ use Rattle.unit_step.specs.declared.part.HeldPart.{HeldPart}
 use Rattle.unit_step.specs.Parts.{Stands, has_members}
 use Rattle.unit_step.specs.Machines.{MachineData, members_of}
 use Rattle.unit_step.specs.Evaluating.{rooms}
-use Rattle.unit_step.specs.Seating.{Disowns, Unlists, IsVacant, one_of}
+use Rattle.unit_step.specs.Seating.{Disowns, IsVacant, one_of}
+use Rattle.unit_step.specs.Readers.{Unlists}
 use Rattle.unit_step.proofs.SeatingLemmas.{seat_of, members_there, reads_there, IsMachine-vacated}
 use Rattle.unit_step.proofs.machine.Machine.vacate.Goals as goal
 
@@ -22,7 +23,7 @@ disown-requires c =
     let read : gone ≡ get_or i.parts.items k gone =
     c.replace-gone.ensures.value ∙ (c.index_mut.ensures.value ∙ ap (get_or i.parts.items k) (sym c.replace-gone.ensures.value)) in
     let stands : Stands i.parts.items k gone = record { inside = inside; here = sym read } in
-    let seat = seat_of i.parts.items i.agenda.marks i.agenda.waiting (length i.state.items) i.readers.items i.owners.items i.uses.numbers i.held i.most
+    let seat = seat_of i.parts.items i.agenda.marks i.agenda.waiting (length i.state.items) i.readers i.owners.items i.uses.numbers i.held i.most
     (rooms i.desk) c.self.invariant k gone stands in
     rw (c.deref.ensures.value, c.deref_mut.ensures.value, c.self.invariant.own.counted) (members_there (length i.state.items) gone seat.below)
 
@@ -35,10 +36,10 @@ unlist-requires c =
     let read : gone ≡ get_or i.parts.items k gone =
     c.replace-gone.ensures.value ∙ (c.index_mut.ensures.value ∙ ap (get_or i.parts.items k) (sym c.replace-gone.ensures.value)) in
     let stands : Stands i.parts.items k gone = record { inside = inside; here = sym read } in
-    let seat = seat_of i.parts.items i.agenda.marks i.agenda.waiting (length i.state.items) i.readers.items i.owners.items i.uses.numbers i.held i.most
+    let seat = seat_of i.parts.items i.agenda.marks i.agenda.waiting (length i.state.items) i.readers i.owners.items i.uses.numbers i.held i.most
     (rooms i.desk) c.self.invariant k gone stands in
-    rw (c.deref-2.ensures.value, c.deref_mut-2.ensures.value, c.self.invariant.runs.readers_counted)
-    (reads_there i.parts.items i.agenda.marks i.agenda.waiting (length i.state.items) i.readers.items i.owners.items i.uses.numbers i.held i.most
+    rw (c.deref-2.ensures.value, c.self.invariant.runs.readers_counted)
+    (reads_there i.parts.items i.agenda.marks i.agenda.waiting (length i.state.items) i.readers i.owners.items i.uses.numbers i.held i.most
     (rooms i.desk) c.self.invariant k gone stands)
 
 pub invariant_of-self : goal.invariant_of-self
@@ -50,27 +51,25 @@ invariant_of-self c =
     let read : gone ≡ get_or i.parts.items k gone =
     c.replace-gone.ensures.value ∙ (c.index_mut.ensures.value ∙ ap (get_or i.parts.items k) (sym c.replace-gone.ensures.value)) in
     let stands : Stands i.parts.items k gone = record { inside = inside; here = sym read } in
-    let seat = seat_of i.parts.items i.agenda.marks i.agenda.waiting (length i.state.items) i.readers.items i.owners.items i.uses.numbers i.held i.most
+    let seat = seat_of i.parts.items i.agenda.marks i.agenda.waiting (length i.state.items) i.readers i.owners.items i.uses.numbers i.held i.most
     (rooms i.desk) c.self.invariant k gone stands in
     let e = c.replace-gone.new.dest in
     let vacant : IsVacant e = subst IsVacant (sym c.replace-gone.ensures.after) c.no_part.ensures in
     let owners = with_items_is i.owners c.disown.new.owners (omega (arith, c.disown.auto.owners, c.deref_mut.ensures.len)) in
-    let readers = with_items_is i.readers c.unlist.new.readers (omega (arith, c.unlist.auto.readers, c.deref_mut-2.ensures.len)) in
     let disowns : Disowns (take gone.members gone.map.items) i.owners.items c.disown.new.owners =
     subst (λ list. Disowns (take gone.members list) i.owners.items c.disown.new.owners) c.deref.ensures.value
     (subst (λ list. Disowns (take gone.members c.deref.result.now) list c.disown.new.owners) c.deref_mut.ensures.value c.disown.ensures) in
-    let unlists : Unlists k gone.reads.items i.readers.items c.unlist.new.readers =
-    subst (λ list. Unlists k list i.readers.items c.unlist.new.readers) c.deref-2.ensures.value
-    (subst (λ list. Unlists k c.deref-2.result.now list c.unlist.new.readers) c.deref_mut-2.ensures.value c.unlist.ensures) in
+    let unlists : Unlists k gone.reads.items i.readers c.unlist.new.self =
+    subst (λ list. Unlists k list i.readers c.unlist.new.self) c.deref-2.ensures.value c.unlist.ensures in
     let some : gone.members ≤ sum_by members_of i.parts.items =
     subst (λ (part : HeldPart). part.members ≤ sum_by members_of i.parts.items) (sym read) (get_or-le-sum_by members_of i.parts.items k gone inside) in
     let one : one_of gone ≤ count_by has_members i.parts.items =
     subst (λ (part : HeldPart). one_of part ≤ count_by has_members i.parts.items) (sym read) (get_or-le-sum_by one_of i.parts.items k gone inside) in
     let held : i.held - c.count_one.result + one_of gone ≡ i.held = omega (arith, one, c.count_one.ensures, c.self.invariant.number) in
     let most : i.most - gone.members + gone.members ≡ i.most = omega (arith, some, c.self.invariant.most_members) in
-    rw (owners, readers, c.release.ensures.marks, c.release.ensures.waiting, c.free.ensures.numbers)
-    (IsMachine-vacated i.parts.items i.agenda.marks i.agenda.waiting (length i.state.items) i.readers.items i.owners.items i.uses.numbers i.held i.most
-    (rooms i.desk) c.self.invariant k gone stands e vacant c.unlist.new.readers c.disown.new.owners disowns unlists _ _ held most)
+    rw (owners, c.release.ensures.marks, c.release.ensures.waiting, c.free.ensures.numbers)
+    (IsMachine-vacated i.parts.items i.agenda.marks i.agenda.waiting (length i.state.items) i.readers i.owners.items i.uses.numbers i.held i.most
+    (rooms i.desk) c.self.invariant k gone stands e vacant c.unlist.new.self c.disown.new.owners disowns unlists _ _ held most)
 
 pub returns : goal.returns
 returns c =
