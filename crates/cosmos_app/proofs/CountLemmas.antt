@@ -1,20 +1,13 @@
 -- The ports' counts after a part of a run, and after the run by its status.
 use Rattle.std.proofs.Common.{◌≡◌, ◌≢◌, ℕ, IfErr, Result, Ok, Err, refl, sym, subst}
-use Rattle.cosmos_app.specs.declared.stop.End as end
-use Rattle.cosmos_app.specs.declared.stop.End.TheVariants as ended
-use Rattle.cosmos_app.specs.declared.stop.Stop.{Stop}
-use Rattle.cosmos_app.specs.declared.stop.Stop.TheVariants.{Read, Write, Memory}
-use Rattle.cosmos_app.specs.declared.status.Status.{Status}
-use Rattle.cosmos_app.specs.Ends.{status_after}
-use Rattle.cosmos_app.specs.Stops.{faults_read, faults_written, IsRefusedOnce}
+use Rattle.script_run.specs.declared.stop.End as end
+use Rattle.script_run.specs.declared.stop.End.TheVariants as ended
+use Rattle.script_run.specs.declared.stop.Stop.{Stop}
+use Rattle.script_run.specs.declared.stop.Stop.TheVariants.{Read, Write, Memory}
+use Rattle.script_run.specs.declared.status.Status.{Status}
+use Rattle.script_run.specs.Ends.{status_after}
+use Rattle.script_run.specs.Stops.{faults_read, faults_written, IsRefusedOnce}
 use Rattle.cosmos_app.specs.Counts.{files_count, sink_count, HasRefused}
-
--- a part of a run that reads nothing leaves the count of the files' faults
-pub read_none : (faults : ℕ) (result : Result end.End Stop) → IfErr result (λ stop. stop ≢ Read) → faults ≡ faults_read faults result
-read_none faults (Ok end) other = refl
-read_none faults (Err Read) other = absurd (other refl)
-read_none faults (Err Write) other = refl
-read_none faults (Err Memory) other = refl
 
 -- by the status of the end
 pub files_counted : (faults : ℕ) (result : Result end.End Stop) → faults_read faults result ≡ files_count faults (status_after result)

@@ -12,21 +12,21 @@ use Rattle.wave_print.specs.declared.lines.Summary.{Summary}
 use Rattle.wave_print.specs.Lines.{summary_line_of}
 use Rattle.cosmos_session.specs.Sessions.{SessionData, HeldSession}
 use Rattle.cosmos_session.specs.Lines.{Line, text_of}
-use Rattle.cosmos_app.specs.declared.status.Status.TheVariants.{Done, ScriptRefused}
-use Rattle.cosmos_app.specs.declared.stop.Stop.{Stop}
-use Rattle.cosmos_app.specs.declared.stop.Stop.TheVariants.{Read, Write, Memory}
-use Rattle.cosmos_app.specs.declared.stop.End as end
-use Rattle.cosmos_app.specs.declared.script.Turn.TheVariants.{Accepted, Refused, TooLarge}
-use Rattle.cosmos_app.specs.Codes.{Cause, plain_cause, size_cause, cause_line}
-use Rattle.cosmos_app.specs.Stops.{written_at}
-use Rattle.cosmos_app.specs.Runs.{Answer, plain_answer, Runs, ends, passes, obeys, refuses, plain_reading, too_large, at_end, refused_at, after_command, Outcome}
-use Rattle.cosmos_app.specs.Answers.{IsTooLarge}
+use Rattle.script_run.specs.declared.status.Status.TheVariants.{Done, ScriptRefused}
+use Rattle.script_run.specs.declared.stop.Stop.{Stop}
+use Rattle.script_run.specs.declared.stop.Stop.TheVariants.{Read, Write, Memory}
+use Rattle.script_run.specs.declared.stop.End as end
+use Rattle.script_run.specs.declared.script.Turn.TheVariants.{Accepted, Refused, TooLarge}
+use Rattle.script_run.specs.Codes.{Cause, plain_cause, size_cause, cause_line}
+use Rattle.script_run.specs.Stops.{written_at}
+use Rattle.script_run.specs.Runs.{Answer, plain_answer, Runs, ends, passes, obeys, refuses, plain_reading, too_large, at_end, refused_at, after_command, Outcome}
+use Rattle.script_run.specs.Answers.{IsTooLarge}
 use Rattle.cosmos_app.specs.Summaries.{summary_of, summed_up, IsSummedUp}
 use Rattle.cosmos_app.specs.Countings.{AreAlike, IsBounded, HasCounted, HasHalted, HasOutgrown}
-use Rattle.cosmos_app.specs.Turns.{TakesTurn, Follows}
-use Rattle.cosmos_app.specs.Ends.{IsTold, IsToldBy}
+use Rattle.script_run.specs.Turns.{TakesTurn, Follows}
+use Rattle.script_run.specs.Ends.{IsTold, IsToldBy}
 use Rattle.cosmos_app.proofs.AlikeLemmas.{performs_alike}
-use Rattle.cosmos_app.proofs.FirstRefusedLemmas.{after_command-twice}
+use Rattle.script_run.proofs.FirstRefusedLemmas.{after_command-twice}
 
 -- the lines since the start, as they were counted, and the texts that were analysed, which each outcome from here goes on from
 pub record HasTallied (nodes switches : ℕ) (cut : Option ℕ) (start : SessionData) (all : List (ℕ × List ℕ)) (asked : List GroupTextData)
@@ -55,7 +55,7 @@ CountsText old text new =
 
 module _ (nodes switches : ℕ) (cut : Option ℕ) (start : SessionData) (all : List (ℕ × List ℕ)) (asked : List GroupTextData) (now : HeldSession) (line : ℕ × List ℕ) (left : List (ℕ × List ℕ)) (told : List GroupTextData) (summary : Summary) (come : HasTallied nodes switches cut start all asked now.core (line ∷ left) told summary) where
   -- past the line of a command
-  tallies_by : (new : HeldSession) (text : List ℕ) (further : List GroupTextData) (next : Summary) → Follows cut line now new (Some []) (Some text) told further →
+  tallies_by : (new : HeldSession) (text : List ℕ) (further : List GroupTextData) (next : Summary) → Follows plain_reading cut line now new (Some []) (Some text) told further →
       IsBounded now.core → CountsText summary text next → HasTallied nodes switches cut start all asked new.core left further next
   tallies_by new text further next follows bounded counts =
       let accepts = follows.accepts in
@@ -75,7 +75,7 @@ module _ (nodes switches : ℕ) (cut : Option ℕ) (start : SessionData) (all : 
 
   -- past a line that is accepted
   pub tallies_on : (new : HeldSession) (text : List ℕ) (further : List GroupTextData) (next : Summary) →
-      TakesTurn cut line now new (Some []) (Some text) told further (Ok Accepted) → IsBounded now.core → CountsText summary text next →
+      TakesTurn plain_reading cut line now new (Some []) (Some text) told further (Ok Accepted) → IsBounded now.core → CountsText summary text next →
       HasTallied nodes switches cut start all asked new.core left further next
   tallies_on new text further next (inl passed) bounded counts =
       let keeps = passed.keeps in
@@ -94,7 +94,7 @@ module _ (nodes switches : ℕ) (cut : Option ℕ) (start : SessionData) (all : 
 
   -- to a line that is refused under a code
   pub halts_refused : (new : HeldSession) (more : Option (List ℕ)) (further : List GroupTextData) (code : FaultCode) →
-      TakesTurn cut line now new (Some []) more told further (Ok (Refused code)) → HasHalted cut start all asked further line.0 (plain_cause code)
+      TakesTurn plain_reading cut line now new (Some []) more told further (Ok (Refused code)) → HasHalted cut start all asked further line.0 (plain_cause code)
   halts_refused new more further code (is, keeps) = record {
     outcome = after_command come.lines come.texts (refused_at now.core line.0 (plain_cause code));
     runs = come.goes_on (refused_at now.core line.0 (plain_cause code)) (refuses now.core line left (plain_cause code) is);
@@ -104,7 +104,7 @@ module _ (nodes switches : ℕ) (cut : Option ℕ) (start : SessionData) (all : 
 
   -- to a line for whose command the circuit is too large
   pub halts_large : (new : HeldSession) (more : Option (List ℕ)) (further : List GroupTextData) (fault : BuildFault) →
-      TakesTurn cut line now new (Some []) more told further (Ok (TooLarge fault)) → HasOutgrown cut start all new.core asked further line.0 fault
+      TakesTurn plain_reading cut line now new (Some []) more told further (Ok (TooLarge fault)) → HasOutgrown cut start all new.core asked further line.0 fault
   halts_large new more further fault out =
       let keeps = out.refuses.keeps in
       record {

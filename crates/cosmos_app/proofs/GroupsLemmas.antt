@@ -4,11 +4,12 @@ use Rattle.std.specs.Io.KnownBytes.{append_known}
 use Rattle.port_edge.specs.Sending.{WritesPart}
 use Rattle.netlist.specs.Circuits.{CircuitData}
 use Rattle.group_report.specs.Report.{IsReport}
-use Rattle.cosmos_app.specs.declared.stop.End.TheVariants as ended
-use Rattle.cosmos_app.specs.declared.status.Status.TheVariants as status
-use Rattle.cosmos_app.specs.Runs.{plain_answer}
-use Rattle.cosmos_app.specs.Answers.{IsGroups, IsStopped}
-use Rattle.cosmos_app.specs.Ends.{IsTold}
+use Rattle.script_run.specs.declared.stop.End.TheVariants as ended
+use Rattle.script_run.specs.declared.status.Status.TheVariants as status
+use Rattle.script_run.specs.Runs.{plain_answer}
+use Rattle.script_run.specs.Answers.{IsStopped}
+use Rattle.cosmos_app.specs.Answers.{IsGroups}
+use Rattle.script_run.specs.Ends.{IsTold}
 
 -- the whole report was written
 pub told_report : (c : CircuitData) (old new : Option (List ℕ)) →

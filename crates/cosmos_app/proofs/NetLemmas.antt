@@ -7,14 +7,14 @@ use Rattle.sim_read.specs.declared.fault.NetRefusal.{NetRefusal}
 use Rattle.sim_read.specs.Meaning.{netlist_of}
 use Rattle.cosmos_session.specs.Sessions.{SessionData, start_of}
 use Rattle.group_text.specs.Texts.{GroupTextData}
-use Rattle.cosmos_app.specs.declared.stop.Stop.{Stop}
-use Rattle.cosmos_app.specs.declared.stop.End as end
-use Rattle.cosmos_app.specs.Runs.{Answer, plain_reading, answer_told, IsScriptAnswer}
+use Rattle.script_run.specs.declared.stop.Stop.{Stop}
+use Rattle.script_run.specs.declared.stop.End as end
+use Rattle.script_run.specs.Runs.{Answer, plain_reading, answer_told, IsScriptAnswer}
 use Rattle.cosmos_app.specs.Requests.{Question}
 use Rattle.cosmos_app.specs.Answers.{IsOver, IsNetRefusal, IsSimulation, IsAnswerIn}
-use Rattle.cosmos_app.specs.Ends.{IsTold, IsToldBy, TellsRun}
+use Rattle.script_run.specs.Ends.{IsTold, IsToldBy, TellsRun}
 use Rattle.cosmos_app.proofs.LowerLemmas.{netlist_of-front_of}
-use Rattle.cosmos_app.proofs.EndLemmas.{told_by_none}
+use Rattle.script_run.proofs.EndLemmas.{told_by_none}
 
 -- a netlist means what its front that was read means
 pub netlist_of-read : (net text seen : List ℕ) → text ≡ front_of net → seen ≡ text → netlist_of net ≡ netlist_of seen
@@ -49,7 +49,7 @@ told_refusal (Some holds) question net refusal old new analysed result means tol
 
 -- what ran is told by its answer
 told_run : (cut : Option ℕ) (start : SessionData) (lines : List (ℕ × List ℕ)) (new : SessionData) (before after : Option (List ℕ)) (asked told : List GroupTextData) (result : Result end.End Stop) →
-    TellsRun cut start lines new before after asked told result → IsToldBy (IsScriptAnswer plain_reading cut start lines) before after asked told result
+    TellsRun plain_reading cut start lines new before after asked told result → IsToldBy (IsScriptAnswer plain_reading cut start lines) before after asked told result
 told_run cut start lines new before after asked told (Ok ending) run = record {
   answer = answer_told run.outcome;
   right = (record { outcome = run.outcome; runs = run.runs; told = refl }, run.analysed);
@@ -61,7 +61,7 @@ told_run cut start lines new before after asked told (Err stop) stopped = stoppe
 -- what was told of the lines that were read is told of the script
 pub told_script : (known : Option (List ℕ → List ℕ)) (name : List ℕ) (circuit : CircuitData) (start new : SessionData) (text seen : List ℕ) (before after : Option (List ℕ)) (asked told : List GroupTextData) (result : Result end.End Stop) →
     IfSome known (λ holds. text ≡ front_of (holds name)) → seen ≡ text → start ≡ start_of circuit →
-    TellsRun (cut_line seen) start (lines_in seen) new before after asked told result →
+    TellsRun plain_reading (cut_line seen) start (lines_in seen) new before after asked told result →
     IfSome known (λ holds. IsToldBy (IsSimulation (holds name) circuit) before after asked told result)
 told_script None name circuit start new text seen before after asked told result front same first run = tt
 told_script (Some holds) name circuit start new text seen before after asked told result front same first run =

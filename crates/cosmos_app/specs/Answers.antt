@@ -1,43 +1,31 @@
 -- What the program answers to the words of its command line, and what a call that meets a fault may have written.
-use Rattle.std.specs.Prelude.{◌≡◌, ◌⊎◌, ℕ, List, ◌++◌, map, length, count_by, is_some, codes, Option, Some, Result, Ok, Err}
-use Rattle.std.specs.Io.KnownBytes.{append_known}
-use Rattle.port_edge.specs.Sending.{WritesPart}
+use Rattle.std.specs.Prelude.{◌≡◌, ◌⊎◌, ℕ, List, map, length, count_by, is_some, codes, Option, Result, Ok, Err}
 use Rattle.path_meaning.specs.Graphs.{nodes}
 use Rattle.line_words.specs.Files.{lines_in, cut_line}
 use Rattle.netlist.specs.Circuits.{CircuitData}
 use Rattle.sim_read.specs.declared.fault.NetRefusal.{NetRefusal}
 use Rattle.sim_read.specs.Meaning.{netlist_of}
 use Rattle.wave_print.specs.Lines.{check_line_of}
-use Rattle.wave_print.specs.declared.faults.FaultPlace.{FaultPlace}
 use Rattle.wave_print.specs.declared.faults.FaultPlace.TheVariants.{Net, NetWhole}
-use Rattle.wave_print.specs.declared.faults.FaultCode.{FaultCode}
 use Rattle.group_meaning.specs.Groups.{Group, AreGroups}
 use Rattle.group_text.specs.Texts.{GroupTextData, text_of_group}
 use Rattle.group_text.specs.FirstTexts.{first_texts}
 use Rattle.linear_code.specs.Listing.{ListingData, IsListing}
 use Rattle.linear_code.specs.ListingText.{listing_text}
-use Rattle.circuit_texts.specs.declared.texts.BuildFault.{BuildFault}
 use Rattle.circuit_listing.specs.Faithful.{IsFaithful}
-use Rattle.circuit_texts.specs.Sizes.{AllFit, TellsTooLarge}
+use Rattle.circuit_texts.specs.Sizes.{AllFit}
 use Rattle.group_report.specs.Report.{IsReport}
 use Rattle.net_gen.specs.declared.families.GenPart.{GenPart}
 use Rattle.net_gen.specs.declared.families.GenPart.TheVariants as part
 use Rattle.cosmos_session.specs.Sessions.{start_of}
-use Rattle.cosmos_app.specs.declared.status.Status.{Status}
-use Rattle.cosmos_app.specs.declared.status.Status.TheVariants as status
-use Rattle.cosmos_app.specs.Codes.{Cause, plain_cause, size_cause, cause_line, net_code}
+use Rattle.script_run.specs.declared.status.Status.{Status}
+use Rattle.script_run.specs.declared.status.Status.TheVariants as status
+use Rattle.cosmos_app.specs.Codes.{net_code}
 use Rattle.cosmos_app.specs.Samples.{Sample, text_of}
 use Rattle.cosmos_app.specs.Requests.{Question, Simulate, Check, Groups, Compile, Request, About, Generate, SumUp, Unclear, request_of}
-use Rattle.cosmos_app.specs.Runs.{Answer, plain_answer, plain_reading, IsScriptAnswer}
+use Rattle.script_run.specs.Runs.{Answer, plain_answer, plain_reading, IsScriptAnswer}
+use Rattle.script_run.specs.Answers.{IsRefusal, IsTooLarge, IsWritten, IsStopped, IsAnalysed}
 use Rattle.cosmos_app.specs.Summaries.{IsSummedUp}
-
--- the answer is the line of a refusal alone, for this cause
-abbrev pub IsRefusalFor : FaultPlace → Cause → Status → Answer → Type 0
-IsRefusalFor place cause status answer = answer ≡ plain_answer status (cause_line place cause)
-
--- the answer is the line of a refusal that names no group
-abbrev pub IsRefusal : FaultPlace → FaultCode → Status → Answer → Type 0
-IsRefusal place code status answer = IsRefusalFor place (plain_cause code) status answer
 
 -- the answer is the usage line alone
 abbrev pub IsUsage : Answer → Type 0
@@ -84,14 +72,6 @@ pub record IsListed (circuit : CircuitData) (answer : Answer) : Type 0 where
     texts = distinct_texts circuit groups;
   }
 
--- the answer is the line of the first group that is too large
-pub record IsTooLarge (circuit : CircuitData) (place : FaultPlace) (status : Status) (answer : Answer) : Type 0 where
-  pub fault : BuildFault
-  pub first : TellsTooLarge circuit.graph fault
-  pub cause : Cause
-  pub named : size_cause circuit fault ≡ Some cause
-  pub told : IsRefusalFor place cause status answer
-
 -- the answer of a compilation: a faithful listing, or the refusal of a group that is too large
 abbrev pub IsCompiled : CircuitData → Answer → Type 0
 IsCompiled circuit answer = IsListed circuit answer ⊎ IsTooLarge circuit NetWhole status.NetRefused answer
@@ -126,27 +106,6 @@ IsAnswerTo Unclear holds answer = IsUsage answer
 -- the answer of the words
 abbrev pub IsAnswer : List (List ℕ) → (List ℕ → List ℕ) → Answer → Type 0
 IsAnswer words holds answer = IsAnswerTo (request_of words) holds answer
-
--- some right answer was written whole, and this is its status
-pub record IsWritten (IsRight : Answer → Type 0) (old new : Option (List ℕ)) (status : Status) : Type 0 where
-  pub answer : Answer
-  pub right : IsRight answer
-  pub ended : answer.status ≡ status
-  pub grew : new ≡ append_known old answer.text
-
--- some text of a right answer was written in part, from its start
-pub record IsBegun (IsRight : Answer → Type 0) (old new : Option (List ℕ)) : Type 0 where
-  pub answer : Answer
-  pub right : IsRight answer
-  pub part : WritesPart old new answer.text
-
--- nothing was written, or a part of a right answer
-abbrev pub IsStopped : (Answer → Type 0) → Option (List ℕ) → Option (List ℕ) → Type 0
-IsStopped IsRight old new = (new ≡ old) ⊎ IsBegun IsRight old new
-
--- the answer is right, and its texts were analysed, in order, after those before
-abbrev pub IsAnalysed : (Answer → Type 0) → List GroupTextData → List GroupTextData → Answer → Type 0
-IsAnalysed IsRight before after answer = IsRight answer × (after ≡ before ++ answer.texts)
 
 -- a right answer of the words was written whole and its texts were analysed; after a fault of reading nothing was written, and after one of
 -- writing or want of memory nothing or a part of a right answer

@@ -12,10 +12,10 @@ use Rattle.script_lang.specs.declared.TheConstants.{MOST_TIMES}
 use Rattle.wave_print.specs.declared.lines.Summary.{Summary}
 use Rattle.cosmos_session.specs.Sessions.{SessionData, IsReady}
 use Rattle.cosmos_session.specs.Lines.{Line, Wave, Unmet, Reported}
-use Rattle.cosmos_app.specs.declared.counting.Halt.{Halt}
-use Rattle.cosmos_app.specs.declared.counting.Halt.TheVariants.{End, Refused, TooLarge}
-use Rattle.cosmos_app.specs.Codes.{Cause, plain_cause, size_cause}
-use Rattle.cosmos_app.specs.Runs.{Outcome, Runs, plain_reading}
+use Rattle.script_run.specs.declared.halt.Halt.{Halt}
+use Rattle.script_run.specs.declared.halt.Halt.TheVariants.{End, Refused, TooLarge}
+use Rattle.script_run.specs.Codes.{Cause, plain_cause, size_cause}
+use Rattle.script_run.specs.Runs.{Outcome, Runs, plain_reading}
 use Rattle.cosmos_app.specs.Summaries.{summary_of, mark_count}
 
 -- nothing was counted so far

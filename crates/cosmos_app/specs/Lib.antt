@@ -1,17 +1,11 @@
-pub mod Statuses
 pub mod Codes
 pub mod Samples
 pub mod Requests
-pub mod Runs
 pub mod Summaries
 pub mod Countings
 pub mod Answers
-pub mod Stops
-pub mod Turns
-pub mod Ends
 pub mod Feeding
 pub mod Starts
 pub mod Counts
 pub mod Wholes
 pub mod Sendings
-pub mod FirstRefused

@@ -8,9 +8,9 @@ use Rattle.wave_print.specs.Lines.{summary_line_of}
 use Rattle.cosmos_session.specs.Sessions.{SessionData}
 use Rattle.cosmos_session.specs.Effects.{is_state}
 use Rattle.cosmos_session.specs.Lines.{Line, Wave, Unmet, Reported}
-use Rattle.cosmos_app.specs.declared.status.Status.{Status}
-use Rattle.cosmos_app.specs.declared.status.Status.TheVariants.{Done}
-use Rattle.cosmos_app.specs.Runs.{Answer, RefusedLine, Outcome, Runs, plain_reading, refusal_text, status_told}
+use Rattle.script_run.specs.declared.status.Status.{Status}
+use Rattle.script_run.specs.declared.status.Status.TheVariants.{Done}
+use Rattle.script_run.specs.Runs.{Answer, RefusedLine, Outcome, Runs, plain_reading, refusal_text, status_told}
 
 -- how many waveform lines a line is
 abbrev pub waves_of : Line → ℕ

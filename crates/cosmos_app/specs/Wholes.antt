@@ -5,8 +5,8 @@ use Rattle.netlist.specs.Circuits.{CircuitData}
 use Rattle.sim_read.specs.declared.fault.NetRefusal.{NetRefusal}
 use Rattle.sim_read.specs.Meaning.{netlist_of}
 use Rattle.port_edge.specs.Taken.{Taken, with_files}
-use Rattle.cosmos_app.specs.declared.status.Status.{Status}
-use Rattle.cosmos_app.specs.declared.status.Status.TheVariants.{ReadFault, WriteFault, NoMemory}
+use Rattle.script_run.specs.declared.status.Status.{Status}
+use Rattle.script_run.specs.declared.status.Status.TheVariants.{ReadFault, WriteFault, NoMemory}
 use Rattle.cosmos_app.specs.Requests.{Question, Simulate, Request, About, Generate, SumUp, Unclear}
 
 -- the files that a question needs beside the netlist

@@ -1,10 +1,8 @@
-//! The codes under which faults are printed.
+//! The codes under which faults of netlists are printed.
 
 ghost use Rattle.std.specs.Prelude.{◌≡◌};
 ghost use Rattle.cosmos_app.specs.Codes as spec;
 
-use cosmos_session::Refusal;
-use script_lang::ScriptFault;
 use sim_read::NetWhat;
 use wave_print::FaultCode;
 
@@ -24,41 +22,5 @@ pub(crate) fn net_code(what: NetWhat) -> FaultCode
         NetWhat::AliasTaken => FaultCode::E6AliasTaken,
         NetWhat::TooManyNodes => FaultCode::E7TooManyNodes,
         NetWhat::TooManySwitches => FaultCode::E8TooManySwitches,
-    }
-}
-
-/// The code of a line that is no command; want of memory has none.
-pub(crate) fn script_code(fault: ScriptFault) -> Option<FaultCode>
-    ensures { result ≡ spec.script_code fault }
-{
-    match fault {
-        ScriptFault::LineTooLong => Some(FaultCode::L1LineTooLong),
-        ScriptFault::BadByte => Some(FaultCode::L2BadByte),
-        ScriptFault::BadCommand => Some(FaultCode::S1BadCommand),
-        ScriptFault::FewWords => Some(FaultCode::S2FewWords),
-        ScriptFault::ManyWords => Some(FaultCode::S3ManyWords),
-        ScriptFault::BadValue => Some(FaultCode::S4BadValue),
-        ScriptFault::BadNumber => Some(FaultCode::S5BadNumber),
-        ScriptFault::NoMemory => None,
-    }
-}
-
-/// The code of a refused command.
-pub(crate) fn refusal_code(refusal: Refusal) -> FaultCode
-    ensures { result ≡ spec.refusal_code refusal }
-{
-    match refusal {
-        Refusal::UnknownNode => FaultCode::E1UnknownNode,
-        Refusal::NoSuchSwitch => FaultCode::E2NoSuchSwitch,
-        Refusal::Rail => FaultCode::E3Rail,
-        Refusal::BadStrength => FaultCode::E4BadStrength,
-        Refusal::BadSize => FaultCode::E5BadSize,
-        Refusal::TooManyNodes => FaultCode::E7TooManyNodes,
-        Refusal::TooManySwitches => FaultCode::E8TooManySwitches,
-        Refusal::NotInput => FaultCode::S6NotInput,
-        Refusal::NotStore => FaultCode::S7NotStore,
-        Refusal::ClockLength => FaultCode::S8ClockLength,
-        Refusal::NoClock => FaultCode::S9NoClock,
-        Refusal::TooManyWatched => FaultCode::S10TooManyWatched,
     }
 }

@@ -11,26 +11,13 @@ ghost use Rattle.cosmos_session.specs.Sessions.{IsReady};
 ghost use Rattle.cosmos_app.specs.Summaries.{summary_of};
 ghost use Rattle.cosmos_app.specs.Countings as spec;
 
-use crate::script::{Turn, run_line};
-use crate::stop::Stop;
-use circuit_listing::BuildFault;
 use cosmos_session::Session;
 use group_analysis::Analyst;
 use line_words::{cut_line, decimal, front, lines, words};
 use port_edge::HonestSink;
+use script_run::{Halt, Stop, Turn, run_line};
 use std::alloc::Global;
-use wave_print::{FaultCode, Summary};
-
-/// How the lines of a script ended.
-#[derive(Clone, Copy, Debug, PartialEq, Eq)]
-pub(crate) enum Halt {
-    /// All were obeyed.
-    End,
-    /// The line with this number is refused under this code.
-    Refused(u64, FaultCode),
-    /// It is refused since the circuit can't be built for its command.
-    TooLarge(u64, BuildFault),
-}
+use wave_print::Summary;
 
 /// Runs the lines of a script, in order, to the end or to the first that is refused, and counts what their
 /// waveform lines tell. The lines of one command at most are held.
@@ -50,7 +37,7 @@ pub(crate) fn count_lines<A: Analyst>(
     for line in lines(front(text)) {
         let mut out = HonestSink::new(alloc);
         are_bounded(session);
-        match run_line(alloc, session, cut, line, &mut out, analyst)? {
+        match run_line(alloc, session, cut, line, None, &mut out, analyst)? {
             Turn::Accepted => count_text(summary, out.written()),
             Turn::Refused(code) => return Ok(Halt::Refused(line.number, code)),
             Turn::TooLarge(fault) => return Ok(Halt::TooLarge(line.number, fault)),

@@ -8,14 +8,14 @@ ghost use Rattle.netlist.specs.Circuits.{IsCircuit, HasVisibleNames};
 ghost use Rattle.sim_read.specs.Meaning.{netlist_of};
 ghost use Rattle.sim_read.specs.Standing.{StandsFor};
 ghost use Rattle.cosmos_app.specs.Feeding.{FeedsFile, FeedsFront, FeedsPiece};
-ghost use Rattle.cosmos_app.specs.Stops.{faults_read};
+ghost use Rattle.script_run.specs.Stops.{faults_read};
 ghost use Rattle.cosmos_app.specs.Starts.{StartsFile};
 ghost use Rattle.cosmos_app.specs.Wholes.{ReadsWhole};
 
-use crate::stop::Stop;
 use line_words::MOST_FILE_BYTES;
 use netlist::Circuit;
 use port_edge::{Files, read_front};
+use script_run::Stop;
 use sim_read::{NetFault, NetRefusal, Reader};
 use std::alloc::{AllocError, Global};
 

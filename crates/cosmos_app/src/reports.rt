@@ -2,14 +2,14 @@
 
 ghost use Rattle.std.specs.Prelude.{◌≡◌, ◌≢◌, IfErr, count_by, is_some};
 ghost use Rattle.cosmos_app.specs.Answers.{IsCheck, IsGroups};
-ghost use Rattle.cosmos_app.specs.Ends.{IsTold};
-ghost use Rattle.cosmos_app.specs.Stops.{faults_written, IsRefusedOnce};
+ghost use Rattle.script_run.specs.Ends.{IsTold};
+ghost use Rattle.script_run.specs.Stops.{faults_written, IsRefusedOnce};
 
-use crate::stop::{End, Stop};
 use group_report::report_groups;
 use netlist::Circuit;
 use path_meaning::Graph;
 use port_edge::{Sink, send};
+use script_run::{End, Stop};
 use std::alloc::Global;
 use table_keys::TableKeys;
 use wave_print::{CHECK_LINE_ROOM, LineBuf, check_line};

@@ -7,11 +7,11 @@ ghost use Rattle.cosmos_app.specs.Requests.{names_of, question_seen};
 ghost use Rattle.cosmos_app.specs.Requests as spec;
 ghost use Rattle.cosmos_app.specs.Answers.{IsAnswer, IsAnswered, IsAnswerIn, IsOver, IsSimulation};
 ghost use Rattle.sim_read.specs.Meaning.{netlist_of};
-ghost use Rattle.cosmos_app.specs.Stops.{faults_read, faults_written, IsRefusedOnce};
+ghost use Rattle.script_run.specs.Stops.{faults_read, faults_written, IsRefusedOnce};
 ghost use Rattle.cosmos_app.specs.Counts.{files_count, sink_count, HasRefused};
 ghost use Rattle.cosmos_app.specs.Wholes.{files_of, needed, scripts_of, ReadsAll, ReadsWhole};
 ghost use Rattle.cosmos_app.specs.Starts.{QuestionStarts, RequestStarts, ScriptStarts, StartsAtMost};
-ghost use Rattle.cosmos_app.specs.Ends.{IsToldBy, IsUntouched, status_after};
+ghost use Rattle.script_run.specs.Ends.{IsToldBy, IsUntouched, status_after};
 
 use crate::compile::write_listing;
 use crate::generated::write_part;
@@ -19,15 +19,13 @@ use crate::reading::{read_circuit, read_file};
 use crate::refusal::{refuse_net, refuse_words};
 use crate::reports::{list_groups, report_check};
 use crate::request::{Question, Request, request_of};
-use crate::script::run_lines;
-use crate::status::Status;
-use crate::stop::{End, Stop};
 use crate::summary::sum_up;
 use cosmos_session::Session;
 use group_analysis::Analyst;
 use line_words::MOST_FILE_BYTES;
 use netlist::Circuit;
 use port_edge::{Files, Sink};
+use script_run::{End, Status, Stop, run_lines};
 use std::alloc::Global;
 
 /// Answers the words of a command line, which are those after the program's name.

@@ -4,10 +4,12 @@ use Rattle.std.specs.List.{enumerate_from}
 use Rattle.line_words.specs.Lines.{lines_of}
 use Rattle.line_words.specs.Files as file
 use Rattle.port_edge.specs.HonestPorts.{HonestSinkData}
-use Rattle.cosmos_app.specs.declared.script.Turn.TheVariants.{Accepted, Refused, TooLarge}
-use Rattle.cosmos_app.specs.Codes.{plain_cause}
+use Rattle.script_run.specs.declared.script.Turn.TheVariants.{Accepted, Refused, TooLarge}
+use Rattle.script_run.specs.Codes.{plain_cause}
 use Rattle.cosmos_app.specs.Countings as spec
-use Rattle.cosmos_app.specs.Turns.{TakesTurn}
+use Rattle.script_run.specs.Runs.{Reading, plain_reading}
+use Rattle.script_run.specs.Turns.{TakesTurn}
+use Rattle.script_run.proofs.ReadingLemmas.{masked-plain}
 use Rattle.cosmos_app.proofs.CountingLemmas.{HasTallied, tallies_first, tallies_on, tallies_all, halts_refused, halts_large}
 use Rattle.cosmos_app.proofs.counting.count_lines.Goals as goal
 
@@ -39,9 +41,10 @@ returns-in-Refused-clause-told g c =
     let more = Some c.run_line.new.out.written in
     let come = subst (λ left. HasTallied nodes switches cut start all asked now.core left told c.loop-line.summary) c.in-Some.ensures.steps
     c.loop-line.invariant in
-    let turn = subst (λ turn. TakesTurn cut line now new (Some c.new-out.result.written) more told further (Ok turn)) c.in-Refused.is
-    c.in_ok-run_line.ensures.turn in
-    let fresh = subst (λ (sink : HonestSinkData). TakesTurn cut line now new (Some sink.written) more told further (Ok (Refused c.in-Refused.code))) c.new-out.ensures turn in
+    let turn = subst (λ turn. TakesTurn plain_reading cut line now new (Some c.new-out.result.written) more told further (Ok turn)) c.in-Refused.is
+    (subst (λ (reading : Reading). TakesTurn reading cut line now new (Some c.new-out.result.written) more told further (Ok c.in_ok-run_line.field-0)) masked-plain
+    c.in_ok-run_line.ensures.turn) in
+    let fresh = subst (λ (sink : HonestSinkData). TakesTurn plain_reading cut line now new (Some sink.written) more told further (Ok (Refused c.in-Refused.code))) c.new-out.ensures turn in
     subst (λ cut. spec.HasHalted cut start all asked further c.in-Some.line.number (plain_cause c.in-Refused.code)) c.cut_line-cut.ensures
     (halts_refused _ _ _ _ _ _ now line _ _ _ come new more further c.in-Refused.code fresh)
 
@@ -61,9 +64,10 @@ returns-in-TooLarge-clause-told g c =
     let more = Some c.run_line.new.out.written in
     let come = subst (λ left. HasTallied nodes switches cut start all asked now.core left told c.loop-line.summary) c.in-Some.ensures.steps
     c.loop-line.invariant in
-    let turn = subst (λ turn. TakesTurn cut line now new (Some c.new-out.result.written) more told further (Ok turn)) c.in-TooLarge.is
-    c.in_ok-run_line.ensures.turn in
-    let fresh = subst (λ (sink : HonestSinkData). TakesTurn cut line now new (Some sink.written) more told further (Ok (TooLarge c.in-TooLarge.fault))) c.new-out.ensures turn in
+    let turn = subst (λ turn. TakesTurn plain_reading cut line now new (Some c.new-out.result.written) more told further (Ok turn)) c.in-TooLarge.is
+    (subst (λ (reading : Reading). TakesTurn reading cut line now new (Some c.new-out.result.written) more told further (Ok c.in_ok-run_line.field-0)) masked-plain
+    c.in_ok-run_line.ensures.turn) in
+    let fresh = subst (λ (sink : HonestSinkData). TakesTurn plain_reading cut line now new (Some sink.written) more told further (Ok (TooLarge c.in-TooLarge.fault))) c.new-out.ensures turn in
     subst (λ cut. spec.HasOutgrown cut start all new.core asked further c.in-Some.line.number c.in-TooLarge.fault) c.cut_line-cut.ensures
     (halts_large _ _ _ _ _ _ now line _ _ _ come new more further c.in-TooLarge.fault fresh)
 
@@ -83,9 +87,10 @@ loop-line-preserved g c =
     let text = c.run_line.new.out.written in
     let come = subst (λ left. HasTallied nodes switches cut start all asked now.core left told c.loop-line.summary) c.in-Some.ensures.steps
     c.loop-line.invariant in
-    let turn = subst (λ turn. TakesTurn cut line now new (Some c.new-out.result.written) (Some text) told further (Ok turn)) c.in-Accepted.is
-    c.in_ok-run_line.ensures.turn in
-    let fresh = subst (λ (sink : HonestSinkData). TakesTurn cut line now new (Some sink.written) (Some text) told further (Ok Accepted)) c.new-out.ensures turn in
+    let turn = subst (λ turn. TakesTurn plain_reading cut line now new (Some c.new-out.result.written) (Some text) told further (Ok turn)) c.in-Accepted.is
+    (subst (λ (reading : Reading). TakesTurn reading cut line now new (Some c.new-out.result.written) (Some text) told further (Ok c.in_ok-run_line.field-0)) masked-plain
+    c.in_ok-run_line.ensures.turn) in
+    let fresh = subst (λ (sink : HonestSinkData). TakesTurn plain_reading cut line now new (Some sink.written) (Some text) told further (Ok Accepted)) c.new-out.ensures turn in
     tallies_on _ _ _ _ _ _ now line _ _ _ come new text further c.count_text.new.summary fresh c.are_bounded.ensures
     (λ nodes switches before some is same alike. c.count_text.ensures nodes switches before some is (c.written.ensures ∙ same) alike)
 

@@ -2,8 +2,8 @@
 use Rattle.std.proofs.Common.{ap, ◌∙◌}
 use Rattle.port_edge.proofs.ResultLemmas.{at_ok}
 use Rattle.cosmos_session.specs.Sessions.{HeldSession}
-use Rattle.cosmos_app.proofs.LowerLemmas.{ready-start}
-use Rattle.cosmos_app.proofs.CountLemmas.{read_none}
+use Rattle.script_run.proofs.LowerLemmas.{ready-start}
+use Rattle.script_run.proofs.EndLemmas.{read_none}
 use Rattle.cosmos_app.proofs.WholeLemmas.{whole_file}
 use Rattle.cosmos_app.proofs.NetLemmas.{told_script}
 use Rattle.cosmos_app.proofs.top.run_script.Goals as goal

@@ -1,0 +1,9 @@
+pub mod LowerLemmas
+pub mod ReadingLemmas
+pub mod EndLemmas
+pub mod SizeLemmas
+pub mod PerformLemmas
+pub mod FirstRefusedLemmas
+pub mod TurnLemmas
+pub mod RunLemmas
+pub mod HaltLemmas

@@ -1,0 +1,37 @@
+-- A command that is performed isn't refused, neither by the data nor for the size of a group.
+use Rattle.std.proofs.Common.{◌≡◌, ℕ, Bool, true, false, List, None, refl, sym, subst, ◌∙◌}
+use Rattle.group_text.specs.Texts.{GroupTextData}
+use Rattle.circuit_texts.specs.declared.texts.BuildFault.{BuildFault}
+use Rattle.circuit_texts.specs.Sizes.{TellsTooLarge}
+use Rattle.script_lang.specs.declared.command.Command.{Command}
+use Rattle.cosmos_session.specs.Sessions.{SessionData}
+use Rattle.cosmos_session.specs.Refusals.{refusal_of}
+use Rattle.cosmos_session.specs.Preparing.{builds, with_texts, IsBuild, BuildsIf}
+use Rattle.cosmos_session.specs.Outcomes.{Performs}
+use Rattle.script_run.proofs.SizeLemmas.{not_both}
+
+-- what is kept and counted is read by no refusal
+refusal-with_texts : (session : SessionData) (texts : List GroupTextData) (command : Command) →
+    refusal_of (with_texts session texts) command ≡ refusal_of session command
+refusal-with_texts session texts _ = refl
+
+-- so a build changes no refusal
+refusal-built : (building : Bool) (old mid : SessionData) (texts : List GroupTextData) (command : Command) → BuildsIf building old mid texts →
+    refusal_of mid command ≡ refusal_of old command
+refusal-built true old mid texts command built =
+    subst (λ (session : SessionData). refusal_of session command ≡ refusal_of old command) (sym built.grown) (refusal-with_texts old texts command)
+refusal-built false old mid texts command (same, none) =
+    subst (λ (session : SessionData). refusal_of session command ≡ refusal_of old command) (sym same) refl
+
+-- a command that is performed isn't refused
+pub performs-allowed : (old new : SessionData) (command : Command) (text : List ℕ) (texts : List GroupTextData) → Performs old command new text texts →
+    refusal_of old command ≡ None
+performs-allowed old new command text texts performs =
+    sym (refusal-built (builds command) old performs.mid texts command performs.prepares) ∙ performs.does.allowed
+
+-- nor is its circuit too large
+pub performs-fits : (old new : SessionData) (command : Command) (text : List ℕ) (texts : List GroupTextData) (fault : BuildFault) →
+    Performs old command new text texts → builds command ≡ true → ¬ TellsTooLarge old.circuit.graph fault
+performs-fits old new command text texts fault performs is told =
+    let built : IsBuild old performs.mid texts = subst (λ building. BuildsIf building old performs.mid texts) is performs.prepares in
+    not_both old.circuit.graph fault built.news.texts told built.news.has

@@ -1,0 +1,119 @@
+-- The first group of a circuit that is too large: it has a cause that its line tells, its line is written, and the circuit's groups have no texts.
+use Rattle.std.proofs.Common.{◌≡◌, ℕ, ◌<◌, ◌⊎◌, inl, inr, Bool, true, false, List, [], Option, None, Some, Result, slice_get, unwrap_or, refl, sym, ap, subst, ◌∙◌}
+use Rattle.std.specs.Prelude.{if◌then◌else◌}
+use Rattle.std.proofs.lemmas.List.Elements.{All-contains_itself}
+use Rattle.std.proofs.lemmas.Option.{slice_get_within, get_or_from_slice_get}
+use Rattle.path_meaning.specs.Graphs.{GraphData, nodes, IsStorage}
+use Rattle.netlist.specs.Names.{name_at}
+use Rattle.netlist.specs.Circuits.{CircuitData}
+use Rattle.wave_print.specs.declared.faults.FaultPlace.{FaultPlace}
+use Rattle.wave_print.specs.declared.faults.FaultCode.TheVariants.{G1GroupNodes, G2GroupSwitches}
+use Rattle.group_meaning.specs.Groups.{Group, IsGroup, id_of}
+use Rattle.group_meaning.proofs.GroupLemmas.{member_storage}
+use Rattle.group_meaning.proofs.UniqueGroups.{unique}
+use Rattle.group_text.specs.declared.text.TextFault.{TextFault}
+use Rattle.group_text.specs.declared.text.TextFault.TheVariants as text
+use Rattle.group_text.specs.Texts.{GroupTextData}
+use Rattle.circuit_texts.specs.declared.texts.BuildFault.{BuildFault}
+use Rattle.circuit_texts.specs.declared.texts.BuildFault.TheVariants.{GroupNodes, GroupSwitches, NoMemory}
+use Rattle.circuit_texts.specs.Sizes.{fault_in, at_node, TellsTooLarge}
+use Rattle.circuit_texts.specs.Building.{HasTexts}
+use Rattle.script_run.specs.declared.stop.Stop.{Stop}
+use Rattle.script_run.specs.declared.stop.End as end
+use Rattle.script_run.specs.declared.status.Status.{Status}
+use Rattle.script_run.specs.Codes.{Cause, size_cause}
+use Rattle.script_run.specs.Answers.{IsTooLarge, IsRefusalFor}
+use Rattle.script_run.specs.Ends.{IsTold}
+use Rattle.script_run.proofs.EndLemmas.{told_as}
+
+-- a graph whose groups have texts has no group that is too large
+pub not_both : (g : GraphData) (fault : BuildFault) (texts : List GroupTextData) → TellsTooLarge g fault → ¬ HasTexts g texts
+not_both g fault texts told has =
+    let first = told.first in
+    let here = subst (λ groups. slice_get groups first.k ≡ Some first.group) (unique g told.groups has.groups told.are has.are) first.stands in
+    let fit = rw (get_or_from_slice_get has.groups first.k first.group first.group here) at
+    (has.fit first.k first.group (slice_get_within has.groups first.k first.group here)) in
+    let none : None ≡ Some first.cause = sym fit ∙ first.too_large in absurd (cc)
+
+-- the size of a group is never want of memory
+sizes_named : (first second : Bool) (members switches : ℕ) →
+    (if first then Some (text.GroupNodes members) else (if second then Some (text.GroupSwitches switches) else None)) ≡ Some text.NoMemory → ⊥
+sizes_named true second members switches is = absurd (cc)
+sizes_named false true members switches is = absurd (cc)
+sizes_named false false members switches is = absurd (cc)
+
+-- so the fault has a cause
+pub size_caused : (c : CircuitData) (fault : BuildFault) → TellsTooLarge c.graph fault → (cause : Cause) × (size_cause c fault ≡ Some cause)
+size_caused c fault told = caused told.first.cause told.first.named told.first.too_large
+  where
+    caused : (cause : TextFault) → fault ≡ at_node (id_of told.first.group) cause → fault_in told.first.group ≡ Some cause →
+        (cause : Cause) × (size_cause c fault ≡ Some cause)
+    caused (text.GroupNodes count) named is = (_, ap (size_cause c) named)
+    caused (text.GroupSwitches count) named is = (_, ap (size_cause c) named)
+    caused text.NoMemory named is = absurd (sizes_named _ _ _ _ is)
+
+-- the line of the first group that is too large is a right answer
+told_size : (c : CircuitData) (place : FaultPlace) (ended : Status) (fault : BuildFault) (cause : Cause) (old new : Option (List ℕ)) (result : Result end.End Stop) →
+    TellsTooLarge c.graph fault → size_cause c fault ≡ Some cause → IsTold (IsRefusalFor place cause ended) old new result →
+    IsTold (IsTooLarge c place ended) old new result
+told_size c place ended fault cause old new result first named told =
+    told_as (IsRefusalFor place cause ended) (IsTooLarge c place ended) old new result
+    (λ answer right. record { fault = fault; first = first; cause = cause; named = named; told = right }) told
+
+-- the node that a too large group's fault tells of is the group's least one
+node_is : (node id count : ℕ) (cause : TextFault) (fault : BuildFault) → fault ≡ at_node id cause →
+    (fault ≡ GroupNodes node count) ⊎ (fault ≡ GroupSwitches node count) → node ≡ id
+node_is node id count (text.GroupNodes m) fault named (inl is) = cc
+node_is node id count (text.GroupNodes m) fault named (inr is) = absurd (cc)
+node_is node id count (text.GroupSwitches m) fault named (inl is) = absurd (cc)
+node_is node id count (text.GroupSwitches m) fault named (inr is) = cc
+node_is node id count text.NoMemory fault named (inl is) = absurd (cc)
+node_is node id count text.NoMemory fault named (inr is) = absurd (cc)
+
+-- so it is a node of the graph
+told_node : (g : GraphData) (fault : BuildFault) (node count : ℕ) → TellsTooLarge g fault →
+    (fault ≡ GroupNodes node count) ⊎ (fault ≡ GroupSwitches node count) → node < nodes g
+told_node g fault node count told is =
+    let first = told.first in
+    let group = first.group in
+    let inside = slice_get_within told.groups first.k group first.stands in
+    let is_group : IsGroup g group =
+    subst (IsGroup g) (get_or_from_slice_get told.groups first.k group group first.stands) (told.are.each first.k group inside) in
+    let storage : IsStorage g (id_of group) =
+    member_storage g group is_group (id_of group) (All-contains_itself group.members 0 0 is_group.some) in
+    subst (λ n. n < nodes g) (sym (node_is node (id_of group) count first.cause fault first.named is)) storage.inside
+
+-- a fault that names a group isn't want of memory
+is_too_large : (g : GraphData) (fault : BuildFault) (node count : ℕ) → (fault ≡ NoMemory) ⊎ TellsTooLarge g fault →
+    (fault ≡ GroupNodes node count) ⊎ (fault ≡ GroupSwitches node count) → TellsTooLarge g fault
+is_too_large g fault node count (inl want) (inl is) = absurd (cc)
+is_too_large g fault node count (inl want) (inr is) = absurd (cc)
+is_too_large g fault node count (inr told) is = told
+
+pub node-inside : (g : GraphData) (fault : BuildFault) (node count : ℕ) → (fault ≡ NoMemory) ⊎ TellsTooLarge g fault →
+    (fault ≡ GroupNodes node count) ⊎ (fault ≡ GroupSwitches node count) → node < nodes g
+node-inside g fault node count refused is = told_node g fault node count (is_too_large g fault node count refused is) is
+
+module _ (c : CircuitData) (place : FaultPlace) (ended : Status) (fault : BuildFault) (node count : ℕ) (name : List ℕ) (refused : (fault ≡ NoMemory) ⊎ TellsTooLarge c.graph fault)
+    (found : name_at c.names node ≡ Some name) (old new : Option (List ℕ)) (result : Result end.End Stop) where
+  -- the node is called by its name
+  named : name ≡ unwrap_or (name_at c.names node) []
+  named = sym (ap (λ known. unwrap_or known []) found)
+
+  -- the line of a group with too many members is told of the circuit
+  pub told_nodes : fault ≡ GroupNodes node count →
+      IsTold (IsRefusalFor place (record { code = G1GroupNodes; name = name; count = count }) ended) old new result →
+      IsTold (IsTooLarge c place ended) old new result
+  told_nodes is told =
+      told_size c place ended (GroupNodes node count) _ old new result
+      (subst (TellsTooLarge c.graph) is (is_too_large c.graph fault node count refused (inl is))) refl
+      (subst (λ called. IsTold (IsRefusalFor place (record { code = G1GroupNodes; name = called; count = count }) ended) old new result) named told)
+
+  -- and that of a group with too many switches
+  pub told_switches : fault ≡ GroupSwitches node count →
+      IsTold (IsRefusalFor place (record { code = G2GroupSwitches; name = name; count = count }) ended) old new result →
+      IsTold (IsTooLarge c place ended) old new result
+  told_switches is told =
+      told_size c place ended (GroupSwitches node count) _ old new result
+      (subst (TellsTooLarge c.graph) is (is_too_large c.graph fault node count refused (inr is))) refl
+      (subst (λ called. IsTold (IsRefusalFor place (record { code = G2GroupSwitches; name = called; count = count }) ended) old new result) named told)

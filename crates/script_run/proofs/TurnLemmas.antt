@@ -1,0 +1,42 @@
+-- What a line comes to, by what its command comes to or by how it is refused.
+use Rattle.std.proofs.Common.{◌≡◌, ℕ, ◌⊎◌, inl, inr, Bool, false, nat_eq, List, Option, None, Some, Result, Ok, Err, refl, sym, ap, ◌∙◌}
+use Rattle.std.specs.Option.{option_eq}
+use Rattle.line_words.specs.Files.{is_cut}
+use Rattle.script_lang.specs.declared.command.Command.{Command}
+use Rattle.script_lang.specs.declared.command.ScriptFault.{ScriptFault}
+use Rattle.script_lang.specs.declared.command.ScriptFault.TheVariants.{NoMemory}
+use Rattle.group_text.specs.Texts.{GroupTextData}
+use Rattle.cosmos_session.specs.Sessions.{SessionData, HeldSession}
+use Rattle.wave_print.specs.declared.faults.FaultCode.{FaultCode}
+use Rattle.script_run.specs.declared.stop.Stop.{Stop}
+use Rattle.script_run.specs.declared.script.Turn.{Turn}
+use Rattle.script_run.specs.declared.script.Turn.TheVariants.{Accepted, Refused, TooLarge}
+use Rattle.script_run.specs.Codes.{plain_cause, script_code}
+use Rattle.script_run.specs.Runs.{Reading, Asks, IsRefused, unread, refused}
+use Rattle.script_run.specs.Turns.{TakesTurn, TakesCommand}
+
+-- a line that asks for a command comes to what the command comes to
+pub takes_turn : (reading : Reading) (cut : Option ℕ) (line : ℕ × List ℕ) (command : Command) (old new : HeldSession) (before after : Option (List ℕ)) (asked told : List GroupTextData) (result : Result Turn Stop) →
+    Asks reading cut old.core line command → TakesCommand old command new before after asked told result →
+    TakesTurn reading cut line old new before after asked told result
+takes_turn reading cut line command old new before after asked told (Ok Accepted) asks accepts =
+    inr (record { command = command; asks = asks; accepts = accepts })
+takes_turn reading cut line command old new before after asked told (Ok (Refused code)) asks (is, keeps) =
+    (refused command is.refusal asks is.cause (ap plain_cause is.coded), keeps)
+takes_turn reading cut line command old new before after asked told (Ok (TooLarge fault)) asks refuses =
+    record { command = command; asks = asks; refuses = refuses }
+takes_turn reading cut line command old new before after asked told (Err stop) asks (inl same) = inl same
+takes_turn reading cut line command old new before after asked told (Err stop) asks (inr begins) =
+    inr (record { command = command; asks = asks; begins = begins })
+
+-- a line that can't be read is refused, where its fault has a code
+pub is_unread : (reading : Reading) (cut : Option ℕ) (session : SessionData) (line : ℕ × List ℕ) (fault : ScriptFault) (code : FaultCode) → is_cut cut line.0 ≡ false →
+    (fault ≡ NoMemory) ⊎ (reading session.circuit line.1 ≡ Err fault) → script_code fault ≡ Some code → IsRefused reading cut session line (plain_cause code)
+is_unread reading cut session line fault code inside (inl want) coded =
+    let none : None ≡ Some code = sym (ap script_code want) ∙ coded in absurd (cc)
+is_unread reading cut session line fault code inside (inr is) coded = unread fault code inside is coded refl
+
+-- a line with another number than the one that is too far isn't too far
+pub is_inside : (cut : Option ℕ) (number : ℕ) (same : Bool) → same ≡ option_eq nat_eq cut (Some number) → same ≡ false → is_cut cut number ≡ false
+is_inside None number same tested is = refl
+is_inside (Some line) number same tested is = sym tested ∙ is

@@ -1,0 +1,9 @@
+pub mod Statuses
+pub mod Codes
+pub mod Runs
+pub mod FirstRefused
+pub mod Answers
+pub mod Stops
+pub mod Turns
+pub mod Halts
+pub mod Ends

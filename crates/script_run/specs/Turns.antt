@@ -1,0 +1,64 @@
+-- What running one line of a script comes to, by how lines are read, with what it wrote and which texts of groups were analysed.
+use Rattle.std.specs.Prelude.{◌≡◌, ℕ, ◌⊎◌, List, Option, Some, Result, Ok, Err}
+use Rattle.group_text.specs.Texts.{GroupTextData}
+use Rattle.circuit_texts.specs.declared.texts.BuildFault.{BuildFault}
+use Rattle.script_lang.specs.declared.command.Command.{Command}
+use Rattle.cosmos_session.specs.Sessions.{SessionData, HeldSession}
+use Rattle.cosmos_session.specs.Outcomes.{Accepts, Begins, Keeps, RefusesSize}
+use Rattle.script_run.specs.declared.stop.Stop.{Stop}
+use Rattle.script_run.specs.declared.script.Turn.{Turn}
+use Rattle.script_run.specs.declared.script.Turn.TheVariants.{Accepted, Refused, TooLarge}
+use Rattle.cosmos_session.specs.declared.fault.Refusal.{Refusal}
+use Rattle.cosmos_session.specs.Refusals.{refusal_of}
+use Rattle.wave_print.specs.declared.faults.FaultCode.{FaultCode}
+use Rattle.script_run.specs.Codes.{plain_cause, refusal_code}
+use Rattle.script_run.specs.Runs.{Reading, IsIdle, Asks, IsRefused}
+
+-- the line asks for nothing, and nothing changes
+pub record Passes (reading : Reading) (cut : Option ℕ) (line : ℕ × List ℕ) (old new : HeldSession) (before after : Option (List ℕ)) (asked told : List GroupTextData) : Type 0 where
+  pub idle : IsIdle reading cut old.core line
+  pub keeps : Keeps old new before after asked told
+
+-- the line's command was accepted
+pub record Follows (reading : Reading) (cut : Option ℕ) (line : ℕ × List ℕ) (old new : HeldSession) (before after : Option (List ℕ)) (asked told : List GroupTextData) : Type 0 where
+  pub command : Command
+  pub asks : Asks reading cut old.core line command
+  pub accepts : Accepts old command new before after asked told
+
+-- the circuit can't be built for the line's command: this group is too large
+pub record Outgrows (reading : Reading) (cut : Option ℕ) (line : ℕ × List ℕ) (old new : HeldSession) (before after : Option (List ℕ)) (asked told : List GroupTextData)
+    (fault : BuildFault) : Type 0 where
+  pub command : Command
+  pub asks : Asks reading cut old.core line command
+  pub refuses : RefusesSize old command new before after asked told fault
+
+-- the line's command had begun, and a part of its lines was written
+pub record Starts (reading : Reading) (cut : Option ℕ) (line : ℕ × List ℕ) (old new : HeldSession) (before after : Option (List ℕ)) (asked told : List GroupTextData) : Type 0 where
+  pub command : Command
+  pub asks : Asks reading cut old.core line command
+  pub begins : Begins old command new before after asked told
+
+-- what one line comes to
+abbrev pub TakesTurn : Reading → Option ℕ → (ℕ × List ℕ) → HeldSession → HeldSession → Option (List ℕ) → Option (List ℕ) → List GroupTextData → List GroupTextData →
+    Result Turn Stop → Type 0
+TakesTurn reading cut line old new before after asked told (Ok Accepted) =
+    Passes reading cut line old new before after asked told ⊎ Follows reading cut line old new before after asked told
+TakesTurn reading cut line old new before after asked told (Ok (Refused code)) =
+    IsRefused reading cut old.core line (plain_cause code) × Keeps old new before after asked told
+TakesTurn reading cut line old new before after asked told (Ok (TooLarge fault)) = Outgrows reading cut line old new before after asked told fault
+TakesTurn reading cut line old new before after asked told (Err stop) = (after ≡ before) ⊎ Starts reading cut line old new before after asked told
+
+-- a command is refused under this code
+pub record IsRefusedCommand (session : SessionData) (command : Command) (code : FaultCode) : Type 0 where
+  pub refusal : Refusal
+  pub cause : refusal_of session command ≡ Some refusal
+  pub coded : code ≡ refusal_code refusal
+
+-- what one command comes to
+abbrev pub TakesCommand : HeldSession → Command → HeldSession → Option (List ℕ) → Option (List ℕ) → List GroupTextData → List GroupTextData →
+    Result Turn Stop → Type 0
+TakesCommand old command new before after asked told (Ok Accepted) = Accepts old command new before after asked told
+TakesCommand old command new before after asked told (Ok (Refused code)) =
+    IsRefusedCommand old.core command code × Keeps old new before after asked told
+TakesCommand old command new before after asked told (Ok (TooLarge fault)) = RefusesSize old command new before after asked told fault
+TakesCommand old command new before after asked told (Err stop) = (after ≡ before) ⊎ Begins old command new before after asked told

@@ -1,0 +1,13 @@
+use circuit_texts::BuildFault;
+use wave_print::FaultCode;
+
+/// How the lines of a script ended.
+#[derive(Clone, Copy, Debug, PartialEq, Eq)]
+pub enum Halt {
+    /// All were obeyed.
+    End,
+    /// The line with this number is refused under this code.
+    Refused(u64, FaultCode),
+    /// It is refused since the circuit can't be built for its command.
+    TooLarge(u64, BuildFault),
+}

@@ -1,0 +1,35 @@
+//! What a script does when it runs in a session, and what is answered of it.
+//!
+//! The main call is `obey_lines`, which obeys the lines of a script over any sink and tells how they
+//! end; `run_lines` writes the line of a refusal besides, and `run_line` runs one line. The layers above
+//! use that these do what the relation `Runs` of `specs/` says: the lines have their effects in order, to
+//! the end or to the first that is refused. The reading of a line is a parameter of the relation, so the
+//! same one serves where a node is stuck. An `Answer` is a status, a text, and the texts of groups
+//! that were analysed; `IsTold` says that a right one was written, or a part of one.
+//!
+//! ```text
+//! obey_lines(alloc, session, "set a=1\nphase\n", None, out, analyst)   is Ok(Halt::End)
+//! run_lines(alloc, session, "set b=1\n", out, analyst)                 writes `script line 1: E1 UnknownNode`
+//! ```
+//!
+//! For the proofs of crates above: `EndLemmas`, what is told in one sense is told in another;
+//! `FirstRefusedLemmas`, how what comes of a script's lines joins; `HaltLemmas`, what the refusal of a line
+//! tells; `ReadingLemmas`, that lines are read as ever where no node is stuck; `LowerLemmas`, that a session
+//! starts ready.
+#![tactic(auto)]
+
+mod codes;
+mod halt;
+mod laws;
+mod refusal;
+mod script;
+mod status;
+mod stop;
+
+pub use codes::{refusal_code, script_code};
+pub use halt::Halt;
+pub use laws::scripts_end_at_their_first_refused_line;
+pub use refusal::{refuse, refuse_size};
+pub use script::{Turn, obey_lines, run_line, run_lines};
+pub use status::Status;
+pub use stop::{End, Stop};

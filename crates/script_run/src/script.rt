@@ -1,0 +1,191 @@
+//! Running the lines of a script.
+
+ghost use Rattle.std.specs.Prelude.{◌≡◌, ◌≢◌, ◌⊎◌, None, Ok, Err, IfOk, IfErr, IfSome};
+ghost use Rattle.line_words.specs.Files as file;
+ghost use Rattle.script_lang.specs.Forms.{IsFormed};
+ghost use Rattle.fault_sim.specs.Masks.{masked_reading};
+ghost use Rattle.cosmos_session.specs.Sessions.{IsReady};
+ghost use Rattle.script_run.specs.Runs.{plain_reading, status_told};
+ghost use Rattle.script_run.specs.Turns.{TakesTurn, TakesCommand};
+ghost use Rattle.script_run.specs.Halts.{TellsHalt};
+ghost use Rattle.script_run.specs.Ends.{TellsRun, status_of};
+ghost use Rattle.script_run.specs.Stops.{faults_written, IsRefusedOnce};
+
+use crate::codes::{refusal_code, script_code};
+use crate::halt::Halt;
+use crate::refusal::{refuse, refuse_size};
+use crate::stop::{End, Stop};
+use circuit_texts::BuildFault;
+use cosmos_session::{ApplyFault, Session};
+use fault_sim::read_masked;
+use group_analysis::Analyst;
+use line_words::{Line, cut_line, front, lines};
+use netlist::Circuit;
+use port_edge::Sink;
+use script_lang::{Command, ScriptFault, read_command};
+use std::alloc::Global;
+use ternary::Tern;
+use wave_print::{FaultCode, FaultPlace};
+
+/// What became of a line of the script.
+#[derive(Clone, Copy, Debug, PartialEq, Eq)]
+pub enum Turn {
+    /// It was obeyed, or there was nothing to do.
+    Accepted,
+    /// It is refused under this code.
+    Refused(FaultCode),
+    /// It is refused since the circuit can't be built for its command.
+    TooLarge(BuildFault),
+}
+
+/// Runs the lines of a script, in order, to the end or to the first that is refused, and writes the line
+/// of its refusal.
+pub fn run_lines<S: Sink, A: Analyst>(
+    alloc: Global,
+    session: &mut Session,
+    text: &[u8],
+    out: &mut S,
+    analyst: &mut A,
+) -> Result<End, Stop>
+    requires { IsReady session.old.core }
+    ensures told { TellsRun plain_reading
+        (file.cut_line text.now) session.old.core (file.lines_in text.now) session.new.core
+        (S.written out.old) (S.written out.new) (A.analysed analyst.old) (A.analysed analyst.new) result }
+    ensures no_read { IfErr result (λ stop. stop ≢ Stop.Read) }
+    ensures write { S.faults out.new ≡ faults_written (S.faults out.old) result }
+    ensures refused { IsRefusedOnce (S.refusals out.old) (S.refusals out.new) result }
+{
+    match obey_lines(alloc, session, text, None, out, analyst)? {
+        Halt::End => Ok(end_of(session)),
+        Halt::Refused(line, code) => {
+            let place = FaultPlace::Script(line);
+            refuse(alloc, place, code, End::ScriptRefused, out)
+        }
+        Halt::TooLarge(line, fault) => {
+            let place = FaultPlace::Script(line);
+            let circuit = session.circuit();
+            refuse_size(alloc, place, circuit, fault, End::ScriptRefused, out)
+        }
+    }
+}
+
+/// Obeys the lines of a script, in order, to the end or to the first that is refused, and tells which one
+/// that is.
+///
+/// While a node is stuck at a state each line is read as `fault_sim::read_masked` does.
+pub fn obey_lines<S: Sink, A: Analyst>(
+    alloc: Global,
+    session: &mut Session,
+    text: &[u8],
+    stuck: Option<(usize, Tern)>,
+    out: &mut S,
+    analyst: &mut A,
+) -> Result<Halt, Stop>
+    requires { IsReady session.old.core }
+    ensures told { TellsHalt (masked_reading stuck)
+        (file.cut_line text.now) session.old.core (file.lines_in text.now) session.new.core
+        (S.written out.old) (S.written out.new) (A.analysed analyst.old) (A.analysed analyst.new) result }
+    ensures no_read { IfErr result (λ stop. stop ≢ Stop.Read) }
+    ensures write { S.faults out.new ≡ faults_written (S.faults out.old) result }
+    ensures refused { IsRefusedOnce (S.refusals out.old) (S.refusals out.new) result }
+{
+    let cut = cut_line(text);
+    for line in lines(front(text)) {
+        match run_line(alloc, session, cut, line, stuck, out, analyst)? {
+            Turn::Accepted => {}
+            Turn::Refused(code) => return Ok(Halt::Refused(line.number, code)),
+            Turn::TooLarge(fault) => return Ok(Halt::TooLarge(line.number, fault)),
+        }
+    }
+    Ok(Halt::End)
+}
+
+// How a script ends that was obeyed to its end.
+fn end_of(session: &Session) -> End
+    ensures { status_of result ≡ status_told session.now.core None }
+{
+    if session.met() {
+        End::Done
+    } else {
+        End::Mismatch
+    }
+}
+
+/// Runs one line; the one that holds the first byte too many of the script is refused.
+///
+/// While a node is stuck at a state the line is read as `fault_sim::read_masked` does.
+pub fn run_line<S: Sink, A: Analyst>(
+    alloc: Global,
+    session: &mut Session,
+    cut: Option<u64>,
+    line: Line<'_>,
+    stuck: Option<(usize, Tern)>,
+    out: &mut S,
+    analyst: &mut A,
+) -> Result<Turn, Stop>
+    ensures turn { TakesTurn (masked_reading stuck)
+        cut (line.entry.number, line.entry.bytes.now) session.old session.new
+        (S.written out.old) (S.written out.new) (A.analysed analyst.old) (A.analysed analyst.new) result }
+    ensures no_read { IfErr result (λ stop. stop ≢ Stop.Read) }
+    ensures write { S.faults out.new ≡ faults_written (S.faults out.old) result }
+    ensures refused { IsRefusedOnce (S.refusals out.old) (S.refusals out.new) result }
+{
+    if cut == Some(line.number) {
+        return Ok(Turn::Refused(FaultCode::S11TooLong));
+    }
+    match read_line(alloc, line.bytes, session.circuit(), stuck) {
+        Ok(Some(command)) => run_command(session, &command, out, analyst),
+        Ok(None) => Ok(Turn::Accepted),
+        Err(fault) => match script_code(fault) {
+            Some(code) => Ok(Turn::Refused(code)),
+            None => Err(Stop::Memory),
+        },
+    }
+}
+
+// Reads a line. Where no node is stuck its command is taken as it is, and not copied.
+fn read_line(
+    alloc: Global,
+    bytes: &[u8],
+    circuit: &Circuit,
+    stuck: Option<(usize, Tern)>,
+) -> Result<Option<Command>, ScriptFault>
+    ensures ok { IfOk result (λ left. masked_reading stuck circuit.now bytes.now ≡ Ok left) }
+    ensures refused { IfErr result (λ fault. (fault ≡ ScriptFault.NoMemory)
+        ⊎ (masked_reading stuck circuit.now bytes.now ≡ Err fault)) }
+    ensures formed { IfOk result (λ left. IfSome left IsFormed) }
+{
+    match stuck {
+        Some(_) => read_masked(alloc, bytes, circuit, stuck),
+        None => read_command(alloc, bytes),
+    }
+}
+
+// Does a command.
+fn run_command<S: Sink, A: Analyst>(
+    session: &mut Session,
+    command: &Command,
+    out: &mut S,
+    analyst: &mut A,
+) -> Result<Turn, Stop>
+    requires { IsFormed command.now }
+    ensures turn { TakesCommand
+        session.old command.now session.new
+        (S.written out.old) (S.written out.new) (A.analysed analyst.old) (A.analysed analyst.new) result }
+    ensures no_read { IfErr result (λ stop. stop ≢ Stop.Read) }
+    ensures write { S.faults out.new ≡ faults_written (S.faults out.old) result }
+    ensures refused { IsRefusedOnce (S.refusals out.old) (S.refusals out.new) result }
+{
+    match session.apply(command, analyst, out) {
+        Ok(()) => Ok(Turn::Accepted),
+        Err(ApplyFault::Refused(refusal)) => Ok(Turn::Refused(refusal_code(refusal))),
+        Err(ApplyFault::GroupNodes { node, count }) => {
+            Ok(Turn::TooLarge(BuildFault::GroupNodes { node, count }))
+        }
+        Err(ApplyFault::GroupSwitches { node, count }) => {
+            Ok(Turn::TooLarge(BuildFault::GroupSwitches { node, count }))
+        }
+        Err(ApplyFault::WriteFault) => Err(Stop::Write),
+        Err(ApplyFault::NoMemory) => Err(Stop::Memory),
+    }
+}

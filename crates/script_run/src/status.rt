@@ -1,0 +1,32 @@
+ghost use Rattle.std.specs.Prelude.{◌≡◌};
+ghost use Rattle.script_run.specs.Statuses.{code_of};
+
+/// What a run of the program comes to.
+#[derive(Clone, Copy, Debug, PartialEq, Eq)]
+pub enum Status {
+    /// None of the others.
+    Done,
+    /// The script was accepted to its end and an expectation of it was not met.
+    Mismatch,
+    /// The words are no command line.
+    Usage,
+    /// A line of the netlist was refused.
+    NetRefused,
+    /// A line of the script was refused.
+    ScriptRefused,
+    /// A file could not be read.
+    ReadFault,
+    /// The output could not be written.
+    WriteFault,
+    /// There was want of memory.
+    NoMemory,
+}
+
+impl Status {
+    /// The exit status of the program: 0 to 7, in the order of the cases.
+    pub fn code(self) -> u8
+        ensures { result ≡ code_of self }
+    {
+        self as u8
+    }
+}
