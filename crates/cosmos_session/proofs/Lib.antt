@@ -16,3 +16,4 @@ pub mod UndoLemmas
 pub mod BuildLemmas
 pub mod MoveLemmas
 pub mod ReportLemmas
+pub mod BoundLemmas

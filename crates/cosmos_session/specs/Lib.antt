@@ -7,3 +7,4 @@ pub mod Sinks
 pub mod Machines
 pub mod Outcomes
 pub mod Stages
+pub mod Bounds

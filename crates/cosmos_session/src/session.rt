@@ -78,6 +78,18 @@ impl Session {
         })
     }
 
+    /// A session at its start over another circuit, in which what this one keeps is kept still. At want of
+    /// memory both are dropped.
+    pub fn restart(self, circuit: Circuit) -> Result<Session, NoMemory>
+        ensures { IfOk result (λ session. session
+            ≡ record { core = record (start_of circuit) { kept = self.core.kept }; machine = None }) }
+    {
+        let Session { alloc, kept, .. } = self;
+        let mut session = Session::new(alloc, circuit)?;
+        session.kept = kept;
+        Ok(session)
+    }
+
     /// The circuit, as edited so far.
     pub fn circuit(&self) -> &Circuit
         ensures value { result.now ≡ self.now.core.circuit }
@@ -91,6 +103,13 @@ impl Session {
         ensures { result.now ≡ self.now.core.state }
     {
         self.stage.state()
+    }
+
+    /// The nodes that are watched, in the order of the watch list.
+    pub fn watched(&self) -> &[usize]
+        ensures { result.now ≡ self.now.core.watched }
+    {
+        &self.watched
     }
 
     /// Whether each expectation so far was met.

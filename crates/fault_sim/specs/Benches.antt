@@ -1,12 +1,10 @@
 -- What a bench says of a fault.
-use Rattle.std.specs.Prelude.{Option, Some}
-use Rattle.fault_sim.specs.declared.fault.Fault.{Fault}
 use Rattle.fault_sim.specs.declared.trace.Trace.{Trace}
 use Rattle.fault_sim.specs.declared.verdicts.Verdict.{Verdict}
 use Rattle.fault_sim.specs.Traces.{IsVerdict}
 
 -- the verdict is that on a trace that a run under the fault may have, beside the good one
-pub record JudgesBy (gives : Option Fault → Trace → Type 0) (good : Trace) (fault : Fault) (verdict : Verdict) : Type 0 where
+pub record JudgesBy (gives : Trace → Type 0) (good : Trace) (verdict : Verdict) : Type 0 where
   pub bad : Trace
-  pub given : gives (Some fault) bad
+  pub given : gives bad
   pub judged : IsVerdict good bad verdict
