@@ -53,6 +53,10 @@ visible_parts (ended word byte rest words is stops more) plain =
     All-cons IsVisibleName word words (IsVisibleName-word word is (IsPlain-before word byte rest plain))
     (visible_parts more (IsPlain-after word byte rest plain))
 
+-- so the words of bytes that may stand in a line are visible names
+pub plain_words-visible : (bytes : List ℕ) → AllPass is_line_byte bytes → All IsVisibleName (words_of bytes)
+plain_words-visible bytes plain = visible_parts (IsLine-words_of bytes) plain
+
 -- a line that has no fault and is no comment is plain
 IsPlain-line : (line : List ℕ) → line_fault line ≡ None → is_comment line ≡ false → IsPlain line
 IsPlain-line line sound other =
@@ -67,4 +71,4 @@ IsPlain-line line sound other =
 
 -- so its words are visible names
 pub words_of-visible : (line : List ℕ) → line_fault line ≡ None → is_comment line ≡ false → All IsVisibleName (words_of line)
-words_of-visible line sound other = visible_parts (IsLine-words_of line) (IsPlain-line line sound other)
+words_of-visible line sound other = plain_words-visible line (IsPlain-line line sound other)

@@ -4,4 +4,5 @@ pub mod PlaceLemmas
 pub mod PoolLemmas
 pub mod ReadingLemmas
 pub mod TableLemmas
+pub mod VisibleLemmas
 mod Worked

@@ -18,6 +18,10 @@
 //! its words there, in numbers of 32 bits, so that the cards of a long text take little more than
 //! their words.
 //!
+//! For the proofs of crates above: `VisibleLemmas` says that the words of the parts of a deck that isn't
+//! refused are visible names, and that each part has those that it needs; `ReadingLemmas` that what a name
+//! stands for is as all entries of its table are.
+//!
 //! The cards are those of Nagel and Pederson, "SPICE (Simulation Program with Integrated Circuit
 //! Emphasis)", 1973, in this project's profile: docs/FORMATS.md has it whole.
 #![tactic(auto)]
