@@ -1,0 +1,6 @@
+pub mod ExpansionLemmas
+pub mod FrameLemmas
+pub mod ReaderLemmas
+pub mod StepLemmas
+pub mod VisibleLemmas
+mod Worked

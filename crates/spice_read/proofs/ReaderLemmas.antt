@@ -1,0 +1,43 @@
+-- The circuit of a deck, by what is read of its text in small letters.
+use Rattle.std.proofs.Common.{◌≡◌, ℕ, List, map, Option, Result, Ok, Err, IfOk, sym, ◌∙◌, ap}
+use Rattle.std.specs.Char.{to_ascii_lowercase}
+use Rattle.std.specs.List.{enumerate_from}
+use Rattle.line_words.specs.Files.{cut_line, front_of}
+use Rattle.line_words.specs.Lines.{lines_of}
+use Rattle.netlist.specs.Circuits.{CircuitData, HasVisibleNames, IsCircuit}
+use Rattle.spice_cards.specs.declared.fault.DeckFault.{DeckFault}
+use Rattle.spice_cards.specs.declared.fault.DeckFault.TheVariants as fault
+use Rattle.spice_cards.specs.Decks.{DeckCards}
+use Rattle.spice_cards.specs.Reading.{cards_of, titled_meaning}
+use Rattle.spice_cards.specs.Stops.{IsFault}
+use Rattle.spice_read.specs.Making.{circuit_by, circuit_of}
+use Rattle.spice_read.proofs.VisibleLemmas.{circuit_of-circuit, circuit_of-visible}
+
+module _ (text : List ℕ) (cut : Option ℕ) (bytes : List ℕ) (is_cut : cut ≡ cut_line text) (are : bytes ≡ map to_ascii_lowercase (front_of text)) where
+  -- the cards that are read
+  cards-read : titled_meaning cut (enumerate_from 1 (lines_of bytes)) ≡ cards_of text
+  unfolding cards_of
+  cards-read =
+      ap (λ (c : Option ℕ). titled_meaning c (enumerate_from 1 (lines_of bytes))) is_cut
+      ∙ ap (λ (bs : List ℕ). titled_meaning (cut_line text) (enumerate_from 1 (lines_of bs))) are
+
+  -- what they give
+  pub circuit-read : (deck : DeckCards) → titled_meaning cut (enumerate_from 1 (lines_of bytes)) ≡ Ok deck → circuit_by (Ok deck) ≡ circuit_of text
+  unfolding circuit_of
+  circuit-read deck same = ap circuit_by (sym same ∙ cards-read)
+
+  -- and their refusal
+  pub fault-read : (told : DeckFault) → IsFault (titled_meaning cut (enumerate_from 1 (lines_of bytes))) told → IsFault (circuit_of text) told
+  unfolding circuit_of
+  fault-read (fault.At line what) tells = ap circuit_by (sym cards-read ∙ tells)
+  fault-read fault.NoMemory tells = tt
+
+-- what is read is a circuit
+pub circuit-is : (answer : Result CircuitData DeckFault) (text : List ℕ) → IfOk answer (λ c. circuit_of text ≡ Ok c) → IfOk answer IsCircuit
+circuit-is (Ok c) text same = circuit_of-circuit text c same
+circuit-is (Err told) text same = tt
+
+-- with visible names
+pub circuit-visible : (answer : Result CircuitData DeckFault) (text : List ℕ) → IfOk answer (λ c. circuit_of text ≡ Ok c) → IfOk answer HasVisibleNames
+circuit-visible (Ok c) text same = circuit_of-visible text c same
+circuit-visible (Err told) text same = tt

@@ -1,0 +1,5 @@
+pub mod Expansions
+pub mod Frames
+pub mod Making
+pub mod Scopes
+pub mod Steps

@@ -1,0 +1,143 @@
+//! The expansion of a deck's parts.
+
+ghost use Rattle.std.specs.Prelude.{◌≡◌, length, IfOk, IfErr, OnOk, Ok, Err, MatchResult};
+ghost use Rattle.spice_cards.specs.Stops.{IsFault};
+ghost use Rattle.spice_read.specs.Making.{after, step_meaning};
+ghost use Rattle.spice_read.specs.Scopes as scopes;
+ghost use Rattle.spice_read.specs.Steps as spec;
+
+use crate::frame::Frame;
+use crate::making::Made;
+use crate::names::{kind_of, nodes_of, strength_number, subcircuit_named};
+use spice_cards::{
+    Deck, DeckFault, DeckWhat, PartSort, Parts, Strength, Subcircuit, Word, word_at,
+};
+
+/// The most calls that are open inside one another.
+pub const MOST_OPEN: usize = 32;
+
+/// The most calls of a deck, each counted where it stands in the expansion.
+pub const MOST_CALLS: u64 = 1_000_000;
+
+/// Expands parts in order, with room for so many calls inside one another.
+///
+/// The first refused card in the order of the expansion ends all. Of a call's causes the first of these
+/// wins: no subcircuit has the name; it has another number of ports; it is being expanded; there is no room
+/// for the call; there are too many calls. Of a transistor's: its model has no kind; then what the edit of
+/// the circuit refuses.
+pub(crate) fn expand<'d, 'a>(
+    made: &mut Made,
+    deck: &'d Deck<'a>,
+    room: usize,
+    frame: &Frame,
+    parts: Parts<'d, 'a>,
+) -> Result<(), DeckFault>
+    ensures ok { OnOk result
+        (after made.old (spec.expand room deck.now frame.now parts.entry) ≡ Ok made.new) }
+    ensures refused { IfErr result
+        (IsFault (after made.old (spec.expand room deck.now frame.now parts.entry))) }
+{
+    for part in parts {
+        match part.sort {
+            PartSort::Transistor(strength) => {
+                match place(made, deck, frame, part.line, strength, part.words) {
+                    Ok(()) => {}
+                    Err(fault) => return Err(fault),
+                }
+            }
+            PartSort::Call => {
+                let subcircuit = match entry(deck, frame, part.words) {
+                    Ok(subcircuit) => subcircuit,
+                    Err(what) => {
+                        return Err(DeckFault::At {
+                            line: part.line,
+                            what,
+                        });
+                    }
+                };
+                if room == 0 {
+                    return Err(DeckFault::At {
+                        line: part.line,
+                        what: DeckWhat::TooDeep,
+                    });
+                }
+                match made.open(part.line) {
+                    Ok(()) => {}
+                    Err(fault) => return Err(fault),
+                }
+                let inner = match frame.called(
+                    deck,
+                    part.words,
+                    subcircuit.line,
+                    subcircuit.ports,
+                ) {
+                    Ok(inner) => inner,
+                    Err(_) => return Err(DeckFault::NoMemory),
+                };
+                match expand(made, deck, room - 1, &inner, subcircuit.parts) {
+                    Ok(()) => {}
+                    Err(fault) => return Err(fault),
+                }
+            }
+            PartSort::Opening => {}
+        }
+    }
+    Ok(())
+}
+
+// Places a transistor, by its line, the strength that its card sets, and its words.
+fn place(
+    made: &mut Made,
+    deck: &Deck<'_>,
+    frame: &Frame,
+    line: u64,
+    set: Strength,
+    words: &[Word<'_>],
+) -> Result<(), DeckFault>
+    ensures ok { OnOk result
+        (step_meaning made.old (spec.transistor_step deck.now frame.now line set words.now) ≡ Ok made.new) }
+    ensures refused { IfErr result
+        (IsFault (step_meaning made.old (spec.transistor_step deck.now frame.now line set words.now))) }
+{
+    let Some(kind) = kind_of(deck, word_at(words, 5)) else {
+        return Err(DeckFault::At {
+            line,
+            what: DeckWhat::BadModel,
+        });
+    };
+    let gate = frame.node_of(deck, word_at(words, 2))?;
+    let source = frame.node_of(deck, word_at(words, 3))?;
+    let drain = frame.node_of(deck, word_at(words, 1))?;
+    made.place(
+        line,
+        kind,
+        strength_number(kind, set),
+        &gate,
+        &source,
+        &drain,
+    )
+}
+
+// The subcircuit that a call opens, by the words of its card, or why it opens none.
+fn entry<'d, 'a>(
+    deck: &'d Deck<'a>,
+    frame: &Frame,
+    words: &[Word<'_>],
+) -> Result<Subcircuit<'d, 'a>, DeckWhat>
+    ensures value { MatchResult result
+        (λ s. spec.entry_of deck.now frame.now words.now
+        ≡ Ok (record { line = s.line; ports = s.ports.now; parts = s.parts }))
+        (λ what. spec.entry_of deck.now frame.now words.now ≡ Err what) }
+    ensures counted { IfOk result (λ s. length s.ports.now ≡ length (scopes.nodes_of words.now)) }
+{
+    let Some(subcircuit) = deck.find(subcircuit_named(words)) else {
+        return Err(DeckWhat::NoSubckt);
+    };
+    if nodes_of(words).len() != subcircuit.ports.len() {
+        return Err(DeckWhat::PortCount);
+    }
+    if frame.is_expanding(subcircuit.line) {
+        return Err(DeckWhat::Recursion);
+    }
+    Ok(subcircuit)
+}
