@@ -1,10 +1,10 @@
 -- The words of a deck's parts are visible names: each line that is looked at was checked, since a line with a fault is refused.
-use Rattle.std.proofs.Common.{◌≡◌, ℕ, ◌+◌, ◌<◌, ◌≤◌, Bool, true, false, ◌==◌, ◌||◌, not, All, List, [], ◌∷◌, ◌++◌, length, take, drop, filter, codes, bytes_eq, nat_lt, is_some, find, Option, Some, None, Result, Ok, Err, IfOk, IfSome, if◌then◌else◌, refl, sym, ◌∙◌, ap, subst, arith}
-use Rattle.std.specs.List.{AllPass, after_first, before_first, enumerate_from, list_all, position_or_len}
+use Rattle.std.proofs.Common.{◌≡◌, ℕ, ◌+◌, ◌≤◌, Bool, true, false, ◌==◌, ◌||◌, not, All, List, [], ◌∷◌, ◌++◌, length, take, drop, codes, bytes_eq, nat_lt, is_some, Option, Some, None, Result, Ok, Err, IfOk, IfSome, if◌then◌else◌, refl, sym, ◌∙◌, ap, subst, arith}
+use Rattle.std.specs.List.{AllPass, before_first, list_all, position_or_len}
 use Rattle.std.specs.Option.{option_map_or}
 use Rattle.std.proofs.lemmas.Bool.Decides.{nat_tests}
 use Rattle.std.proofs.lemmas.List.{length-take-le}
-use Rattle.std.proofs.lemmas.List.Elements.{All-nil, All-cons, All-append, All-drop, All-filter, All-head, All-push, All-tail, All-take}
+use Rattle.std.proofs.lemmas.List.Elements.{All-nil, All-cons, All-append, All-drop, All-head, All-push, All-tail, All-take}
 use Rattle.std.proofs.lemmas.List.Sums.{AllPass-from_list_all}
 use Rattle.std.proofs.lemmas.Slice.Eq.{bytes_eq-Decides}
 use Rattle.path_meaning.specs.declared.switching.SwitchKind.{SwitchKind}
@@ -16,7 +16,6 @@ use Rattle.line_words.specs.Words.{words_of}
 use Rattle.line_words.proofs.VisibleLemmas.{plain_words-visible}
 use Rattle.spice_cards.specs.declared.cards.TheConstants.{TRANSISTOR_WORDS}
 use Rattle.spice_cards.specs.declared.fault.DeckFault.{DeckFault}
-use Rattle.spice_cards.specs.declared.fault.DeckFault.TheVariants.{At}
 use Rattle.spice_cards.specs.declared.fault.DeckWhat.{DeckWhat}
 use Rattle.spice_cards.specs.declared.fault.DeckWhat.TheVariants.{BadByte, BadCard, BadNesting, FewWords, LineTooLong, Redefined, TooLong}
 use Rattle.spice_cards.specs.declared.sorts.CardSort.{CardSort}
@@ -25,11 +24,11 @@ use Rattle.spice_cards.specs.declared.sorts.LineSort.{LineSort}
 use Rattle.spice_cards.specs.declared.sorts.LineSort.TheVariants.{Passed, More, Begins}
 use Rattle.spice_cards.specs.declared.sorts.PartSort.{PartSort}
 use Rattle.spice_cards.specs.declared.sorts.PartSort.TheVariants.{Transistor, Call, Opening}
-use Rattle.spice_cards.specs.CardLines.{after_sign, begins_by, card_words, continued, continued_by, ends_line, first_solid, first_word, is_comment, is_end, is_ended, kept_words, line_fault, line_sort, plus, sort_by, star, is_ender}
+use Rattle.spice_cards.specs.CardLines.{after_sign, begins_by, card_words, continued, continued_by, ends_line, first_solid, first_word, is_end, is_ended, kept_words, line_fault, line_sort, plus, sort_by, star, is_ender}
 use Rattle.spice_cards.specs.CardSorts.{call_words, card_sort, ends_call, kind_of_type, opening_words, strength_of}
 use Rattle.spice_cards.specs.Decks.{DeckCards, PartCard, SubcircuitCards, no_cards}
 use Rattle.spice_cards.specs.Reading.{ReadSoFar, call_meaning, card_meaning, cards_of, checked_meaning, closing_meaning, deck_lines, going_on, line_meaning, lines_meaning, model_meaning, nothing_read, opening_meaning, sorted_meaning, tail_fault, titled_meaning, transistor_meaning, unless, unread_fault, with_model, with_part, with_part_in, word_at}
-use Rattle.spice_cards.specs.Tables.{named, with_first}
+use Rattle.spice_cards.specs.Tables.{named}
 
 -- ---- lines
 
