@@ -17,7 +17,7 @@
 //! ```
 //!
 //! For the proofs of crates above: `EffectLemmas`, how each formed command ends, and that what is done
-//! keeps the data ready.
+//! keeps the data ready; `BoundLemmas`, that the lines of a formed command can be read again.
 //!
 //! After Bryant, "A Switch-Level Model and Simulator for MOS Digital Systems", 1984, and Bryant, Beatty,
 //! Brace, Cho and Sheffler, "COSMOS: A Compiled Simulator for MOS Circuits", 1987.
