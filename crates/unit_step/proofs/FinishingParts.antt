@@ -1,12 +1,10 @@
 -- What is put in places of a list.
-use Rattle.std.proofs.Common.{◌≡◌, ◌≢◌, ℕ, zero, suc, ◌+◌, ◌<◌, inl, inr, List, [], ◌∷◌, ◌++◌, length, map, take, get_or, Option, Some, None, refl, sym, ap, ap₂, subst, ◌∙◌, arith}
-use Rattle.std.specs.Prelude.{Contains, slice_set, slice_get, unwrap_or}
+use Rattle.std.proofs.Common.{◌≡◌, ◌≢◌, ℕ, zero, suc, ◌+◌, ◌<◌, inl, inr, List, [], ◌∷◌, ◌++◌, length, map, take, get_or, Some, refl, sym, ap, ap₂, subst, ◌∙◌, arith}
+use Rattle.std.specs.Prelude.{Contains, slice_set, slice_get}
 use Rattle.std.proofs.lemmas.Bool.{cases_eq}
-use Rattle.std.proofs.lemmas.List.{length-set, take_more, length-take-le, get_or-take, get_or_default}
+use Rattle.std.proofs.lemmas.List.{length-set, take_more, length-take-le}
 use Rattle.std.proofs.lemmas.List.Elements.{Contains-push, Contains-push_cases, Contains-append_left}
-use Rattle.std.proofs.lemmas.Option.{unwrap_or-slice_get}
 use Rattle.group_text.specs.Texts.{GroupTextData}
-use Rattle.unit_step.specs.Marking.{AreOnce}
 use Rattle.unit_step.specs.Finishing.{Puts}
 use Rattle.kept_parts.proofs.NumberLemmas.{slice_get-last, slice_get-grown}
 

@@ -1,16 +1,10 @@
 -- A part leaves its members, and the nodes that it reads.
-use Rattle.std.proofs.Common.{◌≡◌, ◌≢◌, ℕ, zero, suc, ◌+◌, ◌<◌, ◌==◌, Bool, true, false, cond, eqb, filter, not, inl, inr, ◌⊎◌, List, [], ◌∷◌, ◌++◌, length, take, get_or, Option, None, refl, sym, ap, subst, ◌∙◌, arith, eq-eqb, true≢false}
+use Rattle.std.proofs.Common.{◌≡◌, ◌≢◌, ℕ, ◌+◌, ◌<◌, inl, inr, List, [], ◌∷◌, ◌++◌, length, take, get_or, Option, None, sym, ap, subst, ◌∙◌}
 use Rattle.std.specs.Prelude.{Contains, slice_index_or, slice_set}
 use Rattle.std.proofs.lemmas.Bool.{cases_eq}
-use Rattle.std.proofs.lemmas.Bool.Decides.{Decides-eqb}
 use Rattle.std.proofs.lemmas.List.{get_or-set_same, get_or-set_other, length-set, take_more}
 use Rattle.std.proofs.lemmas.List.Elements.{Contains-push, Contains-push_cases, Contains-append_left}
-use Rattle.smallvec.specs.SmallVec.{SmallVec}
-use Rattle.unit_step.specs.Readers.{readers_of}
 use Rattle.unit_step.specs.Seating.{Disowns}
-use Rattle.unit_step.specs.Readers.{Unlists}
-use Rattle.unit_step.proofs.MakingLemmas.{readers_of-set_same, readers_of-set_other}
-use Rattle.unit_step.proofs.TakingLemmas.{readers_read}
 
 -- one node more has no owner
 pub Disowns-more : (members : List ℕ) (i node : ℕ) (old mid : List (Option ℕ)) → i < length members → node ≡ get_or members i 0 →

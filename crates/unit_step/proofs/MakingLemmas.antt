@@ -24,10 +24,8 @@ use Rattle.unit_step.specs.Evaluating.{Rooms}
 use Rattle.unit_step.specs.Running.{AreOwners, IsMachine}
 use Rattle.unit_step.specs.Readers.{readers_of}
 use Rattle.unit_step.specs.Making.{ShareNone, held, Owns, HasRoomFor, IsFormed, AreOwned}
-use Rattle.unit_step.specs.Readers.{Lists, AreListed}
 use Rattle.unit_step.proofs.MarkLemmas.{marked_inside}
 use Rattle.unit_step.proofs.PartLemmas.{same_part}
-use Rattle.unit_step.proofs.TakingLemmas.{readers_read}
 
 -- what holds on success holds where there was one
 pub at_on_ok : {T E : Type 0} (P : Type 0) (result : Result T E) → OnOk result P → is_ok result ≡ true → P

@@ -1,6 +1,6 @@
 -- The lists of readers, while parts enter them and leave them. One list is replaced at a time: what holds of it, and of all others, holds
 -- of all lists.
-use Rattle.std.proofs.Common.{◌≡◌, ◌≢◌, ℕ, ◌+◌, ◌-◌, ◌<◌, ◌≤◌, Bool, true, false, eqb, inl, inr, ◌⊎◌, List, [], ◌∷◌, ◌++◌, length, take, drop, get_or, nat_eq, Some, Result, Ok, Err, refl, sym, ap, subst, ◌∙◌, arith}
+use Rattle.std.proofs.Common.{◌≡◌, ℕ, ◌+◌, ◌-◌, ◌<◌, ◌≤◌, false, inl, inr, ◌⊎◌, List, [], ◌∷◌, ◌++◌, length, take, drop, get_or, nat_eq, Some, Result, Ok, Err, refl, sym, ap, subst, ◌∙◌, arith}
 use Rattle.std.specs.Prelude.{Contains, slice_set, slice_get, slice_index, OnErr}
 use Rattle.std.specs.List.{IsDistinct, list_any}
 use Rattle.std.specs.Result.{is_ok}
@@ -15,7 +15,7 @@ use Rattle.smallvec.specs.SmallVec.{SmallVec}
 use Rattle.channel_groups.specs.Listing.{TakesOut}
 use Rattle.unit_step.specs.declared.part.HeldPart.{HeldPart}
 use Rattle.unit_step.specs.Marking.{AreOnce}
-use Rattle.unit_step.specs.Parts.{Stands, ReadsAt}
+use Rattle.unit_step.specs.Parts.{Stands}
 use Rattle.unit_step.specs.Readers.{readers_of, AreEachOnce, IsLastIf, Adds, Lists, ListsLast, ListsSome, Unlists, ReadsAs, HaveSameReaders, AreListedTo, AreOffTo, AreListed}
 use Rattle.unit_step.proofs.PartLemmas.{same_part}
 use Rattle.unit_step.proofs.MakingLemmas.{readers_of-set_same, readers_of-set_other}

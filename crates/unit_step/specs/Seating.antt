@@ -1,5 +1,5 @@
 -- Parts that lose their group in an edit, and parts for new groups.
-use Rattle.std.specs.Prelude.{◌≡◌, ◌≢◌, ℕ, ◌+◌, ◌<◌, ◌≤◌, ◌⊎◌, ◌↔◌, List, [], ◌∷◌, ◌++◌, true, if◌then◌else◌, length, Contains, Option, None, Some, slice_set, slice_index_or}
+use Rattle.std.specs.Prelude.{◌≡◌, ℕ, ◌+◌, ◌<◌, ◌≤◌, ◌⊎◌, ◌↔◌, List, [], ◌∷◌, ◌++◌, true, if◌then◌else◌, length, Contains, Option, None, Some, slice_set, slice_index_or}
 use Rattle.path_meaning.specs.Graphs.{GraphData}
 use Rattle.group_meaning.specs.Groups.{Group, AreGroups}
 use Rattle.unit_step.specs.declared.part.HeldPart.{HeldPart}

@@ -1,9 +1,7 @@
 -- The part enters the list of one node more, or the node has its readers still.
-use Rattle.std.proofs.Common.{◌≡◌, ℕ, ◌<◌, true, false, get_or, length, take, refl, sym, subst, ap, ◌∙◌, arith, rules}
+use Rattle.std.proofs.Common.{◌≡◌, ◌<◌, true, false, get_or, length, take, refl, arith, rules}
 use Rattle.std.specs.Result.{is_ok}
 use Rattle.std.proofs.lemmas.List.{get_or_default}
-use Rattle.smallvec.specs.SmallVec.{SmallVec}
-use Rattle.unit_step.specs.Readers.{readers_of, Adds}
 use Rattle.unit_step.proofs.MakingLemmas.{at_on_ok}
 use Rattle.unit_step.proofs.ReadersLemmas.{at_on_err, AreEachOnce-here, IsLastIf-here, ListsLast-none, ListsLast-more, ListsSome-failed, ListsSome-all}
 use Rattle.unit_step.proofs.readers.list_at.Goals as goal

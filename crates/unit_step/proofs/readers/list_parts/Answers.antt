@@ -1,10 +1,9 @@
 -- One part more is listed as a reader.
-use Rattle.std.proofs.Common.{◌≡◌, ◌<◌, ℕ, List, All, length, true, sym, ap, subst, arith, rules}
+use Rattle.std.proofs.Common.{◌<◌, ℕ, List, All, length, sym, subst, arith}
 use Rattle.std.specs.Prelude.{Contains}
-use Rattle.std.specs.Result.{is_ok}
 use Rattle.unit_step.specs.declared.part.HeldPart.{HeldPart}
 use Rattle.unit_step.specs.Parts.{Stands}
-use Rattle.unit_step.specs.Readers.{readers_of, ListsSome, AreListed}
+use Rattle.unit_step.specs.Readers.{readers_of, ListsSome}
 use Rattle.unit_step.proofs.ReadersLemmas.{AreListed-more, AreListed-none}
 use Rattle.unit_step.proofs.readers.list_parts.Goals as goal
 

@@ -1,5 +1,5 @@
 -- No spot is the part's.
-use Rattle.std.proofs.Common.{◌≡◌, ℕ, get_or, ◌∙◌, sym, arith}
+use Rattle.std.proofs.Common.{◌∙◌, arith}
 use Rattle.std.proofs.lemmas.List.{get_or_default}
 use Rattle.unit_step.proofs.readers.spot_in.Goals as goal
 

@@ -1,5 +1,5 @@
 -- The part stands at no spot so far.
-use Rattle.std.proofs.Common.{◌≡◌, ◌≢◌, ℕ, ◌<◌, get_or}
+use Rattle.std.proofs.Common.{◌≢◌, ℕ, ◌<◌, get_or}
 use Rattle.unit_step.proofs.readers.spot_in.Given as goal
 
 abbrev pub invariant-loop-spot : goal.invariant-loop-spot

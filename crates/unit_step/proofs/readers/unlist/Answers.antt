@@ -1,5 +1,5 @@
 -- The part is taken off one list more.
-use Rattle.std.proofs.Common.{◌≡◌, ℕ, ◌<◌, get_or, length, take, refl, sym, subst, arith}
+use Rattle.std.proofs.Common.{◌<◌, get_or, length, take, refl, subst, arith}
 use Rattle.std.proofs.lemmas.List.{get_or_default, take_all}
 use Rattle.unit_step.specs.Readers.{Unlists}
 use Rattle.unit_step.proofs.ReadersLemmas.{AreEachOnce-here, Unlists-none, Unlists-more}

@@ -1,10 +1,9 @@
 -- The stale parts get their codes.
-use Rattle.std.proofs.Common.{◌≡◌, ◌≤◌, ◌<◌, ℕ, Bool, List, length, map, All, Some, sym, ap, subst, ◌∙◌, arith}
+use Rattle.std.proofs.Common.{◌≡◌, ◌≤◌, ◌<◌, Bool, List, length, map, All, Some, sym, ap, subst, ◌∙◌, arith}
 use Rattle.std.specs.Prelude.{slice_get}
 use Rattle.std.specs.Vec.{with_items}
 use Rattle.std.proofs.lemmas.List.{length-map, with_items_is}
 use Rattle.std.proofs.lemmas.List.Elements.{All-weaker}
-use Rattle.smallvec.specs.SmallVec.{SmallVec}
 use Rattle.path_meaning.specs.Rails.{IsSound}
 use Rattle.group_text.specs.Texts.{text_of_group}
 use Rattle.kept_parts.specs.Uses.{texts_used, count_distinct}
@@ -18,7 +17,7 @@ use Rattle.unit_step.specs.Running.{IsMachine}
 use Rattle.unit_step.specs.Fitting.{Covers}
 use Rattle.unit_step.specs.Editing.{Finishes}
 use Rattle.unit_step.specs.Finishing.{IsWaking, Puts}
-use Rattle.unit_step.specs.Readers.{ListsAll, HaveSameReaders}
+use Rattle.unit_step.specs.Readers.{ListsAll}
 use Rattle.unit_step.proofs.FinishingRoused.{IsMachine-wider, HaveSameReaders-refl, AreMade-held, parts_counted, unlisted, known_inside, IsMachine-roused, Finishes-roused}
 use Rattle.unit_step.proofs.machine.Machine.rouse.Goals as goal
 

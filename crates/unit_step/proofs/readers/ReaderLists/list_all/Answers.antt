@@ -1,7 +1,6 @@
 -- These parts stand in no list.
-use Rattle.std.proofs.Common.{◌≡◌, List, subst, sym, ap, ◌∙◌}
+use Rattle.std.proofs.Common.{subst, ◌∙◌}
 use Rattle.std.specs.Prelude.{Contains}
-use Rattle.smallvec.specs.SmallVec.{SmallVec}
 use Rattle.unit_step.specs.Readers.{readers_of}
 use Rattle.unit_step.proofs.readers.ReaderLists.list_all.Goals as goal
 

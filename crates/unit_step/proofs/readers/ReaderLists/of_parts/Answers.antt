@@ -1,5 +1,5 @@
 -- All parts were listed, where none was.
-use Rattle.std.proofs.Common.{◌≡◌, ℕ, length, sym, subst, ◌∙◌, arith}
+use Rattle.std.proofs.Common.{ℕ, sym, subst, arith}
 use Rattle.std.specs.Prelude.{Contains}
 use Rattle.std.proofs.lemmas.List.{with_items_is}
 use Rattle.unit_step.specs.Parts.{ReadsAt}
