@@ -19,13 +19,13 @@ pub returns-clause-reads : goal.returns-clause-reads
 returns-clause-reads c =
     let lists = c.self.inside.readers.items in
     let inside_all : (k node : ℕ) → ReadsAt c.self.inside.parts.items k node → node < length c.self.inside.state.items = λ k node reads.
-        let there = c.self.invariant.runs.readers node k reads in
-        elim (cases_lt node (length lists)) [
-          | inl inside ↦ omega (arith, inside, c.self.invariant.runs.readers_counted)
-          | inr past ↦
-              let none : readers_of lists node ≡ [] =
-              get_or_past (map (λ (parts : SmallVec ℕ). parts.items) lists) node [] (omega (arith, past, length-map lists (λ (parts : SmallVec ℕ). parts.items))) in
-              let (i, inside, here) = subst (λ xs. Contains xs k) none there in
-              absurd (omega (arith, inside))
-        ] in
+    let there = c.self.invariant.runs.readers node k reads in
+    elim (cases_lt node (length lists)) [
+      | inl inside ↦ omega (arith, inside, c.self.invariant.runs.readers_counted)
+      | inr past ↦
+          let none : readers_of lists node ≡ [] =
+          get_or_past (map (λ (parts : SmallVec ℕ). parts.items) lists) node [] (omega (arith, past, length-map lists (λ (parts : SmallVec ℕ). parts.items))) in
+          let (i, inside, here) = subst (λ xs. Contains xs k) none there in
+          absurd (omega (arith, inside))
+    ] in
     rw (← c.self.view_is) inside_all
