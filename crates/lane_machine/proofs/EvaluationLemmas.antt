@@ -1,5 +1,5 @@
 -- What the evaluation of parts notes in each column: of one part, and part by part.
-use Rattle.std.proofs.Common.{◌≡◌, ◌≢◌, ℕ, ◌<◌, ◌≤◌, ◌⊎◌, Bool, false, inl, inr, List, [], ◌∷◌, ◌++◌, length, map, All, Some, None, Global, Vec, refl, sym, ap, ap₂, subst, ◌∙◌, arith}
+use Rattle.std.proofs.Common.{◌≡◌, ℕ, ◌<◌, ◌≤◌, Bool, false, inl, inr, List, [], ◌∷◌, ◌++◌, length, map, All, Some, None, Global, Vec, refl, sym, ap, subst, ◌∙◌, arith}
 use Rattle.std.specs.Prelude.{Contains, slice_index, slice_set, vec_capacity}
 use Rattle.std.specs.declared.rc.Rc.{Rc}
 use Rattle.std.proofs.lemmas.List.Elements.{Contains-push, Contains-push_cases, Contains-append_left}
@@ -19,8 +19,8 @@ use Rattle.unit_step.proofs.MarkLemmas.{marked-cleared_was, marked-cleared_cases
 use Rattle.lane_machine.specs.declared.evaluation.WordChange.{WordChange}
 use Rattle.lane_machine.specs.declared.evaluation.Desk.{Desk}
 use Rattle.lane_machine.specs.Columns.{HasColumn}
-use Rattle.lane_machine.specs.Noting.{after_word, HasChange, IsNoted, Notes}
-use Rattle.lane_machine.specs.Evaluating.{rooms, IsNext, NotesAll, Reports, Evaluated}
+use Rattle.lane_machine.specs.Noting.{after_word, Notes}
+use Rattle.lane_machine.specs.Evaluating.{rooms, NotesAll, Reports, Evaluated}
 use Rattle.lane_machine.proofs.NotingLemmas.{no_difference, after-one, after-zero}
 
 -- ---- one part
@@ -30,7 +30,7 @@ module _ (joining : Bool) (parts : List HeldPart) (used : ℕ) (hi lo : List ℕ
     (below : All (λ node. node < length hi) part.map.items) (ones others : List ℕ) (highs : length ones ≡ part.members)
     (lows : length others ≡ length ones)
     (given : (lane : ℕ) (state : List Tern) → lane < 64 → HasLane lane hi lo state →
-        HasLane lane ones others (code_value code.value (map (state_at state) part.map.items))) where
+    HasLane lane ones others (code_value code.value (map (state_at state) part.map.items))) where
   module _ (lane : ℕ) (state : List Tern) (col : HasColumn used hi lo lane state) where
     abbrev values : List Tern
     values = code_value code.value (map (state_at state) part.map.items)
@@ -97,20 +97,23 @@ module _ (joining : Bool) (parts : List HeldPart) (used : ℕ) (hi lo : List ℕ
           | inl was ↦ inl was
           | inr noted ↦
               let within : change.node < length hi = subst (λ n. n < length hi) noted.node (below noted.place 0 (omega (arith, noted.inside, highs, front))) in
-              inr (within, λ lane state col. record {
-                given = state_at (values lane state col) noted.place;
-                gives = record {
-                  part = part;
-                  stands = stands;
-                  code = code;
-                  has = has_code;
-                  place = noted.place;
-                  member = record { inside = omega (arith, noted.inside, highs); within = omega (arith, noted.inside, highs, front); here = noted.node };
-                  value_is = refl;
-                };
-                one = ap (is_in_lane lane) noted.next.high ∙ one_after lane state col noted.place change.node noted.inside within;
-                zero = ap (is_in_lane lane) noted.next.low ∙ zero_after lane state col noted.place change.node noted.inside within;
-              })
+              inr (
+                within,
+                λ lane state col. record {
+                  given = state_at (values lane state col) noted.place;
+                  gives = record {
+                    part = part;
+                    stands = stands;
+                    code = code;
+                    has = has_code;
+                    place = noted.place;
+                    member = record { inside = omega (arith, noted.inside, highs); within = omega (arith, noted.inside, highs, front); here = noted.node };
+                    value_is = refl;
+                  };
+                  one = ap (is_in_lane lane) noted.next.high ∙ one_after lane state col noted.place change.node noted.inside within;
+                  zero = ap (is_in_lane lane) noted.next.low ∙ zero_after lane state col noted.place change.node noted.inside within;
+                },
+              )
         ];
   }
 

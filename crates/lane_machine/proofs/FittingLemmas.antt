@@ -1,15 +1,13 @@
 -- Each column is a machine that fits the graph: at first, after a step, and after words were placed.
-use Rattle.std.proofs.Common.{◌≡◌, ◌≢◌, ℕ, ◌<◌, ◌≤◌, ◌⊎◌, Bool, true, false, ◌||◌, inl, inr, List, [], ◌++◌, length, get_or, refl, sym, ap, ap₂, subst, ◌∙◌, append-nil, Result, Ok, Err, arith}
+use Rattle.std.proofs.Common.{◌≡◌, ℕ, ◌<◌, ◌≤◌, Bool, true, false, ◌||◌, inl, inr, List, [], ◌++◌, length, refl, sym, ap, ap₂, subst, ◌∙◌, append-nil, Result, Ok, Err, arith}
 use Rattle.std.specs.Prelude.{slice_set, slice_index, replicate, IfOk}
 use Rattle.std.proofs.lemmas.Bool.{cases_eq}
 use Rattle.std.proofs.lemmas.List.{ext_get_or, get_or-set_same, get_or-set_other, length-set, get_or-replicate}
 use Rattle.ternary.specs.declared.tern.Tern.{Tern}
 use Rattle.ternary.specs.declared.tern.Tern.TheVariants.{Zero}
-use Rattle.ternary.specs.Tern.{may_one, may_zero}
 use Rattle.path_meaning.specs.declared.TheConstants.{RAILS}
 use Rattle.path_meaning.specs.Switching.{state_at}
-use Rattle.path_meaning.specs.Graphs.{GraphData, IsWired, nodes}
-use Rattle.path_meaning.specs.Rails.{IsSound}
+use Rattle.path_meaning.specs.Graphs.{GraphData, IsWired}
 use Rattle.path_meaning.specs.Step.{IsStep}
 use Rattle.oscillation_x.specs.Settling.{IsJoinStep}
 use Rattle.group_text.specs.Texts.{GroupTextData}
@@ -17,17 +15,17 @@ use Rattle.circuit_texts.specs.Building.{Builds, IsCutOff}
 use Rattle.batch_words.specs.Lanes.{is_in_lane, HasLane}
 use Rattle.batch_words.proofs.RunLemmas.{high_at_node, low_at_node}
 use Rattle.unit_step.specs.declared.part.HeldPart.{HeldPart}
-use Rattle.unit_step.specs.Machines.{MachineData, IsMarked}
+use Rattle.unit_step.specs.Machines.{MachineData}
 use Rattle.unit_step.specs.Stepping.{Places}
 use Rattle.unit_step.specs.Columns.{AdvancesInColumn}
 use Rattle.unit_step.specs.Fitting.{FitsGraph}
 use Rattle.unit_step.proofs.FittingLemmas as unit
 use Rattle.unit_step.proofs.PlacingLemmas.{placing_keeps_fit}
-use Rattle.lane_machine.specs.Columns.{LaneData, state_with, column, column_of, HasFit, FitsInLanes, HasSoundLane, HasStates}
+use Rattle.lane_machine.specs.Columns.{LaneData, state_with, column, column_of, HasFit, FitsInLanes, HasSoundLane}
 use Rattle.lane_machine.specs.Running.{StepsTo, AreColumns}
 use Rattle.lane_machine.specs.Stepping.{StepsLanes}
 use Rattle.lane_machine.specs.Placing.{PlacesWords}
-use Rattle.lane_machine.proofs.ColumnLemmas.{length-column, column-at, column-value, column-has, HasLane-each, rails_of-state_with}
+use Rattle.lane_machine.proofs.ColumnLemmas.{length-column, column-at, column-has, HasLane-each, rails_of-state_with}
 
 -- the machine of a column, with just these parts, marks and states, fits the graph
 column_machine : (g : GraphData) (parts : List HeldPart) (marks : List Bool) (state : List Tern) → (fit : HasFit g parts marks state) →

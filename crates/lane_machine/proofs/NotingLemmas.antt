@@ -1,13 +1,13 @@
 -- What is noted of changes in words, place by place; and the rails of a column in the words that are noted.
-use Rattle.std.proofs.Common.{◌≡◌, ℕ, ◌+◌, ◌<◌, ◌⊎◌, Bool, true, false, not, ◌&&◌, ◌||◌, inl, inr, List, [], ◌∷◌, ◌++◌, length, refl, sym, ap, ap₂, subst, ◌∙◌, arith}
-use Rattle.std.specs.Prelude.{Contains, slice_index}
+use Rattle.std.proofs.Common.{◌≡◌, ℕ, ◌+◌, ◌<◌, Bool, true, false, ◌&&◌, ◌||◌, inl, inr, List, [], ◌∷◌, ◌++◌, length, refl, sym, ap, ap₂, subst, ◌∙◌, arith}
+use Rattle.std.specs.Prelude.{slice_index}
 use Rattle.std.proofs.lemmas.Bool.{cases_lt}
 use Rattle.std.proofs.lemmas.List.Elements.{Contains-push, Contains-push_cases, Contains-append_left}
 use Rattle.ternary.specs.declared.tern.Tern.{Tern}
 use Rattle.ternary.specs.Tern.{may_one, may_zero}
 use Rattle.ternary.proofs.TernLemmas.{may_one-join, may_zero-join}
 use Rattle.batch_words.specs.Lanes.{is_in_lane}
-use Rattle.batch_words.proofs.LaneLemmas.{lane-or, lane-xor, lane-and, turn}
+use Rattle.batch_words.proofs.LaneLemmas.{lane-or, turn}
 use Rattle.unit_step.specs.Stepping.{after}
 use Rattle.lane_machine.specs.declared.evaluation.WordChange.{WordChange}
 use Rattle.lane_machine.specs.Noting.{after_word, differ, differs_in, HasChange, IsNextOf, IsNoted, IsIdle, Notes}

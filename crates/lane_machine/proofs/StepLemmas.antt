@@ -1,6 +1,6 @@
 -- What a step does in each column, from what was noted and written: which nodes take which states, which parts are marked, and whether the
 -- column changed.
-use Rattle.std.proofs.Common.{◌≡◌, ◌≢◌, ℕ, ◌<◌, ◌≤◌, ◌⊎◌, Bool, true, false, inl, inr, List, [], length, map, get_or, Global, Vec, refl, sym, ap, subst, ◌∙◌, arith}
+use Rattle.std.proofs.Common.{◌≡◌, ◌≢◌, ℕ, ◌<◌, ◌⊎◌, Bool, true, false, inl, inr, List, length, map, Global, Vec, refl, sym, ap, subst, ◌∙◌, arith}
 use Rattle.std.specs.Prelude.{Contains, slice_index}
 use Rattle.std.proofs.lemmas.Bool.{cases_lt}
 use Rattle.std.proofs.lemmas.List.{ext_get_or, get_or_past}
@@ -15,7 +15,7 @@ use Rattle.oscillation_x.specs.Settling.{StaysOrBecomesX}
 use Rattle.batch_words.specs.Lanes.{is_in_lane, HasLane}
 use Rattle.batch_words.proofs.RunLemmas.{high_counted, high_at_node, low_at_node}
 use Rattle.unit_step.specs.declared.part.HeldPart.{HeldPart}
-use Rattle.unit_step.specs.Parts.{IsMemberAt, IsStale}
+use Rattle.unit_step.specs.Parts.{IsMemberAt}
 use Rattle.unit_step.specs.Machines.{IsMarked}
 use Rattle.unit_step.specs.Stepping.{Gives, IsGiven, Moves, after, StaysMarked}
 use Rattle.unit_step.specs.Columns.{KeepsMarks}
@@ -24,7 +24,7 @@ use Rattle.unit_step.specs.Evaluating.{Rooms, IsSeated}
 use Rattle.unit_step.proofs.PartLemmas.{same_part, HasMember-from_Gives}
 use Rattle.lane_machine.specs.declared.evaluation.WordChange.{WordChange}
 use Rattle.lane_machine.specs.Columns.{column, HasColumn}
-use Rattle.lane_machine.specs.Noting.{differs_in, HasChange}
+use Rattle.lane_machine.specs.Noting.{HasChange}
 use Rattle.lane_machine.specs.Evaluating.{Evaluated}
 use Rattle.lane_machine.specs.Running.{listed_at, IsAmong, IsRunnable, IsLeftAt, AreWritten, ReadsAny, StepsTo}
 use Rattle.lane_machine.proofs.ColumnLemmas.{length-column, column-value, HasLane-each}

@@ -1,5 +1,5 @@
 -- The changes of a step are taken over one by one.
-use Rattle.std.proofs.Common.{◌≡◌, ◌≢◌, ℕ, ◌+◌, ◌<◌, ◌⊎◌, Bool, true, false, ◌&&◌, ◌||◌, inl, inr, List, [], ◌∷◌, ◌++◌, length, map, take, get_or, refl, sym, ap, subst, ◌∙◌, Vec, Global, arith}
+use Rattle.std.proofs.Common.{◌≡◌, ℕ, ◌+◌, ◌<◌, ◌⊎◌, Bool, true, false, ◌&&◌, ◌||◌, inl, inr, List, [], ◌∷◌, ◌++◌, length, take, get_or, refl, sym, ap, subst, ◌∙◌, Vec, Global, arith}
 use Rattle.std.specs.Prelude.{Contains, slice_index, slice_set, bit_or}
 use Rattle.std.proofs.lemmas.Bool.{cases_eq}
 use Rattle.std.proofs.lemmas.List.{get_or-set_same, get_or-set_other, get_or-take, get_or-map, length-set, length-take, take_more}
@@ -9,7 +9,7 @@ use Rattle.batch_words.proofs.LaneLemmas.{lane-or}
 use Rattle.unit_step.specs.Marking.{MarksAll}
 use Rattle.lane_machine.specs.declared.evaluation.WordChange.{WordChange}
 use Rattle.lane_machine.specs.Noting.{differs_in}
-use Rattle.lane_machine.specs.Running.{listed_at, IsWrittenAt, IsLeftAt, AreWritten, ReadsAny}
+use Rattle.lane_machine.specs.Running.{listed_at, AreWritten, ReadsAny}
 
 -- what stands at the front stands in the list
 pub Contains-from_take : {X : Type 0} (n : ℕ) (xs : List X) (x : X) → Contains (take n xs) x → Contains xs x

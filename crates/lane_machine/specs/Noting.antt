@@ -1,5 +1,5 @@
 -- Changes of nodes in words: what is noted of the next words of a part's members.
-use Rattle.std.specs.Prelude.{◌≡◌, ◌≢◌, ℕ, ◌<◌, ◌⊎◌, Bool, true, false, not, ◌&&◌, ◌||◌, List, length, Contains, slice_index, bit_or}
+use Rattle.std.specs.Prelude.{◌≡◌, ℕ, ◌<◌, ◌⊎◌, Bool, true, false, not, ◌&&◌, ◌||◌, List, length, Contains, slice_index, bit_or}
 use Rattle.batch_words.specs.Lanes.{is_in_lane}
 use Rattle.lane_machine.specs.declared.evaluation.WordChange.{WordChange}
 
@@ -40,7 +40,7 @@ pub record IsNoted (joining : Bool) (nodes hi lo ones others : List ℕ) (change
 abbrev pub IsIdle : Bool → ℕ → List ℕ → List ℕ → ℕ → ℕ → ℕ → Type 0
 IsIdle joining used hi lo node one other =
     (lane : ℕ) → differs_in used (slice_index hi node) (slice_index lo node) lane
-        (record { node = node; hi = after_word joining (slice_index hi node) one; lo = after_word joining (slice_index lo node) other }) ≡ false
+    (record { node = node; hi = after_word joining (slice_index hi node) one; lo = after_word joining (slice_index lo node) other }) ≡ false
 
 -- at the first places, so many, each node that changes in some column is noted behind what was noted, and nothing else is
 pub record Notes (joining : Bool) (used : ℕ) (nodes hi lo ones others : List ℕ) (count : ℕ) (old new : List WordChange) : Type 0 where

@@ -107,7 +107,7 @@ fn run_part(code: &Code, nodes: &[usize], hi: &[u64], lo: &[u64], desk: &mut Des
     requires out { length code.now.outputs ≤ length desk.old.out_hi.items }
     ensures value { (lane : ℕ) (state : List Tern) → lane < 64 → HasLane lane hi.now lo.now state
         → HasLane lane (take (length code.now.outputs) desk.new.out_hi.items) (take (length code.now.outputs) desk.new.out_lo.items)
-            (code_value code.now (map (state_at state) nodes.now)) }
+        (code_value code.now (map (state_at state) nodes.now)) }
     ensures changes { desk.new.changes ≡ desk.old.changes }
     ensures done { desk.new.done ≡ desk.old.done }
     ensures rooms { rooms desk.new ≡ rooms desk.old }
@@ -142,7 +142,7 @@ fn run_front(
     requires lows { length code.now.outputs ≤ length out_lo.old }
     ensures { (lane : ℕ) (state : List Tern) → lane < 64 → HasLane lane hi.now lo.now state
         → HasLane lane (take (length code.now.outputs) out_hi.new) (take (length code.now.outputs) out_lo.new)
-            (code_value code.now (map (state_at state) nodes.now)) }
+        (code_value code.now (map (state_at state) nodes.now)) }
 {
     let outputs = code.outputs();
     run_words(

@@ -98,9 +98,7 @@ impl LaneMachine {
     {
         let state = some_state(alloc, graph.nodes())?;
         let machine = Machine::build(alloc, graph, &state, kept, analyst)?;
-        Ok(LaneMachine::of_machine(
-            alloc, graph, lanes, machine, hi, lo,
-        )?)
+        Ok(LaneMachine::of_machine(alloc, graph, lanes, machine, hi, lo)?)
     }
 
     // The machine of columns with the parts of a machine that fits a graph, all of them marked, in these states.

@@ -1,13 +1,11 @@
 -- A step, from what was noted and written.
-use Rattle.std.proofs.Common.{◌≡◌, ◌<◌, ◌≤◌, ℕ, true, false, List, length, sym, ap, subst, ◌∙◌, arith}
-use Rattle.std.specs.Prelude.{Contains, slice_index_or, slice_index}
+use Rattle.std.proofs.Common.{◌≡◌, true, length, sym, subst, ◌∙◌, arith}
+use Rattle.std.specs.Prelude.{Contains, slice_index_or}
 use Rattle.std.proofs.lemmas.List.Sums.{count_by-le-length}
-use Rattle.unit_step.specs.Machines.{IsMarked, members_of}
+use Rattle.unit_step.specs.Machines.{members_of}
 use Rattle.unit_step.specs.Marking.{MarksAll}
 use Rattle.unit_step.specs.Evaluating.{IsSeated}
 use Rattle.unit_step.proofs.MarkLemmas.{marked_inside, marked_sum-within}
-use Rattle.lane_machine.specs.declared.evaluation.WordChange.{WordChange}
-use Rattle.lane_machine.specs.Columns.{HasColumn}
 use Rattle.lane_machine.specs.Evaluating.{rooms}
 use Rattle.lane_machine.specs.Running.{AreWritten, ReadsAny}
 use Rattle.lane_machine.proofs.EvaluationLemmas.{cleared_rooms}

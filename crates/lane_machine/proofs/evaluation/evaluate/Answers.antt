@@ -1,5 +1,5 @@
 -- A part with code fits the room, and what its code gives is noted.
-use Rattle.std.proofs.Common.{◌≡◌, ◌<◌, ◌≤◌, ◌∙◌, ℕ, List, length, map, take, sym, ap, subst, Vec, Global, arith}
+use Rattle.std.proofs.Common.{◌≡◌, ◌<◌, ◌∙◌, ℕ, List, length, map, take, sym, ap, subst, Vec, Global, arith}
 use Rattle.std.proofs.lemmas.List.{length-take-le}
 use Rattle.ternary.specs.declared.tern.Tern.{Tern}
 use Rattle.path_meaning.specs.Switching.{state_at}
@@ -35,12 +35,12 @@ returns-in-Some-clause-changes c = λ parts k stands.
     let low_are = c.deref-in-Some-3.ensures.value in
     let values : List Tern → List Tern = λ state. code_value code.value (map (state_at state) part.map.items) in
     let given : (lane : ℕ) (state : List Tern) → lane < 64 → HasLane lane hi lo state →
-        HasLane lane ones others (code_value code.value (map (state_at state) part.map.items)) = λ lane state inside has.
-        let value : HasLane lane (take (length code.value.outputs) highs) (take (length code.value.outputs) lows) (code_value code.value (map (state_at state) part.map.items)) =
-        rw (c.deref.ensures, c.deref-in-Some.ensures.value) at c.run_part.ensures.value lane state inside has in
-        subst (λ list. HasLane lane (take part.members list) others (values state)) (sym high_are)
-        (subst (λ list. HasLane lane (take part.members highs) (take part.members list) (values state)) (sym low_are)
-        (subst (λ n. HasLane lane (take n highs) (take n lows) (values state)) seat.outputs value)) in
+    HasLane lane ones others (code_value code.value (map (state_at state) part.map.items)) = λ lane state inside has.
+    let value : HasLane lane (take (length code.value.outputs) highs) (take (length code.value.outputs) lows) (code_value code.value (map (state_at state) part.map.items)) =
+    rw (c.deref.ensures, c.deref-in-Some.ensures.value) at c.run_part.ensures.value lane state inside has in
+    subst (λ list. HasLane lane (take part.members list) others (values state)) (sym high_are)
+    (subst (λ list. HasLane lane (take part.members highs) (take part.members list) (values state)) (sym low_are)
+    (subst (λ n. HasLane lane (take n highs) (take n lows) (values state)) seat.outputs value)) in
     let room : length highs ≡ length c.args.desk.now.out_hi.items = ap (λ room. room.outs) c.run_part.ensures.rooms in
     let high_count : length ones ≡ part.members =
     length-take-le part.members c.deref-in-Some-2.result.now (omega (arith, seat.out_room, room, ap length high_are)) in

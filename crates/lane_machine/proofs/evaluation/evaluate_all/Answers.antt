@@ -6,7 +6,7 @@ use Rattle.unit_step.specs.Machines.{members_of}
 use Rattle.unit_step.specs.Evaluating.{Rooms, IsSeated}
 use Rattle.unit_step.proofs.MarkLemmas.{marked_inside, count_marked-cleared, marked_sum-cleared}
 use Rattle.lane_machine.specs.Evaluating.{rooms}
-use Rattle.lane_machine.proofs.EvaluationLemmas.{Evaluated-more, Evaluated-none}
+use Rattle.lane_machine.proofs.EvaluationLemmas.{Evaluated-more}
 use Rattle.lane_machine.proofs.evaluation.evaluate_all.Goals as goal
 
 pub evaluate-requires-clause-seated : goal.evaluate-requires-clause-seated

@@ -1,5 +1,5 @@
 -- One place more is noted.
-use Rattle.std.proofs.Common.{◌≡◌, ℕ, refl, false, sym, ap, subst, ◌∙◌, Vec, Global, arith}
+use Rattle.std.proofs.Common.{◌≡◌, refl, false, sym, ap, subst, ◌∙◌, Vec, Global, arith}
 use Rattle.std.specs.Prelude.{slice_index}
 use Rattle.batch_words.specs.Lanes.{is_in_lane}
 use Rattle.batch_words.proofs.LaneLemmas.{lane-none}
@@ -50,8 +50,8 @@ loop-place-preserved c =
           } in
           let same : change ≡ next = λ i. record { node = node; hi = c.after_word.ensures i; lo = c.after_word-in-loop-place.ensures i } in
           let idle : IsIdle joining used hi lo node (slice_index ones place) (slice_index others place) = λ lane.
-              subst (λ (one : WordChange). differs_in used (slice_index hi node) (slice_index lo node) lane one ≡ false) same
-              (sym (c.differing.ensures lane) ∙ (ap (is_in_lane lane) none ∙ lane-none lane)) in
+          subst (λ (one : WordChange). differs_in used (slice_index hi node) (slice_index lo node) lane one ≡ false) same
+          (sym (c.differing.ensures lane) ∙ (ap (is_in_lane lane) none ∙ lane-none lane)) in
           record {
             changes = rw w.changes-is (Notes-idle joining used nodes hi lo ones others place old mid idle so_far.changes);
             few = rw w.changes-is (omega (arith, so_far.few));

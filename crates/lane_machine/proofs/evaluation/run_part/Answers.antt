@@ -1,5 +1,5 @@
 -- What the code gives stands at the front of the outputs.
-use Rattle.std.proofs.Common.{length, arith}
+use Rattle.std.proofs.Common.{arith}
 use Rattle.std.proofs.lemmas.List.{with_items_is}
 use Rattle.lane_machine.proofs.evaluation.run_part.Goals as goal
 

@@ -1,9 +1,7 @@
 -- One change more.
-use Rattle.std.proofs.Common.{◌≡◌, ◌<◌, ℕ, Bool, true, false, [], length, take, get_or, subst, sym, arith}
-use Rattle.std.specs.Prelude.{Contains}
+use Rattle.std.proofs.Common.{get_or, subst, arith}
 use Rattle.std.proofs.lemmas.List.{get_or_default, take_all}
 use Rattle.std.proofs.lemmas.List.Elements.{Contains-get_or}
-use Rattle.batch_words.specs.Lanes.{is_in_lane}
 use Rattle.batch_words.proofs.LaneLemmas.{lane-none}
 use Rattle.lane_machine.specs.declared.evaluation.WordChange.{WordChange}
 use Rattle.lane_machine.proofs.TakingLemmas.{AreChanged, AreChanged-more}

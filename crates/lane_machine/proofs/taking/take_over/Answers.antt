@@ -1,7 +1,7 @@
 -- One change more is taken over.
-use Rattle.std.proofs.Common.{◌≡◌, ◌<◌, ◌≤◌, inl, get_or, refl, subst, ◌∙◌, arith}
-use Rattle.std.specs.Prelude.{length, Contains}
-use Rattle.std.proofs.lemmas.List.{get_or_default, take_all, length-set}
+use Rattle.std.proofs.Common.{◌<◌, inl, get_or, refl, ◌∙◌, arith}
+use Rattle.std.specs.Prelude.{length}
+use Rattle.std.proofs.lemmas.List.{get_or_default}
 use Rattle.std.proofs.lemmas.List.Elements.{Contains-get_or}
 use Rattle.lane_machine.specs.declared.evaluation.WordChange.{WordChange}
 use Rattle.lane_machine.proofs.TakingLemmas.{AreWritten-none, AreWritten-more, MarksAll-readers, list_read}

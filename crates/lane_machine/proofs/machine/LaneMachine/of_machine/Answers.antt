@@ -1,8 +1,8 @@
 -- The parts are those of a machine that fits the graph, all of them marked, so each column fits it.
-use Rattle.std.proofs.Common.{◌≡◌, ◌<◌, ℕ, length, sym, ap, subst, ◌∙◌, arith}
+use Rattle.std.proofs.Common.{◌≡◌, length, sym, subst, ◌∙◌, arith}
 use Rattle.unit_step.specs.Columns.{AreSeated}
-use Rattle.unit_step.specs.Parts.{ReadsAt, AreApart, IsStale}
-use Rattle.lane_machine.specs.Columns.{LaneData, FitsInLanes}
+use Rattle.unit_step.specs.Parts.{ReadsAt, IsStale}
+use Rattle.lane_machine.specs.Columns.{FitsInLanes}
 use Rattle.lane_machine.proofs.FittingLemmas.{FitsInLanes-fresh, AreColumns-sound, if_made}
 use Rattle.lane_machine.proofs.machine.LaneMachine.of_machine.Goals as goal
 

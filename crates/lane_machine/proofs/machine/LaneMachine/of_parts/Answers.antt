@@ -1,5 +1,5 @@
 -- All that was made is of these parts.
-use Rattle.std.proofs.Common.{◌≡◌, ℕ, true, false, length, ap, subst, ◌∙◌, arith}
+use Rattle.std.proofs.Common.{◌≡◌, true, false, length, ap, subst, ◌∙◌, arith}
 use Rattle.std.specs.Prelude.{replicate}
 use Rattle.unit_step.specs.Making.{HasRoomFor}
 use Rattle.lane_machine.specs.Evaluating.{rooms}

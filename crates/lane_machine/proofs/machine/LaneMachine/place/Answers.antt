@@ -1,8 +1,8 @@
 -- Words of a node are placed.
-use Rattle.std.proofs.Common.{◌≡◌, ◌<◌, ◌≤◌, ℕ, List, length, refl, sym, ap, subst, ◌∙◌, arith}
+use Rattle.std.proofs.Common.{◌≡◌, ◌<◌, length, refl, sym, ap, subst, ◌∙◌, arith}
 use Rattle.std.specs.Prelude.{Contains, slice_set}
 use Rattle.std.proofs.lemmas.List.{length-set}
-use Rattle.lane_machine.specs.Columns.{LaneData, FitsInLanes}
+use Rattle.lane_machine.specs.Columns.{LaneData}
 use Rattle.lane_machine.specs.Evaluating.{rooms}
 use Rattle.lane_machine.specs.Placing.{PlacesWords}
 use Rattle.lane_machine.specs.Running.{listed_at, AreColumns}

@@ -1,5 +1,5 @@
 -- A step of the machine, by its parts.
-use Rattle.std.proofs.Common.{◌≡◌, ◌<◌, ℕ, List, length, sym, ap, subst, ◌∙◌, arith}
+use Rattle.std.proofs.Common.{◌<◌, length, ap, arith}
 use Rattle.std.proofs.lemmas.List.{with_items_is}
 use Rattle.lane_machine.specs.Columns.{column}
 use Rattle.lane_machine.specs.Evaluating.{rooms}

@@ -1,6 +1,5 @@
 -- In each column a joining step is the graph's joining step on a graph that the machine fits.
-use Rattle.std.proofs.Common.{refl, arith}
-use Rattle.lane_machine.proofs.ColumnLemmas.{length-column}
+use Rattle.std.proofs.Common.{refl}
 use Rattle.lane_machine.proofs.FittingLemmas.{FitsInLanes-stepped, IsJoinStep-in_lane}
 use Rattle.lane_machine.proofs.machine.LaneMachineLaneStepper.join_step.Goals as goal
 
