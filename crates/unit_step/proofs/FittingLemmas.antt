@@ -17,8 +17,9 @@ use Rattle.oscillation_x.specs.Settling.{IsJoinStep}
 use Rattle.unit_step.specs.declared.part.HeldPart.{HeldPart}
 use Rattle.unit_step.specs.Parts.{Stands, HasMember}
 use Rattle.unit_step.specs.Machines.{MachineData, IsMarked}
-use Rattle.unit_step.specs.Stepping.{Moves, ReadsChange, Remarks, Advances}
+use Rattle.unit_step.specs.Stepping.{Moves, ReadsChange, Advances}
 use Rattle.unit_step.specs.Fitting.{IsPartOf, FitsGraph}
+use Rattle.unit_step.specs.Columns.{KeepsMarks, AdvancesInColumn, ColumnsStepApart, ColumnsJoinApart, MarkedMachinesFit}
 use Rattle.unit_step.specs.Laws.{StepsAreUnitSteps, JoiningStepsAreJoinSteps}
 use Rattle.unit_step.proofs.CaseLemmas.{same_or_not, something}
 use Rattle.unit_step.proofs.PartLemmas.{member_of_part}
@@ -60,7 +61,7 @@ module _ (g : GraphData) (wired : IsWired g) (old : MachineData) (fits : FitsGra
       }
 
   module _ (joining : Bool) (moves : Moves joining old.parts old.marks old.state new) (marks : List Bool)
-      (remarks : Remarks joining old.parts old.marks old.state new marks) where
+      (remarks : KeepsMarks joining old.parts old.marks old.state new marks) where
     -- the members of a part that isn't marked afterwards took their steady states, in this step or before
     responded : (k : ℕ) (part : HeldPart) → Stands old.parts k part → (¬ IsMarked marks k) → (group : Group) → IsPartOf g group part →
         Responded g old.state new group.members
@@ -70,7 +71,7 @@ module _ (g : GraphData) (wired : IsWired g) (old : MachineData) (fits : FitsGra
         let in_range = (member_is_storage g wired old fits k node has).inside in
         by_kind joining moves remarks has in_range
       where
-        by_kind : (joining : Bool) → Moves joining old.parts old.marks old.state new → Remarks joining old.parts old.marks old.state new marks →
+        by_kind : (joining : Bool) → Moves joining old.parts old.marks old.state new → KeepsMarks joining old.parts old.marks old.state new marks →
             HasMember old.parts k node → node < nodes g → IsResponse g old.state node (state_at new node)
         by_kind false moves remarks has in_range = (plain_step moves).each node in_range
         by_kind true moves remarks has in_range =
@@ -155,19 +156,69 @@ same_machine old new groups parts uses texts spare = λ i. record {
   spare = sym spare i;
 }
 
--- a machine that advanced fits the graph again
-pub FitsGraph-advanced : (g : GraphData) → IsWired g → (joining : Bool) (old new : MachineData) → FitsGraph g old → Advances joining old new →
+-- a machine that advanced fits the graph again, also with more marks than the step sets
+FitsGraph-in_column : (g : GraphData) → IsWired g → (joining : Bool) (old new : MachineData) → FitsGraph g old → AdvancesInColumn joining old new →
     FitsGraph g new
-FitsGraph-advanced g wired joining old new fits advances =
+FitsGraph-in_column g wired joining old new fits advances =
     subst (FitsGraph g) (same_machine old new advances.groups advances.parts advances.uses advances.texts advances.spare)
     (fits_again g wired old fits new.state joining advances.moves new.marks advances.marks new.moves new.placed)
 
+-- a step sets the marks that it needs
+in_column : (joining : Bool) (old new : MachineData) → Advances joining old new → AdvancesInColumn joining old new
+in_column joining old new advances = record {
+  moves = advances.moves;
+  marks = record { count = advances.marks.count; stays = advances.marks.stays; reads = advances.marks.reads };
+  groups = advances.groups;
+  parts = advances.parts;
+  uses = advances.uses;
+  texts = advances.texts;
+  spare = advances.spare;
+}
+
 -- a step is the unit step
 pub steps_are_unit_steps : StepsAreUnitSteps
-steps_are_unit_steps g old new wired fits advances =
-    (plain_step g wired old fits new.state advances.moves, FitsGraph-advanced g wired false old new fits advances)
+steps_are_unit_steps g old new wired fits advances = (
+  plain_step g wired old fits new.state advances.moves,
+  FitsGraph-in_column g wired false old new fits (in_column false old new advances),
+)
 
 -- a joining step is the joining step
 pub joining_steps_are_join_steps : JoiningStepsAreJoinSteps
-joining_steps_are_join_steps g old new wired fits advances =
-    (joining_step g wired old fits new.state advances.moves, FitsGraph-advanced g wired true old new fits advances)
+joining_steps_are_join_steps g old new wired fits advances = (
+  joining_step g wired old fits new.state advances.moves,
+  FitsGraph-in_column g wired true old new fits (in_column true old new advances),
+)
+
+-- the same of one column of a machine of columns
+pub columns_step_apart : ColumnsStepApart
+columns_step_apart g old new wired fits advances =
+    (plain_step g wired old fits new.state advances.moves, FitsGraph-in_column g wired false old new fits advances)
+
+pub columns_join_apart : ColumnsJoinApart
+columns_join_apart g old new wired fits advances =
+    (joining_step g wired old fits new.state advances.moves, FitsGraph-in_column g wired true old new fits advances)
+
+-- where all parts are marked none has to rest
+pub marked_machines_fit : MarkedMachinesFit
+marked_machines_fit g m marks state fits all counted sound = record {
+  covers = record {
+    groups = fits.covers.groups;
+    kept = fits.covers.kept;
+    are = fits.covers.are;
+    counted = counted;
+    each = fits.covers.each;
+    whole = fits.covers.whole;
+    apart = fits.covers.apart;
+    number = fits.covers.number;
+    known = fits.covers.known;
+    textless = fits.covers.textless;
+    uses_counted = fits.covers.uses_counted;
+    quiet = fits.covers.quiet;
+    waits = λ k part stands some none. all k stands.inside;
+    rests = λ k part stands unmarked. absurd (unmarked (all k stands.inside));
+  };
+  coded = fits.coded;
+  railed = fits.railed;
+  sound = sound;
+  texts = fits.texts;
+}

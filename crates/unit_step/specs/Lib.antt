@@ -4,6 +4,7 @@ pub mod Stepping
 pub mod Fitting
 pub mod Editing
 pub mod Laws
+pub mod Columns
 pub mod Marking
 pub mod Evaluating
 pub mod Readers

@@ -2,6 +2,7 @@
 //!
 //! Each function here does nothing: its contract is the law, and its proof proves it. So a law can be
 //! cited like any other contract.
+ghost use Rattle.unit_step.specs.Columns.{ColumnsStepApart, ColumnsJoinApart, MarkedMachinesFit};
 ghost use Rattle.unit_step.specs.Laws.{StepsAreUnitSteps, JoiningStepsAreJoinSteps, PlacingKeepsCover, PlacingKeepsFit, AlikeGroupsKeepTheirParts, EmptyPlacesAreCovered, EmptyPlacesKeepTexts, BuiltTextsAreKept, MoreTextsAreKept, StepsKeepTexts, PlacingKeepsTexts, FittingMachinesShareTexts, EditsKeepTexts};
 
 /// A step of a machine that fits a graph is the unit step of the graph, and the machine fits the graph
@@ -12,6 +13,16 @@ ghost use Rattle.unit_step.specs.Laws.{StepsAreUnitSteps, JoiningStepsAreJoinSte
 pub fn steps_are_unit_steps()
     ensures plain { StepsAreUnitSteps }
     ensures joining { JoiningStepsAreJoinSteps }
+{}
+
+/// The same holds in each column of a machine of columns, whose parts and marks serve all columns: there more
+/// parts may be marked than a column's own step marks.
+///
+/// `marked`: where all parts are marked, a machine that fits a graph fits it with any sound state.
+pub fn columns_step_apart()
+    ensures plain { ColumnsStepApart }
+    ensures joining { ColumnsJoinApart }
+    ensures marked { MarkedMachinesFit }
 {}
 
 /// A machine that covers or fits a graph does so after a node was placed: the parts that have the node as

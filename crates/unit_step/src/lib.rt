@@ -34,8 +34,8 @@ mod waking;
 
 pub use editing::{EditRefused, NEW_NODES};
 pub use laws::{
-    alike_groups_keep_their_parts, empty_places_are_covered, machines_have_kept_texts,
-    placing_keeps_fits, steps_are_unit_steps,
+    alike_groups_keep_their_parts, columns_step_apart, empty_places_are_covered,
+    machines_have_kept_texts, placing_keeps_fits, steps_are_unit_steps,
 };
 pub use machine::Machine;
 pub use part::HeldPart;

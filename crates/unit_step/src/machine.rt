@@ -14,7 +14,8 @@ ghost use Rattle.kept_parts.specs.Uses.{texts_used};
 ghost use Rattle.unit_step.specs.Planning.{IsPlan};
 ghost use Rattle.circuit_texts.specs.Sizes.{TellsTooLarge};
 ghost use Rattle.circuit_texts.specs.Building.{Builds, IsCutOff};
-ghost use Rattle.unit_step.specs.Parts.{HasMember, AreApart, has_members};
+ghost use Rattle.unit_step.specs.Parts.{HasMember, ReadsAt, AreApart, has_members};
+ghost use Rattle.unit_step.specs.Columns.{AreSeated};
 ghost use Rattle.unit_step.specs.Making.{ShareNone, held, started, IsFormed};
 ghost use Rattle.unit_step.specs.Machines.{count_marked, marked_sum, instructions_of};
 ghost use Rattle.unit_step.specs.Stepping.{Advances, Places};
@@ -202,6 +203,16 @@ impl Machine {
         ensures { result.items ≡ self.state }
     {
         self.state
+    }
+
+    /// The parts, for what goes on without the machine.
+    pub fn into_parts(self) -> Vec<HeldPart>
+        ensures parts { result.items ≡ self.parts }
+        ensures seated { AreSeated (length self.state) self.parts }
+        ensures apart { AreApart self.parts }
+        ensures reads { (k node : ℕ) → ReadsAt self.parts k node → node < length self.state }
+    {
+        self.parts
     }
 
     /// How many groups it has: how many of its parts have a member.

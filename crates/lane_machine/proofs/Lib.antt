@@ -1,0 +1,8 @@
+pub mod ColumnLemmas
+mod AgendaLemmas
+mod NotingLemmas
+mod EvaluationLemmas
+mod TakingLemmas
+mod StepLemmas
+mod MakingLemmas
+mod FittingLemmas

@@ -1,0 +1,182 @@
+-- The changes of a step are taken over one by one.
+use Rattle.std.proofs.Common.{◌≡◌, ℕ, ◌+◌, ◌<◌, ◌⊎◌, Bool, true, false, ◌&&◌, ◌||◌, inl, inr, List, [], ◌∷◌, ◌++◌, length, take, get_or, refl, sym, ap, subst, ◌∙◌, Vec, Global, arith}
+use Rattle.std.specs.Prelude.{Contains, slice_index, slice_set, bit_or}
+use Rattle.std.proofs.lemmas.Bool.{cases_eq}
+use Rattle.std.proofs.lemmas.List.{get_or-set_same, get_or-set_other, get_or-take, get_or-map, length-set, length-take, take_more}
+use Rattle.std.proofs.lemmas.List.Elements.{Contains-push, Contains-push_cases, Contains-append_left}
+use Rattle.batch_words.specs.Lanes.{is_in_lane}
+use Rattle.batch_words.proofs.LaneLemmas.{lane-or}
+use Rattle.unit_step.specs.Marking.{MarksAll}
+use Rattle.lane_machine.specs.declared.evaluation.WordChange.{WordChange}
+use Rattle.lane_machine.specs.Noting.{differs_in}
+use Rattle.lane_machine.specs.Running.{listed_at, AreWritten, ReadsAny}
+
+-- what stands at the front stands in the list
+pub Contains-from_take : {X : Type 0} (n : ℕ) (xs : List X) (x : X) → Contains (take n xs) x → Contains xs x
+Contains-from_take n xs x (k, inside, here) =
+    let first : k < n = omega (arith, inside, length-take n xs) in
+    let within : k < length xs = omega (arith, inside, length-take n xs) in
+    (k, within, sym (get_or-take n xs k x first) ∙ here)
+
+-- one change more is written
+AreWritten-push : (done : List WordChange) (change : WordChange) (old_hi old_lo hi lo : List ℕ) → change.node < length hi → change.node < length lo →
+    AreWritten done old_hi old_lo hi lo →
+    AreWritten (done ++ change ∷ []) old_hi old_lo (slice_set hi change.node change.hi) (slice_set lo change.node change.lo)
+AreWritten-push done change old_hi old_lo hi lo high_inside low_inside so_far = record {
+  highs = length-set hi change.node change.hi ∙ so_far.highs;
+  lows = length-set lo change.node change.lo ∙ so_far.lows;
+  each = λ node.
+      elim (cases_eq node change.node) [
+        | inl same ↦ inl (record {
+          change = change;
+          there = Contains-push done change;
+          of_node = sym same;
+          high = ap (λ n. slice_index (slice_set hi change.node change.hi) n) same ∙ get_or-set_same hi change.node change.hi 0 high_inside;
+          low = ap (λ n. slice_index (slice_set lo change.node change.lo) n) same ∙ get_or-set_same lo change.node change.lo 0 low_inside;
+        })
+        | inr differs ↦
+            let high = get_or-set_other hi change.node node change.hi 0 differs in
+            let low = get_or-set_other lo change.node node change.lo 0 differs in
+            elim (so_far.each node) [
+              | inl written ↦ inl (record {
+                change = written.change;
+                there = Contains-append_left done (change ∷ []) written.change written.there;
+                of_node = written.of_node;
+                high = high ∙ written.high;
+                low = low ∙ written.low;
+              })
+              | inr left ↦ inr (record {
+                none = λ other there.
+                    elim (Contains-push_cases done change other there) [
+                      | inl before ↦ left.none other before
+                      | inr same ↦ λ is. differs (sym is ∙ ap (λ (c : WordChange). c.node) (sym same))
+                    ];
+                high = high ∙ left.high;
+                low = low ∙ left.low;
+              })
+            ]
+      ];
+}
+
+pub AreWritten-more : (changes : List WordChange) (i : ℕ) (change : WordChange) (old_hi old_lo hi lo : List ℕ) → i < length changes →
+    change ≡ get_or changes i change → change.node < length hi → change.node < length lo → AreWritten (take i changes) old_hi old_lo hi lo →
+    AreWritten (take (i + 1) changes) old_hi old_lo (slice_set hi change.node change.hi) (slice_set lo change.node change.lo)
+AreWritten-more changes i change old_hi old_lo hi lo i_inside is high_inside low_inside so_far =
+    let more : take (i + 1) changes ≡ take i changes ++ change ∷ [] =
+    take_more changes i change i_inside ∙ ap (λ c. take i changes ++ c ∷ []) (sym is) in
+    subst (λ xs. AreWritten xs old_hi old_lo (slice_set hi change.node change.hi) (slice_set lo change.node change.lo)) (sym more)
+    (AreWritten-push (take i changes) change old_hi old_lo hi lo high_inside low_inside so_far)
+
+-- nothing was written yet
+pub AreWritten-none : (hi lo : List ℕ) → AreWritten [] hi lo hi lo
+AreWritten-none hi lo = record {
+  highs = refl;
+  lows = refl;
+  each = λ node. inr (record { none = λ change (k, inside, here). absurd (omega (arith, inside)); high = refl; low = refl });
+}
+
+-- the readers of one node more are marked
+pub MarksAll-readers : (readers : List (Vec ℕ Global)) (changes : List WordChange) (i : ℕ) (change : WordChange) (parts : List ℕ) (old mid new : List Bool) →
+    i < length changes → change ≡ get_or changes i change → parts ≡ listed_at readers change.node →
+    MarksAll (ReadsAny readers (take i changes)) old mid → MarksAll (Contains parts) mid new →
+    MarksAll (ReadsAny readers (take (i + 1) changes)) old new
+MarksAll-readers readers changes i change parts old mid new i_inside is lists so_far marks =
+    let more : take (i + 1) changes ≡ take i changes ++ change ∷ [] =
+    take_more changes i change i_inside ∙ ap (λ c. take i changes ++ c ∷ []) (sym is) in
+    subst (λ xs. MarksAll (ReadsAny readers xs) old new) (sym more) (record {
+      count = marks.count ∙ so_far.count;
+      stays = λ k was. marks.stays k (so_far.stays k was);
+      set = λ k any.
+          elim (Contains-push_cases (take i changes) change any.change any.changes_it) [
+            | inl before ↦ marks.stays k (so_far.set k (record { change = any.change; changes_it = before; reads = any.reads }))
+            | inr same ↦
+                let reads : Contains (listed_at readers change.node) k =
+                subst (λ (c : WordChange). Contains (listed_at readers c.node) k) (sym same) any.reads in
+                marks.set k (subst (λ xs. Contains xs k) (sym lists) reads)
+          ];
+      only = λ k marked.
+          elim (marks.only k marked) [
+            | inl before ↦
+                elim (so_far.only k before) [
+                  | inl was ↦ inl was
+                  | inr any ↦ inr (record {
+                    change = any.change;
+                    changes_it = Contains-append_left (take i changes) (change ∷ []) any.change any.changes_it;
+                    reads = any.reads;
+                  })
+                ]
+            | inr there ↦ inr (record {
+              change = change;
+              changes_it = Contains-push (take i changes) change;
+              reads = subst (λ xs. Contains xs k) lists there;
+            })
+          ];
+    })
+
+-- the list of a node that is read by its index
+pub list_read : (lists : List (Vec ℕ Global)) (node : ℕ) (found : Vec ℕ Global) → node < length lists → found ≡ get_or lists node found →
+    found.items ≡ listed_at lists node
+list_read lists node found inside is =
+    ap (λ (parts : Vec ℕ Global). parts.items) is ∙ sym (get_or-map (λ (parts : Vec ℕ Global). parts.items) lists node found [] inside)
+
+-- ---- the columns that some change changes
+
+-- a bit of two words together is set where one of them has it
+or_true : (a b : Bool) → (a || b) ≡ true → (a ≡ true) ⊎ (b ≡ true)
+or_true true b set = inl refl
+or_true false b set = inr set
+
+or_false : (a b : Bool) → (a || b) ≡ false → (a ≡ false) × (b ≡ false)
+or_false false b unset = (refl, unset)
+or_false true b unset = absurd (cc)
+
+-- the bits of a word are the columns that some of these changes changes
+pub record AreChanged (used : ℕ) (hi lo : List ℕ) (changes : List WordChange) (lanes : ℕ) : Type 0 where
+  pub set : (lane : ℕ) → is_in_lane lane lanes ≡ true →
+      (change : WordChange) × Contains changes change × (differs_in used (slice_index hi change.node) (slice_index lo change.node) lane change ≡ true)
+  pub unset : (lane : ℕ) → is_in_lane lane lanes ≡ false → (change : WordChange) → Contains changes change →
+      differs_in used (slice_index hi change.node) (slice_index lo change.node) lane change ≡ false
+
+pub AreChanged-more : (used : ℕ) (hi lo : List ℕ) (changes : List WordChange) (i : ℕ) (change : WordChange) (lanes more : ℕ) → i < length changes →
+    change ≡ get_or changes i change →
+    ((lane : ℕ) → is_in_lane lane more ≡ differs_in used (slice_index hi change.node) (slice_index lo change.node) lane change) →
+    AreChanged used hi lo (take i changes) lanes → AreChanged used hi lo (take (i + 1) changes) (bit_or lanes more)
+AreChanged-more used hi lo changes i change lanes more i_inside is bits so_far =
+    let next : take (i + 1) changes ≡ take i changes ++ change ∷ [] =
+    take_more changes i change i_inside ∙ ap (λ c. take i changes ++ c ∷ []) (sym is) in
+    subst (λ xs. AreChanged used hi lo xs (bit_or lanes more)) (sym next) (record {
+      set = λ lane set.
+          elim (or_true (is_in_lane lane lanes) (is_in_lane lane more) (sym (lane-or lane lanes more) ∙ set)) [
+            | inl before ↦
+                let (other, there, differs) = so_far.set lane before in
+                (other, Contains-append_left (take i changes) (change ∷ []) other there, differs)
+            | inr now ↦ (change, Contains-push (take i changes) change, sym (bits lane) ∙ now)
+          ];
+      unset = λ lane unset other there.
+          let both = or_false (is_in_lane lane lanes) (is_in_lane lane more) (sym (lane-or lane lanes more) ∙ unset) in
+          elim (Contains-push_cases (take i changes) change other there) [
+            | inl before ↦ so_far.unset lane both.0 other before
+            | inr same ↦
+                subst (λ (c : WordChange). differs_in used (slice_index hi c.node) (slice_index lo c.node) lane c ≡ false) same (sym (bits lane) ∙ both.1)
+          ];
+    })
+
+-- no bit is set beyond the used columns
+pub not_beyond : (used : ℕ) (hi lo : List ℕ) (changes : List WordChange) (lanes : ℕ) → AreChanged used hi lo changes lanes → (lane : ℕ) →
+    is_in_lane lane used ≡ false → is_in_lane lane lanes ≡ false
+not_beyond used hi lo changes lanes are lane unused =
+    elim (true_or_false (is_in_lane lane lanes)) [
+      | inl set ↦
+          let (change, there, differs) = are.set lane set in
+          absurd (cc (and_unused _ (is_in_lane lane used) unused, differs))
+      | inr unset ↦ unset
+    ]
+  where
+    true_or_false : (b : Bool) → (b ≡ true) ⊎ (b ≡ false)
+    true_or_false true = inl refl
+    true_or_false false = inr refl
+
+    and_unused : (x u : Bool) → u ≡ false → (x && u) ≡ false
+    and_unused true true unused = absurd (cc)
+    and_unused true false unused = refl
+    and_unused false u unused = refl

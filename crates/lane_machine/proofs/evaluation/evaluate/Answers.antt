@@ -1,0 +1,55 @@
+-- A part with code fits the room, and what its code gives is noted.
+use Rattle.std.proofs.Common.{◌≡◌, ◌<◌, ◌∙◌, ℕ, List, length, map, take, sym, ap, subst, Vec, Global, arith}
+use Rattle.std.proofs.lemmas.List.{length-take-le}
+use Rattle.ternary.specs.declared.tern.Tern.{Tern}
+use Rattle.path_meaning.specs.Switching.{state_at}
+use Rattle.straight_code.specs.Code.{code_value}
+use Rattle.batch_words.specs.Lanes.{HasLane}
+use Rattle.lane_machine.specs.declared.evaluation.WordChange.{WordChange}
+use Rattle.lane_machine.specs.Noting.{Notes}
+use Rattle.lane_machine.proofs.EvaluationLemmas.{Reports-from_Notes}
+use Rattle.lane_machine.proofs.evaluation.evaluate.Goals as goal
+
+pub run_part-requires-clause-nodes : goal.run_part-requires-clause-nodes
+run_part-requires-clause-nodes c =
+    let seat = c.requires.seated.coded c.in-Some.code c.in-Some.is in
+    rw (c.deref-in-Some.ensures.value, c.deref.ensures) seat.inputs
+
+pub run_part-requires-clause-values : goal.run_part-requires-clause-values
+run_part-requires-clause-values c =
+    let seat = c.requires.seated.coded c.in-Some.code c.in-Some.is in
+    rw c.deref.ensures seat.value_room
+
+pub returns-in-Some-clause-changes : goal.returns-in-Some-clause-changes
+returns-in-Some-clause-changes c = λ parts k stands.
+    let part = c.args.part.now in
+    let code = c.in-Some.code in
+    let seat = c.requires.seated.coded code c.in-Some.is in
+    let hi = c.args.hi.now in
+    let lo = c.args.lo.now in
+    let highs = c.run_part.new.desk.out_hi.items in
+    let lows = c.run_part.new.desk.out_lo.items in
+    let ones = take part.members c.deref-in-Some-2.result.now in
+    let others = take part.members c.deref-in-Some-3.result.now in
+    let high_are = c.deref-in-Some-2.ensures.value in
+    let low_are = c.deref-in-Some-3.ensures.value in
+    let values : List Tern → List Tern = λ state. code_value code.value (map (state_at state) part.map.items) in
+    let given : (lane : ℕ) (state : List Tern) → lane < 64 → HasLane lane hi lo state →
+    HasLane lane ones others (code_value code.value (map (state_at state) part.map.items)) = λ lane state inside has.
+    let value : HasLane lane (take (length code.value.outputs) highs) (take (length code.value.outputs) lows) (code_value code.value (map (state_at state) part.map.items)) =
+    rw (c.deref.ensures, c.deref-in-Some.ensures.value) at c.run_part.ensures.value lane state inside has in
+    subst (λ list. HasLane lane (take part.members list) others (values state)) (sym high_are)
+    (subst (λ list. HasLane lane (take part.members highs) (take part.members list) (values state)) (sym low_are)
+    (subst (λ n. HasLane lane (take n highs) (take n lows) (values state)) seat.outputs value)) in
+    let room : length highs ≡ length c.args.desk.now.out_hi.items = ap (λ room. room.outs) c.run_part.ensures.rooms in
+    let high_count : length ones ≡ part.members =
+    length-take-le part.members c.deref-in-Some-2.result.now (omega (arith, seat.out_room, room, ap length high_are)) in
+    let low_count : length others ≡ part.members =
+    length-take-le part.members c.deref-in-Some-3.result.now (omega (arith, seat.out_room, room, ap length low_are, c.run_part.ensures.rails)) in
+    let before = ap (λ (list : Vec WordChange Global). list.items) c.run_part.ensures.changes in
+    let notes : Notes c.args.joining c.args.used part.map.items hi lo ones others (length ones) c.args.desk.now.changes.items c.note_all.new.changes.items =
+    subst (λ old. Notes c.args.joining c.args.used part.map.items hi lo ones others (length ones) old c.note_all.new.changes.items) before
+    (subst (λ nodes. Notes c.args.joining c.args.used nodes hi lo ones others (length ones) c.run_part.new.desk.changes.items c.note_all.new.changes.items)
+    c.deref-in-Some-4.ensures.value c.note_all.ensures.changes) in
+    Reports-from_Notes c.args.joining parts c.args.used hi lo c.requires.words k part code stands c.in-Some.is c.requires.seated.members
+    c.requires.seated.below ones others high_count (low_count ∙ sym high_count) given c.args.desk.now.changes.items c.note_all.new.changes.items notes

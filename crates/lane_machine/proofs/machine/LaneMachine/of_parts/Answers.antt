@@ -1,0 +1,31 @@
+-- All that was made is of these parts.
+use Rattle.std.proofs.Common.{◌≡◌, true, false, length, ap, subst, ◌∙◌, arith}
+use Rattle.std.specs.Prelude.{replicate}
+use Rattle.unit_step.specs.Making.{HasRoomFor}
+use Rattle.lane_machine.specs.Evaluating.{rooms}
+use Rattle.lane_machine.specs.Running.{AreLists}
+use Rattle.lane_machine.proofs.MakingLemmas.{IsLaneMachine-made, nodes_inside}
+use Rattle.lane_machine.proofs.machine.LaneMachine.of_parts.Goals as goal
+
+pub lists_of-requires-clause-below : goal.lists_of-requires-clause-below
+lists_of-requires-clause-below c =
+    rw c.deref.ensures.value (nodes_inside false (length c.args.hi.now) c.args.parts.items c.requires.seated c.requires.reads)
+
+pub invariant_of-result : goal.invariant_of-result
+invariant_of-result c =
+    let parts = c.args.parts.items in
+    let hi = c.args.hi.now in
+    let lo = c.args.lo.now in
+    let lists = c.in_ok-readers.readers.items in
+    let owners = c.in_ok-owners.owners.items in
+    let room = rooms c.in_ok-desk.desk in
+    let count : c.len.result ≡ length parts = omega (arith, c.len.ensures, c.args.parts.ok.0) in
+    let marks : c.in_ok-agenda.agenda ≡ replicate (length parts) true = c.in_ok-agenda.ensures ∙ ap (λ n. replicate n true) count in
+    let read = subst (λ list. AreLists false list (length hi) lists) c.deref.ensures.value c.in_ok-readers.ensures in
+    let own = subst (λ list. AreLists true list (length hi) owners) c.deref-2.ensures.value c.in_ok-owners.ensures in
+    let fits = subst (λ list. HasRoomFor list room) c.deref-3.ensures.value c.in_ok-desk.ensures.room in (
+      rw (marks, c.in_ok-highs.ensures.items, c.in_ok-lows.ensures.items)
+          (IsLaneMachine-made c.args.lanes c.used_lanes.result parts lists owners hi lo room c.requires.few c.used_lanes.ensures c.requires.seated fits
+          c.requires.apart c.requires.fresh read own c.requires.columns),
+      c.in_ok-desk.ensures.rails,
+    )

@@ -1,0 +1,70 @@
+-- A step of the machine, by its parts.
+use Rattle.std.proofs.Common.{◌<◌, length, ap, arith}
+use Rattle.std.proofs.lemmas.List.{with_items_is}
+use Rattle.lane_machine.specs.Columns.{column}
+use Rattle.lane_machine.specs.Evaluating.{rooms}
+use Rattle.lane_machine.specs.Running.{StepsInAll}
+use Rattle.lane_machine.proofs.ColumnLemmas.{length-column}
+use Rattle.lane_machine.proofs.MakingLemmas.{IsLaneMachine-again, AreColumns-stepped, StepsLanes-stepped}
+use Rattle.lane_machine.proofs.machine.LaneMachine.take.Goals as goal
+
+pub advance-requires : goal.advance-requires
+advance-requires c =
+    let m = c.self.invariant.0 in
+    rw (c.deref.ensures.value, c.deref-2.ensures.value, c.deref_mut.ensures.value, c.deref_mut-2.ensures.value)
+    (record { words = m.columns.counted; runnable = m.runs; rails = c.self.invariant.1 })
+
+pub invariant_of-self : goal.invariant_of-self
+invariant_of-self c =
+    let i = c.self.inside in
+    let m = c.self.invariant.0 in
+    let joining = c.args.joining in
+    let hi = c.advance.new.hi in
+    let lo = c.advance.new.lo in
+    let marks = c.advance.new.agenda in
+    let changed = c.advance.result in
+    let highs = with_items_is i.hi hi (omega (arith, c.advance.auto.hi, c.deref_mut.ensures.len)) in
+    let lows = with_items_is i.lo lo (omega (arith, c.advance.auto.lo, c.deref_mut-2.ensures.len)) in
+    let steps : StepsInAll joining i.parts.items i.used i.agenda marks i.hi.items i.lo.items hi lo changed =
+    rw (c.deref.ensures.value, c.deref_mut.ensures.value, c.deref_mut-2.ensures.value) at c.advance.ensures.columns in
+    let columns = AreColumns-stepped i.lanes i.used i.parts.items i.agenda i.readers.items i.owners.items i.hi.items i.lo.items (rooms i.desk) m joining marks hi lo
+    changed steps in
+    let again = IsLaneMachine-again i.lanes i.used i.parts.items i.agenda marks i.readers.items i.owners.items i.hi.items i.lo.items hi lo (rooms i.desk)
+    (rooms c.advance.new.desk) steps.marks_counted steps.highs c.advance.ensures.rooms columns m in
+    (rw (highs, lows) again, c.advance.ensures.rails)
+
+pub returns-clause-steps : goal.returns-clause-steps
+returns-clause-steps c =
+    let i = c.self.inside in
+    let m = c.self.invariant.0 in
+    let joining = c.args.joining in
+    let hi = c.advance.new.hi in
+    let lo = c.advance.new.lo in
+    let marks = c.advance.new.agenda in
+    let changed = c.advance.result in
+    let highs = with_items_is i.hi hi (omega (arith, c.advance.auto.hi, c.deref_mut.ensures.len)) in
+    let lows = with_items_is i.lo lo (omega (arith, c.advance.auto.lo, c.deref_mut-2.ensures.len)) in
+    let steps : StepsInAll joining i.parts.items i.used i.agenda marks i.hi.items i.lo.items hi lo changed =
+    rw (c.deref.ensures.value, c.deref_mut.ensures.value, c.deref_mut-2.ensures.value) at c.advance.ensures.columns in
+    let all = StepsLanes-stepped i.lanes i.used i.parts.items i.agenda i.readers.items i.owners.items i.hi.items i.lo.items (rooms i.desk) m joining marks hi lo
+    changed steps in
+    rw (← c.self.view_is) (rw (highs, lows) all)
+
+pub returns-clause-few : goal.returns-clause-few
+returns-clause-few c = λ lane.
+    let i = c.self.inside in
+    let m = c.self.invariant.0 in
+    let joining = c.args.joining in
+    let hi = c.advance.new.hi in
+    let lo = c.advance.new.lo in
+    let marks = c.advance.new.agenda in
+    let changed = c.advance.result in
+    let highs = with_items_is i.hi hi (omega (arith, c.advance.auto.hi, c.deref_mut.ensures.len)) in
+    let lows = with_items_is i.lo lo (omega (arith, c.advance.auto.lo, c.deref_mut-2.ensures.len)) in
+    let steps : StepsInAll joining i.parts.items i.used i.agenda marks i.hi.items i.lo.items hi lo changed =
+    rw (c.deref.ensures.value, c.deref_mut.ensures.value, c.deref_mut-2.ensures.value) at c.advance.ensures.columns in
+    let columns = AreColumns-stepped i.lanes i.used i.parts.items i.agenda i.readers.items i.owners.items i.hi.items i.lo.items (rooms i.desk) m joining marks hi lo
+    changed steps in
+    let few : length (column lane hi lo) < 9223372036854775808 =
+    omega (arith, length-column lane hi lo columns.counted, steps.highs, ap length c.deref_mut.ensures.value, c.deref_mut.type_inv.1) in
+    rw (highs, lows) few

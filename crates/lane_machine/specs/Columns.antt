@@ -1,0 +1,67 @@
+-- A machine of columns as contracts see it: one set of parts and marks serves all columns, and each column is a machine of its own that
+-- shares them.
+use Rattle.std.specs.Prelude.{◌≡◌, ℕ, ◌<◌, Bool, true, false, List, length, map, zip, ◌||◌}
+use Rattle.ternary.specs.declared.tern.Tern.{Tern}
+use Rattle.ternary.specs.declared.tern.Tern.TheVariants.{Zero, One, Unk}
+use Rattle.path_meaning.specs.Graphs.{GraphData, nodes}
+use Rattle.path_meaning.specs.Rails.{IsSound}
+use Rattle.batch_words.specs.Lanes.{is_in_lane, HasLane}
+use Rattle.unit_step.specs.declared.part.HeldPart.{HeldPart}
+use Rattle.unit_step.specs.Machines.{MachineData}
+use Rattle.unit_step.specs.Fitting.{FitsGraph}
+
+-- the number of columns, the parts, which of them are marked, and both rails of each node's states, bit i for column i
+pub record LaneData : Type 0 where
+  pub lanes : ℕ
+  pub parts : List HeldPart
+  pub marks : List Bool
+  pub hi : List ℕ
+  pub lo : List ℕ
+
+-- the state with these rails, "may be 1" first; where neither is set there is none, and X stands for it
+abbrev pub state_with : Bool → Bool → Tern
+state_with false false = Unk
+state_with false true = Zero
+state_with true false = One
+state_with true true = Unk
+
+-- the state of a node in a column
+abbrev pub state_in : ℕ → ℕ × ℕ → Tern
+state_in lane (hi, lo) = state_with (is_in_lane lane hi) (is_in_lane lane lo)
+
+-- the states of a column
+abbrev pub column : ℕ → List ℕ → List ℕ → List Tern
+column lane hi lo = map (state_in lane) (zip hi lo)
+
+-- the state of a column of the machine
+abbrev pub column_of : LaneData → ℕ → List Tern
+column_of m lane = column lane m.hi m.lo
+
+-- a machine with these parts and marks and this state fits the graph
+pub record HasFit (g : GraphData) (parts : List HeldPart) (marks : List Bool) (state : List Tern) : Type 0 where
+  pub machine : MachineData
+  pub fits : FitsGraph g machine
+  pub parts_are : machine.parts ≡ parts
+  pub marks_are : machine.marks ≡ marks
+  pub state_is : machine.state ≡ state
+
+-- each column is a machine that fits the graph, and all have these parts and marks
+abbrev pub FitsInLanes : GraphData → LaneData → Type 0
+FitsInLanes g m = (lane : ℕ) → lane < m.lanes → HasFit g m.parts m.marks (column_of m lane)
+
+-- in this column the words are the rails of a sound state of the graph's nodes
+pub record HasSoundLane (g : GraphData) (hi lo : List ℕ) (lane : ℕ) : Type 0 where
+  pub state : List Tern
+  pub has : HasLane lane hi lo state
+  pub counted : length state ≡ nodes g
+  pub sound : IsSound state
+
+-- the words of a node have some rail in each column
+abbrev pub HasStates : ℕ → ℕ → ℕ → Type 0
+HasStates lanes hi lo = (lane : ℕ) → lane < lanes → (is_in_lane lane hi || is_in_lane lane lo) ≡ true
+
+-- the column is one of those that the word tells, and in it the words are the rails of these states
+pub record HasColumn (used : ℕ) (hi lo : List ℕ) (lane : ℕ) (state : List Tern) : Type 0 where
+  pub inside : lane < 64
+  pub used_is : is_in_lane lane used ≡ true
+  pub has : HasLane lane hi lo state

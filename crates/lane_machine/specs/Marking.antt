@@ -1,0 +1,12 @@
+-- Marks of parts, and the list in which the marked parts stand.
+use Rattle.std.specs.Prelude.{ℕ, ◌≤◌, Bool, List, length, Contains}
+use Rattle.unit_step.specs.Machines.{IsMarked, count_marked}
+use Rattle.unit_step.specs.Marking.{AreOnce}
+
+-- each marked part stands in the list, once, and no other; and there is room for a list of all parts
+pub record IsAgenda (marks : List Bool) (work : List ℕ) (capacity : ℕ) : Type 0 where
+  pub listed : (k : ℕ) → IsMarked marks k → Contains work k
+  pub marked : (k : ℕ) → Contains work k → IsMarked marks k
+  pub once : AreOnce work
+  pub number : length work ≤ count_marked marks
+  pub room : length marks ≤ capacity

@@ -1,0 +1,107 @@
+-- What lets a machine of columns run, and what a step does in each column.
+use Rattle.std.specs.Prelude.{◌≡◌, ◌≢◌, ℕ, ◌<◌, ◌≤◌, ◌⊎◌, Bool, true, false, nat_lt, List, [], length, map, take, All, Contains, Vec, slice_index, slice_index_or}
+use Rattle.std.specs.List.{sum_by}
+use Rattle.std.proofs.Common.{Global}
+use Rattle.ternary.specs.declared.tern.Tern.{Tern}
+use Rattle.oscillation_x.specs.Settling.{StaysOrBecomesX}
+use Rattle.batch_words.specs.Lanes.{is_in_lane, HasLane}
+use Rattle.unit_step.specs.declared.part.HeldPart.{HeldPart}
+use Rattle.unit_step.specs.Parts.{Stands, IsStale, AreApart}
+use Rattle.unit_step.specs.Machines.{members_of}
+use Rattle.unit_step.specs.Stepping.{Moves}
+use Rattle.unit_step.specs.Columns.{KeepsMarks}
+use Rattle.unit_step.specs.Evaluating.{Rooms, IsSeated}
+use Rattle.lane_machine.specs.declared.evaluation.WordChange.{WordChange}
+use Rattle.lane_machine.specs.Columns.{column, HasColumn}
+
+-- the parts that are listed for a node
+abbrev pub listed_at : List (Vec ℕ Global) → ℕ → List ℕ
+listed_at lists node = slice_index_or (map (λ parts. parts.items) lists) node []
+
+-- the nodes that a part reads, or its members
+abbrev pub nodes_of : Bool → HeldPart → List ℕ
+nodes_of true part = take part.members part.map.items
+nodes_of false part = part.reads.items
+
+-- the part with this number reads the node, or has it as a member
+pub record IsAmong (members : Bool) (parts : List HeldPart) (k node : ℕ) : Type 0 where
+  pub part : HeldPart
+  pub stands : Stands parts k part
+  pub among : Contains (nodes_of members part) node
+
+-- for each node the parts that read it are listed, or that have it as a member, and no others
+pub record AreLists (members : Bool) (parts : List HeldPart) (count : ℕ) (lists : List (Vec ℕ Global)) : Type 0 where
+  pub counted : length lists ≡ count
+  pub listed : (node k : ℕ) → IsAmong members parts k node → Contains (listed_at lists node) k
+  pub only : (node k : ℕ) → Contains (listed_at lists node) k → IsAmong members parts k node
+
+-- the parts are seated, share no members, have marks, and none of them is stale; each node has its readers; and there is room for a step
+pub record IsRunnable (parts : List HeldPart) (marks : List Bool) (count : ℕ) (readers : List (Vec ℕ Global)) (room : Rooms) : Type 0 where
+  pub counted : length marks ≡ length parts
+  pub seated : All (IsSeated count room) parts
+  pub apart : AreApart parts
+  pub fresh : (k : ℕ) → ¬ IsStale parts k
+  pub readers_are : AreLists false parts count readers
+  pub changes_room : sum_by members_of parts ≤ room.changes
+  pub parts_room : length parts ≤ room.parts
+
+-- the word has the bits of the first columns, so many
+abbrev pub AreUsed : ℕ → ℕ → Type 0
+AreUsed lanes used = (lane : ℕ) → is_in_lane lane used ≡ nat_lt lane lanes
+
+-- each node has a rail in each column
+pub record AreColumns (lanes : ℕ) (hi lo : List ℕ) : Type 0 where
+  pub counted : length lo ≡ length hi
+  pub each : (lane : ℕ) → lane < lanes → HasLane lane hi lo (column lane hi lo)
+
+-- the machine can run, knows the owners of its nodes, and has a state in each column
+pub record IsLaneMachine (lanes used : ℕ) (parts : List HeldPart) (marks : List Bool) (readers owners : List (Vec ℕ Global)) (hi lo : List ℕ) (room : Rooms) : Type 0 where
+  pub few : lanes ≤ 64
+  pub used_are : AreUsed lanes used
+  pub runs : IsRunnable parts marks (length hi) readers room
+  pub owners_are : AreLists true parts (length hi) owners
+  pub columns : AreColumns lanes hi lo
+
+-- some change of the node is written
+pub record IsWrittenAt (changes : List WordChange) (hi lo : List ℕ) (node : ℕ) : Type 0 where
+  pub change : WordChange
+  pub there : Contains changes change
+  pub of_node : change.node ≡ node
+  pub high : slice_index hi node ≡ change.hi
+  pub low : slice_index lo node ≡ change.lo
+
+-- no change is of the node, whose words stay
+pub record IsLeftAt (changes : List WordChange) (old_hi old_lo hi lo : List ℕ) (node : ℕ) : Type 0 where
+  pub none : (change : WordChange) → Contains changes change → change.node ≢ node
+  pub high : slice_index hi node ≡ slice_index old_hi node
+  pub low : slice_index lo node ≡ slice_index old_lo node
+
+-- each node of which there is a change has the words of one, and every other node stays
+pub record AreWritten (changes : List WordChange) (old_hi old_lo hi lo : List ℕ) : Type 0 where
+  pub highs : length hi ≡ length old_hi
+  pub lows : length lo ≡ length old_lo
+  pub each : (node : ℕ) → IsWrittenAt changes hi lo node ⊎ IsLeftAt changes old_hi old_lo hi lo node
+
+-- the part with this number is listed for some node that changes
+pub record ReadsAny (readers : List (Vec ℕ Global)) (changes : List WordChange) (k : ℕ) : Type 0 where
+  pub change : WordChange
+  pub changes_it : Contains changes change
+  pub reads : Contains (listed_at readers change.node) k
+
+-- a column takes a step, plain or joining, and the bit tells whether the step changed it
+pub record StepsTo (joining : Bool) (parts : List HeldPart) (marks new_marks : List Bool) (state next : List Tern) (bit : Bool) : Type 0 where
+  pub moves : Moves joining parts marks state next
+  pub keeps : KeepsMarks joining parts marks state next new_marks
+  pub changed : bit ≡ true → next ≢ state
+  pub same : bit ≡ false → next ≡ state
+  pub unknown : joining ≡ true → StaysOrBecomesX state next
+
+-- each used column takes a step
+pub record StepsInAll (joining : Bool) (parts : List HeldPart) (used : ℕ) (marks new_marks : List Bool) (hi lo new_hi new_lo : List ℕ) (changed : ℕ) : Type 0 where
+  pub highs : length new_hi ≡ length hi
+  pub lows : length new_lo ≡ length lo
+  pub marks_counted : length new_marks ≡ length marks
+  pub has : (lane : ℕ) (state : List Tern) → HasColumn used hi lo lane state → HasLane lane new_hi new_lo (column lane new_hi new_lo)
+  pub each : (lane : ℕ) (state : List Tern) → HasColumn used hi lo lane state →
+      StepsTo joining parts marks new_marks state (column lane new_hi new_lo) (is_in_lane lane changed)
+  pub beyond : (lane : ℕ) → is_in_lane lane used ≡ false → is_in_lane lane changed ≡ false

@@ -1,0 +1,75 @@
+//! Which parts are marked, and the list of these.
+ghost use Rattle.std.specs.Prelude.{◌≡◌, ℕ, ◌<◌, true, false, slice_set, length, replicate, Contains, IfOk, IfSome};
+ghost use Rattle.std.specs.Option.{IfNone};
+ghost use Rattle.unit_step.specs.Machines.{IsMarked};
+ghost use Rattle.unit_step.specs.Marking.{MarksAll};
+
+use std::alloc::{AllocError, Global};
+use std::marker::Model;
+
+// A mark for each part; the marked ones stand in a list.
+#[derive(Drop)]
+pub(crate) struct Agenda {
+    marks: Vec<bool>,
+    work: Vec<usize>,
+}
+
+impl Model for Agenda {
+    ghost use Rattle.std.specs.Prelude.{Bool, List, vec_capacity};
+    ghost use Rattle.lane_machine.specs.Marking.{IsAgenda};
+
+    ghost Value = { List Bool };
+
+    ghost view = { λ agenda. agenda.marks.items };
+
+    ghost invariant = { λ agenda. IsAgenda agenda.marks.items agenda.work.items (vec_capacity agenda.work) };
+}
+
+impl Agenda {
+    // All of so many parts are marked.
+    pub(crate) fn all(alloc: Global, parts: usize) -> Result<Agenda, AllocError>
+        ensures { IfOk result (λ agenda. agenda ≡ replicate parts true) }
+    {
+        let mut work = Vec::with_capacity(alloc, parts)?;
+        for k in 0..parts {
+            work.push_reserved(k);
+        }
+        Ok(Agenda {
+            marks: vec![in alloc; true; parts]?,
+            work,
+        })
+    }
+
+    // Marks a part. Marking twice is one mark.
+    pub(crate) fn mark(&mut self, k: usize)
+        requires { k < length self.old }
+        ensures { self.new ≡ slice_set self.old k true }
+    {
+        if !self.marks[k] {
+            self.marks[k] = true;
+            self.work.push_reserved(k);
+        }
+    }
+
+    // Takes a marked part out of the list, and clears its mark; None where none is marked.
+    pub(crate) fn pop(&mut self) -> Option<usize>
+        ensures marked { IfSome result (λ k. IsMarked self.old k) }
+        ensures cleared { IfSome result (λ k. self.new ≡ slice_set self.old k false) }
+        ensures none { IfNone result (self.new ≡ self.old) }
+        ensures rest { IfNone result ((k : ℕ) → ¬ IsMarked self.old k) }
+    {
+        let k = self.work.pop()?;
+        self.marks[k] = false;
+        Some(k)
+    }
+}
+
+// Marks all of these parts.
+pub(crate) fn mark_all(parts: &[usize], agenda: &mut Agenda)
+    requires { (k : ℕ) → Contains parts.now k → k < length agenda.old }
+    ensures { MarksAll (Contains parts.now) agenda.old agenda.new }
+{
+    for k in parts {
+        agenda.mark(*k);
+    }
+}

@@ -1,0 +1,48 @@
+//! The changes of a step are taken over.
+ghost use Rattle.std.specs.Prelude.{◌≡◌, ℕ, ◌<◌, true, false, length, Contains, slice_index};
+ghost use Rattle.unit_step.specs.Marking.{MarksAll};
+ghost use Rattle.batch_words.specs.Lanes.{is_in_lane};
+ghost use Rattle.lane_machine.specs.declared.evaluation.WordChange.{WordChange};
+ghost use Rattle.lane_machine.specs.Noting.{differs_in};
+ghost use Rattle.lane_machine.specs.Running.{listed_at, AreWritten, ReadsAny};
+
+use crate::agenda::{Agenda, mark_all};
+use crate::evaluation::{WordChange, differing};
+
+// The used columns in which some of these changes changes its node.
+pub(crate) fn changed_lanes(used: u64, changes: &[WordChange], hi: &[u64], lo: &[u64]) -> u64
+    requires words { length lo.now ≡ length hi.now }
+    requires inside { (change : WordChange) → Contains changes.now change → change.node < length hi.now }
+    ensures set { (lane : ℕ) → is_in_lane lane result ≡ true
+        → (change : WordChange) × Contains changes.now change × (differs_in used (slice_index hi.now change.node) (slice_index lo.now change.node) lane change ≡ true) }
+    ensures unset { (lane : ℕ) → is_in_lane lane result ≡ false → (change : WordChange) → Contains changes.now change
+        → differs_in used (slice_index hi.now change.node) (slice_index lo.now change.node) lane change ≡ false }
+{
+    let mut lanes = 0;
+    for change in changes {
+        lanes |= differing(used, *change, hi[change.node], lo[change.node]);
+    }
+    lanes
+}
+
+// Writes the changes into the words, and marks the parts that read a node that changes.
+pub(crate) fn take_over(
+    changes: &[WordChange],
+    readers: &[Vec<usize>],
+    hi: &mut [u64],
+    lo: &mut [u64],
+    agenda: &mut Agenda,
+)
+    requires words { length lo.old ≡ length hi.old }
+    requires inside { (change : WordChange) → Contains changes.now change → change.node < length hi.old }
+    requires readers { length readers.now ≡ length hi.old }
+    requires parts { (node k : ℕ) → Contains (listed_at readers.now node) k → k < length agenda.old }
+    ensures written { AreWritten changes.now hi.old lo.old hi.new lo.new }
+    ensures marks { MarksAll (ReadsAny readers.now changes.now) agenda.old agenda.new }
+{
+    for change in changes {
+        hi[change.node] = change.hi;
+        lo[change.node] = change.lo;
+        mark_all(&readers[change.node], agenda);
+    }
+}

@@ -1,0 +1,31 @@
+-- The parts are seated and share no members, and each node that they read has its readers.
+use Rattle.std.proofs.Common.{◌≡◌, ◌≤◌, ◌<◌, ℕ, [], inl, inr, length, map, subst, arith}
+use Rattle.std.specs.Prelude.{Contains}
+use Rattle.std.proofs.lemmas.Bool.{cases_lt}
+use Rattle.std.proofs.lemmas.List.{get_or_past, length-map}
+use Rattle.smallvec.specs.SmallVec.{SmallVec}
+use Rattle.unit_step.specs.Parts.{ReadsAt}
+use Rattle.unit_step.specs.Evaluating.{rooms}
+use Rattle.unit_step.specs.Running.{readers_of}
+use Rattle.unit_step.proofs.machine.Machine.into_parts.Goals as goal
+
+pub returns-clause-seated : goal.returns-clause-seated
+returns-clause-seated c = rw (← c.self.view_is) (rooms c.self.inside.desk, c.self.invariant.runs.seated)
+
+pub returns-clause-apart : goal.returns-clause-apart
+returns-clause-apart c = rw (← c.self.view_is) c.self.invariant.runs.apart
+
+pub returns-clause-reads : goal.returns-clause-reads
+returns-clause-reads c =
+    let lists = c.self.inside.readers.items in
+    let inside_all : (k node : ℕ) → ReadsAt c.self.inside.parts.items k node → node < length c.self.inside.state.items = λ k node reads.
+    let there = c.self.invariant.runs.readers node k reads in
+    elim (cases_lt node (length lists)) [
+      | inl inside ↦ omega (arith, inside, c.self.invariant.runs.readers_counted)
+      | inr past ↦
+          let none : readers_of lists node ≡ [] =
+          get_or_past (map (λ (parts : SmallVec ℕ). parts.items) lists) node [] (omega (arith, past, length-map lists (λ (parts : SmallVec ℕ). parts.items))) in
+          let (i, inside, here) = subst (λ xs. Contains xs k) none there in
+          absurd (omega (arith, inside))
+    ] in
+    rw (← c.self.view_is) inside_all
