@@ -73,13 +73,13 @@ thousandths_of-cut before after stop none passes =
     let right : after_first is_point (before ++ stop ∷ after) ≡ after =
     ap (λ n. drop (n + 1) (before ++ stop ∷ after)) at ∙ drop_past before stop after in
     ap₂ thousandths_by left right
-      where
-        take_front : (xs ys : List ℕ) → take (length xs) (xs ++ ys) ≡ xs
-        take_front xs ys = take-append-le (length xs) xs ys (omega arith) ∙ take_all (length xs) xs (omega arith)
+  where
+    take_front : (xs ys : List ℕ) → take (length xs) (xs ++ ys) ≡ xs
+    take_front xs ys = take-append-le (length xs) xs ys (omega arith) ∙ take_all (length xs) xs (omega arith)
 
-        drop_past : (xs : List ℕ) (y : ℕ) (ys : List ℕ) → drop (length xs + 1) (xs ++ y ∷ ys) ≡ ys
-        drop_past [] y ys = refl
-        drop_past (x ∷ xs) y ys = rw (let e : length (x ∷ xs) + 1 ≡ suc (length xs + 1) = omega arith in e) (drop_past xs y ys)
+    drop_past : (xs : List ℕ) (y : ℕ) (ys : List ℕ) → drop (length xs + 1) (xs ++ y ∷ ys) ≡ ys
+    drop_past [] y ys = refl
+    drop_past (x ∷ xs) y ys = rw (let e : length (x ∷ xs) + 1 ≡ suc (length xs + 1) = omega arith in e) (drop_past xs y ys)
 
 -- and one without a point as a whole part
 pub thousandths_of-whole : (word : List ℕ) → All (λ byte. is_point byte ≡ false) word → thousandths_of word ≡ thousandths_by word []
