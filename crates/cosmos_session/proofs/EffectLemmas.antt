@@ -1,14 +1,12 @@
 -- Each command is refused or has an effect, and an effect keeps the data ready: the circuit well formed, and one state for each node.
 -- The plan: edits give nodes other than the rails a level, which keeps the circuit well formed; states are set and keep their number; steps,
 -- phases and cycles have an outcome because every state of a graph has a step and settles.
-use Rattle.std.proofs.Common.{◌≡◌, ℕ, ◌-◌, ◌≤◌, ◌++◌, ◌&&◌, ◌||◌, List, [], ◌∷◌, length, map, nat_lt, nat_le, Option, None, Some, Bool, true, false, refl, sym, ◌∙◌, inl, inr, arith}
+use Rattle.std.proofs.Common.{◌≡◌, ℕ, ◌-◌, ◌≤◌, ◌++◌, ◌||◌, List, [], ◌∷◌, length, map, nat_lt, Option, None, Some, Bool, true, false, refl, sym, ◌∙◌, inl, inr, arith}
 use Rattle.std.specs.Prelude.{if◌then◌else◌, ◌⊎◌}
 use Rattle.std.proofs.lemmas.List.{length-set, length-replicate}
 use Rattle.std.proofs.lemmas.List.Elements.{All-nil}
 use Rattle.std.proofs.lemmas.Bool.Decides.{nat_tests}
 use Rattle.ternary.specs.declared.tern.Tern.TheVariants.{Unk}
-use Rattle.strength_order.specs.declared.Profile.{Profile}
-use Rattle.strength_order.specs.declared.Profile.TheVariants.{One}
 use Rattle.strength_order.specs.declared.TheConstants.{INPUT_LEVEL}
 use Rattle.strength_order.specs.Levels.{IsLevel, level_of_size}
 use Rattle.path_meaning.specs.Graphs.{nodes}
@@ -17,7 +15,7 @@ use Rattle.oscillation_x.proofs.SettlingExists.{every_state}
 use Rattle.path_meaning.specs.declared.TheConstants.{RAILS}
 use Rattle.netlist.specs.Names.{node_of}
 use Rattle.netlist.specs.Circuits.{CircuitData, IsCircuit}
-use Rattle.netlist.proofs.KeptLemmas.{IsLevel-input, IsCircuit-with_level}
+use Rattle.netlist.proofs.KeptLemmas.{IsLevel-input, IsLevel-size, IsCircuit-with_level}
 use Rattle.netlist.proofs.KeptLemmas.{IsCircuit-with_transistor}
 use Rattle.netlist.proofs.EditLemmas.{nodes-with_transistor, nodes-with_wires, IsCircuit-without_switch, IsCircuit-with_strength, IsCircuit-with_kind, IsCircuit-with_wires}
 use Rattle.netlist.specs.Edits.{with_input, with_store, node_named, is_size, with_transistor, without_switch, with_strength, with_kind, with_wires}
@@ -67,15 +65,6 @@ IsCircuit-with_inputs (name ∷ names) c none is =
     IsCircuit-with_inputs names (with_input c (node_named c name)) both.1
     (IsCircuit-with_level c (node_named c name) INPUT_LEVEL (rw found.1 found.2) IsLevel-input is)
 
--- a size that a profile accepts has a level
-size_level : (profile : Profile) (size : ℕ) → is_size profile size ≡ true → IsLevel (level_of_size size)
-size_level One size accepted = by (nat_le 1 size) (nat_le size 3) refl refl accepted
-  where
-    by : (low high : Bool) → nat_le 1 size ≡ low → nat_le size 3 ≡ high → low && high ≡ true → IsLevel size
-    by true true low high both = record { low = grind (arith, nat_tests); high = grind (arith, nat_tests) }
-    by true false low high both = absurd (cc)
-    by false high low is_high both = absurd (cc)
-
 -- a node whose new size isn't refused is in use, is no rail, and gets a level
 no_rail_store : (c : CircuitData) (size : ℕ) (found : Option ℕ) → store_refusal c size found ≡ None →
     (node : ℕ) × (found ≡ Some node) × (RAILS ≤ node) × IsLevel (level_of_size size)
@@ -87,7 +76,7 @@ no_rail_store c size (Some node) none = by (nat_lt node RAILS) (is_size c.profil
         (node' : ℕ) × (Some node ≡ Some node') × (RAILS ≤ node') × IsLevel (level_of_size size)
     by true fits is_rail is_fits none = absurd (cc)
     by false false is_rail is_fits none = absurd (cc)
-    by false true is_rail is_fits none = (node, refl, grind (arith, nat_tests), size_level c.profile size is_fits)
+    by false true is_rail is_fits none = (node, refl, grind (arith, nat_tests), IsLevel-size c.profile size is_fits)
 
 -- ---- phases and cycles
 

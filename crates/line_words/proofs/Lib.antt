@@ -1,6 +1,7 @@
 pub mod CommentLemmas
 pub mod CutLemmas
 pub mod DecimalLemmas
+pub mod PointLemmas
 pub mod FeedLemmas
 pub mod LineLemmas
 pub mod WordLemmas

@@ -4,5 +4,6 @@ pub mod Decimals
 pub mod LineFaults
 pub mod Lines
 pub mod Pieces
+pub mod Points
 pub mod Words
 pub mod Visible

@@ -24,8 +24,8 @@ pub fn decimal(word: &[u8]) -> Option<u64>
     }
 }
 
-// Whether each byte is an ASCII digit.
-fn all_digits(word: &[u8]) -> bool
+/// Whether each byte is an ASCII digit.
+pub(crate) fn all_digits(word: &[u8]) -> bool
     ensures { result ≡ list_all is_ascii_digit word.now }
 {
     word.iter().all(u8::is_ascii_digit)

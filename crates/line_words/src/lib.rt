@@ -5,9 +5,10 @@
 //! contracts see as the list of the numbered lines that are left, and [`words`] gives [`Words`],
 //! seen as the list of the words that are left. So a loop `for line in lines(text)` has as its
 //! invariant one equation on that list. [`check_line`] tells the two faults that a line of any
-//! text may have, and [`decimal`] is the one way in which numbers are read. [`front`] is what is
-//! read of a file, and [`cut_line`] is the number of the line at which a file is too long. A text that
-//! comes in pieces is cut by [`line_end`], the place of the first LF of a piece.
+//! text may have, and [`decimal`] is the one way in which numbers are read; [`thousandths`] reads those
+//! with a point. [`front`] is what is read of a file, and [`cut_line`] is the number of the line at which
+//! a file is too long. A text that comes in pieces is cut by [`line_end`], the place of the first LF of a
+//! piece.
 //!
 //! The layer above rests on the contract of [`lines`]: it gives `lines_of` of the text, numbered
 //! from 1. For the proofs of crates above: `VisibleLemmas` says that the words of a line without a
@@ -33,6 +34,7 @@ mod files;
 mod line_check;
 mod line_cursor;
 mod pieces;
+mod points;
 #[cfg(test)]
 mod tests;
 mod word_cursor;
@@ -43,4 +45,5 @@ pub use files::{MOST_FILE_BYTES, cut_line, front};
 pub use line_check::{LONGEST_LINE, LineFault, check_line, is_comment};
 pub use line_cursor::{Line, Lines, without_return};
 pub use pieces::line_end;
+pub use points::{MOST_THOUSANDTHS, thousandths};
 pub use word_cursor::Words;

@@ -8,8 +8,8 @@ use Rattle.std.proofs.lemmas.List.{length-set, get_or-set_other, get_or_append_l
 use Rattle.std.proofs.lemmas.List.Elements.{All-nil, All-push, All-set, All-weaker}
 use Rattle.strength_order.specs.declared.TheConstants.{INPUT_LEVEL, LEAST_SIZE_LEVEL, LEAST_SWITCH_LEVEL, GREATEST_SWITCH_LEVEL}
 use Rattle.strength_order.specs.declared.Profile.{Profile}
-use Rattle.strength_order.specs.declared.Profile.TheVariants.{One}
-use Rattle.strength_order.specs.Levels.{IsLevel, level_of_size, level_of_strength}
+use Rattle.strength_order.specs.declared.Profile.TheVariants.{One, Two}
+use Rattle.strength_order.specs.Levels.{IsLevel, greatest_size, greatest_strength, level_of_size, level_of_strength}
 use Rattle.path_meaning.specs.declared.switching.Switch.{Switch}
 use Rattle.path_meaning.specs.declared.switching.SwitchKind.{SwitchKind}
 use Rattle.path_meaning.specs.Graphs.{Fits, FitsPlace, nodes}
@@ -33,25 +33,39 @@ IsLevel-input = record { low = omega arith; high = omega arith }
 IsLevel-least : IsLevel LEAST_SIZE_LEVEL
 IsLevel-least = record { low = omega arith; high = omega arith }
 
--- and that of a size that a profile accepts
+-- every profile accepts sizes up to 8 at most
+size_at_most : (profile : Profile) → greatest_size profile ≤ 8
+size_at_most One = omega arith
+size_at_most Two = omega arith
+
+-- and strengths up to 7
+strength_at_most : (profile : Profile) → greatest_strength profile ≤ 7
+strength_at_most One = omega arith
+strength_at_most Two = omega arith
+
+-- the level of a size that a profile accepts is a level
 pub IsLevel-size : (profile : Profile) (size : ℕ) → is_size profile size ≡ true → IsLevel (level_of_size size)
-IsLevel-size One size accepted = by (nat_le 1 size) (nat_le size 3) refl refl accepted
+IsLevel-size profile size accepted = by (nat_le 1 size) (nat_le size (greatest_size profile)) refl refl accepted
   where
-    by : (low high : Bool) → nat_le 1 size ≡ low → nat_le size 3 ≡ high → low && high ≡ true → IsLevel size
-    by true true low high both = record { low = grind (arith, nat_tests); high = grind (arith, nat_tests) }
+    by : (low high : Bool) → nat_le 1 size ≡ low → nat_le size (greatest_size profile) ≡ high → low && high ≡ true → IsLevel size
+    by true true low high both =
+        let most = size_at_most profile in
+        let greatest : size ≤ greatest_size profile = grind (arith, nat_tests) in
+        record { low = grind (arith, nat_tests); high = omega arith }
     by true false low high both = absurd (cc)
     by false high low is_high both = absurd (cc)
 
 -- the level of a strength that a profile accepts is a switch's
 pub switch_level : (profile : Profile) (strength : ℕ) → is_strength profile strength ≡ true →
     (LEAST_SWITCH_LEVEL ≤ level_of_strength strength) × (level_of_strength strength ≤ GREATEST_SWITCH_LEVEL)
-switch_level One strength accepted = by (nat_le 1 strength) (nat_le strength 4) refl refl accepted
+switch_level profile strength accepted = by (nat_le 1 strength) (nat_le strength (greatest_strength profile)) refl refl accepted
   where
-    by : (low high : Bool) → nat_le 1 strength ≡ low → nat_le strength 4 ≡ high → low && high ≡ true →
+    by : (low high : Bool) → nat_le 1 strength ≡ low → nat_le strength (greatest_strength profile) ≡ high → low && high ≡ true →
         (LEAST_SWITCH_LEVEL ≤ level_of_strength strength) × (level_of_strength strength ≤ GREATEST_SWITCH_LEVEL)
     by true true low high both =
         let least : 1 ≤ strength = grind (arith, nat_tests) in
-        let greatest : strength ≤ 4 = grind (arith, nat_tests) in
+        let most = strength_at_most profile in
+        let greatest : strength ≤ greatest_strength profile = grind (arith, nat_tests) in
         (omega arith, omega arith)
     by true false low high both = absurd (cc)
     by false high low is_high both = absurd (cc)

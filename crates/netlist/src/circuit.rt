@@ -1,5 +1,5 @@
 //! The circuit, and its edits.
-ghost use Rattle.std.specs.Prelude.{◌≡◌, ◌-◌, ◌<◌, ◌≤◌, ◌⊎◌, [], ◌∷◌, ◌++◌, length, replicate, slice_set, IfOk, IfErr, IfSome, OnOk, OnErr, None, Some};
+ghost use Rattle.std.specs.Prelude.{◌≡◌, ◌-◌, ◌<◌, ◌≤◌, ◌⊎◌, [], ◌∷◌, ◌++◌, length, replicate, slice_get, slice_set, IfOk, IfErr, IfSome, OnOk, OnErr, None, Some};
 ghost use Rattle.path_meaning.specs.Graphs.{nodes, Fits};
 ghost use Rattle.netlist.specs.Names.{name_at, node_of};
 ghost use Rattle.netlist.specs.Naming.{node_count, with_first, with_name_of, Extends};
@@ -126,6 +126,15 @@ impl Circuit {
         ensures found { node_of self.now.names result.now ≡ Some node }
     {
         self.names.name_of(node)
+    }
+
+    /// The name at this place among those in use, spellings of the rails not counted, in the order
+    /// in which they came into use, with its node.
+    pub fn name_at(&self, place: usize) -> (&[u8], usize)
+        requires { place < length self.now.names }
+        ensures { slice_get self.now.names place ≡ Some (result.0.now, result.1) }
+    {
+        self.names.entry_at(place)
     }
 
     /// The node of a name, which becomes that of a new storage node of size 1 where it isn't in use.

@@ -1,5 +1,5 @@
 //! The names of a circuit, beside its graph.
-ghost use Rattle.std.specs.Prelude.{◌≡◌, ◌<◌, [], ◌∷◌, ◌++◌, length, IfOk, IfSome, None, OnErr, OnOk, Some};
+ghost use Rattle.std.specs.Prelude.{◌≡◌, ◌<◌, [], ◌∷◌, ◌++◌, length, slice_get, IfOk, IfSome, None, OnErr, OnOk, Some};
 ghost use Rattle.netlist.specs.Names.{held, name_at, node_of, rail_of, StandOnce};
 ghost use Rattle.netlist.specs.Naming.{cut, entries_of, node_count, with_first, with_more, with_name, with_name_of, with_names, AreTerminals, Extends, HasNode, IsNaming};
 
@@ -117,6 +117,18 @@ impl Names {
         }
         match self.table.get_index(self.firsts[node - RAILS]) {
             Some((name, _)) => name,
+            None => unreachable!(),
+        }
+    }
+
+    /// The name at this place among those in use, in the order in which they came into use, with its
+    /// node.
+    pub(crate) fn entry_at(&self, place: usize) -> (&[u8], usize)
+        requires { place < length self.now.entries }
+        ensures { slice_get self.now.entries place ≡ Some (result.0.now, result.1) }
+    {
+        match self.table.get_index(place) {
+            Some((name, node)) => (name, *node),
             None => unreachable!(),
         }
     }

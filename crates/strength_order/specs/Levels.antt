@@ -3,7 +3,7 @@
 -- The numbers of the levels are this project's own.
 use Rattle.std.specs.Prelude.{ℕ, ◌+◌, ◌<◌, ◌≤◌}
 use Rattle.strength_order.specs.declared.Profile.{Profile}
-use Rattle.strength_order.specs.declared.Profile.TheVariants.{One}
+use Rattle.strength_order.specs.declared.Profile.TheVariants.{One, Two}
 
 -- a level of the order: 1 to 16
 pub record IsLevel (level : ℕ) : Type 0 where
@@ -30,13 +30,15 @@ level_of_strength g = 8 + g
 abbrev pub level_of_input : ℕ
 level_of_input = 16
 
--- the greatest size that a profile accepts: 3 in profile 1
+-- the greatest size that a profile accepts: 3 in profile 1, 8 in profile 2
 abbrev pub greatest_size : Profile → ℕ
 greatest_size One = 3
+greatest_size Two = 8
 
--- the greatest strength that a profile accepts: 4 in profile 1
+-- the greatest strength that a profile accepts: 4 in profile 1, 7 in profile 2
 abbrev pub greatest_strength : Profile → ℕ
 greatest_strength One = 4
+greatest_strength Two = 7
 
 -- a size that the profile accepts: 1 or more, and at most the greatest
 abbrev pub IsSize : Profile → ℕ → Type 0

@@ -11,6 +11,7 @@
 //! size_level(Profile::One, 3)        is Some(3)
 //! switch_level(Profile::One, 1)      is Some(9)
 //! switch_level(Profile::One, 5)      is None
+//! switch_level(Profile::Two, 7)      is Some(15)
 //! ```
 //!
 //! After Bryant, "A Switch-Level Model and Simulator for MOS Digital Systems", 1984. The numbers
@@ -41,6 +42,8 @@ pub const INPUT_LEVEL: u8 = 16;
 pub enum Profile {
     /// Sizes 1 to 3 and strengths 1 to 4.
     One,
+    /// Sizes 1 to 8 and strengths 1 to 7: all levels that are kept for them.
+    Two,
 }
 
 impl Profile {
@@ -49,6 +52,7 @@ impl Profile {
     {
         match self {
             Profile::One => 3,
+            Profile::Two => 8,
         }
     }
 
@@ -57,12 +61,13 @@ impl Profile {
     {
         match self {
             Profile::One => 4,
+            Profile::Two => 7,
         }
     }
 }
 
-/// The level of the size `k`: None exactly where the profile doesn't accept it, as profile 1
-/// accepts 1 to 3 alone.
+/// The level of the size `k`: None exactly where the profile doesn't accept it. Profile 1 accepts
+/// 1 to 3, profile 2 accepts 1 to 8.
 pub fn size_level(p: Profile, k: u64) -> Option<u8>
     ensures value { SomeIff result (IsSize p k) (level_of_size k) }
     ensures range { IfSome result IsSizeLevel }
@@ -73,8 +78,8 @@ pub fn size_level(p: Profile, k: u64) -> Option<u8>
     Some(k as u8)
 }
 
-/// The level of the strength `g`: None exactly where the profile doesn't accept it, as profile 1
-/// accepts 1 to 4 alone.
+/// The level of the strength `g`: None exactly where the profile doesn't accept it. Profile 1
+/// accepts 1 to 4, profile 2 accepts 1 to 7.
 pub fn switch_level(p: Profile, g: u64) -> Option<u8>
     ensures value { SomeIff result (IsStrength p g) (level_of_strength g) }
     ensures range { IfSome result IsSwitchLevel }
