@@ -6,7 +6,7 @@ use Rattle.std.proofs.lemmas.List.{get_or_past, length-map}
 use Rattle.smallvec.specs.SmallVec.{SmallVec}
 use Rattle.unit_step.specs.Parts.{ReadsAt}
 use Rattle.unit_step.specs.Evaluating.{rooms}
-use Rattle.unit_step.specs.Running.{readers_of}
+use Rattle.unit_step.specs.Readers.{readers_of}
 use Rattle.unit_step.proofs.machine.Machine.into_parts.Goals as goal
 
 pub returns-clause-seated : goal.returns-clause-seated
@@ -17,7 +17,7 @@ returns-clause-apart c = rw (← c.self.view_is) c.self.invariant.runs.apart
 
 pub returns-clause-reads : goal.returns-clause-reads
 returns-clause-reads c =
-    let lists = c.self.inside.readers.items in
+    let lists = c.self.inside.readers in
     let inside_all : (k node : ℕ) → ReadsAt c.self.inside.parts.items k node → node < length c.self.inside.state.items = λ k node reads.
     let there = c.self.invariant.runs.readers node k reads in
     elim (cases_lt node (length lists)) [
