@@ -130,39 +130,6 @@ fn the_machine_lives_through_edits(rt: HostRuntime) -> Result<(), Fail> {
     Ok(())
 }
 
-#[test]
-fn a_session_starts_again_with_what_it_keeps(rt: HostRuntime) -> Result<(), Fail> {
-    let alloc = rt.alloc();
-    let circuit = read_netlist(alloc, TableKeys::fixed(), PAIR)?;
-    let mut session = Session::new(alloc, circuit.copy(alloc)?)?;
-    let mut analyst = SymbolicAnalyst::new(alloc);
-    let mut out = HonestSink::new(alloc);
-    for (line, text, watched) in [
-        (b"watch c a".as_slice(), b"".as_slice(), 2),
-        (b"report", b"groups 2 texts 1 new 1\n", 2),
-        // after this line the session starts again
-        (b"watch b", b"groups 2 texts 1 new 1\n", 3),
-        (
-            b"report",
-            b"groups 2 texts 1 new 1\ngroups 2 texts 1 new 0\n",
-            0,
-        ),
-    ] {
-        match read_command(alloc, line)? {
-            Some(command) => {
-                assert_eq!(rt; session.apply(&command, &mut analyst, &mut out), Ok(()));
-            }
-            None => panic!(rt; "no command"),
-        }
-        assert_eq!(rt; out.written(), text);
-        assert_eq!(rt; session.watched().len(), watched);
-        if watched == 3 {
-            session = session.restart(circuit.copy(alloc)?)?;
-        }
-    }
-    Ok(())
-}
-
 // A session at its start.
 fn session_of(alloc: Global, net: &[u8]) -> Result<Session, Fail> {
     let circuit = read_netlist(alloc, TableKeys::fixed(), net)?;
