@@ -20,7 +20,8 @@
 //!
 //! For the proofs of crates above: `VisibleLemmas` says that the words of the parts of a deck that isn't
 //! refused are visible names, and that each part has those that it needs; `ReadingLemmas` that what a name
-//! stands for is as all entries of its table are.
+//! stands for is as all entries of its table are; `FrontLemmas` that the cards of a text are those of its
+//! front; `RefusalLemmas` that a refusal tells of a line.
 //!
 //! The cards are those of Nagel and Pederson, "SPICE (Simulation Program with Integrated Circuit
 //! Emphasis)", 1973, in this project's profile: docs/FORMATS.md has it whole.

@@ -2,20 +2,21 @@
 -- also which group it is and how large. Each line ends with LF.
 use Rattle.std.specs.Prelude.{ℕ, List, [], ◌++◌, codes, decimal}
 use Rattle.wave_print.specs.declared.faults.FaultPlace.{FaultPlace}
-use Rattle.wave_print.specs.declared.faults.FaultPlace.TheVariants.{Net, NetWhole, Script, List as OfList}
+use Rattle.wave_print.specs.declared.faults.FaultPlace.TheVariants.{Net, NetWhole, Script, List as OfList, Node}
 use Rattle.wave_print.specs.declared.faults.FaultCode.{FaultCode}
-use Rattle.wave_print.specs.declared.faults.FaultCode.TheVariants.{L1LineTooLong, L2BadByte, N1BadRecord, N2FewWords, N3Format, N4TooLong, G1GroupNodes, G2GroupSwitches, E1UnknownNode, E2NoSuchSwitch, E3Rail, E4BadStrength, E5BadSize, E6AliasTaken, E7TooManyNodes, E8TooManySwitches, S1BadCommand, S2FewWords, S3ManyWords, S4BadValue, S5BadNumber, S6NotInput, S7NotStore, S8ClockLength, S9NoClock, S10TooManyWatched, S11TooLong, F1BadFault, F2TooLong}
+use Rattle.wave_print.specs.declared.faults.FaultCode.TheVariants.{L1LineTooLong, L2BadByte, N1BadRecord, N2FewWords, N3Format, N4TooLong, N5BadCaps, G1GroupNodes, G2GroupSwitches, E1UnknownNode, E2NoSuchSwitch, E3Rail, E4BadStrength, E5BadSize, E6AliasTaken, E7TooManyNodes, E8TooManySwitches, S1BadCommand, S2FewWords, S3ManyWords, S4BadValue, S5BadNumber, S6NotInput, S7NotStore, S8ClockLength, S9NoClock, S10TooManyWatched, S11TooLong, F1BadFault, F2TooLong}
 
 -- words with the number of a line: `<words><line>: `
 abbrev pub numbered_of : List ℕ → ℕ → List ℕ
 numbered_of words line = words ++ decimal line ++ codes ": "
 
--- the place of a fault: `net line <l>`, `net`, `script line <l>` or `list line <l>`, and `: ` after it
+-- the place of a fault: `net line <l>`, `net`, `script line <l>`, `list line <l>` or `node`, and `: ` after it
 abbrev pub place_of : FaultPlace → List ℕ
 place_of (Net line) = numbered_of (codes "net line ") line
 place_of NetWhole = codes "net: "
 place_of (Script line) = numbered_of (codes "script line ") line
 place_of (OfList line) = numbered_of (codes "list line ") line
+place_of Node = codes "node: "
 
 -- the text of a fault: its code and its word
 abbrev pub text_of : FaultCode → List ℕ
@@ -25,6 +26,7 @@ text_of N1BadRecord = codes "N1 BadRecord"
 text_of N2FewWords = codes "N2 FewWords"
 text_of N3Format = codes "N3 Format"
 text_of N4TooLong = codes "N4 TooLong"
+text_of N5BadCaps = codes "N5 BadCaps"
 text_of G1GroupNodes = codes "G1 GroupNodes"
 text_of G2GroupSwitches = codes "G2 GroupSwitches"
 text_of E1UnknownNode = codes "E1 UnknownNode"

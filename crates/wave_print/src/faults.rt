@@ -24,6 +24,8 @@ pub enum FaultPlace {
     Script(u64),
     /// A line of the list of faults, counted from 1.
     List(u64),
+    /// The node that a reason is asked for.
+    Node,
 }
 
 /// A refusal, by its code and its word, in the order lines, netlist, groups, edits, script, list.
@@ -41,6 +43,8 @@ pub enum FaultCode {
     N3Format,
     /// A netlist goes past 67,108,864 bytes.
     N4TooLong,
+    /// The header of a netlist names thresholds that aren't one to seven rising numbers.
+    N5BadCaps,
     /// A group has more nodes than an analysis takes.
     G1GroupNodes,
     /// A group has more switches than an analysis takes.
@@ -102,6 +106,7 @@ impl FaultCode {
             FaultCode::N2FewWords => b"N2 FewWords",
             FaultCode::N3Format => b"N3 Format",
             FaultCode::N4TooLong => b"N4 TooLong",
+            FaultCode::N5BadCaps => b"N5 BadCaps",
             FaultCode::G1GroupNodes => b"G1 GroupNodes",
             FaultCode::G2GroupSwitches => b"G2 GroupSwitches",
             FaultCode::E1UnknownNode => b"E1 UnknownNode",
@@ -157,6 +162,7 @@ fn append_place(out: &mut LineBuf, place: FaultPlace)
         FaultPlace::NetWhole => out.append(b"net: "),
         FaultPlace::Script(line) => append_line_number(out, b"script line ", line),
         FaultPlace::List(line) => append_line_number(out, b"list line ", line),
+        FaultPlace::Node => out.append(b"node: "),
     }
 }
 

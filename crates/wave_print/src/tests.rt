@@ -7,7 +7,7 @@ use std::test::Fail;
 use ternary::Tern;
 
 // one code of each kind, where the program meets it
-const FAULTS: [(FaultPlace, FaultCode); 10] = [
+const FAULTS: [(FaultPlace, FaultCode); 12] = [
     (FaultPlace::Net(1), FaultCode::L1LineTooLong),
     (FaultPlace::Script(2), FaultCode::L2BadByte),
     (FaultPlace::Net(3), FaultCode::N3Format),
@@ -18,6 +18,8 @@ const FAULTS: [(FaultPlace, FaultCode); 10] = [
     (FaultPlace::Script(8), FaultCode::S11TooLong),
     (FaultPlace::List(9), FaultCode::F1BadFault),
     (FaultPlace::List(10), FaultCode::F2TooLong),
+    (FaultPlace::Node, FaultCode::E1UnknownNode),
+    (FaultPlace::Net(11), FaultCode::N5BadCaps),
 ];
 
 #[test]
@@ -30,7 +32,8 @@ fn each_kind_of_fault_has_its_line(rt: HostRuntime) -> Result<(), Fail> {
     let lines: &[u8] = b"net line 1: L1 LineTooLong\nscript line 2: L2 BadByte\n\
         net line 3: N3 Format\nnet: G1 GroupNodes s1 201\nnet: G2 GroupSwitches s1 201\n\
         net line 6: E6 AliasTaken\nscript line 7: E1 UnknownNode\nscript line 8: S11 TooLong\n\
-        list line 9: F1 BadFault\nlist line 10: F2 TooLong\n";
+        list line 9: F1 BadFault\nlist line 10: F2 TooLong\n\
+        node: E1 UnknownNode\nnet line 11: N5 BadCaps\n";
     assert_eq!(rt; out.bytes(), lines);
     Ok(())
 }
