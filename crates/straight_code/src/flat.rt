@@ -7,7 +7,7 @@
 ghost use Rattle.std.specs.Prelude.{◌≡◌, ◌+◌, ◌*◌, ◌<◌, ◌≤◌, ◌^◌, [], length, map, take, All, IfOk};
 ghost use Rattle.path_meaning.specs.Switching.{state_at};
 ghost use Rattle.straight_code.specs.Code.{settled, IsAllowed, AreAllowed, IsOutput, IsCode, ReadsEarlier};
-ghost use Rattle.straight_code.specs.Flat.{IsFlat, place_of, step_of, pair_of, step_value, pair_value, flat_values};
+ghost use Rattle.straight_code.specs.Flat.{IsFlat, place_of, step_of, pair_of, kind_value, step_value, pair_value, flat_values};
 
 use crate::code::{Instruction, Operand, Output};
 use std::alloc::{AllocError, Global};
@@ -167,12 +167,20 @@ pub(crate) fn step_value(step: FlatStep, values: &[bool]) -> bool
     requires b { step.b < length values.now }
     ensures { result ≡ step_value values.now step }
 {
-    let (a, b) = (values[step.a as usize], values[step.b as usize]);
-    match step.kind {
-        StepKind::Not => !a,
-        StepKind::And => a & b,
-        StepKind::Or => a | b,
-    }
+    kind_value(step.kind, values[step.a as usize], values[step.b as usize])
+}
+
+// What an instruction of this kind gives of two values: bit 2a + b of a number for the kind. A run goes through
+// instructions of all kinds, so it has no branch on the kind.
+fn kind_value(kind: StepKind, a: bool, b: bool) -> bool
+    ensures { result ≡ kind_value kind a b }
+{
+    let table: u32 = match kind {
+        StepKind::Not => 0b0011,
+        StepKind::And => 0b1000,
+        StepKind::Or => 0b1110,
+    };
+    (table >> (2 * a as u32 + b as u32)) & 1 == 1
 }
 
 /// The state of an output.
