@@ -11,6 +11,7 @@ net_code net.BadByte = code.L2BadByte
 net_code net.BadRecord = code.N1BadRecord
 net_code net.FewWords = code.N2FewWords
 net_code net.Format = code.N3Format
+net_code net.BadCaps = code.N5BadCaps
 net_code net.TooLong = code.N4TooLong
 net_code net.BadStrength = code.E4BadStrength
 net_code net.BadSize = code.E5BadSize

@@ -16,6 +16,7 @@ pub(crate) fn net_code(what: NetWhat) -> FaultCode
         NetWhat::BadRecord => FaultCode::N1BadRecord,
         NetWhat::FewWords => FaultCode::N2FewWords,
         NetWhat::Format => FaultCode::N3Format,
+        NetWhat::BadCaps => FaultCode::N5BadCaps,
         NetWhat::TooLong => FaultCode::N4TooLong,
         NetWhat::BadStrength => FaultCode::E4BadStrength,
         NetWhat::BadSize => FaultCode::E5BadSize,

@@ -1,6 +1,6 @@
 -- What a netlist gives is a circuit with visible names: the rails alone are one, and each line leaves one. A line's settings are of nodes
 -- that are no rails, its strengths and sizes are accepted by the profile, and its names are words.
-use Rattle.std.proofs.Common.{◌≡◌, ℕ, ◌≤◌, All, Bool, true, false, cond, ◌&&◌, ◌==◌, not, List, [], ◌∷◌, codes, bytes_eq, nat_lt, Option, Some, None, Result, Ok, Err, IfOk, IfSome, is_some, unwrap_or, refl, sym, subst, arith}
+use Rattle.std.proofs.Common.{◌≡◌, ℕ, ◌≤◌, All, Bool, true, false, cond, ◌==◌, length, List, [], ◌∷◌, codes, bytes_eq, nat_lt, Option, Some, None, Result, Ok, Err, IfOk, IfSome, is_some, unwrap_or, refl, sym, subst, arith}
 use Rattle.std.specs.Prelude.{if◌then◌else◌}
 use Rattle.std.specs.List.{flat_map}
 use Rattle.std.specs.Option.{option_and_then, option_map_or}
@@ -8,7 +8,7 @@ use Rattle.std.proofs.lemmas.Bool.Decides.{nat_tests}
 use Rattle.std.proofs.lemmas.List.Elements.{All-nil, All-head, All-tail, All-take}
 use Rattle.strength_order.specs.declared.TheConstants.{INPUT_LEVEL}
 use Rattle.strength_order.specs.declared.Profile.{Profile}
-use Rattle.strength_order.specs.declared.Profile.TheVariants.{One}
+use Rattle.strength_order.specs.declared.Profile.TheVariants.{One, Two}
 use Rattle.strength_order.specs.Levels.{level_of_size}
 use Rattle.path_meaning.specs.declared.switching.SwitchKind.{SwitchKind}
 use Rattle.path_meaning.specs.Graphs.{nodes}
@@ -21,25 +21,26 @@ use Rattle.line_words.specs.Words.{words_of}
 use Rattle.path_meaning.specs.declared.TheConstants.{RAILS}
 use Rattle.netlist.specs.Faults.{MakingFault}
 use Rattle.netlist.specs.Names.{node_of}
-use Rattle.netlist.specs.Circuits.{CircuitData, HasVisibleNames, IsCircuit}
+use Rattle.netlist.specs.Circuits.{CircuitData, HasVisibleNames, IsCircuit, rails_alone}
 use Rattle.netlist.specs.Edits.{add_fault, alias_fault, is_size, node_fault, node_named, usual_strength, with_alias, with_new_node, with_node, with_transistor}
 use Rattle.netlist.proofs.NameLemmas.{node_of-added}
 use Rattle.netlist.proofs.KeptLemmas.{IsLevel-input, IsLevel-size, IsCircuit-rails_alone, IsCircuit-with_alias, IsCircuit-with_level, IsCircuit-with_node, IsCircuit-with_transistor}
-use Rattle.sim_read.specs.Drafts.{DraftData, circuit_of, drafted, rails_draft}
+use Rattle.sim_read.specs.Drafts.{DraftData, circuit_of, rails_draft, sized, sized_in}
 use Rattle.sim_read.specs.declared.fault.NetRefusal.{NetRefusal}
 use Rattle.sim_read.specs.declared.fault.NetWhat.{NetWhat}
-use Rattle.sim_read.specs.declared.header.TheConstants.{HEADER_LINE}
+use Rattle.sim_read.specs.declared.header.TheConstants.{HEADER_LINE, MOST_THRESHOLDS}
 use Rattle.sim_read.specs.declared.fault.NetWhat.TheVariants.{Format, TooLong}
 use Rattle.sim_read.specs.declared.records.Record.{Record}
-use Rattle.sim_read.specs.declared.records.Record.TheVariants.{Transistor, Alias, Attributes, Passed}
+use Rattle.sim_read.specs.declared.records.Record.TheVariants.{Transistor, Alias, Attributes, Capacitance, Passed}
 use Rattle.sim_read.specs.declared.items.Setting.{Setting}
 use Rattle.sim_read.specs.declared.items.Setting.TheVariants.{Unset, Input, Size}
-use Rattle.sim_read.specs.Header.{is_header}
+use Rattle.sim_read.specs.Header.{comment_words, is_header, is_second, thresholds_of}
 use Rattle.sim_read.specs.Items.{IsAccepted, after_prefix, items_of, setting_after, setting_after_item, setting_by, setting_of, size_setting, strength_of}
-use Rattle.sim_read.specs.Meaning.{alias_meaning, attributes_meaning, checked_meaning, comment_meaning, edited, is_rail, known_meaning, line_meaning, lines_meaning, netlist_of, record_meaning, transistor_meaning, with_setting, words_meaning}
+use Rattle.sim_read.specs.Meaning.{alias_meaning, attributes_meaning, checked_meaning, comment_meaning, drafted, edited, header_meaning, is_rail, known_meaning, line_meaning, lines_meaning, netlist_of, record_meaning, second_meaning, transistor_meaning, with_setting, words_meaning}
 use Rattle.sim_read.specs.Records.{record_of}
 use Rattle.line_words.specs.Visible.{IsVisibleName}
 use Rattle.line_words.proofs.VisibleLemmas.{words_of-visible}
+use Rattle.sim_read.proofs.SizingLemmas.{IsCircuit-sized_in, thresholds_of-few}
 use Rattle.sim_read.proofs.VisibleLemmas.{HasVisibleEntries, nodes-visible, with_alias-visible, with_node-visible, with_nodes-visible, with_setting-visible}
 
 -- ---- settings
@@ -167,38 +168,71 @@ record-named c Attributes (name ∷ words) is visible = of_rail (is_rail c name)
       attributes-named c name (setting_of c.profile words) is (All-head IsVisibleName name words visible) other
       (setting_after-accepted c.profile Unset (flat_map items_of words) tt)
 record-named c Attributes [] is visible = tt
+record-named c Capacitance words is visible = is
 record-named c Passed words is visible = is
 
 -- ---- drafts
 
--- a draft of such a circuit, or a refusal
+-- a draft of such a circuit, with few thresholds
+record IsDraft (d : DraftData) : Type 0 where
+  named : IsNamed d.circuit
+  few : length d.thresholds ≤ MOST_THRESHOLDS
+
+-- such a draft, or a refusal
 abbrev Drafts : {E : Type 0} → Result DraftData E → Type 0
-Drafts meaning = IfOk meaning (λ draft. IsNamed draft.circuit)
+Drafts meaning = IfOk meaning IsDraft
+
+-- the rails alone
+rails-named : (profile : Profile) → IsNamed (rails_alone profile)
+rails-named profile = record {
+  circuit = IsCircuit-rails_alone profile;
+  visible = All-nil (λ (e : List ℕ × ℕ). IsVisibleName e.0);
+}
 
 -- a draft with the circuit that an entry gives
-drafted-named : (d : DraftData) (meaning : Result CircuitData NetWhat) → Gives meaning → Drafts (drafted d meaning)
-drafted-named d (Ok circuit) is = is
-drafted-named d (Err what) is = tt
+drafted-named : (d : DraftData) (begun : Record) (words : List (List ℕ)) (meaning : Result CircuitData NetWhat) → IsDraft d → Gives meaning
+    → Drafts (drafted d begun words meaning)
+drafted-named d (Transistor kind) words (Ok circuit) is named = record { named = named; few = is.few }
+drafted-named d Alias words (Ok circuit) is named = record { named = named; few = is.few }
+drafted-named d Attributes words (Ok circuit) is named = record { named = named; few = is.few }
+drafted-named d Capacitance words (Ok circuit) is named = record { named = named; few = is.few }
+drafted-named d Passed words (Ok circuit) is named = record { named = named; few = is.few }
+drafted-named d begun words (Err what) is named = tt
 
 -- the words of a line
-words-named : (d : DraftData) (words : List (List ℕ)) → IsNamed d.circuit → All IsVisibleName words → Drafts (words_meaning d words)
+words-named : (d : DraftData) (words : List (List ℕ)) → IsDraft d → All IsVisibleName words → Drafts (words_meaning d words)
 words-named d [] is visible = is
 words-named d (word ∷ words) is visible = of_record (record_of word) where
   of_record : (begun : Option Record) → Drafts (known_meaning d begun words)
   of_record None = tt
   of_record (Some begun) =
-      drafted-named d (record_meaning d.circuit begun words)
-      (record-named d.circuit begun words is (All-tail IsVisibleName word words visible))
+      drafted-named d begun words (record_meaning d.circuit begun words) is
+      (record-named d.circuit begun words is.named (All-tail IsVisibleName word words visible))
+
+-- the words of a header
+header-named : (d : DraftData) (words : List (List ℕ)) → IsDraft d → Drafts (header_meaning d words)
+header-named d words is = by (is_second words) where
+  by_thresholds : (found : Option (List ℕ)) → IfSome found (λ thresholds. length thresholds ≤ MOST_THRESHOLDS) → Drafts (second_meaning d found)
+  by_thresholds None few = tt
+  by_thresholds (Some thresholds) few = record { named = rails-named Two; few = few }
+
+  by : (second : Bool) → Drafts (cond second (second_meaning d (thresholds_of words)) (Ok d))
+  by true = by_thresholds (thresholds_of words) (thresholds_of-few words)
+  by false = is
 
 -- a comment
-comment-named : (d : DraftData) (line : ℕ × List ℕ) → IsNamed d.circuit → Drafts (comment_meaning d line)
-comment-named d line is = by_format ((line.0 == HEADER_LINE) && not (is_header line.1)) where
-  by_format : (unknown : Bool) → Drafts (cond unknown (Err Format) (Ok d))
-  by_format true = tt
-  by_format false = is
+comment-named : (d : DraftData) (line : ℕ × List ℕ) → IsDraft d → Drafts (comment_meaning d line)
+comment-named d line is = by_line (line.0 == HEADER_LINE) where
+  by_format : (known : Bool) → Drafts (cond known (header_meaning d (comment_words line.1)) (Err Format))
+  by_format true = header-named d (comment_words line.1) is
+  by_format false = tt
+
+  by_line : (first : Bool) → Drafts (cond first (cond (is_header line.1) (header_meaning d (comment_words line.1)) (Err Format)) (Ok d))
+  by_line true = by_format (is_header line.1)
+  by_line false = is
 
 -- a line, by its fault as a line of any text
-checked-named : (d : DraftData) (line : ℕ × List ℕ) (fault : Option LineFault) → line_fault line.1 ≡ fault → IsNamed d.circuit
+checked-named : (d : DraftData) (line : ℕ × List ℕ) (fault : Option LineFault) → line_fault line.1 ≡ fault → IsDraft d
     → Drafts (checked_meaning d line fault)
 checked-named d line (Some of_line.TooLong) same is = tt
 checked-named d line (Some of_line.BadByte) same is = tt
@@ -208,28 +242,38 @@ checked-named d line None same is = of_comment (is_comment line.1) refl where
   of_comment false other = words-named d (words_of line.1) is (words_of-visible line.1 same other)
 
 -- a line of a text, which may hold the first byte too many
-line-named : (cut : Option ℕ) (d : DraftData) (line : ℕ × List ℕ) → IsNamed d.circuit → Drafts (line_meaning cut d line)
+line-named : (cut : Option ℕ) (d : DraftData) (line : ℕ × List ℕ) → IsDraft d → Drafts (line_meaning cut d line)
 line-named cut d line is = of_cut (is_cut cut line.0) where
   of_cut : (last : Bool) → Drafts (cond last (Err TooLong) (checked_meaning d line (line_fault line.1)))
   of_cut true = tt
   of_cut false = checked-named d line (line_fault line.1) refl is
 
 -- lines
-lines-named : (cut : Option ℕ) (d : DraftData) (lines : List (ℕ × List ℕ)) → IsNamed d.circuit → Drafts (lines_meaning cut d lines)
+lines-named : (cut : Option ℕ) (d : DraftData) (lines : List (ℕ × List ℕ)) → IsDraft d → Drafts (lines_meaning cut d lines)
 lines-named cut d [] is = is
 lines-named cut d (line ∷ lines) is =
     onward (line_meaning cut d line) (line-named cut d line is) (λ next made. lines-named cut next lines made) where
       onward : (meaning : Result DraftData NetWhat) → Drafts meaning
-          → ((next : DraftData) → IsNamed next.circuit → Drafts (lines_meaning cut next lines))
+          → ((next : DraftData) → IsDraft next → Drafts (lines_meaning cut next lines))
           → Drafts (elim meaning as (λ _. Result DraftData NetRefusal) [ Err what ↦ Err (record { line = line.0; what = what }) | Ok next ↦ lines_meaning cut next lines ])
       onward (Ok next) made more = more next made
       onward (Err what) made more = tt
 
 -- ---- texts
 
--- the circuit of a draft
+-- the circuit of a draft after the sizing
+sized-named : (d : DraftData) → IsDraft d → IsNamed (sized d)
+sized-named d is = record {
+  circuit = IsCircuit-sized_in d.circuit.profile d is.few is.named.circuit;
+  visible = by d.circuit.profile;
+} where
+  by : (profile : Profile) → HasVisibleEntries (sized_in profile d)
+  by One = is.named.visible
+  by Two = is.named.visible
+
+-- the circuit of lines
 circuit_of-named : (meaning : Result DraftData NetRefusal) → Drafts meaning → Gives (circuit_of meaning)
-circuit_of-named (Ok draft) is = is
+circuit_of-named (Ok draft) is = sized-named draft is
 circuit_of-named (Err refusal) is = tt
 
 -- what a text means is such a circuit, where it isn't refused
@@ -237,10 +281,7 @@ netlist_of-named : (text : List ℕ) (circuit : CircuitData) → netlist_of text
 netlist_of-named text circuit same =
     subst Gives same
     (circuit_of-named (lines_meaning (cut_line text) rails_draft (lines_in text))
-    (lines-named (cut_line text) rails_draft (lines_in text) (record {
-      circuit = IsCircuit-rails_alone One;
-      visible = All-nil (λ (e : List ℕ × ℕ). IsVisibleName e.0);
-    })))
+    (lines-named (cut_line text) rails_draft (lines_in text) (record { named = rails-named One; few = omega arith })))
 
 -- so it is a circuit
 pub netlist_of-netlist : (text : List ℕ) (circuit : CircuitData) → netlist_of text ≡ Ok circuit → IsCircuit circuit

@@ -20,7 +20,7 @@ use Rattle.line_words.proofs.PieceLemmas.{lines_of-AreEnded, lines_of-some}
 use Rattle.sim_read.specs.declared.fault.NetRefusal.{NetRefusal}
 use Rattle.sim_read.specs.declared.fault.NetWhat.{NetWhat}
 use Rattle.sim_read.specs.declared.fault.NetWhat.TheVariants.{TooLong}
-use Rattle.sim_read.specs.Drafts.{DraftData, circuit_of, rails_draft}
+use Rattle.sim_read.specs.Drafts.{DraftData, circuit_of, rails_draft, sized}
 use Rattle.sim_read.specs.Meaning.{checked_meaning, line_meaning, lines_meaning, netlist_of}
 use Rattle.sim_read.specs.Standing.{too_far}
 use Rattle.sim_read.proofs.MeaningLemmas.{onward}
@@ -176,7 +176,7 @@ module _ (front rest : List ℕ) (lines : List (List ℕ)) (are : AreEnded front
       ∙ ap (λ meaning. circuit_of (and_lines None (enumerate_from (1 + length lines) (lines_of rest)) meaning)) drafts
 
   -- where nothing follows the ended lines
-  pub meaning_whole : rest ≡ [] → netlist_of (front ++ rest) ≡ Ok d.circuit
+  pub meaning_whole : rest ≡ [] → netlist_of (front ++ rest) ≡ Ok (sized d)
   meaning_whole empty = whole_meaning ∙ ap (λ left. circuit_of (lines_meaning None d (enumerate_from (1 + length lines) (lines_of left)))) empty
 
   -- where a last line follows them

@@ -1,12 +1,12 @@
--- The words of a comment from its first `|`, and the format that a header names, word by word.
-use Rattle.std.proofs.Common.{◌≡◌, ℕ, ◌+◌, ◌-◌, Bool, true, false, cond, List, [], ◌∷◌, length, take, drop, position, codes, bytes_eq, Option, Some, None, inl, inr, refl, sym, ◌∙◌, ap, arith, lt-ltb}
+-- The words of a comment from its first `|`, and what a header names, word by word.
+use Rattle.std.proofs.Common.{◌≡◌, ℕ, ◌+◌, ◌-◌, ◌<◌, Bool, true, false, cond, List, [], ◌∷◌, length, take, drop, position, codes, bytes_eq, Option, Some, None, inl, inr, refl, sym, ◌∙◌, ap, arith, lt-ltb}
 use Rattle.std.specs.List.{after_first, position_or_len}
 use Rattle.std.proofs.lemmas.Bool.{cases_lt, cond-true}
 use Rattle.std.proofs.lemmas.List.{drop_all}
 use Rattle.std.proofs.lemmas.List.Quantifiers.{position-Some}
 use Rattle.std.proofs.lemmas.List.Sums.{position_or_len_is}
 use Rattle.line_words.proofs.CutLemmas.{rest_from}
-use Rattle.sim_read.specs.Header.{format_of}
+use Rattle.sim_read.specs.Header.{format_of, is_rising}
 
 -- what stands after the first byte that passes, as the program slices it
 pub after_first-at : (p : ℕ → Bool) (line : List ℕ) (at : ℕ) → position p line ≡ Some at
@@ -41,3 +41,11 @@ format_of-cons word (next ∷ words) = by_key (bytes_eq word (codes "format:")) 
   by_key : (is_key : Bool) → cond is_key (Some next) (format_of (next ∷ words)) ≡ format_after is_key (next ∷ words)
   by_key true = refl
   by_key false = refl
+
+-- ---- thresholds
+
+-- fewer numbers than two rise
+pub is_rising-few : (numbers : List ℕ) → length numbers < 2 → is_rising numbers ≡ true
+is_rising-few [] few = refl
+is_rising-few (first ∷ []) few = refl
+is_rising-few (first ∷ second ∷ numbers) few = absurd (omega arith)

@@ -1,7 +1,9 @@
 pub mod CircuitLemmas
+pub mod SizingLemmas
 pub mod FrontLemmas
 pub mod HeaderLemmas
 pub mod ItemLemmas
 pub mod MeaningLemmas
 pub mod StandingLemmas
+pub mod SumLemmas
 pub mod VisibleLemmas

@@ -1,15 +1,26 @@
--- The meaning of a netlist: it goes by the front of the text alone, and it is what the lines give one by one.
-use Rattle.std.proofs.Common.{◌≡◌, ◌↔◌, ℕ, List, [], ◌∷◌, ◌++◌, Option, Result, Ok, Err, refl, sym, ap, ap₂, subst, ◌∙◌}
+-- The meaning of a netlist: it goes by the front of the text alone, and it is what the lines give one by one from the rails alone in the
+-- text's profile, since the header gives those once more.
+use Rattle.std.proofs.Common.{◌≡◌, ◌↔◌, ℕ, Bool, true, false, cond, Some, None, unwrap_or, List, [], ◌∷◌, ◌++◌, Option, Result, Ok, Err, refl, sym, ap, ap₂, subst, ◌∙◌}
+use Rattle.std.specs.Prelude.{if◌then◌else◌}
+use Rattle.std.specs.List.{enumerate_from}
 use Rattle.std.proofs.lemmas.List.{append-nil}
-use Rattle.line_words.specs.Files.{front_of, lines_in, cut_line}
+use Rattle.strength_order.specs.declared.Profile.TheVariants.{Two}
+use Rattle.line_words.specs.declared.line_check.LineFault.{LineFault}
+use Rattle.line_words.specs.declared.line_check.LineFault.TheVariants as of_line
+use Rattle.line_words.specs.LineFaults.{line_fault, is_comment}
+use Rattle.line_words.specs.Lines.{lines_of}
+use Rattle.line_words.specs.Words.{words_of}
+use Rattle.line_words.specs.Files.{front_of, lines_in, cut_line, is_cut}
 use Rattle.line_words.proofs.FileLemmas.{cut_line-front_of, lines_in-front_of}
 use Rattle.netlist.specs.Circuits.{CircuitData}
-use Rattle.sim_read.specs.Drafts.{DraftData, circuit_of, rails_draft}
+use Rattle.sim_read.specs.Drafts.{DraftData, circuit_of, rails_draft, rails_draft_in}
+use Rattle.sim_read.specs.Header.{comment_words, is_header, is_second, thresholds_of}
 use Rattle.sim_read.specs.declared.fault.NetRefusal.{NetRefusal}
 use Rattle.sim_read.specs.declared.fault.NetWhat.{NetWhat}
-use Rattle.sim_read.specs.FirstRefused.{IsFirstOf, IsFirstRefused, Make, MakesAll}
+use Rattle.sim_read.specs.declared.fault.NetWhat.TheVariants.{Format, TooLong}
+use Rattle.sim_read.specs.FirstRefused.{IsFirstOf, IsFirstRefused, Make, MakesAll, header_words, rails_by, rails_of}
 use Rattle.sim_read.specs.FirstRefused.Make.{no_line, one_more}
-use Rattle.sim_read.specs.Meaning.{line_meaning, lines_meaning, netlist_of}
+use Rattle.sim_read.specs.Meaning.{checked_meaning, comment_meaning, header_meaning, line_meaning, lines_meaning, netlist_of, second_meaning, words_meaning}
 
 -- what stands behind the first byte too many of a text has no meaning
 pub netlist_of-front_of : (text : List ℕ) → netlist_of (front_of text) ≡ netlist_of text
@@ -20,6 +31,57 @@ netlist_of-front_of text =
 abbrev pub onward : Option ℕ → (ℕ × List ℕ) → List (ℕ × List ℕ) → Result DraftData NetWhat → Result DraftData NetRefusal
 onward cut line lines meaning =
     elim meaning [ Err what ↦ Err (record { line = line.0; what = what }) | Ok next ↦ lines_meaning cut next lines ]
+
+-- ---- the rails alone in the text's profile
+
+-- a header leaves the rails alone in its profile as they are, and makes them of those in profile 1
+header_again : (words : List (List ℕ)) → header_meaning (rails_by words) words ≡ header_meaning rails_draft words
+header_again words = by (is_second words) (thresholds_of words)
+  where
+    by : (second : Bool) (found : Option (List ℕ)) →
+        (if second then second_meaning (if second then rails_draft_in Two (unwrap_or found []) else rails_draft) found
+        else Ok (if second then rails_draft_in Two (unwrap_or found []) else rails_draft))
+        ≡ (if second then second_meaning rails_draft found else Ok rails_draft)
+    by true (Some thresholds) = refl
+    by true None = refl
+    by false found = refl
+
+-- so does the first line of a text
+first_line : (cut : Option ℕ) (line : List ℕ) (lines : List (ℕ × List ℕ))
+    → line_meaning cut (rails_by (header_words ((1, line) ∷ lines))) (1, line) ≡ line_meaning cut rails_draft (1, line)
+first_line cut line lines = by_cut (is_cut cut 1)
+  where
+    by_format : (known : Bool) → (if known then header_meaning (rails_by (comment_words line)) (comment_words line) else Err Format)
+        ≡ (if known then header_meaning rails_draft (comment_words line) else Err Format)
+    by_format true = header_again (comment_words line)
+    by_format false = refl
+
+    by_comment : (comment : Bool) →
+        cond comment (comment_meaning (rails_by (cond comment (comment_words line) [])) (1, line)) (words_meaning (rails_by (cond comment (comment_words line) [])) (words_of line))
+        ≡ cond comment (comment_meaning rails_draft (1, line)) (words_meaning rails_draft (words_of line))
+    by_comment true = by_format (is_header line)
+    by_comment false = refl
+
+    by_fault : (fault : Option LineFault) → checked_meaning (rails_by (header_words ((1, line) ∷ lines))) (1, line) fault ≡ checked_meaning rails_draft (1, line) fault
+    by_fault (Some of_line.TooLong) = refl
+    by_fault (Some of_line.BadByte) = refl
+    by_fault None = by_comment (is_comment line)
+
+    by_cut : (here : Bool) →
+        cond here (Err TooLong) (checked_meaning (rails_by (header_words ((1, line) ∷ lines))) (1, line) (line_fault line))
+        ≡ cond here (Err TooLong) (checked_meaning rails_draft (1, line) (line_fault line))
+    by_cut true = refl
+    by_cut false = by_fault (line_fault line)
+
+-- so lines give the same from both
+from_rails_by : (cut : Option ℕ) (lines : List (List ℕ))
+    → lines_meaning cut (rails_by (header_words (enumerate_from 1 lines))) (enumerate_from 1 lines) ≡ lines_meaning cut rails_draft (enumerate_from 1 lines)
+from_rails_by cut [] = refl
+from_rails_by cut (line ∷ lines) = ap (onward cut (1, line) (enumerate_from 2 lines)) (first_line cut line (enumerate_from 2 lines))
+
+from_rails_of : (text : List ℕ)
+    → lines_meaning (cut_line text) (rails_of text) (lines_in text) ≡ lines_meaning (cut_line text) rails_draft (lines_in text)
+from_rails_of text = from_rails_by (cut_line text) (lines_of (front_of text))
 
 -- ---- a netlist that isn't refused
 
@@ -49,7 +111,7 @@ means-MakesAll text c = (
       → circuit_of meaning ≡ Ok c → MakesAll text c
   found (Ok draft) same gives = record {
     draft = draft;
-    made = Make-lines (cut_line text) (lines_in text) rails_draft draft same;
+    made = Make-lines (cut_line text) (lines_in text) (rails_of text) draft (from_rails_of text ∙ same);
     circuit = cc;
   }
   found (Err refusal) same gives = absurd (cc)
@@ -57,7 +119,8 @@ means-MakesAll text c = (
   given : MakesAll text c → netlist_of text ≡ Ok c
   given makes =
       let made : lines_meaning (cut_line text) rails_draft (lines_in text) ≡ Ok makes.draft =
-      ap (lines_meaning (cut_line text) rails_draft) (sym (append-nil (lines_in text))) ∙ lines_meaning-Make [] makes.made in
+      sym (from_rails_of text) ∙ ap (lines_meaning (cut_line text) (rails_of text)) (sym (append-nil (lines_in text)))
+      ∙ lines_meaning-Make [] makes.made in
       ap circuit_of made ∙ ap Ok makes.circuit
 
 -- ---- a netlist that is refused
@@ -105,9 +168,9 @@ lines_meaning-IsFirstOf cut start lines refusal is =
 -- so they give a refusal exactly where they have it
 pub means-IsFirstRefused : (text : List ℕ) (refusal : NetRefusal) → (netlist_of text ≡ Err refusal) ↔ IsFirstRefused text refusal
 means-IsFirstRefused text refusal = (
-  λ gives. IsFirstOf-lines (cut_line text) (lines_in text) rails_draft refusal
-      (found (lines_meaning (cut_line text) rails_draft (lines_in text)) gives),
-  λ is. ap circuit_of (lines_meaning-IsFirstOf (cut_line text) rails_draft (lines_in text) refusal is),
+  λ gives. IsFirstOf-lines (cut_line text) (lines_in text) (rails_of text) refusal
+      (from_rails_of text ∙ found (lines_meaning (cut_line text) rails_draft (lines_in text)) gives),
+  λ is. ap circuit_of (sym (from_rails_of text) ∙ lines_meaning-IsFirstOf (cut_line text) (rails_of text) (lines_in text) refusal is),
 ) where
   found : (meaning : Result DraftData NetRefusal) → circuit_of meaning ≡ Err refusal → meaning ≡ Err refusal
   found (Ok draft) gives = absurd (cc)

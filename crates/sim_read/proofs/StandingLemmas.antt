@@ -22,7 +22,7 @@ use Rattle.sim_read.specs.declared.fault.NetFault.TheVariants.{Refused, NoMemory
 use Rattle.sim_read.specs.declared.fault.NetRefusal.{NetRefusal}
 use Rattle.sim_read.specs.declared.fault.NetWhat.TheVariants.{LineTooLong}
 use Rattle.sim_read.specs.declared.pieces.TheConstants.{MOST_HELD}
-use Rattle.sim_read.specs.Drafts.{DraftData, circuit_of, rails_draft}
+use Rattle.sim_read.specs.Drafts.{DraftData, circuit_of, rails_draft, sized}
 use Rattle.sim_read.specs.Meaning.{checked_meaning, line_meaning, lines_meaning, netlist_of}
 use Rattle.sim_read.specs.Reading.{IsFault}
 use Rattle.sim_read.specs.Standing.{counted, too_far, GoesOn, IsOpen, IsRead, IsRefused, ReaderData, StandsBy, StandsFor}
@@ -368,7 +368,7 @@ appends (Ok done) r old part held room same bound few grows =
 -- ---- the end of the text
 
 -- nothing is held: the ended lines are all
-pub finishes_ended : (r : ReaderData) → r.fault ≡ None → r.held ≡ [] → (text : List ℕ) → StandsFor r text → netlist_of text ≡ Ok r.draft.circuit
+pub finishes_ended : (r : ReaderData) → r.fault ≡ None → r.held ≡ [] → (text : List ℕ) → StandsFor r text → netlist_of text ≡ Ok (sized r.draft)
 finishes_ended r none empty = λ text stood.
     let is = opened r text none stood in
     let rest : is.rest ≡ [] = no_bytes is.rest (sym is.holds ∙ empty) in
@@ -393,7 +393,7 @@ last_line r none some text stood =
 
 pub finishes_last : (r : ReaderData) (draft : DraftData) → r.fault ≡ None → 0 < length r.held
     → IsRead (line_meaning None r.draft (r.ended + 1, without_return r.held)) (r.ended + 1) draft None
-    → (text : List ℕ) → StandsFor r text → netlist_of text ≡ Ok draft.circuit
+    → (text : List ℕ) → StandsFor r text → netlist_of text ≡ Ok (sized draft)
 finishes_last r draft none some made = λ text stood.
     last_line r none some text stood ∙ ap (λ m. circuit_of (onward None (r.ended + 1, []) [] m)) made
 

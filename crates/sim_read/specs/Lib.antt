@@ -1,3 +1,4 @@
+pub mod Capacitances
 pub mod Drafts
 pub mod Header
 pub mod Items

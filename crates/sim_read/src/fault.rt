@@ -50,6 +50,9 @@ pub enum NetWhat {
     /// The header names a format that isn't MIT or SU.
     #[error("the format isn't known")]
     Format,
+    /// The header says profile 2, and its thresholds aren't one to seven rising numbers.
+    #[error("the thresholds don't rise")]
+    BadCaps,
     /// The line holds the first byte too many of the text.
     #[error("the text is too long")]
     TooLong,
@@ -88,6 +91,17 @@ pub(crate) enum LineStop {
     Refused(NetWhat),
     /// There was want of memory.
     NoMemory,
+}
+
+impl From<NoMemory> for LineStop {
+    ghost use Rattle.std.specs.Prelude.{◌≡◌};
+    ghost use Rattle.sim_read.specs.declared.fault.LineStop.TheVariants.{NoMemory};
+
+    ghost from_gives = { λ _ stop. stop ≡ NoMemory };
+
+    fn from(_want: NoMemory) -> LineStop {
+        LineStop::NoMemory
+    }
 }
 
 /// Why the reading stops at a line whose edit answers this fault.

@@ -21,9 +21,9 @@ pub(crate) enum Setting {
     Size(u64),
 }
 
-// The items of a word that are left. Contracts see it as the list of those items.
+/// The items of a word that are left. Contracts see it as the list of those items.
 #[derive(Drop)]
-struct Items<'a> {
+pub(crate) struct Items<'a> {
     // What stands after the last comma that was passed; None after the last item.
     rest: Option<&'a [u8]>,
 }
@@ -52,8 +52,8 @@ impl<'a> Iterator for Items<'a> {
     }
 }
 
-// The items of a word.
-fn items_of(word: &[u8]) -> Items<'_>
+/// The items of a word.
+pub(crate) fn items_of(word: &[u8]) -> Items<'_>
     ensures { result ≡ spec.items_of word.now }
 {
     Items { rest: Some(word) }
@@ -147,8 +147,8 @@ fn setting_by_item(profile: Profile, setting: Setting, item: &[u8]) -> Option<Se
     }
 }
 
-// What stands after these bytes, where the word begins with them.
-fn after_prefix<'a>(prefix: &[u8], word: &'a [u8]) -> Option<&'a [u8]>
+/// What stands after these bytes, where the word begins with them.
+pub(crate) fn after_prefix<'a>(prefix: &[u8], word: &'a [u8]) -> Option<&'a [u8]>
     ensures { option_copied result ≡ spec.after_prefix prefix.now word.now }
 {
     word.strip_prefix(prefix)

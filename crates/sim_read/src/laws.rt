@@ -4,6 +4,7 @@ ghost use Rattle.std.specs.Prelude.{◌≡◌, ◌↔◌, [], ◌∷◌, ◌++�
 ghost use Rattle.line_words.specs.Files.{front_of};
 ghost use Rattle.netlist.specs.Edits.{is_strength};
 ghost use Rattle.netlist.specs.Circuits.{CircuitData, IsCircuit};
+ghost use Rattle.sim_read.specs.Capacitances.{AddInAnyOrder};
 ghost use Rattle.sim_read.specs.Items.{number_that, strength_after};
 ghost use Rattle.sim_read.specs.Meaning.{netlist_of};
 ghost use Rattle.sim_read.specs.FirstRefused.{IsFirstRefused, MakesAll};
@@ -20,11 +21,17 @@ pub fn netlists_are_circuits_or_refused_lines()
     ensures refused { (text : List ℕ) (refusal : NetRefusal)
         → (netlist_of text ≡ Err refusal) ↔ IsFirstRefused text refusal }
 
-    // It means the circuit that all its lines make, one after the other.
+    // It means the circuit that all its lines make, one after the other, of the rails alone in the
+    // text's profile, after the sizing in profile 2.
     ensures made { (text : List ℕ) (c : CircuitData) → (netlist_of text ≡ Ok c) ↔ MakesAll text c }
 
     // What isn't refused is a circuit.
     ensures circuit { (text : List ℕ) (c : CircuitData) → netlist_of text ≡ Ok c → IsCircuit c }
+{}
+
+/// A law: lines of capacitance come to the same in any order.
+pub fn capacitances_add_in_any_order()
+    ensures { AddInAnyOrder }
 {}
 
 /// A law: of a transistor's strengths the last one counts, where all are accepted.

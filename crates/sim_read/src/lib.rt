@@ -1,10 +1,11 @@
 //! Reads a .sim netlist: its lines are the entries of a circuit, or the first that isn't is refused.
 //!
 //! The main call is `read_netlist`. The layer above uses its contract: it gives `netlist_of` of the
-//! text, the circuit that the lines' entries give in order from the two rails alone, or the refusal
-//! of the first line that has one, with its number and its cause. That the refused line is the first
-//! one, and that each line before it has its effect, is a law, stated line by line beside the
-//! definition: `netlists_are_circuits_or_refused_lines`.
+//! text, the circuit that the lines' entries give in order from the two rails alone, in profile 2
+//! with the sizes that follow from its capacitances, or the refusal of the first line that has one,
+//! with its number and its cause. That the refused line is the first one, and that each line before
+//! it has its effect, is a law, stated line by line beside the definition:
+//! `netlists_are_circuits_or_refused_lines`.
 //!
 //! `Reader` reads the same from pieces, wherever they fall, and never holds more than one line: it
 //! stands for the text so far, `feed` makes it stand for the text followed by the piece, and
@@ -30,9 +31,13 @@ mod laws;
 mod pieces;
 mod reader;
 mod records;
+mod sizing;
+mod sums;
 #[cfg(test)]
 mod tests;
 
 pub use fault::{NetFault, NetRefusal, NetWhat};
-pub use laws::{netlists_are_circuits_or_refused_lines, the_last_strength_counts};
+pub use laws::{
+    capacitances_add_in_any_order, netlists_are_circuits_or_refused_lines, the_last_strength_counts,
+};
 pub use pieces::{MOST_HELD, Reader, read_netlist};

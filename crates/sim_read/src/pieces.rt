@@ -1,16 +1,18 @@
 //! The reader of a netlist that comes in pieces, and of a whole one.
 
-ghost use Rattle.std.specs.Prelude.{◌≡◌, ◌≤◌, ◌+◌, ◌++◌, ◌∷◌, [], List, ℕ, length, take, Ok, Err, Some, None, IsSome, IsErr, IfOk, IfErr, OnOk, OnErr};
+ghost use Rattle.std.specs.Prelude.{◌≡◌, ◌≤◌, ◌<◌, ◌+◌, ◌*◌, ◌^◌, ◌++◌, ◌∷◌, [], List, ℕ, length, take, Ok, Err, Some, None, IsSome, IsErr, IfOk, IfErr, OnOk, OnErr};
 ghost use Rattle.line_words.specs.Bytes.{line_feed};
 ghost use Rattle.line_words.specs.Lines.{HasNoFeed, without_return};
 ghost use Rattle.netlist.specs.Circuits.{HasVisibleNames};
+ghost use Rattle.sim_read.specs.Capacitances.{all_added};
+ghost use Rattle.sim_read.specs.Drafts.{sized};
 ghost use Rattle.sim_read.specs.Meaning.{line_meaning, netlist_of};
 ghost use Rattle.sim_read.specs.Reading.{IsFault};
 ghost use Rattle.sim_read.specs.Standing.{counted, too_far, GoesOn, IsRead, LacksMemory, StandsFor};
 
 use crate::fault::{LineStop, NetFault, NetRefusal, NetWhat};
 use crate::reader::{Draft, read_line};
-use line_words::{MOST_FILE_BYTES, line_end};
+use line_words::{MOST_FILE_BYTES, MOST_THOUSANDTHS, line_end};
 use netlist::Circuit;
 use std::alloc::{AllocError, Global};
 use std::marker::Model;
@@ -24,9 +26,10 @@ pub const MOST_HELD: usize = 65_538;
 /// A reader of a netlist that comes in pieces.
 ///
 /// It stands for the text that the pieces are, one after the other, wherever they fall. It holds
-/// what the lines before gave and at most `MOST_HELD` bytes of the line that hasn't ended, or the
-/// refusal of the text's first refused line. Each byte is looked at for LF once, and copied once at
-/// most; after a refusal a piece is only counted.
+/// what the lines before gave, the sums of their capacitances by name included, and at most
+/// `MOST_HELD` bytes of the line that hasn't ended, or the refusal of the text's first refused
+/// line. Each byte is looked at for LF once, and copied once at most; after a refusal a piece is
+/// only counted.
 #[derive(Drop)]
 pub struct Reader {
     draft: Draft,
@@ -39,8 +42,10 @@ pub struct Reader {
 }
 
 impl Model for Reader {
-    ghost use Rattle.std.specs.Prelude.{◌+◌, ◌≤◌, length};
+    ghost use Rattle.std.specs.Prelude.{◌+◌, ◌*◌, ◌≤◌, length};
     ghost use Rattle.line_words.specs.declared.files.TheConstants.{MOST_FILE_BYTES};
+    ghost use Rattle.line_words.specs.declared.points.TheConstants.{MOST_THOUSANDTHS};
+    ghost use Rattle.sim_read.specs.Capacitances.{all_added};
     ghost use Rattle.sim_read.specs.Standing.{ReaderData};
     ghost use Rattle.sim_read.specs.declared.pieces.TheConstants.{MOST_HELD};
 
@@ -55,7 +60,8 @@ impl Model for Reader {
     } };
 
     ghost invariant = { λ reader. (length reader.held.items ≤ MOST_HELD)
-        × (reader.bytes ≤ MOST_FILE_BYTES + 1) × (reader.ended ≤ reader.bytes) };
+        × (reader.bytes ≤ MOST_FILE_BYTES + 1) × (reader.ended ≤ reader.bytes)
+        × (4 * all_added reader.draft.sums + MOST_THOUSANDTHS * length reader.held.items ≤ MOST_THOUSANDTHS * reader.bytes) };
 }
 
 impl Reader {
@@ -107,11 +113,11 @@ impl Reader {
             return Err(fault);
         }
         if self.held.is_empty() {
-            return Ok(self.draft.into_circuit());
+            return finish_draft(self.draft);
         }
         match read_held(&mut self.draft, self.ended + 1, &self.held)? {
             Some(fault) => Err(fault),
-            None => Ok(self.draft.into_circuit()),
+            None => finish_draft(self.draft),
         }
     }
 
@@ -152,8 +158,9 @@ impl Reader {
         }
         self.append(part)?;
         self.ended += 1;
-        self.fault = read_held(&mut self.draft, self.ended, &self.held)?;
+        let read = read_held(&mut self.draft, self.ended, &self.held);
         self.held.clear();
+        self.fault = read?;
         Ok(())
     }
 
@@ -184,6 +191,8 @@ impl Reader {
     fn count(&mut self, more: usize)
         ensures counts { self.new ≡ record self.old { bytes = counted self.old.bytes more } }
         ensures room { self.new.bytes ≤ MOST_FILE_BYTES → self.new.ended + more ≤ self.new.bytes }
+        ensures space { self.new.bytes ≤ MOST_FILE_BYTES → 4 * all_added self.new.draft.sums
+            + MOST_THOUSANDTHS * (length self.new.held + more) ≤ MOST_THOUSANDTHS * self.new.bytes }
     {
         self.bytes = self.bytes.saturating_add(more).min(MOST_FILE_BYTES + 1);
     }
@@ -200,6 +209,8 @@ impl Reader {
 
     // Holds as many of these bytes more as there is room for.
     fn append(&mut self, part: &[u8]) -> Result<(), AllocError>
+        requires { 4 * all_added self.old.draft.sums
+            + MOST_THOUSANDTHS * (length self.old.held + length part.now) ≤ MOST_THOUSANDTHS * self.old.bytes }
         ensures { OnOk result
             (self.new ≡ record self.old { held = take MOST_HELD (self.old.held ++ part.now) }) }
     {
@@ -210,8 +221,10 @@ impl Reader {
 
 // Reads a line that was held, with this number, into the draft: its refusal, where it has one.
 fn read_held(draft: &mut Draft, number: u64, held: &[u8]) -> Result<Option<NetFault>, NoMemory>
-    ensures { IfOk result (λ fault.
+    requires { all_added draft.old.sums + 2 * MOST_THOUSANDTHS < 2 ^ 64 }
+    ensures reads { IfOk result (λ fault.
         IsRead (line_meaning None draft.old (number, without_return held.now)) number draft.new fault) }
+    ensures bound { 4 * all_added draft.new.sums ≤ 4 * all_added draft.old.sums + MOST_THOUSANDTHS * (1 + length held.now) }
 {
     match read_line(draft, number, line_words::without_return(held)) {
         Ok(()) => Ok(None),
@@ -223,13 +236,22 @@ fn read_held(draft: &mut Draft, number: u64, held: &[u8]) -> Result<Option<NetFa
     }
 }
 
+// The circuit of a draft whose lines all have their effect.
+fn finish_draft(draft: Draft) -> Result<Circuit, NetFault>
+    requires { all_added draft.sums < 2 ^ 64 }
+    ensures ok { IfOk result (λ circuit. circuit ≡ sized draft) }
+    ensures err { IfErr result (λ fault. fault ≡ NetFault.NoMemory) }
+{
+    Ok(draft.into_circuit()?)
+}
+
 /// Reads a netlist: the circuit of its lines in order, or the first line that is refused. Names are
 /// hashed from the keys, which the text's author must not know.
 ///
 /// Within a line the first of these causes wins: the line holds the first byte too many of the
-/// text; it is too long; it has a bad byte; line 1 names a format that isn't known; its first word
-/// begins no record; it has too few words; a strength or size isn't accepted; then what the edit
-/// itself refuses.
+/// text; it is too long; it has a bad byte; line 1 names a format that isn't known; it says profile 2
+/// with thresholds that are none; its first word begins no record; it has too few words; a strength
+/// or size isn't accepted; then what the edit itself refuses.
 pub fn read_netlist(alloc: Global, keys: TableKeys, text: &[u8]) -> Result<Circuit, NetFault>
     ensures ok { IfOk result (λ circuit. netlist_of text.now ≡ Ok circuit) }
     ensures refused { IfErr result (IsFault (netlist_of text.now)) }

@@ -12,7 +12,9 @@ pub(crate) enum Record {
     Alias,
     /// `A`: attributes of a node.
     Attributes,
-    /// `C`, `c`, `R`, `r`, `N`: passed unread.
+    /// `C`: a capacitance between two nodes, passed unread in profile 1.
+    Capacitance,
+    /// `c`, `R`, `r`, `N`: passed unread.
     Passed,
 }
 
@@ -26,7 +28,8 @@ pub(crate) fn record_named(word: &[u8]) -> Option<Record>
         b"d" => Some(Record::Transistor(SwitchKind::Always)),
         b"=" => Some(Record::Alias),
         b"A" => Some(Record::Attributes),
-        b"C" | b"c" | b"R" | b"r" | b"N" => Some(Record::Passed),
+        b"C" => Some(Record::Capacitance),
+        b"c" | b"R" | b"r" | b"N" => Some(Record::Passed),
         _ => None,
     }
 }

@@ -58,7 +58,7 @@ fn netlists_give_circuits(rt: HostRuntime) {
 
 #[test]
 fn the_first_bad_line_is_refused(rt: HostRuntime) {
-    const ROWS: [(&[u8], u64, NetWhat); 18] = [
+    const ROWS: [(&[u8], u64, NetWhat); 24] = [
         (b"n a Gnd out\nq a b c\nq\n", 2, NetWhat::BadRecord),
         (b"E a b c\n", 1, NetWhat::BadRecord),
         (b"p a Vdd out\nn a G\n", 2, NetWhat::FewWords),
@@ -70,6 +70,16 @@ fn the_first_bad_line_is_refused(rt: HostRuntime) {
             NetWhat::Format,
         ),
         (b"|format: format: MIT", 1, NetWhat::Format),
+        (b"| profile:2 caps:10,10\n", 1, NetWhat::BadCaps),
+        (b"| caps:0.0001,0.0002 profile:2", 1, NetWhat::BadCaps),
+        (b"| profile:2 caps:2,1 format: LBL\n", 1, NetWhat::Format),
+        (
+            b"| profile:2\nn a b c g=strength:8\n",
+            2,
+            NetWhat::BadStrength,
+        ),
+        (b"| profile:2\nA a size:9\n", 2, NetWhat::BadSize),
+        (b"\n| profile:2\nA a size:4\n", 3, NetWhat::BadSize),
         (b"p a Vdd out\n= a out\n", 2, NetWhat::AliasTaken),
         (b"= Vdd Gnd\n", 1, NetWhat::AliasTaken),
         (b"n a b c g=strength:5\n", 1, NetWhat::BadStrength),
@@ -112,6 +122,64 @@ fn the_last_strength_and_the_last_size_count(rt: HostRuntime) -> Result<(), Fail
     Ok(())
 }
 
+// A bus that a pass transistor joins with a cell, with the capacitances of both.
+const SHARED: &[u8] = b"| format: MIT profile:2 caps:10,100.5
+n g bus cell
+C bus Gnd 60.25
+C bus cell 40.25
+";
+
+// The levels of the bus and of the cell.
+fn levels_of(circuit: &Circuit) -> Option<(u8, u8)> {
+    let graph = circuit.graph();
+    if graph.nodes() < 5 {
+        return None;
+    }
+    Some((graph.level(3), graph.level(4)))
+}
+
+#[test]
+fn capacitances_give_sizes(rt: HostRuntime) -> Result<(), Fail> {
+    const ROWS: [(&[u8], u8, u8); 7] = [
+        (SHARED, 3, 2),
+        (
+            b"| format: MIT caps:10,100.5\nn g bus cell\nC bus Gnd 60.25\nC bus cell 40.25\n",
+            1,
+            1,
+        ),
+        (
+            b"| profile:2 caps:10,100.5\nn g bus cell\nC bus cell 100.5\nA bus size:2\nA cell input\n",
+            2,
+            16,
+        ),
+        (
+            b"|profile:2 caps:100\nC w Gnd 50.5\nn g bus cell\n= w bus\nC bus Gnd 49.5\n",
+            2,
+            1,
+        ),
+        (
+            b"| profile:2 caps:100\nn g bus cell\n= bus w\nC bus w 60\nC cell cell 60\n",
+            2,
+            1,
+        ),
+        (
+            b"| profile:2 caps:60.25\nn g bus cell\nC bus Gnd 60.2509\nC cell Gnd 60.2499\n",
+            2,
+            1,
+        ),
+        (
+            b"| profile:2 caps:1,2,3,4,5,6,7\nn g bus cell\nC bus Gnd 7\nc cell Gnd 7\n",
+            8,
+            1,
+        ),
+    ];
+    for (text, bus, cell) in ROWS {
+        let circuit = read_netlist(rt.alloc(), TableKeys::fixed(), text)?;
+        assert_eq!(rt; levels_of(&circuit), Some((bus, cell)));
+    }
+    Ok(())
+}
+
 // What a text gives that comes in pieces of this size.
 fn read_in_pieces(alloc: Global, text: &[u8], size: usize) -> Result<Circuit, NetFault> {
     let mut reader = Reader::new(alloc, TableKeys::fixed())?;
@@ -130,6 +198,8 @@ fn pieces_of_any_size_give_what_the_text_gives(rt: HostRuntime) {
     for size in [1, 2, 7, 4_096] {
         let whole = read_in_pieces(rt.alloc(), EXTRACTED, size);
         assert_eq!(rt; whole.map(|circuit| sizes_of(&circuit)), Ok((5, 4, 5)));
+        let shared = read_in_pieces(rt.alloc(), SHARED, size);
+        assert_eq!(rt; shared.map(|circuit| levels_of(&circuit)), Ok(Some((3, 2))));
         let cut = read_in_pieces(rt.alloc(), b"p a Vdd out\r\nn a G", size);
         assert_eq!(rt; cut.err(), Some(NetFault::Refused(refusal)));
     }

@@ -1,11 +1,11 @@
 -- Each way to end says what the text means: a refusal that was met, the ended lines alone, or these and the held line.
-use Rattle.std.proofs.Common.{◌≡◌, ◌∙◌, ◌+◌, ◌<◌, ℕ, List, [], length, Ok, None, Some, sym, ap, subst, arith}
+use Rattle.std.proofs.Common.{◌≡◌, ◌∙◌, ◌+◌, ◌<◌, ℕ, List, [], length, Ok, None, Some, IfOk, sym, ap, subst, arith}
 use Rattle.line_words.specs.Lines.{without_return}
 use Rattle.sim_read.specs.Meaning.{line_meaning, netlist_of}
 use Rattle.sim_read.specs.Reading.{IsFault}
 use Rattle.sim_read.specs.Standing.{IsRead, ReaderData, StandsFor}
 use Rattle.sim_read.proofs.CircuitLemmas.{netlist_of-visible}
-use Rattle.sim_read.proofs.StandingLemmas.{finishes_ended, finishes_last, refuses_last, finishes_refused, no_bytes, none_left, some_bytes}
+use Rattle.sim_read.proofs.StandingLemmas.{finishes_ended, finishes_last, refuses_last, finishes_refused, if_err, if_ok, no_bytes, none_left, some_bytes}
 use Rattle.sim_read.proofs.pieces.Reader.finish.Goals as goal
 
 pub returns-in-Some-clause-refused : goal.returns-in-Some-clause-refused
@@ -17,12 +17,19 @@ pub returns-then-is_empty-clause-ok : goal.returns-then-is_empty-clause-ok
 returns-then-is_empty-clause-ok c =
     let none = none_left _ (sym c.is_empty.ensures ∙ c.if-is_empty.true) in
     let empty : c.self.inside.held.items ≡ [] = no_bytes c.self.inside.held.items (omega arith) in
-    subst (λ (r : ReaderData). (text : List ℕ) → StandsFor r text → netlist_of text ≡ Ok c.into_circuit.result) c.self.view_is
-    (λ text stood. finishes_ended _ c.in_default.is empty text stood ∙ ap Ok (sym c.into_circuit.ensures))
+    subst (λ (r : ReaderData). IfOk c.finish_draft.result (λ circuit. (text : List ℕ) → StandsFor r text → netlist_of text ≡ Ok circuit)) c.self.view_is
+    (if_ok c.finish_draft.result (λ circuit same text stood. finishes_ended _ c.in_default.is empty text stood ∙ ap Ok (sym same))
+    c.finish_draft.ensures.ok)
+
+pub returns-then-is_empty-clause-refused : goal.returns-then-is_empty-clause-refused
+returns-then-is_empty-clause-refused c =
+    if_err c.finish_draft.result (λ fault same text stood. subst (IsFault (netlist_of text)) (sym same) tt) c.finish_draft.ensures.err
 
 pub returns-then-is_empty-clause-visible : goal.returns-then-is_empty-clause-visible
-returns-then-is_empty-clause-visible c = λ text stood.
-    netlist_of-visible text c.into_circuit.result (returns-then-is_empty-clause-ok c text stood)
+returns-then-is_empty-clause-visible c =
+    let means : IfOk c.finish_draft.result (λ circuit. (text : List ℕ) → StandsFor c.args.self text → netlist_of text ≡ Ok circuit) =
+    returns-then-is_empty-clause-ok c in
+    if_ok c.finish_draft.result (λ circuit each text stood. netlist_of-visible text circuit (each text stood)) means
 
 pub returns-in-Some-2-clause-refused : goal.returns-in-Some-2-clause-refused
 returns-in-Some-2-clause-refused c =
@@ -31,13 +38,21 @@ returns-in-Some-2-clause-refused c =
     let left = some_bytes _ (sym c.is_empty.ensures ∙ c.if-is_empty.false) in
     let some : 0 < length held = omega arith in
     let reads : IsRead (line_meaning None c.self.inside.draft (number, without_return c.deref.result.now)) number c.read_held.new.draft c.in_ok-fault.field-0 =
-    c.in_ok-fault.ensures in
+    c.in_ok-fault.ensures.reads in
     let refuses : IsRead (line_meaning None c.self.inside.draft (number, without_return held)) number c.read_held.new.draft (Some c.in-Some-2.fault) =
     subst (IsRead (line_meaning None c.self.inside.draft (number, without_return held)) number c.read_held.new.draft) c.in-Some-2.is
     (subst (λ line. IsRead (line_meaning None c.self.inside.draft (number, without_return line)) number c.read_held.new.draft c.in_ok-fault.field-0)
     c.deref.ensures.value reads) in
     subst (λ (r : ReaderData). (text : List ℕ) → StandsFor r text → IsFault (netlist_of text) c.in-Some-2.fault) c.self.view_is
     (refuses_last _ c.read_held.new.draft c.in-Some-2.fault c.in_default.is some refuses)
+
+-- what the held line added is bounded by its bytes
+pub finish_draft-requires-in-None : goal.finish_draft-requires-in-None
+finish_draft-requires-in-None c =
+    let size : length c.deref.result.now ≡ length c.self.inside.held.items = ap length c.deref.ensures.value in
+    let before = c.self.invariant in
+    let bound = c.read_held.ensures.bound in
+    omega arith
 
 pub returns-in-None-clause-ok : goal.returns-in-None-clause-ok
 returns-in-None-clause-ok c =
@@ -46,15 +61,22 @@ returns-in-None-clause-ok c =
     let left = some_bytes _ (sym c.is_empty.ensures ∙ c.if-is_empty.false) in
     let some : 0 < length held = omega arith in
     let reads : IsRead (line_meaning None c.self.inside.draft (number, without_return c.deref.result.now)) number c.read_held.new.draft c.in_ok-fault.field-0 =
-    c.in_ok-fault.ensures in
+    c.in_ok-fault.ensures.reads in
     let made : IsRead (line_meaning None c.self.inside.draft (number, without_return held)) number c.read_held.new.draft None =
     subst (IsRead (line_meaning None c.self.inside.draft (number, without_return held)) number c.read_held.new.draft) c.in-None.is
     (subst (λ line. IsRead (line_meaning None c.self.inside.draft (number, without_return line)) number c.read_held.new.draft c.in_ok-fault.field-0)
     c.deref.ensures.value reads) in
-    subst (λ (r : ReaderData). (text : List ℕ) → StandsFor r text → netlist_of text ≡ Ok c.into_circuit-in-None.result) c.self.view_is
-    (λ text stood.
-    finishes_last _ c.read_held.new.draft c.in_default.is some made text stood ∙ ap Ok (sym c.into_circuit-in-None.ensures))
+    subst (λ (r : ReaderData). IfOk c.finish_draft-in-None.result (λ circuit. (text : List ℕ) → StandsFor r text → netlist_of text ≡ Ok circuit)) c.self.view_is
+    (if_ok c.finish_draft-in-None.result
+    (λ circuit same text stood. finishes_last _ c.read_held.new.draft c.in_default.is some made text stood ∙ ap Ok (sym same))
+    c.finish_draft-in-None.ensures.ok)
+
+pub returns-in-None-clause-refused : goal.returns-in-None-clause-refused
+returns-in-None-clause-refused c =
+    if_err c.finish_draft-in-None.result (λ fault same text stood. subst (IsFault (netlist_of text)) (sym same) tt) c.finish_draft-in-None.ensures.err
 
 pub returns-in-None-clause-visible : goal.returns-in-None-clause-visible
-returns-in-None-clause-visible c = λ text stood.
-    netlist_of-visible text c.into_circuit-in-None.result (returns-in-None-clause-ok c text stood)
+returns-in-None-clause-visible c =
+    let means : IfOk c.finish_draft-in-None.result (λ circuit. (text : List ℕ) → StandsFor c.args.self text → netlist_of text ≡ Ok circuit) =
+    returns-in-None-clause-ok c in
+    if_ok c.finish_draft-in-None.result (λ circuit each text stood. netlist_of-visible text circuit (each text stood)) means

@@ -4,6 +4,12 @@ use Rattle.sim_read.specs.Standing.{ReaderData}
 use Rattle.sim_read.proofs.StandingLemmas.{steps_too_far, steps_on}
 use Rattle.sim_read.proofs.pieces.Reader.hold.Goals as goal
 
+pub append-requires : goal.append-requires
+append-requires c =
+    let bytes : c.self.inside.bytes ≡ c.count.new.self.bytes = ap (λ (r : ReaderData). r.bytes) c.self.view_is in
+    let space = c.count.ensures.space (subst (λ n. n ≤ MOST_FILE_BYTES) bytes c.if-self-gt-MOST_FILE_BYTES.false) in
+    omega arith
+
 pub returns-then-self-gt-MOST_FILE_BYTES : goal.returns-then-self-gt-MOST_FILE_BYTES
 returns-then-self-gt-MOST_FILE_BYTES c =
     let bytes : c.self.inside.bytes ≡ c.count.new.self.bytes = ap (λ (r : ReaderData). r.bytes) c.self.view_is in
