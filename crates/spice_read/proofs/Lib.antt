@@ -1,6 +1,7 @@
 pub mod ExpansionLemmas
 pub mod FrameLemmas
 pub mod ReaderLemmas
+pub mod RefusalLemmas
 pub mod StepLemmas
 pub mod VisibleLemmas
 mod Worked

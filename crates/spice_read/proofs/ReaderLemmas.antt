@@ -10,6 +10,7 @@ use Rattle.spice_cards.specs.declared.fault.DeckFault.TheVariants as fault
 use Rattle.spice_cards.specs.Decks.{DeckCards}
 use Rattle.spice_cards.specs.Reading.{cards_of, titled_meaning}
 use Rattle.spice_cards.specs.Stops.{IsFault}
+use Rattle.spice_cards.proofs.FrontLemmas.{cards_of-front_of}
 use Rattle.spice_read.specs.Making.{circuit_by, circuit_of}
 use Rattle.spice_read.proofs.VisibleLemmas.{circuit_of-circuit, circuit_of-visible}
 
@@ -41,3 +42,8 @@ circuit-is (Err told) text same = tt
 pub circuit-visible : (answer : Result CircuitData DeckFault) (text : List ℕ) → IfOk answer (λ c. circuit_of text ≡ Ok c) → IfOk answer HasVisibleNames
 circuit-visible (Ok c) text same = circuit_of-visible text c same
 circuit-visible (Err told) text same = tt
+
+-- what stands behind the first byte too many of a deck has no meaning
+pub circuit_of-front_of : (text : List ℕ) → circuit_of (front_of text) ≡ circuit_of text
+unfolding circuit_of
+circuit_of-front_of text = ap circuit_by (cards_of-front_of text)

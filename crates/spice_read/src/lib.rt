@@ -18,6 +18,8 @@
 //! Inside a call a name that is neither a port nor fixed stands for a node of that call alone, named by the
 //! path of the call, a dot and the name: `x1.x2.n`. A name has no greatest length, but each call and each
 //! terminal takes memory by its own.
+//!
+//! For the proofs of crates above: `ReaderLemmas`, that a deck means what its front means.
 #![tactic(auto)]
 
 mod expansion;
