@@ -1,15 +1,12 @@
 -- Walks that are blocked, and walks that aren't, hop by hop.
-use Rattle.std.proofs.Common.{◌≡◌, ℕ, ◌+◌, ◌<◌, ◌≤◌, true, List, [], ◌∷◌, ◌++◌, length, take, drop, get_or, Option, Some, None, refl, sym, ◌∙◌, ap, arith}
+use Rattle.std.proofs.Common.{◌≡◌, ℕ, ◌+◌, ◌<◌, ◌≤◌, List, length, take, drop, get_or, sym, arith}
 use Rattle.std.specs.Prelude.{slice_index}
-use Rattle.std.proofs.lemmas.List.{drop_more, take_more, take_all, take-append-drop}
+use Rattle.std.proofs.lemmas.List.{drop_more, take_more, take-append-drop}
 use Rattle.ternary.specs.declared.tern.Tern.{Tern}
-use Rattle.path_meaning.specs.declared.walks.Walk.{Walk}
-use Rattle.path_meaning.specs.declared.walks.WalkFacts.{WalkFacts}
-use Rattle.path_meaning.specs.Graphs.{GraphData, nodes, level_of}
-use Rattle.path_meaning.specs.Path.{Stand, Hop, Leads, at_root, LivePath, IsBlocked}
+use Rattle.path_meaning.specs.Graphs.{GraphData, nodes}
+use Rattle.path_meaning.specs.Path.{Stand, Hop, Leads, at_root, IsBlocked}
 use Rattle.path_meaning.specs.Plain.{AreStrongest}
-use Rattle.path_meaning.specs.Walks.{stand_of, AreFactsAfter}
-use Rattle.path_meaning.proofs.PathLemmas.{Hop-unique, Leads-more, Leads-in_range, Goes, Goes-leads, Goes-more, unblocked-from_Goes}
+use Rattle.path_meaning.proofs.PathLemmas.{Hop-unique, Leads-more, Goes, Goes-leads, Goes-more}
 use Rattle.path_meaning.proofs.TableMeaning.{unbeaten}
 
 -- where something is left of a walk, a hop leads on, and the rest leads on from there

@@ -3,3 +3,4 @@ pub mod ReasonLemmas
 pub mod BlockingLemmas
 pub mod LineLemmas
 pub mod NearLemmas
+pub mod GroupedLemmas

@@ -1,7 +1,7 @@
 -- Reasons are local: a best reason for a rail of a member in its group's local graph stands for a best reason in the
 -- whole graph, and where there is none in the one there is none in the other.
 -- Unblocked paths to a member are the same in both graphs, hop by hop and with the same strengths.
-use Rattle.std.proofs.Common.{◌≡◌, ℕ, ◌<◌, ◌≤◌, Bool, true, inl, inr, List, [], ◌∷◌, ◌++◌, length, map, take, drop, All, Option, Some, None, refl, sym, ap, subst, ◌∙◌, arith}
+use Rattle.std.proofs.Common.{◌≡◌, ℕ, ◌<◌, Bool, true, List, [], ◌∷◌, ◌++◌, length, map, take, drop, All, Option, Some, None, refl, sym, ap, subst, ◌∙◌, arith}
 use Rattle.std.specs.Prelude.{slice_index, Contains}
 use Rattle.std.proofs.lemmas.List.{take-map, take-append-drop, length-map}
 use Rattle.std.proofs.lemmas.List.Elements.{All-nil, All-cons, Contains-get_or}
@@ -10,9 +10,9 @@ use Rattle.strength_order.specs.declared.TheConstants.{INPUT_LEVEL}
 use Rattle.path_meaning.specs.declared.walks.Walk.{Walk}
 use Rattle.path_meaning.specs.Switching.{state_at}
 use Rattle.path_meaning.specs.Graphs.{GraphData, IsWired, nodes, level_of}
-use Rattle.path_meaning.specs.Path.{Stand, Hop, Leads, at_root, LivePath, IsBlocked, IsBeaten}
+use Rattle.path_meaning.specs.Path.{Stand, Leads, at_root, LivePath}
 use Rattle.path_meaning.proofs.PathLemmas.{place_inside, same_stand, Leads-cut, Leads-unique, Leads-in_range, Goes, Goes-front, Goes-leads, Goes-from_unblocked, unblocked-from_Goes}
-use Rattle.path_meaning.proofs.StrongestPaths.{IsBest, best_table}
+use Rattle.path_meaning.proofs.StrongestPaths.{best_table}
 use Rattle.path_meaning.proofs.InputNodes.{unbeaten}
 use Rattle.group_meaning.proofs.StoragePaths.{from_itself}
 use Rattle.group_meaning.specs.Groups.{Group, IsGroup}

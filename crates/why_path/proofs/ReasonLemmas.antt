@@ -1,22 +1,21 @@
 -- Laws of reasons: what was found is a best reason, and where nothing was found there is none.
 -- A trail is read back over earlier and earlier places of the list, so it stands at no node twice, since no node
 -- is found twice; and along any unblocked path each stand was found, at least as strong.
-use Rattle.std.proofs.Common.{◌≡◌, ℕ, zero, suc, ◌+◌, ◌<◌, ◌≤◌, min, Bool, true, ◌⊎◌, inl, inr, List, [], ◌∷◌, ◌++◌, length, take, reverse, Option, Some, None, refl, sym, ◌∙◌, ap, subst, arith, append_assoc, length-append}
+use Rattle.std.proofs.Common.{◌≡◌, ℕ, ◌+◌, ◌<◌, ◌≤◌, Bool, true, inl, inr, List, [], ◌∷◌, ◌++◌, length, take, reverse, Some, None, refl, sym, ◌∙◌, ap, subst, arith, append_assoc, length-append}
 use Rattle.std.specs.Prelude.{slice_get, slice_index}
 use Rattle.std.proofs.lemmas.Bool.{cases_lt}
 use Rattle.std.proofs.lemmas.List.{take-append-le, take_all, take-take, length-take-le, reverse-append}
 use Rattle.ternary.specs.declared.tern.Tern.{Tern}
 use Rattle.path_meaning.specs.Switching.{state_at}
-use Rattle.path_meaning.specs.declared.walks.Walk.{Walk}
 use Rattle.path_meaning.specs.Graphs.{GraphData, IsWired, nodes, level_of}
-use Rattle.path_meaning.specs.Path.{Stand, Hop, Leads, at_root, LivePath, IsBlocked, IsBeaten}
+use Rattle.path_meaning.specs.Path.{Stand, Hop, at_root, IsBeaten}
 use Rattle.path_meaning.specs.Plain.{AreStrongest}
 use Rattle.path_meaning.proofs.PathLemmas.{beyond, Hop-over, Hop-in_range, level_fits, Leads-unique, Leads-positive, Leads-weaker, Goes, Goes-here, Goes-leads, Goes-more, Goes-from_unblocked, unblocked-from_Goes}
 use Rattle.path_meaning.proofs.TableMeaning.{unbeaten, most_unbeaten}
 use Rattle.why_path.specs.declared.search.Found.{Found}
 use Rattle.why_path.specs.declared.search.Last.{Last}
-use Rattle.why_path.specs.Reasons.{IsReason, PassesTwice, IsBestReason, Explains}
-use Rattle.why_path.specs.Search.{stand_at, IsRoot, IsFoundBy, IsFoundAtRoot, IsFoundFrom, IsIn, IsSearch, IsTrail, LeadBack, IsEntryOf}
+use Rattle.why_path.specs.Reasons.{IsReason, PassesTwice, IsBestReason}
+use Rattle.why_path.specs.Search.{stand_at, IsFoundBy, IsFoundAtRoot, IsFoundFrom, IsIn, IsSearch, IsTrail, LeadBack, IsEntryOf}
 use Rattle.why_path.specs.Search.IsTrail.{starts, goes_on}
 use Rattle.why_path.proofs.SearchLemmas.{IsIn-lower, IsIn-named}
 

@@ -1,8 +1,7 @@
 -- Laws of the search: what one more entry leaves as it was, and that of what is stronger nothing is missing.
-use Rattle.std.proofs.Common.{◌≡◌, ◌≢◌, ℕ, zero, suc, ◌+◌, ◌-◌, ◌<◌, ◌≤◌, min, Bool, true, false, ◌⊎◌, inl, inr, List, [], ◌∷◌, ◌++◌, length, replicate, Option, Some, None, refl, sym, ◌∙◌, ap, subst, arith, take, get_or, get_or-set_same, get_or-set_other, length-append}
-use Rattle.std.specs.Prelude.{slice_get, slice_index, slice_set, Contains, Vec}
+use Rattle.std.proofs.Common.{◌≡◌, ◌≢◌, ℕ, zero, suc, ◌+◌, ◌-◌, ◌<◌, ◌≤◌, Bool, true, false, ◌⊎◌, inl, inr, List, [], ◌∷◌, ◌++◌, length, replicate, Option, Some, None, refl, sym, ◌∙◌, ap, subst, arith, take, get_or, get_or-set_same, get_or-set_other, length-append}
+use Rattle.std.specs.Prelude.{slice_get, slice_set, Contains, Vec}
 use Rattle.std.specs.declared.alloc.Global.{Global}
-use Rattle.std.specs.List.{sum_by}
 use Rattle.std.proofs.lemmas.Bool.{cases_lt, cases_eq}
 use Rattle.std.proofs.lemmas.List.{length-replicate, get_or-replicate, take_more}
 use Rattle.std.proofs.lemmas.List.Elements.{Contains-append_left, Contains-push, Contains-push_cases}
@@ -14,11 +13,11 @@ use Rattle.std.proofs.Math.ListN.{set, length-set}
 use Rattle.ternary.specs.declared.tern.Tern.{Tern}
 use Rattle.strength_order.specs.declared.TheConstants.{INPUT_LEVEL}
 use Rattle.path_meaning.specs.Graphs.{GraphData, IsWired, nodes, level_of}
-use Rattle.path_meaning.specs.Path.{Stand, Hop}
+use Rattle.path_meaning.specs.Path.{Stand}
 use Rattle.path_meaning.proofs.PathLemmas.{Hop-unique, Hop-weaker, level_fits}
 use Rattle.why_path.specs.declared.search.Found.{Found}
 use Rattle.why_path.specs.declared.search.Last.{Last}
-use Rattle.why_path.specs.Search.{HaveSwitches, list_at, stand_at, IsRoot, IsRootOf, IsFoundBy, IsIn, IsPassed, IsSettled, IsRootIn, IsSearch, IsNew, Keeps, LandsAt, Lands, not_seen, unseen}
+use Rattle.why_path.specs.Search.{HaveSwitches, list_at, IsRootOf, IsFoundBy, IsIn, IsPassed, IsSettled, IsRootIn, IsSearch, IsNew, Keeps, LandsAt, Lands, not_seen, unseen}
 
 -- an element stays at its place where others come after it
 get-append : {X : Type 0} (xs ys : List X) (k : ℕ) (x : X) → slice_get xs k ≡ Some x → slice_get (xs ++ ys) k ≡ Some x

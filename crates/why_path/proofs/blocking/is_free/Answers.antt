@@ -1,8 +1,7 @@
 -- One hop more, the first stand at which something stronger leads, and the end of the walk.
-use Rattle.std.proofs.Common.{◌≡◌, ◌+◌, ◌<◌, ◌∙◌, List, length, take, drop, refl, arith}
+use Rattle.std.proofs.Common.{◌+◌, refl, arith}
 use Rattle.std.proofs.lemmas.List.{take_all}
-use Rattle.path_meaning.specs.Graphs.{nodes, level_of}
-use Rattle.path_meaning.specs.Path.{Stand, Leads, at_root, IsBlocked}
+use Rattle.path_meaning.specs.Path.{at_root, IsBlocked}
 use Rattle.path_meaning.specs.Walks.{stand_of}
 use Rattle.path_meaning.proofs.PathLemmas.{Goes, unblocked-from_Goes}
 use Rattle.why_path.proofs.BlockingLemmas.{led, led_on, blocks, goes_more, leads_more}

@@ -1,6 +1,5 @@
 -- The walk so far isn't blocked, and what is left of it leads on.
-use Rattle.std.proofs.Common.{◌≡◌, ◌<◌, take, drop}
-use Rattle.path_meaning.specs.Graphs.{nodes}
+use Rattle.std.proofs.Common.{take, drop}
 use Rattle.path_meaning.specs.Path.{Stand, Leads, at_root}
 use Rattle.path_meaning.specs.Walks.{stand_of}
 use Rattle.path_meaning.proofs.PathLemmas.{Goes}

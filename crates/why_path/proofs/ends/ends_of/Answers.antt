@@ -1,10 +1,6 @@
 -- One place more, and all places.
-use Rattle.std.proofs.Common.{◌≡◌, ℕ, ◌<◌, ◌∙◌, sym, length, Some, inl, inr, arith}
-use Rattle.std.specs.Prelude.{Contains}
+use Rattle.std.proofs.Common.{◌≡◌, ◌∙◌, inl, inr, arith}
 use Rattle.std.proofs.lemmas.Bool.{cases_lt}
-use Rattle.path_meaning.specs.declared.switching.Switch.{Switch}
-use Rattle.path_meaning.specs.Graphs.{nodes, place_at}
-use Rattle.why_path.specs.Search.{list_at}
 use Rattle.path_meaning.proofs.PathLemmas.{place_inside}
 use Rattle.why_path.proofs.ends.ends_of.Goals as goal
 

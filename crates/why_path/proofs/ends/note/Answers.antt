@@ -1,5 +1,5 @@
 -- The list of the node has one place more, the other lists are as before.
-use Rattle.std.proofs.Common.{rules, ◌≡◌, ◌++◌, ◌∷◌, [], refl, arith}
+use Rattle.std.proofs.Common.{rules, ◌≡◌, ◌++◌, ◌∷◌, []}
 use Rattle.why_path.proofs.SearchLemmas.{noted_kept, noted_here}
 use Rattle.why_path.proofs.ends.note.Goals as goal
 

@@ -1,8 +1,5 @@
 -- The place is in the list of the first end, and stays there while it comes into that of the second.
 use Rattle.std.proofs.Common.{◌≡◌}
-use Rattle.std.specs.Prelude.{Contains}
-use Rattle.path_meaning.specs.declared.switching.Switch.{Switch}
-use Rattle.why_path.specs.Search.{list_at}
 use Rattle.why_path.proofs.ends.note_ends.Goals as goal
 
 pub returns-clause-noted : goal.returns-clause-noted

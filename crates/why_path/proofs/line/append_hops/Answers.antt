@@ -1,5 +1,5 @@
 -- One hop more.
-use Rattle.std.proofs.Common.{◌≡◌, ◌+◌, List, ◌++◌, ◌∷◌, [], get_or}
+use Rattle.std.proofs.Common.{◌+◌, ◌++◌, ◌∷◌, [], get_or}
 use Rattle.path_meaning.specs.Walks.{stand_of}
 use Rattle.path_meaning.specs.Path.{Hop, at_root}
 use Rattle.netlist.specs.Circuits.{called}

@@ -1,5 +1,5 @@
 -- The empty path, or none.
-use Rattle.std.proofs.Common.{◌≡◌, ◌∙◌, sym, false, true}
+use Rattle.std.proofs.Common.{◌∙◌, sym}
 use Rattle.path_meaning.specs.Spread.{rail_of}
 use Rattle.why_path.proofs.NearLemmas.{input_best, input_none}
 use Rattle.why_path.proofs.near.input_reason.Goals as goal

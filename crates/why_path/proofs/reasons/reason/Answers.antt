@@ -1,7 +1,6 @@
 -- The trail to the node's entry, or that there is none.
-use Rattle.std.proofs.Common.{◌≡◌, ℕ, List, length, Some, None, refl, arith}
+use Rattle.std.proofs.Common.{Some, None}
 use Rattle.path_meaning.specs.Spread.{rail_of}
-use Rattle.path_meaning.specs.Plain.{AreStrongest}
 use Rattle.why_path.specs.Search.{IsSearch, IsTrail, IsEntryOf}
 use Rattle.why_path.proofs.ReasonLemmas.{best_reason, no_reason}
 use Rattle.why_path.proofs.reasons.reason.Goals as goal

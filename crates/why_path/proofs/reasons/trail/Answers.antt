@@ -1,8 +1,6 @@
 -- One hop back.
-use Rattle.std.proofs.Common.{rules, ◌≡◌, ◌<◌, ℕ, List, [], ◌∷◌, ◌++◌, length, Some, None, refl, arith, append-nil}
-use Rattle.std.specs.Prelude.{slice_get}
+use Rattle.std.proofs.Common.{rules, ◌≡◌, ◌<◌, [], ◌∷◌, ◌++◌, arith, append-nil}
 use Rattle.std.proofs.lemmas.Option.{slice_get-get_or, slice_get_within}
-use Rattle.why_path.specs.Search.{IsTrail}
 use Rattle.why_path.specs.Search.IsTrail.{starts}
 use Rattle.why_path.proofs.ReasonLemmas.{trail_back}
 use Rattle.why_path.proofs.reasons.trail.Goals as goal

@@ -1,5 +1,5 @@
 -- What leads to the entry that was reached goes on to the wanted one over the hops so far, last hop first.
-use Rattle.std.proofs.Common.{◌≡◌, ℕ, ◌<◌, List, ◌++◌, length, reverse, Some}
+use Rattle.std.proofs.Common.{◌≡◌, ℕ, List, ◌++◌, reverse, Some}
 use Rattle.std.specs.Prelude.{slice_get}
 use Rattle.why_path.specs.Search.{IsTrail}
 use Rattle.why_path.proofs.reasons.trail.Given as goal

@@ -1,11 +1,11 @@
 -- A root that wasn't seen is taken; any other node is in, where it is asked.
-use Rattle.std.proofs.Common.{◌≡◌, ◌∙◌, ap, refl, true, false, Some, None, length, arith}
+use Rattle.std.proofs.Common.{◌≡◌, ◌∙◌, ap, refl, false, Some, None, length, arith}
 use Rattle.std.specs.Prelude.{slice_get}
 use Rattle.std.proofs.lemmas.Option.{slice_get_read}
 use Rattle.path_meaning.specs.Spread.{rail_of}
 use Rattle.why_path.specs.declared.search.Found.{Found}
-use Rattle.why_path.specs.Search.{IsIn, IsSearch}
-use Rattle.why_path.proofs.SearchLemmas.{rooted, rooted_not, rooted_found, entered}
+use Rattle.why_path.specs.Search.{IsIn}
+use Rattle.why_path.proofs.SearchLemmas.{rooted, rooted_found, entered}
 use Rattle.why_path.proofs.search.add_root.Goals as goal
 
 pub returns-clause-sound : goal.returns-clause-sound

@@ -1,5 +1,5 @@
 -- One node more.
-use Rattle.std.proofs.Common.{ℕ, refl, ◌∙◌, arith, below_more}
+use Rattle.std.proofs.Common.{◌∙◌, below_more}
 use Rattle.path_meaning.specs.Spread.{rail_of}
 use Rattle.why_path.specs.Search.{IsRootIn}
 use Rattle.why_path.proofs.SearchLemmas.{IsRootIn-kept}

@@ -1,7 +1,7 @@
 -- The roots so far are in.
 use Rattle.std.proofs.Common.{◌≡◌, ℕ, ◌<◌}
 use Rattle.path_meaning.specs.Spread.{rail_of}
-use Rattle.why_path.specs.Search.{IsSearch, IsRootIn, Keeps}
+use Rattle.why_path.specs.Search.{IsSearch, IsRootIn}
 use Rattle.why_path.proofs.search.add_roots.Given as goal
 
 abbrev pub invariant-loop-node : goal.invariant-loop-node

@@ -1,7 +1,4 @@
 -- Where no hop leads on, or it leads not strongly enough, the hop lands nowhere.
-use Rattle.std.proofs.Common.{arith, ap}
-use Rattle.path_meaning.specs.Path.{Stand}
-use Rattle.path_meaning.proofs.PathLemmas.{Hop-unique}
 use Rattle.why_path.proofs.search.node_after.Goals as goal
 
 pub returns-in_err-there : goal.returns-in_err-there

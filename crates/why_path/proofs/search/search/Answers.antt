@@ -1,9 +1,7 @@
 -- One strength down.
-use Rattle.std.proofs.Common.{◌≡◌, ◌≤◌, ℕ, ◌∙◌, ap, refl, arith, replicate, false}
-use Rattle.std.specs.Prelude.{slice_get}
+use Rattle.std.proofs.Common.{◌≡◌, ◌∙◌, ap, refl, arith, replicate, false}
 use Rattle.path_meaning.specs.Graphs.{nodes}
 use Rattle.path_meaning.specs.Spread.{rail_of}
-use Rattle.why_path.specs.Search.{IsSearch, IsRootIn}
 use Rattle.why_path.proofs.SearchLemmas.{started, lowered, IsRootIn-kept}
 use Rattle.why_path.proofs.search.search.Goals as goal
 

@@ -1,6 +1,6 @@
 -- A node that a hop lands at is taken, or was found before; else the hop is passed over.
-use Rattle.std.proofs.Common.{◌≡◌, ◌∙◌, ap, refl, true, false, Some, None, List, length, arith}
-use Rattle.std.specs.Prelude.{slice_get, ◌++◌, ◌∷◌, [], slice_set}
+use Rattle.std.proofs.Common.{◌≡◌, ◌∙◌, ap, refl, true, false, Some, length, arith}
+use Rattle.std.specs.Prelude.{slice_get}
 use Rattle.std.proofs.lemmas.Option.{slice_get_read}
 use Rattle.path_meaning.specs.Spread.{rail_of}
 use Rattle.why_path.specs.declared.search.Found.{Found}

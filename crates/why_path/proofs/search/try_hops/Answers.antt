@@ -1,7 +1,6 @@
 -- One place more.
-use Rattle.std.proofs.Common.{◌∙◌, refl, arith, length}
+use Rattle.std.proofs.Common.{◌∙◌, arith}
 use Rattle.std.proofs.lemmas.List.{take_all}
-use Rattle.path_meaning.specs.Spread.{rail_of}
 use Rattle.why_path.proofs.SearchLemmas.{Keeps-trans, kept_inside, passed_more}
 use Rattle.why_path.proofs.search.try_hops.Goals as goal
 

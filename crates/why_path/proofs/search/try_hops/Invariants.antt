@@ -1,5 +1,5 @@
 -- The places so far are passed.
-use Rattle.std.proofs.Common.{◌≡◌, ℕ, ◌<◌, Some, take}
+use Rattle.std.proofs.Common.{◌≡◌, ℕ, Some, take}
 use Rattle.std.specs.Prelude.{slice_get, Contains}
 use Rattle.path_meaning.specs.Spread.{rail_of}
 use Rattle.why_path.specs.declared.search.Found.{Found}

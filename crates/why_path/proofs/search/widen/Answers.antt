@@ -1,6 +1,6 @@
 -- One entry more.
-use Rattle.std.proofs.Common.{◌≡◌, ◌<◌, ◌∙◌, sym, ap, Some, refl, arith, length}
-use Rattle.std.specs.Prelude.{slice_get, Contains}
+use Rattle.std.proofs.Common.{◌≡◌, ◌<◌, ◌∙◌, sym, Some, refl, arith, length}
+use Rattle.std.specs.Prelude.{slice_get}
 use Rattle.std.proofs.lemmas.Option.{slice_get_read, slice_get_within}
 use Rattle.path_meaning.specs.Spread.{rail_of}
 use Rattle.why_path.specs.Search.{list_at, IsSettled}

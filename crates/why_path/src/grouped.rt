@@ -1,0 +1,41 @@
+//! Reasons found in the group of a node.
+
+ghost use Rattle.std.specs.Prelude.{◌≡◌, ◌<◌, length, IfOk};
+ghost use Rattle.path_meaning.specs.Graphs.{nodes};
+ghost use Rattle.path_meaning.specs.Spread.{rail_of};
+ghost use Rattle.group_meaning.specs.Groups.{AreGroups};
+ghost use Rattle.why_path.specs.Reasons.{Explains};
+
+use crate::near::near_reason;
+use channel_groups::Groups;
+use path_meaning::{Graph, Walk};
+use std::alloc::Global;
+use ternary::{NoMemory, Tern};
+
+/// A reason for a rail of a node, as [`reason`](crate::reason) gives it, found in the node's group among
+/// these, which are the groups of the graph.
+///
+/// Only where the group is too large to have a text is the whole graph searched.
+pub fn group_reason(
+    alloc: Global,
+    graph: &Graph,
+    state: &[Tern],
+    groups: &Groups,
+    node: usize,
+    one: bool,
+) -> Result<Option<Walk>, NoMemory>
+    requires state { length state.now ≡ nodes graph.now }
+    requires groups { AreGroups graph.now groups.now.groups }
+    requires count { groups.now.nodes ≡ nodes graph.now }
+    requires node { node < nodes graph.now }
+    ensures { IfOk result (λ found. Explains (rail_of one) graph.now state.now node found) }
+{
+    match groups.group_of(node) {
+        Some(id) => {
+            let members = groups.members(id);
+            let switches = groups.switches(id);
+            near_reason(alloc, graph, state, members, switches, node, one)
+        }
+        None => near_reason(alloc, graph, state, &[], &[], node, one),
+    }
+}
