@@ -1,10 +1,13 @@
 ghost use Rattle.std.specs.Prelude.{◌≡◌, length, IfOk};
+ghost use Rattle.path_meaning.specs.Graphs.{nodes};
+ghost use Rattle.path_meaning.specs.Rails.{IsRailed, IsSound};
 
+use crate::{read_back, step_by_text};
 use circuit_listing::list_circuit;
 use linear_code::{Listing, read_listing};
 use netlist::Circuit;
 use node_elimination::SymbolicAnalyst;
-use path_meaning::plain_step;
+use path_meaning::{GND, Graph, VDD, plain_step};
 use sim_read::read_netlist;
 use std::alloc::{AllocError, Global};
 use std::test::Fail;
@@ -21,7 +24,7 @@ struct Row {
     states: u64,
 }
 
-const ROWS: [Row; 4] = [
+const ROWS: [Row; 6] = [
     Row {
         name: "an inverter",
         net: b"A a input\np a Vdd out\nn a Gnd out\n",
@@ -50,6 +53,60 @@ const ROWS: [Row; 4] = [
         last: b"next 4 ",
         states: 27,
     },
+    Row {
+        name: "a nor gate",
+        net: b"p a Vdd x\np b x out\nn a Gnd out\nn b Gnd out\nA a input\nA b input\n",
+        begins: b"node 0 i Gnd\nnode 1 i Vdd\nnode 2 i a\nnode 3 s x\nnode 4 i b\nnode 5 s out\n",
+        last: b"next 5 ",
+        states: 81,
+    },
+    Row {
+        name: "two inverters that share their text, each the other's input",
+        net: b"p q Vdd r\nn q Gnd r\np r Vdd q\nn r Gnd q\n",
+        begins: b"node 0 i Gnd\nnode 1 i Vdd\nnode 2 s q\nnode 3 s r\n",
+        last: b"next 3 ",
+        states: 9,
+    },
+];
+
+// A worked circuit, and the states behind the rails, before a unit step and after it.
+struct Worked {
+    name: &'static str,
+    net: &'static [u8],
+    steps: [(&'static [u8], &'static [u8]); 9],
+}
+
+const WORKED: [Worked; 2] = [
+    Worked {
+        name: "an inverter: a, which is an input node, and out",
+        net: b"A a input\np a Vdd out\nn a Gnd out\n",
+        steps: [
+            (b"00", b"01"),
+            (b"01", b"01"),
+            (b"0X", b"01"),
+            (b"10", b"10"),
+            (b"11", b"10"),
+            (b"1X", b"10"),
+            (b"X0", b"XX"),
+            (b"X1", b"XX"),
+            (b"XX", b"XX"),
+        ],
+    },
+    Worked {
+        name: "a ratioed inverter: out, and a, which is a storage node",
+        net: b"d out out Vdd\ne a Gnd out\n",
+        steps: [
+            (b"00", b"10"),
+            (b"10", b"10"),
+            (b"X0", b"10"),
+            (b"01", b"01"),
+            (b"11", b"01"),
+            (b"X1", b"01"),
+            (b"0X", b"XX"),
+            (b"1X", b"XX"),
+            (b"XX", b"XX"),
+        ],
+    },
 ];
 
 #[test]
@@ -67,13 +124,47 @@ fn a_written_listing_is_read_back_and_steps_as_the_circuit_does(
         listing.write(&mut text)?;
         assert!(rt; text.starts_with(row.begins), "{}", row.name);
         assert!(rt; last_line(&text).starts_with(row.last), "{}", row.name);
-        let Ok(read) = read_listing(rt.alloc(), &text) else {
-            panic!(rt; "no listing");
-        };
+        let read = read_back(rt.alloc(), &listing)?;
         let (states, wrong) = compare_steps(rt.alloc(), &circuit, &read)?;
         assert_eq!(rt; (states, wrong), (row.states, 0), "{}", row.name);
     }
     Ok(())
+}
+
+#[test]
+fn whoever_has_the_text_makes_the_steps(rt: HostRuntime) -> Result<(), Fail> {
+    for worked in &WORKED {
+        let circuit = read_netlist(rt.alloc(), TableKeys::fixed(), worked.net)?;
+        for (before, after) in &worked.steps {
+            let state = state_of(rt.alloc(), circuit.graph(), before)?;
+            let mut analyst = SymbolicAnalyst::new(rt.alloc());
+            let keys = TableKeys::fixed();
+            let next = step_by_text(rt.alloc(), keys, &circuit, &state, &mut analyst)?;
+            let want = state_of(rt.alloc(), circuit.graph(), after)?;
+            assert_eq!(rt; next.as_slice(), want.as_slice(), "{}", worked.name);
+        }
+    }
+    Ok(())
+}
+
+// So many states as the graph has nodes: the rails' own, and behind them these.
+fn state_of(alloc: Global, graph: &Graph, letters: &[u8]) -> Result<Vec<Tern>, AllocError>
+    requires { IsRailed graph.now }
+    ensures counted { IfOk result (λ state. length state.items ≡ nodes graph.now) }
+    ensures sound { IfOk result (λ state. IsSound state.items) }
+{
+    let mut state = vec![in alloc; Tern::Unk; graph.nodes()]?;
+    fill(&mut state[2..], letters);
+    state[GND] = Tern::Zero;
+    state[VDD] = Tern::One;
+    Ok(state)
+}
+
+// Writes these states over the first ones.
+fn fill(state: &mut [Tern], letters: &[u8]) {
+    for (place, letter) in state.iter_mut().zip(letters) {
+        *place = Tern::from_letter(*letter).unwrap_or(Tern::Unk);
+    }
 }
 
 // What stands behind the last LF but the one that ends the text.
