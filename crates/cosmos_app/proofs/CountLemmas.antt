@@ -1,5 +1,5 @@
 -- The ports' counts after a part of a run, and after the run by its status.
-use Rattle.std.proofs.Common.{◌≡◌, ◌≢◌, ℕ, IfErr, Result, Ok, Err, refl, sym, subst}
+use Rattle.std.proofs.Common.{◌≡◌, ℕ, Result, Ok, Err, refl, sym, subst}
 use Rattle.script_run.specs.declared.stop.End as end
 use Rattle.script_run.specs.declared.stop.End.TheVariants as ended
 use Rattle.script_run.specs.declared.stop.Stop.{Stop}

@@ -1,5 +1,5 @@
 -- How the ends of the parts of a run become the ends of the whole.
-use Rattle.std.proofs.Common.{◌≡◌, ℕ, inl, inr, IfErr, List, [], ◌++◌, Option, None, Some, IfSome, Result, Ok, Err, refl, sym, ap, subst, ◌∙◌, append-nil}
+use Rattle.std.proofs.Common.{◌≡◌, ℕ, IfErr, List, Option, None, Some, IfSome, Result, Ok, Err, refl, sym, ap, subst}
 use Rattle.group_text.specs.Texts.{GroupTextData}
 use Rattle.script_run.specs.declared.stop.End as end
 use Rattle.script_run.specs.declared.stop.End.TheVariants as ended
@@ -7,9 +7,8 @@ use Rattle.script_run.specs.declared.stop.Stop.{Stop}
 use Rattle.script_run.specs.declared.stop.Stop.TheVariants.{Read, Write, Memory}
 use Rattle.script_run.specs.declared.status.Status.{Status}
 use Rattle.script_run.specs.declared.status.Status.TheVariants.{ReadFault}
-use Rattle.script_run.specs.Runs.{Answer}
 use Rattle.cosmos_app.specs.Answers.{IsAnswer, IsAnswered}
-use Rattle.script_run.specs.Ends.{IsTold, IsToldBy, IsUntouched, status_after}
+use Rattle.script_run.specs.Ends.{IsToldBy, IsUntouched, status_after}
 
 -- what was told is answered by the status of the end
 pub answered : (words : List (List ℕ)) (holds : List ℕ → List ℕ) (old new : Option (List ℕ)) (before after : List GroupTextData) (result : Result end.End Stop)

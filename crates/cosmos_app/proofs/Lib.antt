@@ -1,6 +1,7 @@
 pub mod LowerLemmas
 pub mod EndLemmas
 pub mod NetLemmas
+pub mod DeckLemmas
 pub mod StartLemmas
 pub mod GroupsLemmas
 pub mod ListLemmas
@@ -11,3 +12,4 @@ pub mod FeedingLemmas
 mod WaveLemmas
 mod AlikeLemmas
 mod CountingLemmas
+mod ReasonedLemmas

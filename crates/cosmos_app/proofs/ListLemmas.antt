@@ -1,34 +1,23 @@
 -- What was told of a circuit's listing, or of a group that is too large, is told of the answer to `compile`.
-use Rattle.std.proofs.Common.{◌≡◌, ℕ, ◌<◌, ◌⊎◌, inl, inr, List, [], ◌++◌, Option, Some, Result, Ok, Err, unwrap_or, refl, sym, ap, subst, ◌∙◌}
+use Rattle.std.proofs.Common.{◌≡◌, ℕ, ◌⊎◌, inl, inr, List, ◌++◌, Option, Result, Ok, Err, refl, sym, ap, subst, ◌∙◌}
 use Rattle.std.specs.Io.KnownBytes.{append_known}
-use Rattle.std.proofs.lemmas.List.Elements.{All-contains_itself}
-use Rattle.std.proofs.lemmas.Option.{slice_get_within, get_or_from_slice_get}
 use Rattle.port_edge.specs.Sending.{WritesPart}
-use Rattle.path_meaning.specs.Graphs.{GraphData, nodes, IsStorage}
-use Rattle.netlist.specs.Names.{name_at}
 use Rattle.netlist.specs.Circuits.{CircuitData}
-use Rattle.wave_print.specs.declared.faults.FaultPlace.{FaultPlace}
 use Rattle.wave_print.specs.declared.faults.FaultPlace.TheVariants.{NetWhole}
-use Rattle.wave_print.specs.declared.faults.FaultCode.TheVariants.{G1GroupNodes, G2GroupSwitches}
-use Rattle.group_meaning.specs.Groups.{Group, AreGroups, IsGroup, id_of}
-use Rattle.group_meaning.proofs.GroupLemmas.{member_storage}
+use Rattle.group_meaning.specs.Groups.{Group, AreGroups}
 use Rattle.group_text.specs.Texts.{GroupTextData}
-use Rattle.group_text.specs.declared.text.TextFault.{TextFault}
-use Rattle.group_text.specs.declared.text.TextFault.TheVariants as text
 use Rattle.linear_code.specs.Listing.{ListingData, IsListing}
 use Rattle.linear_code.specs.ListingText.{listing_text}
 use Rattle.circuit_texts.specs.declared.texts.BuildFault.{BuildFault}
-use Rattle.circuit_texts.specs.declared.texts.BuildFault.TheVariants.{GroupNodes, GroupSwitches, NoMemory}
+use Rattle.circuit_texts.specs.declared.texts.BuildFault.TheVariants.{NoMemory}
 use Rattle.circuit_listing.specs.Faithful.{IsFaithful}
-use Rattle.circuit_texts.specs.Sizes.{at_node, AllFit, TellsTooLarge}
+use Rattle.circuit_texts.specs.Sizes.{AllFit, TellsTooLarge}
 use Rattle.script_run.specs.declared.stop.Stop.{Stop}
 use Rattle.script_run.specs.declared.stop.Stop.TheVariants.{Memory}
-use Rattle.script_run.specs.declared.status.Status.{Status}
 use Rattle.script_run.specs.declared.status.Status.TheVariants as status
 use Rattle.script_run.specs.declared.stop.End as end
 use Rattle.script_run.specs.Runs.{Answer}
-use Rattle.script_run.specs.Codes.{Cause, size_cause}
-use Rattle.script_run.specs.Answers.{IsTooLarge, IsRefusalFor}
+use Rattle.script_run.specs.Answers.{IsTooLarge}
 use Rattle.cosmos_app.specs.Answers.{distinct_texts, IsCompiled}
 use Rattle.script_run.specs.Ends.{IsTold, IsToldBy}
 use Rattle.cosmos_app.specs.Sendings.{IsTextOf}

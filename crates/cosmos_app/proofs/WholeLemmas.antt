@@ -39,7 +39,7 @@ with_files-twice None first second = refl
 with_files-twice (Some counts) first second = ap Some (sym (append_assoc second first counts))
 
 -- files read one after another
-whole_both : (old mid new : Taken) (holds : List ℕ → List ℕ) (first second : List (List ℕ)) →
+pub whole_both : (old mid new : Taken) (holds : List ℕ → List ℕ) (first second : List (List ℕ)) →
     ReadsWhole old mid holds first → ReadsWhole mid new holds second → ReadsWhole old new holds (second ++ first)
 whole_both old mid new holds first second before after =
     let size : List ℕ → ℕ = λ name. length (front_of (holds name)) in

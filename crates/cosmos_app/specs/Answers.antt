@@ -5,6 +5,11 @@ use Rattle.line_words.specs.Files.{lines_in, cut_line}
 use Rattle.netlist.specs.Circuits.{CircuitData}
 use Rattle.sim_read.specs.declared.fault.NetRefusal.{NetRefusal}
 use Rattle.sim_read.specs.Meaning.{netlist_of}
+use Rattle.spice_cards.specs.declared.fault.DeckFault.{DeckFault}
+use Rattle.spice_cards.specs.declared.fault.DeckFault.TheVariants as deck_fault
+use Rattle.spice_cards.specs.declared.fault.DeckWhat.{DeckWhat}
+use Rattle.spice_cards.specs.Reports.{deck_line_of}
+use Rattle.spice_read.specs.Making.{circuit_of}
 use Rattle.wave_print.specs.Lines.{check_line_of}
 use Rattle.wave_print.specs.declared.faults.FaultPlace.TheVariants.{Net, NetWhole}
 use Rattle.group_meaning.specs.Groups.{Group, AreGroups}
@@ -22,10 +27,11 @@ use Rattle.script_run.specs.declared.status.Status.{Status}
 use Rattle.script_run.specs.declared.status.Status.TheVariants as status
 use Rattle.cosmos_app.specs.Codes.{net_code}
 use Rattle.cosmos_app.specs.Samples.{Sample, text_of}
-use Rattle.cosmos_app.specs.Requests.{Question, Simulate, Check, Groups, Compile, Request, About, Generate, SumUp, Unclear, request_of}
+use Rattle.cosmos_app.specs.Requests.{Question, Simulate, Check, Groups, Compile, Explain, Request, About, Generate, SumUp, OverDeck, Unclear, request_of}
 use Rattle.script_run.specs.Runs.{Answer, plain_answer, plain_reading, IsScriptAnswer}
 use Rattle.script_run.specs.Answers.{IsRefusal, IsTooLarge, IsWritten, IsStopped, IsAnalysed}
 use Rattle.cosmos_app.specs.Summaries.{IsSummedUp}
+use Rattle.cosmos_app.specs.Reasoned.{IsReasoned}
 
 -- the answer is the usage line alone
 abbrev pub IsUsage : Answer → Type 0
@@ -82,6 +88,7 @@ IsAnswerIn (Simulate script) holds = IsSimulation (holds script)
 IsAnswerIn Check holds = IsCheck
 IsAnswerIn Groups holds = IsGroups
 IsAnswerIn Compile holds = IsCompiled
+IsAnswerIn (Explain script node) holds = IsReasoned (holds script) node
 
 -- the answer of a request for a part of a sample: its text
 abbrev pub IsGenerated : GenPart → Sample → Answer → Type 0
@@ -96,11 +103,22 @@ IsSummary script circuit answer =
 abbrev pub IsSampleSummary : Sample → Answer → Type 0
 IsSampleSummary sample answer = IsOver (IsSummary (text_of part.Script sample)) (netlist_of (text_of part.Net sample)) answer
 
+-- the answer where the deck is refused at this line: the line of its refusal
+abbrev pub IsDeckRefusal : ℕ → DeckWhat → Answer → Type 0
+IsDeckRefusal line what answer = answer ≡ plain_answer status.NetRefused (deck_line_of line what)
+
+-- the answer of a simulation over a deck: that of the script in its circuit, or its refusal; want of memory is no meaning of a deck
+abbrev pub IsDeckSimulation : List ℕ → Result CircuitData DeckFault → Answer → Type 0
+IsDeckSimulation script (Ok circuit) answer = IsSimulation script circuit answer
+IsDeckSimulation script (Err (deck_fault.At line what)) answer = IsDeckRefusal line what answer
+IsDeckSimulation script (Err deck_fault.NoMemory) answer = ⊥
+
 -- the answer to a request, by what the names hold
 abbrev pub IsAnswerTo : Request → (List ℕ → List ℕ) → Answer → Type 0
 IsAnswerTo (About net question) holds answer = IsOver (IsAnswerIn question holds) (netlist_of (holds net)) answer
 IsAnswerTo (Generate part sample) holds answer = IsGenerated part sample answer
 IsAnswerTo (SumUp sample) holds answer = IsSampleSummary sample answer
+IsAnswerTo (OverDeck deck script) holds answer = IsDeckSimulation (holds script) (circuit_of (holds deck)) answer
 IsAnswerTo Unclear holds answer = IsUsage answer
 
 -- the answer of the words

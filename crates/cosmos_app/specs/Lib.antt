@@ -3,8 +3,11 @@ pub mod Samples
 pub mod Requests
 pub mod Summaries
 pub mod Countings
+pub mod Reasoned
+pub mod Explaining
 pub mod Answers
 pub mod Feeding
+pub mod Decks
 pub mod Starts
 pub mod Counts
 pub mod Wholes

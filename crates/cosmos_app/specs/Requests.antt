@@ -8,18 +8,22 @@ use Rattle.cosmos_app.specs.declared.request.Request as code_request
 use Rattle.cosmos_app.specs.declared.request.Request.TheVariants as code_request_is
 use Rattle.cosmos_app.specs.Samples.{Sample, part_of, sample_of, sample_seen}
 
--- what may be asked about a netlist: the run of the script with this name in its circuit, a check, its groups, or its listing
+-- what may be asked about a netlist: the run of the script with this name in its circuit, a check, its groups, its listing, or the reasons
+-- of the node with the second name at the end of the script with the first
 pub data Question : Type 0 where
   Simulate : List ℕ → Question
   Check : Question
   Groups : Question
   Compile : Question
+  Explain : List ℕ → List ℕ → Question
 
--- what words ask for: a question about the netlist with this name, a part of a sample, a sample's run summed up, or nothing that there is
+-- what words ask for: a question about the netlist with this name, a part of a sample, a sample's run summed up, the run of a script in the
+-- circuit of a deck, by the deck's name and the script's, or nothing that there is
 pub data Request : Type 0 where
   About : List ℕ → Question → Request
   Generate : GenPart → Sample → Request
   SumUp : Sample → Request
+  OverDeck : List ℕ → List ℕ → Request
   Unclear : Request
 
 -- what a word alone asks about a netlist
@@ -40,9 +44,11 @@ generate (Some part) (Some sample) = Generate part sample
 generate (Some part) None = Unclear
 generate None sample = Unclear
 
--- `sim NET SCRIPT`, compared byte by byte
+-- `sim NET SCRIPT` or `sim-spice DECK SCRIPT`, compared byte by byte
 abbrev pub simulation : List ℕ → List ℕ → List ℕ → Request
-simulation command net script = if bytes_eq command (codes "sim") then About net (Simulate script) else Unclear
+simulation command circuit script =
+    if bytes_eq command (codes "sim") then About circuit (Simulate script)
+    else (if bytes_eq command (codes "sim-spice") then OverDeck circuit script else Unclear)
 
 -- `gen PART KIND SEED N`
 abbrev pub generation : List ℕ → List ℕ → List ℕ → List ℕ → List ℕ → Request
@@ -54,17 +60,19 @@ abbrev pub sum_up : Option Sample → Request
 sum_up (Some sample) = SumUp sample
 sum_up None = Unclear
 
--- `large KIND SEED N`
-abbrev pub summary : List ℕ → List ℕ → List ℕ → List ℕ → Request
-summary command kind seed rows = if bytes_eq command (codes "large") then sum_up (sample_of kind seed rows) else Unclear
+-- what four words ask for, by the first: `large KIND SEED N` or `why NET SCRIPT NODE`
+abbrev pub by_four : List ℕ → List ℕ → List ℕ → List ℕ → Request
+by_four command first second third =
+    if bytes_eq command (codes "large") then sum_up (sample_of first second third)
+    else (if bytes_eq command (codes "why") then About first (Explain second third) else Unclear)
 
--- what words ask for, by their number: `sim NET SCRIPT`, `check NET`, `groups NET`, `compile NET`, `gen PART KIND SEED N` and
--- `large KIND SEED N`, and nothing else
+-- what words ask for, by their number: `sim NET SCRIPT`, `sim-spice DECK SCRIPT`, `check NET`, `groups NET`, `compile NET`,
+-- `gen PART KIND SEED N`, `large KIND SEED N` and `why NET SCRIPT NODE`, and nothing else
 abbrev pub request_of : List (List ℕ) → Request
-request_of (command ∷ net ∷ script ∷ []) = simulation command net script
+request_of (command ∷ circuit ∷ script ∷ []) = simulation command circuit script
 request_of (command ∷ net ∷ []) = about net (question_of command)
 request_of (command ∷ part ∷ kind ∷ seed ∷ rows ∷ []) = generation command part kind seed rows
-request_of (command ∷ kind ∷ seed ∷ rows ∷ []) = summary command kind seed rows
+request_of (command ∷ first ∷ second ∷ third ∷ []) = by_four command first second third
 request_of _ = Unclear
 
 -- a question of the code, as it is meant here
@@ -73,12 +81,14 @@ question_seen (code_question_is.Simulate script) = Simulate script.now
 question_seen code_question_is.Check = Check
 question_seen code_question_is.Groups = Groups
 question_seen code_question_is.Compile = Compile
+question_seen (code_question_is.Explain script node) = Explain script.now node.now
 
 -- and a request of the code
 abbrev pub request_seen : code_request.Request → Request
 request_seen (code_request_is.About net question) = About net.now (question_seen question)
 request_seen (code_request_is.Generate part sample) = Generate part (sample_seen sample)
 request_seen (code_request_is.SumUp sample) = SumUp (sample_seen sample)
+request_seen (code_request_is.OverDeck deck script) = OverDeck deck.now script.now
 request_seen code_request_is.Unclear = Unclear
 
 -- the bytes of the words

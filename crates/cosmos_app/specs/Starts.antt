@@ -3,9 +3,9 @@ use Rattle.std.specs.Prelude.{◌≡◌, ℕ, ⊤, ◌⊎◌, List, Option, IfSo
 use Rattle.port_edge.specs.Ports.{with_name}
 use Rattle.script_run.specs.declared.stop.Stop.{Stop}
 use Rattle.netlist.specs.Circuits.{CircuitData}
-use Rattle.sim_read.specs.declared.fault.NetRefusal.{NetRefusal}
 use Rattle.sim_read.specs.Meaning.{netlist_of}
-use Rattle.cosmos_app.specs.Requests.{Question, Simulate, Request, About, Generate, SumUp, Unclear}
+use Rattle.spice_read.specs.Making.{circuit_of}
+use Rattle.cosmos_app.specs.Requests.{Question, Simulate, Explain, Request, About, Generate, SumUp, OverDeck, Unclear}
 
 -- the started names, where they are told
 abbrev pub Started : Type 0
@@ -20,13 +20,14 @@ abbrev pub StartsFile : {T : Type 0} → Started → Started → List ℕ → Re
 StartsFile old new name (Ok _) = new ≡ with_name old name
 StartsFile old new name (Err stop) = StartsAtMost old new name
 
--- what a question starts beside the netlist: a simulation starts nothing or its script
+-- what a question starts beside the netlist: one that runs a script starts nothing or the script
 abbrev pub ScriptStarts : Question → Started → Started → Type 0
 ScriptStarts (Simulate script) old new = StartsAtMost old new script
+ScriptStarts (Explain script node) old new = StartsAtMost old new script
 ScriptStarts _ old new = new ≡ old
 
--- the netlist has no refusal
-abbrev pub IsAccepted : Result CircuitData NetRefusal → Type 0
+-- the netlist, or the deck, has no refusal
+abbrev pub IsAccepted : {E : Type 0} → Result CircuitData E → Type 0
 IsAccepted (Ok circuit) = ⊤
 IsAccepted (Err fault) = ⊥
 
@@ -36,9 +37,16 @@ QuestionStarts net question known old new =
     StartsAtMost old new net
     ⊎ (ScriptStarts question (with_name old net) new × IfSome known (λ holds. IsAccepted (netlist_of (holds net))))
 
+-- what a simulation over a deck starts: nothing, or the deck; and then nothing or its script, only where the deck has no refusal
+abbrev pub DeckStarts : List ℕ → List ℕ → Option (List ℕ → List ℕ) → Started → Started → Type 0
+DeckStarts deck script known old new =
+    StartsAtMost old new deck
+    ⊎ (StartsAtMost (with_name old deck) new script × IfSome known (λ holds. IsAccepted (circuit_of (holds deck))))
+
 -- what a request starts
 abbrev pub RequestStarts : Request → Option (List ℕ → List ℕ) → Started → Started → Type 0
 RequestStarts (About net question) known old new = QuestionStarts net question known old new
 RequestStarts (Generate part sample) known old new = new ≡ old
 RequestStarts (SumUp sample) known old new = new ≡ old
+RequestStarts (OverDeck deck script) known old new = DeckStarts deck script known old new
 RequestStarts Unclear known old new = new ≡ old

@@ -4,14 +4,17 @@ use Rattle.line_words.specs.Files.{front_of}
 use Rattle.netlist.specs.Circuits.{CircuitData}
 use Rattle.sim_read.specs.declared.fault.NetRefusal.{NetRefusal}
 use Rattle.sim_read.specs.Meaning.{netlist_of}
+use Rattle.spice_cards.specs.declared.fault.DeckFault.{DeckFault}
+use Rattle.spice_read.specs.Making.{circuit_of}
 use Rattle.port_edge.specs.Taken.{Taken, with_files}
 use Rattle.script_run.specs.declared.status.Status.{Status}
 use Rattle.script_run.specs.declared.status.Status.TheVariants.{ReadFault, WriteFault, NoMemory}
-use Rattle.cosmos_app.specs.Requests.{Question, Simulate, Request, About, Generate, SumUp, Unclear}
+use Rattle.cosmos_app.specs.Requests.{Question, Simulate, Explain, Request, About, Generate, SumUp, OverDeck, Unclear}
 
 -- the files that a question needs beside the netlist
 abbrev pub scripts_of : Question → List (List ℕ)
 scripts_of (Simulate script) = script ∷ []
+scripts_of (Explain script node) = script ∷ []
 scripts_of _ = []
 
 -- the files that a question about a netlist of this meaning needs, the last one first: a script only where the netlist has no refusal
@@ -19,11 +22,17 @@ abbrev pub needed : Question → List ℕ → Result CircuitData NetRefusal → 
 needed question net (Ok circuit) = scripts_of question ++ net ∷ []
 needed question net (Err refusal) = net ∷ []
 
+-- the files that a simulation over a deck of this meaning needs, the last one first: the script only where the deck has no refusal
+abbrev pub needed_over : List ℕ → List ℕ → Result CircuitData DeckFault → List (List ℕ)
+needed_over deck script (Ok circuit) = script ∷ deck ∷ []
+needed_over deck script (Err fault) = deck ∷ []
+
 -- the files that a request needs, the last one first
 abbrev pub files_of : Request → (List ℕ → List ℕ) → List (List ℕ)
 files_of (About net question) holds = needed question net (netlist_of (holds net))
 files_of (Generate part sample) holds = []
 files_of (SumUp sample) holds = []
+files_of (OverDeck deck script) holds = needed_over deck script (circuit_of (holds deck))
 files_of Unclear holds = []
 
 -- each of these files was started, and read to its end or to the first byte too many

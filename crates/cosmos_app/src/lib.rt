@@ -3,23 +3,27 @@
 //!
 //! `run` is the call that the program makes. Its contract is the promise of the whole: where the
 //! files and the sink tell their bytes, the status and the bytes written are an answer of the
-//! words, that is, the netlist's text has its meaning as a circuit or a first refused line, the
+//! words, that is, the text of the netlist or the deck has its meaning as a circuit or a first refused line, the
 //! script's lines have their effects in order from the start, every `step` is the unit step by
 //! unblocked paths in the circuit and the state at that point, and every phase settles by such
 //! steps. After a fault or want of memory the bytes are a front of such an answer.
 //!
 //! ```text
 //! run(alloc, ["sim", "inverter.sim", "inverter.cmd"], files, out)   is Status::Done
+//! run(alloc, ["sim-spice", "gates.sp", "gates.cmd"], files, out)    is Status::Done
 //! run(alloc, ["check", "inverter.sim"], files, out)                 is Status::Done, and writes
 //!     `ok nodes 4 switches 2 names 2`
 //! run(alloc, ["large", "inverters", "1", "2"], files, out)          is Status::Done, and writes
 //!     `large nodes 5 switches 4 lines 4 steps 4 marks 0 zeros 4 ones 4 unknown 0`
+//! run(alloc, ["why", "inverter.sim", "inverter.cmd", "out"], files, out) is Status::Done, and writes
+//!     the line of a reason why `out` may be 1 at the script's end, or that there is none, and that of 0
 //! ```
 #![tactic(auto)]
 
 mod codes;
 mod compile;
 mod counting;
+mod explain;
 mod generated;
 mod reading;
 mod refusal;

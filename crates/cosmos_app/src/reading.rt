@@ -1,4 +1,4 @@
-//! Reading files, and the netlist that one holds.
+//! Reading files, and the netlist or the deck that one holds.
 
 ghost use Rattle.std.specs.Prelude.{◌≡◌, ◌≢◌, ◌+◌, ◌<◌, ◌≤◌, ℕ, List, [], ◌∷◌, length, IfSome, IfOk, IfErr, OnOk, OnErr, vec_len};
 ghost use Rattle.port_edge.specs.Ports.{Opens};
@@ -7,17 +7,22 @@ ghost use Rattle.line_words.specs.Files as file;
 ghost use Rattle.netlist.specs.Circuits.{IsCircuit, HasVisibleNames};
 ghost use Rattle.sim_read.specs.Meaning.{netlist_of};
 ghost use Rattle.sim_read.specs.Standing.{StandsFor};
+ghost use Rattle.spice_read.specs.Making.{circuit_of};
 ghost use Rattle.cosmos_app.specs.Feeding.{FeedsFile, FeedsFront, FeedsPiece};
 ghost use Rattle.script_run.specs.Stops.{faults_read};
 ghost use Rattle.cosmos_app.specs.Starts.{StartsFile};
 ghost use Rattle.cosmos_app.specs.Wholes.{ReadsWhole};
+ghost use Rattle.cosmos_app.specs.Decks.{deck_meant};
 
 use line_words::MOST_FILE_BYTES;
 use netlist::Circuit;
 use port_edge::{Files, read_front};
 use script_run::Stop;
 use sim_read::{NetFault, NetRefusal, Reader};
+use spice_cards::{DeckFault, DeckWhat};
+use spice_read::read_deck;
 use std::alloc::{AllocError, Global};
+use table_keys::TableKeys;
 
 // How many bytes of a netlist are read at a time.
 const PIECE: usize = 65_536;
@@ -65,6 +70,57 @@ pub(crate) fn read_circuit<F: Files>(
     let mut reader = Reader::new(alloc, files.keys())?;
     feed_file(alloc, files, name, &mut reader)?;
     finish(reader)
+}
+
+/// Where a deck is refused, and why.
+#[derive(Clone, Copy)]
+pub(crate) struct DeckRefusal {
+    /// The number of the refused line, from 1; a card's line is its first one.
+    pub(crate) line: u64,
+    /// Why it is refused.
+    pub(crate) what: DeckWhat,
+}
+
+/// Reads the deck with this name: its circuit, or its first refusal.
+///
+/// A refusal is answered after the file was read to its end, or to the first byte too many.
+pub(crate) fn read_deck_file<F: Files>(
+    alloc: Global,
+    files: &mut F,
+    name: &str,
+) -> Result<Result<Circuit, DeckRefusal>, Stop>
+    ensures means { IfOk result (λ meaning.
+        IfSome (F.holds files.old) (λ holds. circuit_of (holds name.now) ≡ deck_meant meaning)) }
+    ensures circuit { IfOk result (λ meaning. IfOk meaning IsCircuit) }
+    ensures visible { IfOk result (λ meaning. IfOk meaning HasVisibleNames) }
+    ensures holds { F.holds files.new ≡ F.holds files.old }
+    ensures started { StartsFile (F.started files.old) (F.started files.new) name.now result }
+    ensures whole { IfOk result (λ _. IfSome (F.holds files.old) (λ holds.
+        ReadsWhole (F.taken files.old) (F.taken files.new) holds (name.now ∷ []))) }
+    ensures taken { TakesFiles (F.taken files.old) (F.taken files.new) (MOST_FILE_BYTES + 1) }
+    ensures read { F.faults files.new ≡ faults_read (F.faults files.old) result }
+    ensures no_write { IfErr result (λ stop. stop ≢ Stop.Write) }
+{
+    let text = read_file(alloc, files, name)?;
+    deck_in(alloc, files.keys(), &text)
+}
+
+// The circuit of a deck's text, or its refusal.
+fn deck_in(
+    alloc: Global,
+    keys: TableKeys,
+    text: &[u8],
+) -> Result<Result<Circuit, DeckRefusal>, Stop>
+    ensures means { IfOk result (λ meaning. circuit_of text.now ≡ deck_meant meaning) }
+    ensures circuit { IfOk result (λ meaning. IfOk meaning IsCircuit) }
+    ensures visible { IfOk result (λ meaning. IfOk meaning HasVisibleNames) }
+    ensures memory { IfErr result (λ stop. stop ≡ Stop.Memory) }
+{
+    match read_deck(alloc, keys, text) {
+        Ok(circuit) => Ok(Ok(circuit)),
+        Err(DeckFault::At { line, what }) => Ok(Err(DeckRefusal { line, what })),
+        Err(DeckFault::NoMemory) => Err(Stop::Memory),
+    }
 }
 
 // Ends the text of a netlist: its circuit, or its refusal.

@@ -24,6 +24,11 @@ pub(crate) enum Request<'a> {
     },
     /// The run of a sample's script in its netlist's circuit, summed up.
     SumUp(Sample),
+    /// The run of the script with this name in the circuit of the deck with that name.
+    OverDeck {
+        deck: &'a str,
+        script: &'a str,
+    },
     /// Nothing that there is.
     Unclear,
 }
@@ -39,33 +44,43 @@ pub(crate) enum Question<'a> {
     Groups,
     /// The listing of its circuit.
     Compile,
+    /// The reasons of the node with this name, at the end of the script with that one.
+    Explain { script: &'a str, node: &'a str },
 }
 
-/// What the words of a command line ask for: `sim NET SCRIPT`, `check NET`, `groups NET`, `compile NET`,
-/// `gen PART KIND SEED N` and `large KIND SEED N`, and nothing else.
+/// What the words of a command line ask for: `sim NET SCRIPT`, `sim-spice DECK SCRIPT`, `check NET`, `groups NET`,
+/// `compile NET`, `gen PART KIND SEED N`, `large KIND SEED N` and `why NET SCRIPT NODE`, and nothing else.
 pub(crate) fn request_of(words: &[String]) -> Request<'_>
     ensures { spec.request_seen result ≡ spec.request_of (spec.names_of words.now) }
 {
     if let [command, net] = words {
         about(net, question_of(command))
-    } else if let [command, net, script] = words {
-        simulation(command, net, script)
+    } else if let [command, circuit, script] = words {
+        simulation(command, circuit, script)
     } else if let [command, part, kind, seed, rows] = words {
         generation(command, part, kind, seed, rows)
-    } else if let [command, kind, seed, rows] = words {
-        summary(command, kind, seed, rows)
+    } else if let [command, first, second, third] = words {
+        by_four(command, first, second, third)
     } else {
         Request::Unclear
     }
 }
 
 // What three words ask for.
-fn simulation<'a>(command: &str, net: &'a str, script: &'a str) -> Request<'a>
-    ensures { spec.request_seen result ≡ spec.simulation command.now net.now script.now }
+fn simulation<'a>(command: &str, circuit: &'a str, script: &'a str) -> Request<'a>
+    ensures { spec.request_seen result ≡ spec.simulation command.now circuit.now script.now }
 {
     if command == "sim" {
         let question = Question::Simulate(script);
-        Request::About { net, question }
+        Request::About {
+            net: circuit,
+            question,
+        }
+    } else if command == "sim-spice" {
+        Request::OverDeck {
+            deck: circuit,
+            script,
+        }
     } else {
         Request::Unclear
     }
@@ -82,15 +97,25 @@ fn generation<'a>(command: &str, part: &str, kind: &str, seed: &str, rows: &str)
     }
 }
 
-// What four words ask for.
-fn summary<'a>(command: &str, kind: &str, seed: &str, rows: &str) -> Request<'a>
-    ensures { spec.request_seen result ≡ spec.summary command.now kind.now seed.now rows.now }
+// What four words ask for, by the first.
+fn by_four<'a>(command: &str, first: &'a str, second: &'a str, third: &'a str) -> Request<'a>
+    ensures { spec.request_seen result ≡ spec.by_four command.now first.now second.now third.now }
 {
     if command == "large" {
-        sum_up(sample_of(kind, seed, rows))
+        sum_up(sample_of(first, second, third))
+    } else if command == "why" {
+        explanation(first, second, third)
     } else {
         Request::Unclear
     }
+}
+
+// The question for the reasons of a node.
+fn explanation<'a>(net: &'a str, script: &'a str, node: &'a str) -> Request<'a>
+    ensures { spec.request_seen result ≡ spec.About net.now (spec.Explain script.now node.now) }
+{
+    let question = Question::Explain { script, node };
+    Request::About { net, question }
 }
 
 // A sample's run summed up, where the words tell one.

@@ -5,18 +5,21 @@ ghost use Rattle.port_edge.specs.Taken.{TakesFiles};
 ghost use Rattle.netlist.specs.Circuits.{IsCircuit, HasVisibleNames};
 ghost use Rattle.cosmos_app.specs.Requests.{names_of, question_seen};
 ghost use Rattle.cosmos_app.specs.Requests as spec;
-ghost use Rattle.cosmos_app.specs.Answers.{IsAnswer, IsAnswered, IsAnswerIn, IsOver, IsSimulation};
+ghost use Rattle.cosmos_app.specs.Answers.{IsAnswer, IsAnswered, IsAnswerIn, IsDeckSimulation, IsOver, IsSimulation};
+ghost use Rattle.cosmos_app.specs.Reasoned.{IsReasoned};
 ghost use Rattle.sim_read.specs.Meaning.{netlist_of};
+ghost use Rattle.spice_read.specs.Making.{circuit_of};
 ghost use Rattle.script_run.specs.Stops.{faults_read, faults_written, IsRefusedOnce};
 ghost use Rattle.cosmos_app.specs.Counts.{files_count, sink_count, HasRefused};
-ghost use Rattle.cosmos_app.specs.Wholes.{files_of, needed, scripts_of, ReadsAll, ReadsWhole};
-ghost use Rattle.cosmos_app.specs.Starts.{QuestionStarts, RequestStarts, ScriptStarts, StartsAtMost};
+ghost use Rattle.cosmos_app.specs.Wholes.{files_of, needed, needed_over, scripts_of, ReadsAll, ReadsWhole};
+ghost use Rattle.cosmos_app.specs.Starts.{DeckStarts, QuestionStarts, RequestStarts, ScriptStarts, StartsAtMost};
 ghost use Rattle.script_run.specs.Ends.{IsToldBy, IsUntouched, status_after};
 
 use crate::compile::write_listing;
+use crate::explain::explain;
 use crate::generated::write_part;
-use crate::reading::{read_circuit, read_file};
-use crate::refusal::{refuse_net, refuse_words};
+use crate::reading::{read_circuit, read_deck_file, read_file};
+use crate::refusal::{refuse_deck, refuse_net, refuse_words};
 use crate::reports::{list_groups, report_check};
 use crate::request::{Question, Request, request_of};
 use crate::summary::sum_up;
@@ -33,7 +36,8 @@ use std::alloc::Global;
 /// `sim NET SCRIPT` reads the netlist and the script of these names and runs the script's lines in
 /// order, writing a waveform line for each step and each phase, a line for each expectation that isn't
 /// met and one for each report; the analyst makes code of each text of a group that a command needs and
-/// that isn't kept. `check NET` reads the netlist and writes how many nodes, transistors and names it has;
+/// that isn't kept. `sim-spice DECK SCRIPT` does the same in the circuit of the SPICE deck of that name.
+/// `check NET` reads the netlist and writes how many nodes, transistors and names it has;
 /// `groups NET` writes a line for each of its channel-connected groups; `compile NET` has the analyst
 /// make code of each text of a group that the circuit has, once, and writes a listing of the circuit,
 /// or the line of its first group that is too large. `gen PART KIND SEED N` writes the netlist or the
@@ -42,9 +46,13 @@ use std::alloc::Global;
 /// 10,000; it reads no file. `large KIND SEED N` makes both texts, runs the script in the netlist's circuit
 /// as `sim` does, and writes one line that sums the run up: how many nodes and transistors the circuit has,
 /// and of the waveform lines how many there are, the sum of their steps, how many have the mark, and how
-/// many values are 0, 1 and X; an expectation that isn't met counts for nothing. All other words are answered by the usage line.
+/// many values are 0, 1 and X; an expectation that isn't met counts for nothing. `why NET SCRIPT NODE` runs the
+/// script as `sim` does, whose lines aren't written, and writes two lines for the node of the name NODE in the
+/// circuit and the state at the script's end: a strongest reason why it may be 1, or that there is none, and
+/// the same of 0. A name that isn't in use then is refused with the status of the usage line. All other words
+/// are answered by the usage line.
 ///
-/// A netlist or a script with a refused line ends the run with the line of that refusal. A file is
+/// A netlist, a deck or a script with a refused line ends the run with the line of that refusal. A file is
 /// read to its end, or to the first byte too many, before any refusal of it is answered. After a call
 /// of a port that fails none follows: after a fault of reading nothing was written, and after a fault
 /// of writing, or want of memory, what was written is a front of the text that the words have.
@@ -60,8 +68,8 @@ pub fn run<F: Files, S: Sink, A: Analyst>(
     ensures answer { IfSome (F.holds files.old) (λ holds. IsAnswered (names_of words.now) holds
         (S.written out.old) (S.written out.new) (A.analysed analyst.old) (A.analysed analyst.new) result) }
 
-    // The files are started in the order of the words, the script only where the netlist has no
-    // refusal.
+    // The files are started in the order of the words, the script only where the netlist or the deck has
+    // no refusal.
     ensures started { RequestStarts
         (spec.request_of (names_of words.now))
         (F.holds files.old) (F.started files.old) (F.started files.new) }
@@ -124,6 +132,9 @@ fn answer<F: Files, S: Sink, A: Analyst>(
         Request::About { net, question } => answer_about(alloc, net, question, files, out, analyst),
         Request::Generate { part, sample } => write_part(alloc, part, sample, out),
         Request::SumUp(sample) => sum_up(alloc, files.keys(), sample, out, analyst),
+        Request::OverDeck { deck, script } => simulate_deck(
+            alloc, deck, script, files, out, analyst,
+        ),
         Request::Unclear => refuse_words(out),
     }
 }
@@ -158,6 +169,36 @@ fn answer_about<F: Files, S: Sink, A: Analyst>(
     }
 }
 
+// Reads the deck, and runs the script in its circuit.
+fn simulate_deck<F: Files, S: Sink, A: Analyst>(
+    alloc: Global,
+    deck: &str,
+    script: &str,
+    files: &mut F,
+    out: &mut S,
+    analyst: &mut A,
+) -> Result<End, Stop>
+    ensures told { IfSome (F.holds files.old) (λ holds. IsToldBy
+        (IsDeckSimulation (holds script.now) (circuit_of (holds deck.now)))
+        (S.written out.old) (S.written out.new) (A.analysed analyst.old) (A.analysed analyst.new) result) }
+    ensures started { DeckStarts
+        deck.now script.now
+        (F.holds files.old) (F.started files.old) (F.started files.new) }
+    ensures taken { TakesFiles (F.taken files.old) (F.taken files.new) (MOST_FILE_BYTES + 1) }
+    ensures whole { IfOk result (λ _. IfSome (F.holds files.old) (λ holds.
+        ReadsWhole (F.taken files.old) (F.taken files.new) holds
+        (needed_over deck.now script.now (circuit_of (holds deck.now))))) }
+    ensures read { F.faults files.new ≡ faults_read (F.faults files.old) result }
+    ensures write { S.faults out.new ≡ faults_written (S.faults out.old) result }
+    ensures refused { IsRefusedOnce (S.refusals out.old) (S.refusals out.new) result }
+    ensures untouched { IsUntouched out.old out.new result }
+{
+    match read_deck_file(alloc, files, deck)? {
+        Ok(circuit) => run_script(alloc, circuit, script, files, out, analyst),
+        Err(refusal) => refuse_deck(alloc, refusal.line, refusal.what, out),
+    }
+}
+
 // Answers a question about a circuit.
 fn answer_in<F: Files, S: Sink, A: Analyst>(
     alloc: Global,
@@ -187,6 +228,9 @@ fn answer_in<F: Files, S: Sink, A: Analyst>(
         Question::Check => report_check(alloc, &circuit, out),
         Question::Groups => list_groups(alloc, files.keys(), &circuit, out),
         Question::Compile => write_listing(alloc, files.keys(), &circuit, out, analyst),
+        Question::Explain { script, node } => {
+            explain_after(alloc, circuit, script, node, files, out, analyst)
+        }
     }
 }
 
@@ -214,4 +258,30 @@ fn run_script<F: Files, S: Sink, A: Analyst>(
     let text = read_file(alloc, files, script)?;
     let mut session = Session::new(alloc, circuit)?;
     run_lines(alloc, &mut session, &text, out, analyst)
+}
+
+// Reads the script, runs it in the circuit, and explains the node of this name where it ends.
+fn explain_after<F: Files, S: Sink, A: Analyst>(
+    alloc: Global,
+    circuit: Circuit,
+    script: &str,
+    node: &str,
+    files: &mut F,
+    out: &mut S,
+    analyst: &mut A,
+) -> Result<End, Stop>
+    requires { IsCircuit circuit }
+    ensures told { IfSome (F.holds files.old) (λ holds. IsToldBy (IsReasoned (holds script.now) node.now circuit)
+        (S.written out.old) (S.written out.new) (A.analysed analyst.old) (A.analysed analyst.new) result) }
+    ensures started { StartsAtMost (F.started files.old) (F.started files.new) script.now }
+    ensures taken { TakesFiles (F.taken files.old) (F.taken files.new) (MOST_FILE_BYTES + 1) }
+    ensures whole { IfOk result (λ _. IfSome (F.holds files.old) (λ holds.
+        ReadsWhole (F.taken files.old) (F.taken files.new) holds (script.now ∷ []))) }
+    ensures read { F.faults files.new ≡ faults_read (F.faults files.old) result }
+    ensures write { S.faults out.new ≡ faults_written (S.faults out.old) result }
+    ensures refused { IsRefusedOnce (S.refusals out.old) (S.refusals out.new) result }
+    ensures untouched { IsUntouched out.old out.new result }
+{
+    let text = read_file(alloc, files, script)?;
+    explain(alloc, circuit, &text, node, out, analyst)
 }

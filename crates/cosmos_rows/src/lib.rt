@@ -4,6 +4,9 @@
 //! answer is that of the words, or want of memory. The tests show what no clause says: that a run with ample
 //! memory doesn't answer want of memory, and that the texts of the rows are the expected ones.
 //!
+//! `step_by_program` says in one clause what a written listing is worth: whoever has that text alone makes
+//! the unit steps of the netlist's circuit.
+//!
 //! ```text
 //! run_in_memory(alloc, ["sim", "net", "script"], files, out, analyst)   is Status::Done
 //! ```
@@ -40,4 +43,9 @@ pub fn run_in_memory<A: Analyst>(
 }
 
 #[cfg(test)]
+mod analysed;
+#[cfg(test)]
 mod tests;
+mod written;
+
+pub use written::step_by_program;

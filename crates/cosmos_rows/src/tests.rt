@@ -64,6 +64,33 @@ const SIMULATIONS: [(&[u8], &[u8], Status, &[u8]); 7] = [
     ),
 ];
 
+// deck, status and text, under a script of two phases
+const DECKS: [(&[u8], Status, &[u8]); 2] = [
+    (
+        b"two inverters
+.global vdd!
+.SUBCKT inv a y vdd gnd
+mp y a vdd vdd pmos w=2u l=0.18u
+mn y a gnd gnd cmosn w=1u
+* the length follows
++ l=0.18u
+.ends inv
+X1 in m vdd! 0 inv
+x2 m out vdd! 0 inv
+.model cmosn nmos (level=1)
+c1 out 0 10f
+.end
+",
+        Status::Done,
+        b"1 2 010\n2 2 101\n",
+    ),
+    (
+        b"t\n.subckt s a\nx1 a s\n.ends\nx1 b s\n",
+        Status::NetRefused,
+        b"deck line 3: P7 Recursion\n",
+    ),
+];
+
 // netlist, status and text
 const CHECKS: [(&[u8], Status, &[u8]); 8] = [
     (
@@ -93,6 +120,45 @@ const CHECKS: [(&[u8], Status, &[u8]); 8] = [
         b"n Vdd GND vdd!\n",
         Status::Done,
         b"ok nodes 2 switches 1 names 0\n",
+    ),
+];
+
+// netlist, script, node, status and text
+const REASONS: [(&[u8], &[u8], &str, Status, &[u8]); 5] = [
+    (
+        INVERTER,
+        SCRIPT,
+        "out",
+        Status::Done,
+        b"one none\nzero 10 definite Gnd 2 out\n",
+    ),
+    (
+        b"d out out Vdd\ne a Gnd out\n",
+        b"input a\nset a=1\nphase\nexpect out=1\n",
+        "out",
+        Status::Done,
+        b"one none\nzero 10 definite Gnd 2 out\n",
+    ),
+    (
+        b"n g bus cell\n",
+        b"input g\nstore bus 2\ncharge bus=1 cell=0\nphase\n",
+        "cell",
+        Status::Done,
+        b"one 2 possible bus 1 cell\nzero 1 definite cell\n",
+    ),
+    (
+        INVERTER,
+        SCRIPT,
+        "q",
+        Status::Usage,
+        b"node: E1 UnknownNode\n",
+    ),
+    (
+        INVERTER,
+        b"input a\nset b=1\n",
+        "out",
+        Status::ScriptRefused,
+        b"script line 2: E1 UnknownNode\n",
     ),
 ];
 
@@ -131,7 +197,7 @@ const SAMPLES: [(&[&str], Status, &[u8]); 6] = [
 ];
 
 // These words.
-fn words_of(alloc: Global, words: &[&str]) -> Result<Vec<String>, Fail> {
+pub(super) fn words_of(alloc: Global, words: &[&str]) -> Result<Vec<String>, Fail> {
     let mut owned = Vec::new(alloc);
     for word in words {
         owned.push(String::from_str(alloc, word)?)?;
@@ -140,7 +206,11 @@ fn words_of(alloc: Global, words: &[&str]) -> Result<Vec<String>, Fail> {
 }
 
 // What the names `net` and `script` hold.
-fn table_of(alloc: Global, net: &[u8], script: &[u8]) -> Result<Vec<(String, Vec<u8>)>, Fail> {
+pub(super) fn table_of(
+    alloc: Global,
+    net: &[u8],
+    script: &[u8],
+) -> Result<Vec<(String, Vec<u8>)>, Fail> {
     let table = vec![in alloc;
         (String::from_str(alloc, "net")?, net.to_vec(alloc)?),
         (String::from_str(alloc, "script")?, script.to_vec(alloc)?),
@@ -199,6 +269,28 @@ fn netlists_and_scripts_have_their_status_and_text(rt: HostRuntime) -> Result<()
     }
     for (net, status, text) in &CHECKS {
         let (found, written) = answer(rt.alloc(), &["check", "net"], net, b"")?;
+        assert_eq!(rt; found, *status);
+        assert_eq!(rt; written.as_slice(), *text);
+    }
+    Ok(())
+}
+
+#[test]
+fn nodes_have_their_reasons(rt: HostRuntime) -> Result<(), Fail> {
+    for (net, script, node, status, text) in &REASONS {
+        let (found, written) = answer(rt.alloc(), &["why", "net", "script", node], net, script)?;
+        assert_eq!(rt; found, *status);
+        assert_eq!(rt; written.as_slice(), *text);
+    }
+    Ok(())
+}
+
+#[test]
+fn decks_and_scripts_have_their_status_and_text(rt: HostRuntime) -> Result<(), Fail> {
+    let script = b"input in\nwatch in m out\nset in=0\nphase\nset in=1\nphase\n";
+    for (deck, status, text) in &DECKS {
+        let words = ["sim-spice", "net", "script"];
+        let (found, written) = answer(rt.alloc(), &words, deck, script)?;
         assert_eq!(rt; found, *status);
         assert_eq!(rt; written.as_slice(), *text);
     }
