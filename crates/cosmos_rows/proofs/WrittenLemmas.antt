@@ -1,21 +1,23 @@
 -- Where a listing is asked for and memory suffices, the text of a faithful listing is written.
-use Rattle.std.proofs.Common.{◌≡◌, ◌≢◌, ℕ, List, [], length, map, None, Some, Option, Ok, inl, inr, refl, sym, ap, ◌∙◌}
+use Rattle.std.proofs.Common.{◌≡◌, ◌≢◌, ℕ, List, [], length, None, Some, Option, Result, Ok, Err, IfOk, MatchOption, inl, inr, refl, sym, ap, ◌∙◌}
 use Rattle.std.proofs.lemmas.List.{length-map}
 use Rattle.std.specs.Prelude.{nat_lt}
 use Rattle.std.specs.Io.KnownBytes.{append_known}
+use Rattle.ternary.specs.declared.tern.Tern.{Tern}
 use Rattle.strength_order.specs.declared.TheConstants.{INPUT_LEVEL}
 use Rattle.path_meaning.specs.Graphs.{nodes}
+use Rattle.path_meaning.specs.Rails.{IsSound}
+use Rattle.path_meaning.specs.Step.{IsStep}
 use Rattle.netlist.specs.Circuits.{CircuitData}
 use Rattle.group_text.specs.Texts.{GroupTextData}
 use Rattle.circuit_texts.specs.Sizes.{fault_in, AllFit, TellsTooLarge}
-use Rattle.linear_code.specs.Listing.{ListingData, Entry, IsListing}
+use Rattle.linear_code.specs.Listing.{ListingData, Entry, IsListing, IsListingStep}
 use Rattle.linear_code.specs.ListingText.{listing_text}
 use Rattle.circuit_listing.specs.Faithful.{IsFaithful}
 use Rattle.script_run.specs.declared.status.Status.{Status}
 use Rattle.script_run.specs.declared.status.Status.TheVariants as status
 use Rattle.script_run.specs.Answers.{IsAnalysed, IsWritten}
-use Rattle.cosmos_app.specs.Answers.{IsAnswer, IsAnswered, IsCompiled, IsOver, IsAnswerIn}
-use Rattle.cosmos_app.specs.Requests.{Compile}
+use Rattle.cosmos_app.specs.Answers.{IsAnswer, IsAnswered, IsCompiled}
 use Rattle.cosmos_rows.specs.Written.{AskForListing}
 
 -- the text of a faithful listing of the circuit was written
@@ -67,3 +69,19 @@ nodes_listed circuit listing faithful =
     let kind : Entry → _ = λ entry. entry.is_storage in
     let below : ℕ → _ = λ level. nat_lt level INPUT_LEVEL in
     sym (length-map listing.entries kind) ∙ (ap length faithful.kinds ∙ length-map circuit.graph.levels below)
+
+-- what was written after nothing is the text
+pub text_written : (circuit : CircuitData) (text : List ℕ) (writes : WritesListing circuit (Some []) (Some text)) →
+    listing_text writes.listing ≡ text
+text_written circuit text writes =
+    let told : Some text ≡ Some (listing_text writes.listing) = writes.told in
+    cc
+
+-- a step of a faithful listing, where one is told, is the circuit's
+pub step_told : {V E : Type 0} (items : V → List Tern) (circuit : CircuitData) (listing : ListingData) (state : List Tern) → IsFaithful circuit listing →
+    length state ≡ nodes circuit.graph → IsSound state → (told : Result (Option V) E) →
+    IfOk told (λ found. MatchOption found ⊥ (λ next. IsListingStep listing state (items next))) →
+    IfOk told (λ found. MatchOption found ⊥ (λ next. IsStep circuit.graph state (items next)))
+step_told items circuit listing state faithful counted sound (Ok (Some next)) step = faithful.steps state (items next) counted sound step
+step_told items circuit listing state faithful counted sound (Ok None) none = none
+step_told items circuit listing state faithful counted sound (Err fault) free = free

@@ -10,33 +10,43 @@ use ternary::Tern;
 
 const INVERTER: &[u8] = b"A a input\np a Vdd out\nn a Gnd out\n";
 
+const COMPILE: &[&str] = &["compile", "net"];
+
+const SIMULATE: &[&str] = &["sim", "net", "script"];
+
 // Two inverters, of which one drives the other, and a pass gate behind them: three groups of two texts.
 const THREE_GROUPS: &[u8] = b"p a Vdd b\nn a Gnd b\np b Vdd c\nn b Gnd c\nn a d e\nA a input\n";
 
-// word, netlist, script, status, and how many texts were analysed
-const RUNS: [(&str, &[u8], &[u8], Status, usize); 9] = [
-    ("compile", INVERTER, b"", Status::Done, 1),
-    ("compile", THREE_GROUPS, b"", Status::Done, 2),
-    ("compile", b"| no transistor\n", b"", Status::Done, 0),
+// words, netlist, script, status, and how many texts were analysed
+const RUNS: [(&[&str], &[u8], &[u8], Status, usize); 9] = [
+    (COMPILE, INVERTER, b"", Status::Done, 1),
+    (COMPILE, THREE_GROUPS, b"", Status::Done, 2),
+    (COMPILE, b"| no transistor\n", b"", Status::Done, 0),
     (
-        "compile",
+        COMPILE,
         b"n a Gnd out\nq a b c\n",
         b"",
         Status::NetRefused,
         0,
     ),
-    ("check", THREE_GROUPS, b"", Status::Done, 0),
-    ("groups", THREE_GROUPS, b"", Status::Done, 0),
-    ("sim", THREE_GROUPS, b"set a=0\nwatch c\n", Status::Done, 0),
+    (&["check", "net"], THREE_GROUPS, b"", Status::Done, 0),
+    (&["groups", "net"], THREE_GROUPS, b"", Status::Done, 0),
     (
-        "sim",
+        SIMULATE,
+        THREE_GROUPS,
+        b"set a=0\nwatch c\n",
+        Status::Done,
+        0,
+    ),
+    (
+        SIMULATE,
         THREE_GROUPS,
         b"set a=0\nphase\nset a=1\nphase\n",
         Status::Done,
         2,
     ),
     (
-        "sim",
+        SIMULATE,
         THREE_GROUPS,
         b"step\nstrength 1 1\nstep\nstrength 1 2\nstep\n",
         Status::Done,
@@ -47,18 +57,13 @@ const RUNS: [(&str, &[u8], &[u8], Status, usize); 9] = [
 // The status, the text, and how many texts were analysed.
 fn answer(
     alloc: Global,
-    word: &str,
+    words: &[&str],
     net: &[u8],
     script: &[u8],
 ) -> Result<(Status, Vec<u8>, usize), Fail> {
     let mut files = HonestFiles::new(alloc, table_of(alloc, net, script)?);
     let mut out = HonestSink::new(alloc);
     let mut analyst = SymbolicAnalyst::new(alloc);
-    let words: &[&str] = if word == "sim" {
-        &["sim", "net", "script"]
-    } else {
-        &[word, "net"]
-    };
     let owned = words_of(alloc, words)?;
     let status = run_in_memory(alloc, &owned, &mut files, &mut out, &mut analyst);
     Ok((status, out.written().to_vec(alloc)?, analyst.analysed()))
@@ -66,9 +71,9 @@ fn answer(
 
 #[test]
 fn each_distinct_text_is_analysed_once(rt: HostRuntime) -> Result<(), Fail> {
-    for (word, net, script, status, analysed) in &RUNS {
-        let (told, _text, counted) = answer(rt.alloc(), word, net, script)?;
-        assert_eq!(rt; (told, counted), (*status, *analysed), "{word}");
+    for (words, net, script, status, analysed) in &RUNS {
+        let (told, _text, counted) = answer(rt.alloc(), words, net, script)?;
+        assert_eq!(rt; (told, counted), (*status, *analysed));
     }
     Ok(())
 }
@@ -79,7 +84,7 @@ fn nothing_is_analysed_where_a_group_is_too_large(rt: HostRuntime) -> Result<(),
     for _ in 0..801 {
         net.extend_from_slice(b"n g x y\n")?;
     }
-    let (told, text, counted) = answer(rt.alloc(), "compile", &net, b"")?;
+    let (told, text, counted) = answer(rt.alloc(), COMPILE, &net, b"")?;
     assert_eq!(rt; (told, counted), (Status::NetRefused, 0));
     assert_eq!(rt;
         text.as_slice(),
@@ -96,7 +101,7 @@ fn whoever_has_the_written_text_makes_the_steps(rt: HostRuntime) -> Result<(), F
         (Tern::Unk, Tern::Unk),
     ] {
         for before in [Tern::Zero, Tern::One, Tern::Unk] {
-            let words = words_of(rt.alloc(), &["compile", "net"])?;
+            let words = words_of(rt.alloc(), COMPILE)?;
             let mut files = HonestFiles::new(rt.alloc(), table_of(rt.alloc(), INVERTER, b"")?);
             let mut analyst = SymbolicAnalyst::new(rt.alloc());
             let state = [Tern::Zero, Tern::One, a, before];
