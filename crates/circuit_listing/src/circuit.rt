@@ -44,9 +44,13 @@ pub fn list_circuit<A: Analyst>(
 {
     let groups = Groups::of(alloc, circuit.graph())?;
     let GroupTexts { texts, maps } = texts_of(alloc, circuit.graph(), &groups)?;
+    drop(groups);
     let mut kept = Kept::with_keys(alloc, keys);
     kept.ensure(&texts, analyst)?;
     let parts = parts_of(alloc, &kept, &texts, maps)?;
+    // The parts share what they need of these: the listing is made without them.
+    drop(texts);
+    drop(kept);
     let names = names_of(alloc, circuit)?;
     Ok(Listing::build(alloc, circuit.graph(), names, &parts)?)
 }

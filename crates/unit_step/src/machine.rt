@@ -215,6 +215,14 @@ impl Machine {
         self.parts
     }
 
+    /// The groups of the graph that it covers, as they were found when it was built and kept through edits;
+    /// none where it was made of parts.
+    pub fn grouping(&self) -> Option<&Groups>
+        ensures { option_map (λ groups. groups.now) result ≡ self.now.groups }
+    {
+        self.groups.as_ref()
+    }
+
     /// How many groups it has: how many of its parts have a member.
     pub fn groups(&self) -> usize
         ensures { result ≡ count_by has_members self.now.parts }
