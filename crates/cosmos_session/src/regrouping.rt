@@ -15,6 +15,9 @@ use std::sync::ledger::{Blank, Ledger};
 use ternary::{Steps, Tern};
 use unit_step::{EditRefused, Machine};
 
+// How many parts a machine may always have that groups left which are gone.
+const MOST_LEFT: usize = 1_000;
+
 /// How the graph is before what stands at a place is changed; past the last place nothing stands.
 pub(crate) fn change_at(graph: &Graph, place: usize) -> Change
     ensures { result ≡ before_place graph.now place }
@@ -51,7 +54,9 @@ pub(crate) fn change_of_level(graph: &Graph, node: usize) -> Change
 }
 
 /// The state, or the machine, after an edit of the graph, with X for each new node, in room that is
-/// there. Where the machine's edit lacks memory, it is the state that is handed back.
+/// there. Where the machine's edit lacks memory, it is the state that is handed back; so it is where more than
+/// half of the machine's parts, and 1,000 of them, were left by groups that are gone, so that a script of very many
+/// edits holds no more than its circuit asks for.
 pub(crate) fn regrouped(held: Held, graph: &Graph, change: &Change) -> Held
     requires covers { IfSome (machine_held held) (Covers (undo graph.now change.now)) }
     requires wired { IsWired (undo graph.now change.now) }
@@ -66,11 +71,23 @@ pub(crate) fn regrouped(held: Held, graph: &Graph, change: &Change) -> Held
         }
         Held::Built(machine) => {
             match edit_uncounted::<Brand>(machine, graph, change, Blank::new(1)) {
-                Ok(machine) => Held::Built(machine),
+                Ok(machine) => {
+                    if is_sparse(&machine) {
+                        Held::Still(machine.into_state())
+                    } else {
+                        Held::Built(machine)
+                    }
+                }
                 Err(refused) => Held::Still(refused.state),
             }
         }
     }
+}
+
+// Whether most of a machine's parts were left by groups that are gone.
+fn is_sparse(machine: &Machine) -> bool {
+    let left = machine.parts().saturating_sub(machine.groups());
+    left > machine.groups() && left > MOST_LEFT
 }
 
 // The machine after an edit, without counting the looks at nodes and switches.

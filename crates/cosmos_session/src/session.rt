@@ -138,7 +138,8 @@ impl Session {
     ///
     /// The machine then stays. An edit makes the parts of the groups that it touches stale, and no others;
     /// these get their codes at the next build. Only an edit can end with no machine where there was one: it
-    /// lacked memory for that, and is accepted, and the next build makes another machine.
+    /// lacked memory for that, or most of the machine's parts were left by groups that earlier edits dissolved; it
+    /// is accepted, and the next build makes another machine, without analysing again what is kept.
     ///
     /// A fault of the sink ends the command: nothing is written after the one call that failed, so its count
     /// rose by one, and at no other answer. Then a front of the command's lines was written, and the data are

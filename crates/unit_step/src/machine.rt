@@ -230,6 +230,13 @@ impl Machine {
         self.held
     }
 
+    /// How many parts it has, with those that groups left which edits dissolved: these have no member.
+    pub fn parts(&self) -> usize
+        ensures { result ≡ length self.now.parts }
+    {
+        self.parts.len()
+    }
+
     /// How many distinct texts its groups have; 0 where it wasn't built for groups.
     pub fn texts(&self) -> usize
         ensures { result ≡ self.now.texts }
