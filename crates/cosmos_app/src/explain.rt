@@ -1,6 +1,6 @@
 //! What `why` writes: the reasons of a node at the end of a script.
 
-ghost use Rattle.std.specs.Prelude.{◌≡◌, ◌≢◌, ◌<◌, None, IfOk, IfErr};
+ghost use Rattle.std.specs.Prelude.{◌≡◌, ◌≢◌, ◌<◌, None, IfOk, IfErr, IfSome};
 ghost use Rattle.path_meaning.specs.Graphs.{nodes};
 ghost use Rattle.path_meaning.specs.Spread.{rail_of};
 ghost use Rattle.line_words.specs.Files as file;
@@ -141,16 +141,26 @@ fn write_reasons<S: Sink>(
     }
 }
 
-// The two lines that explain a node: first why it may be 1, then why it may be 0.
+// The two lines that explain a node, by the groups that the session's machine has; where there is no machine,
+// they are found.
 fn reasons_text(alloc: Global, session: &Session, node: usize) -> Result<Vec<u8>, NoMemory>
     requires { node < nodes session.now.core.circuit.graph }
     ensures { IfOk result (λ text. ExplainsNode session.now.core.circuit session.now.core.state node text.items) }
 {
-    let groups = groups_at(alloc, session)?;
-    let mut text = rail_line(alloc, session, &groups, node, true)?;
-    let zero = rail_line(alloc, session, &groups, node, false)?;
-    text.extend_from_slice(&zero)?;
-    Ok(text)
+    match kept_groups(session) {
+        Some(groups) => reasons_among(alloc, session, groups, node),
+        None => {
+            let groups = groups_at(alloc, session)?;
+            reasons_among(alloc, session, &groups, node)
+        }
+    }
+}
+
+// The groups of the present circuit, where the session has a machine.
+fn kept_groups(session: &Session) -> Option<&Groups>
+    ensures { IfSome result (λ groups. AreGroupsOf session.now.core.circuit.graph groups.now) }
+{
+    session.machine()?.grouping()
 }
 
 // The groups of the present circuit.
@@ -159,6 +169,23 @@ fn groups_at(alloc: Global, session: &Session) -> Result<Groups, NoMemory>
 {
     let graph = session.circuit().graph();
     Groups::of(alloc, graph)
+}
+
+// The two lines that explain a node: first why it may be 1, then why it may be 0.
+fn reasons_among(
+    alloc: Global,
+    session: &Session,
+    groups: &Groups,
+    node: usize,
+) -> Result<Vec<u8>, NoMemory>
+    requires node { node < nodes session.now.core.circuit.graph }
+    requires groups { AreGroupsOf session.now.core.circuit.graph groups.now }
+    ensures { IfOk result (λ text. ExplainsNode session.now.core.circuit session.now.core.state node text.items) }
+{
+    let mut text = rail_line(alloc, session, groups, node, true)?;
+    let zero = rail_line(alloc, session, groups, node, false)?;
+    text.extend_from_slice(&zero)?;
+    Ok(text)
 }
 
 // The line that explains a rail of a node.
