@@ -1,111 +1,168 @@
--- Tables of the nodes of ports: what is put, and what the last one of a name leaves.
-use Rattle.std.proofs.Common.{◌≡◌, ℕ, ◌+◌, ◌<◌, ◌≤◌, Bool, true, false, List, [], ◌∷◌, length, get_or, drop, length-drop, bytes_eq, Option, Some, None, option_map, Vec, if◌then◌else◌, refl, sym, ◌∙◌, ap, arith}
-use Rattle.std.specs.Map.{lookup}
-use Rattle.std.specs.declared.alloc.Global.{Global}
-use Rattle.std.proofs.lemmas.List.{at_drop_more}
-use Rattle.std.proofs.lemmas.Slice.Eq.{bytes_eq-Decides}
-use Rattle.indexmap.specs.IndexMap.{insert_entry}
-use Rattle.spice_cards.specs.Decks.{DeckCards}
+-- The scope of the calls that are open: that of the outer ones with one more, and the node of a name in it.
+use Rattle.std.proofs.Common.{◌≡◌, ℕ, ◌+◌, ◌-◌, ◌≤◌, length, get_or, take, take-append-drop, Result, Ok, Err, IfOk, arith, Bool, true, false, List, [], ◌∷◌, ◌++◌, Option, Some, None, option_map, append_assoc, if◌then◌else◌, refl, sym, ◌∙◌, ap, bytes_eq, ◌==◌, ◌||◌, append-nil, map}
+use Rattle.std.specs.List.{list_any, zip}
+use Rattle.std.proofs.lemmas.List.{at_drop_more, drop_all}
+use Rattle.spice_cards.specs.declared.fault.DeckFault.{DeckFault}
+use Rattle.spice_cards.specs.Decks.{DeckCards, PartCard}
+use Rattle.spice_cards.specs.Reading.{word_at}
 use Rattle.spice_cards.specs.Tables.{named}
+use Rattle.spice_read.specs.declared.open_call.OpenCall.{OpenCall}
 use Rattle.spice_read.specs.Expansions.{last_named}
-use Rattle.spice_read.specs.Frames.{entries_of}
-use Rattle.spice_read.specs.Scopes.{Scope, node_in, port_nodes, with_each, with_last}
+use Rattle.spice_read.specs.Frames.{FrameData, inside, inside_call, name_below, scope_from, scope_of}
+use Rattle.spice_read.specs.Making.{MadeData, after}
+use Rattle.spice_read.specs.Scopes.{Scope, below, called, dot, fixed_node, is_fixed, node_by, node_in, nodes_of, outside, port_nodes, with_each}
+use Rattle.spice_read.specs.Steps.{expand}
+use Rattle.spice_read.proofs.PortsLemmas.{last_counts}
 
--- what is put into a table of names
-pub entries_of-insert : (table : List (Vec ℕ Global × Vec ℕ Global)) (name node : Vec ℕ Global) →
-    entries_of (insert_entry (λ one two. bytes_eq one.items two.items) table name node) ≡ with_last (entries_of table) name.items node.items
-entries_of-insert [] name node = refl
-entries_of-insert (entry ∷ table) name node = by (bytes_eq name.items entry.0.items) (entries_of-insert table name node)
+-- inside one more call
+pub scope_from-more : (deck : DeckCards) (calls : List OpenCall) (scope : Scope) (call : OpenCall) →
+    scope_from deck scope (calls ++ call ∷ []) ≡ inside_call deck (scope_from deck scope calls) call
+scope_from-more deck [] scope call = refl
+scope_from-more deck (outer ∷ calls) scope call = scope_from-more deck calls (inside_call deck scope outer) call
+
+-- the scope with one more call, by the words of its card, and by the line and the ports of its subcircuit
+pub opened-scope : (deck : DeckCards) (calls next : List OpenCall) (call : OpenCall) (frame : FrameData) (words : List (List ℕ)) (line : ℕ)
+    (ports : List (List ℕ)) → record { deck = deck; calls = calls } ≡ frame → next ≡ calls ++ call ∷ [] → call.name.now ≡ word_at words 0 →
+    call.line ≡ line → call.ports ≡ record { ports = ports; words = nodes_of words } →
+    scope_of (record { deck = deck; calls = next }) ≡ called frame.deck (scope_of frame) words line ports
+opened-scope deck calls next call frame words line ports is_frame are has_name has_line has_ports =
+    let scope = scope_from deck outside calls in
+    let same : inside_call deck scope call ≡ called deck scope words line ports =
+    λ j. inside deck scope (has_name j) (has_line j) (has_ports j).ports (has_ports j).words in
+    ap (scope_from deck outside) are
+    ∙ scope_from-more deck calls outside call
+    ∙ same
+    ∙ ap (λ (f : FrameData). called f.deck (scope_of f) words line ports) is_frame
+
+-- two frames are the same where their decks and their calls are
+same_frame : (one other : FrameData) → one.deck ≡ other.deck → one.calls ≡ other.calls → one ≡ other
+same_frame one other decks calls = λ j. record { deck = decks j; calls = calls j }
+
+-- a frame in which a call was opened, and then all calls were closed but those of before
+pub closed-frame : (frame opened inner closed : FrameData) (depth : ℕ) → depth ≡ length frame.calls → opened.deck ≡ frame.deck →
+    take (length frame.calls) opened.calls ≡ frame.calls → inner ≡ opened → closed ≡ record inner { calls = take depth inner.calls } →
+    closed ≡ frame
+closed-frame frame opened inner closed depth counted decks outer stays closes =
+    closes
+    ∙ ap (λ (f : FrameData). record f { calls = take depth f.calls }) stays
+    ∙ same_frame (record opened { calls = take depth opened.calls }) frame decks (ap (λ (d : ℕ). take d opened.calls) counted ∙ outer)
+
+-- what is made in one of two frames that are the same
+pub same-after : (made : MadeData) (room : ℕ) (one other : FrameData) (parts : List PartCard) (whole : Result MadeData DeckFault) → one ≡ other →
+    after made (expand room other.deck (scope_of other) parts) ≡ whole → after made (expand room one.deck (scope_of one) parts) ≡ whole
+same-after made room one other parts whole same is =
+    ap (λ (f : FrameData). after made (expand room f.deck (scope_of f) parts)) same ∙ is
+
+-- ---- nodes
+
+-- a port stands for what the word for it stands for outside the call
+of_words : (f : List ℕ → List ℕ) (ports words : List (List ℕ)) (name : List ℕ) (found : Option (List ℕ)) →
+    last_named (option_map f found) (zip ports (map f words)) name ≡ option_map f (last_named found (zip ports words) name)
+of_words f [] words name found = refl
+of_words f (port ∷ ports) [] name found = refl
+of_words f (port ∷ ports) (word ∷ words) name found = by (bytes_eq name port) (of_words f ports words name)
   where
     by : (same : Bool) →
-        entries_of (insert_entry (λ one two. bytes_eq one.items two.items) table name node) ≡ with_last (entries_of table) name.items node.items →
-        entries_of (if same then (entry.0, node) ∷ table else entry ∷ insert_entry (λ one two. bytes_eq one.items two.items) table name node)
-        ≡ (if same then (entry.0.items, node.items) ∷ entries_of table
-        else (entry.0.items, entry.1.items) ∷ with_last (entries_of table) name.items node.items)
-    by true later = refl
-    by false later = ap (λ (rest : List (List ℕ × List ℕ)). (entry.0.items, entry.1.items) ∷ rest) later
+        ((found : Option (List ℕ)) → last_named (option_map f found) (zip ports (map f words)) name ≡ option_map f (last_named found (zip ports words) name)) →
+        last_named (if same then Some (f word) else option_map f found) (zip ports (map f words)) name
+        ≡ option_map f (last_named (if same then Some word else found) (zip ports words) name)
+    by true later = later (Some word)
+    by false later = later found
 
--- a look-up in it
-pub lookup-entries_of : (table : List (Vec ℕ Global × Vec ℕ Global)) (name : List ℕ) →
-    option_map (λ (bytes : Vec ℕ Global). bytes.items) (lookup (λ key. bytes_eq name key.items) table) ≡ named (entries_of table) name
-lookup-entries_of [] name = refl
-lookup-entries_of (entry ∷ table) name = by (bytes_eq name entry.0.items) (lookup-entries_of table name)
+named-port : (deck : DeckCards) (scope : Scope) (ports words : List (List ℕ)) (name : List ℕ) →
+    named (with_each [] (port_nodes deck scope ports words)) name ≡ option_map (node_in deck scope) (last_named None (zip ports words) name)
+named-port deck scope ports words name =
+    last_counts (port_nodes deck scope ports words) name ∙ of_words (node_in deck scope) ports words name None
+
+-- the node of a name, by what is found among the ports of the innermost call
+node_found : (deck : DeckCards) (outer : List OpenCall) (call : OpenCall) (name : List ℕ) (found : Option (List ℕ)) →
+    found ≡ last_named None (zip call.ports.ports call.ports.words) name →
+    node_in deck (scope_from deck outside (outer ++ call ∷ [])) name
+    ≡ node_by deck (below (scope_from deck outside outer).path call.name.now) name (option_map (node_in deck (scope_from deck outside outer)) found)
+node_found deck outer call name found is =
+    let scope = scope_from deck outside outer in
+    ap (λ (s : Scope). node_in deck s name) (scope_from-more deck outer outside call)
+    ∙ ap (node_by deck (below scope.path call.name.now) name) (named-port deck scope call.ports.ports call.ports.words name)
+    ∙ sym (ap (λ (f : Option (List ℕ)). node_by deck (below scope.path call.name.now) name (option_map (node_in deck scope) f)) is)
+
+-- the innermost call stands behind the others
+innermost : (calls : List OpenCall) (call : OpenCall) → 1 ≤ length calls → call ≡ get_or calls (length calls - 1) call →
+    calls ≡ take (length calls - 1) calls ++ call ∷ []
+innermost calls call some is =
+    let place = length calls - 1 in
+    sym (take-append-drop place calls)
+    ∙ ap (λ (cs : List OpenCall). take place calls ++ cs)
+    (at_drop_more (λ (cs : List OpenCall). cs) calls place call (omega arith)
+    ∙ (λ j. sym is j ∷ drop_all (place + 1) calls (omega arith) j))
+
+-- that of a port is the node of the word for it
+pub port-node : (deck : DeckCards) (calls : List OpenCall) (call : OpenCall) (name word node : List ℕ) → 1 ≤ length calls →
+    call ≡ get_or calls (length calls - 1) call → Some word ≡ last_named None (zip call.ports.ports call.ports.words) name →
+    node ≡ node_in deck (scope_from deck outside (take (length calls - 1) calls)) word →
+    node ≡ node_in deck (scope_from deck outside calls) name
+port-node deck calls call name word node some is looked is_node =
+    is_node
+    ∙ sym (node_found deck (take (length calls - 1) calls) call name (Some word) looked)
+    ∙ sym (ap (λ (cs : List OpenCall). node_in deck (scope_from deck outside cs) name) (innermost calls call some is))
+
+-- what has a name below a path and the names of calls
+below-more : (deck : DeckCards) (calls : List OpenCall) (scope : Scope) (name : List ℕ) →
+    below (scope_from deck scope calls).path name ≡ below scope.path (name_below calls name)
+below-more deck [] scope name = refl
+below-more deck (call ∷ calls) scope name =
+    below-more deck calls (inside_call deck scope call) name ∙ by scope.path
   where
-    by : (same : Bool) → option_map (λ (bytes : Vec ℕ Global). bytes.items) (lookup (λ key. bytes_eq name key.items) table) ≡ named (entries_of table) name →
-        option_map (λ (bytes : Vec ℕ Global). bytes.items) (if same then Some entry.1 else lookup (λ key. bytes_eq name key.items) table)
-        ≡ (if same then Some entry.1.items else named (entries_of table) name)
-    by true later = refl
-    by false later = later
+    by : (path : Option (List ℕ)) →
+        below (Some (below path call.name.now)) (name_below calls name) ≡ below path (call.name.now ++ dot ∷ name_below calls name)
+    by None = refl
+    by (Some path) = append_assoc path (dot ∷ call.name.now) (dot ∷ name_below calls name)
 
--- a name stands for what was put last
-named-with_last : (entries : List (List ℕ × List ℕ)) (port node name : List ℕ) →
-    named (with_last entries port node) name ≡ (if bytes_eq name port then Some node else named entries name)
-named-with_last [] port node name = refl
-named-with_last (entry ∷ entries) port node name =
-    by (bytes_eq port entry.0) refl (bytes_eq name entry.0) refl (bytes_eq name port) refl (named-with_last entries port node name)
-  where
-    same : (one two three : List ℕ) → bytes_eq one two ≡ true → bytes_eq three one ≡ bytes_eq three two
-    same one two three is = ap (bytes_eq three) ((bytes_eq-Decides one two).0 is)
+-- the node of a name that is no port
+pub own-node : (deck : DeckCards) (calls : List OpenCall) (call : OpenCall) (name node : List ℕ) → 1 ≤ length calls →
+    call ≡ get_or calls (length calls - 1) call → None ≡ last_named None (zip call.ports.ports call.ports.words) name →
+    node ≡ (if is_fixed deck name then fixed_node name else name_below calls name) →
+    node ≡ node_in deck (scope_from deck outside calls) name
+own-node deck calls call name node some is looked is_node =
+    let outer = take (length calls - 1) calls in
+    let are = innermost calls call some is in
+    is_node
+    ∙ sym (ap (λ (own : List ℕ). if is_fixed deck name then fixed_node name else own) (below-more deck calls outside name))
+    ∙ ap (λ (cs : List OpenCall). if is_fixed deck name then fixed_node name else below (scope_from deck outside cs).path name) are
+    ∙ ap (λ (s : Scope). if is_fixed deck name then fixed_node name else below s.path name) (scope_from-more deck outer outside call)
+    ∙ sym (node_found deck outer call name None looked)
+    ∙ sym (ap (λ (cs : List OpenCall). node_in deck (scope_from deck outside cs) name) are)
 
-    by : (put : Bool) → bytes_eq port entry.0 ≡ put → (here : Bool) → bytes_eq name entry.0 ≡ here → (asked : Bool) → bytes_eq name port ≡ asked →
-        named (with_last entries port node) name ≡ (if asked then Some node else named entries name) →
-        named (if put then (entry.0, node) ∷ entries else entry ∷ with_last entries port node) name
-        ≡ (if asked then Some node else (if here then Some entry.1 else named entries name))
-    by true is_put here is_here asked is_asked later =
-        ap (λ (h : Bool). if h then Some node else named entries name) (sym (same port entry.0 name is_put) ∙ is_asked)
-        ∙ others asked here (sym is_asked ∙ same port entry.0 name is_put ∙ is_here)
-      where
-        others : (asked here : Bool) → asked ≡ here →
-            (if asked then Some node else named entries name) ≡ (if asked then Some node else (if here then Some entry.1 else named entries name))
-        others true here same = refl
-        others false false same = refl
-        others false true same = absurd (cc)
-    by false is_put true is_here true is_asked later =
-        absurd (clash (sym is_put ∙ (ap (λ (n : List ℕ). bytes_eq n entry.0) (sym ((bytes_eq-Decides name port).0 is_asked)) ∙ is_here)))
-      where
-        clash : false ≡ true → ⊥
-        clash e = absurd (cc)
-    by false is_put true is_here false is_asked later = ap (λ (h : Bool). if h then Some entry.1 else named (with_last entries port node) name) is_here
-    by false is_put false is_here asked is_asked later =
-        ap (λ (h : Bool). if h then Some entry.1 else named (with_last entries port node) name) is_here ∙ later
+-- what holds of each value that a fact holds of
+pub ok-mapped : {T E : Type 0} {P Q : T → Type 0} (given : Result T E) → ((value : T) → P value → Q value) → IfOk given P → IfOk given Q
+ok-mapped (Ok value) each holds = each value holds
+ok-mapped (Err told) each holds = tt
 
--- of each name the last one counts
-after_each : (ports entries : List (List ℕ × List ℕ)) (name : List ℕ) → named (with_each entries ports) name ≡ last_named (named entries name) ports name
-after_each [] entries name = refl
-after_each (port ∷ ports) entries name =
-    after_each ports (with_last entries port.0 port.1) name
-    ∙ ap (λ (found : Option (List ℕ)). last_named found ports name) (named-with_last entries port.0 port.1 name)
+-- ---- the lines of the subcircuits
 
-pub last_counts : (ports : List (List ℕ × List ℕ)) (name : List ℕ) → named (with_each [] ports) name ≡ last_named None ports name
-last_counts ports name = after_each ports [] name
+expanding-from : (deck : DeckCards) (calls : List OpenCall) (scope : Scope) →
+    (scope_from deck scope calls).expanding ≡ scope.expanding ++ map (λ (call : OpenCall). call.line) calls
+expanding-from deck [] scope = sym (append-nil scope.expanding)
+expanding-from deck (call ∷ calls) scope =
+    expanding-from deck calls (inside_call deck scope call) ∙ append_assoc scope.expanding (call.line ∷ []) (map (λ (call : OpenCall). call.line) calls)
 
--- the table with one more port, where those that are left are put
-pub one_more : (deck : DeckCards) (scope : Scope) (ports names : List (List ℕ)) (place : ℕ) (port name node : List ℕ) (old new whole : List (List ℕ × List ℕ)) →
-    length ports ≡ length names → place < length ports → port ≡ get_or ports place port → name ≡ get_or names place name →
-    node ≡ node_in deck scope name → new ≡ with_last old port node →
-    with_each old (port_nodes deck scope (drop place ports) (drop place names)) ≡ whole →
-    with_each new (port_nodes deck scope (drop (place + 1) ports) (drop (place + 1) names)) ≡ whole
-one_more deck scope ports names place port name node old new whole counted low is_port is_name stands put seen =
-    let later = port_nodes deck scope (drop (place + 1) ports) (drop (place + 1) names) in
-    let low_name : place < length names = omega arith in
-    let next_port : drop place ports ≡ port ∷ drop (place + 1) ports =
-    at_drop_more (λ (ps : List (List ℕ)). ps) ports place port low ∙ ap (λ (p : List ℕ). p ∷ drop (place + 1) ports) (sym is_port) in
-    let next_name : drop place names ≡ name ∷ drop (place + 1) names =
-    at_drop_more (λ (ns : List (List ℕ)). ns) names place name low_name ∙ ap (λ (n : List ℕ). n ∷ drop (place + 1) names) (sym is_name) in
-    ap (λ (table : List (List ℕ × List ℕ)). with_each table later) (put ∙ ap (with_last old port) stands)
-    ∙ sym (ap (λ (ns : List (List ℕ)). with_each old (port_nodes deck scope (port ∷ drop (place + 1) ports) ns)) next_name)
-    ∙ sym (ap (λ (ps : List (List ℕ)). with_each old (port_nodes deck scope ps (drop place names))) next_port)
+any-map : (line : ℕ) (calls : List OpenCall) →
+    list_any (λ one. one == line) (map (λ (call : OpenCall). call.line) calls) ≡ list_any (λ (call : OpenCall). call.line == line) calls
+any-map line [] = refl
+any-map line (call ∷ calls) = ap (λ (later : Bool). (call.line == line) || later) (any-map line calls)
+
+-- a subcircuit is being expanded, where one of the calls is of it
+pub any-expanding : (deck : DeckCards) (calls : List OpenCall) (line : ℕ) →
+    list_any (λ one. one == line) (scope_from deck outside calls).expanding ≡ list_any (λ (call : OpenCall). call.line == line) calls
+any-expanding deck calls line = ap (list_any (λ one. one == line)) (expanding-from deck calls outside) ∙ any-map line calls
+
+-- ---- the bytes of names
+
+-- the name with what stands before it, where one more of the calls is written
+pub name-more : (calls left : List OpenCall) (call : OpenCall) (name whole written more : List ℕ) → left ≡ call ∷ calls →
+    more ≡ (written ++ call.name.now) ++ dot ∷ [] → written ++ name_below left name ≡ whole → more ++ name_below calls name ≡ whole
+name-more calls left call name whole written more are is seen =
+    ap (λ (bytes : List ℕ). bytes ++ name_below calls name) is
+    ∙ append_assoc (written ++ call.name.now) (dot ∷ []) (name_below calls name)
+    ∙ append_assoc written call.name.now (dot ∷ name_below calls name)
+    ∙ sym (ap (λ (cs : List OpenCall). written ++ name_below cs name) are)
     ∙ seen
-
--- no port is left
-pub none_left : (deck : DeckCards) (scope : Scope) (ports names : List (List ℕ)) (place : ℕ) (table whole : List (List ℕ × List ℕ)) → length ports ≤ place →
-    with_each table (port_nodes deck scope (drop place ports) (drop place names)) ≡ whole → table ≡ whole
-none_left deck scope ports names place table whole past seen =
-    sym (ap (λ (ps : List (List ℕ)). with_each table (port_nodes deck scope ps (drop place names))) (drop_past ports place past)) ∙ seen
-  where
-    drop_past : (xs : List (List ℕ)) (n : ℕ) → length xs ≤ n → drop n xs ≡ []
-    drop_past xs n past = by (drop n xs) (omega (arith, length-drop n xs))
-      where
-        by : (rest : List (List ℕ)) → length rest ≡ 0 → rest ≡ []
-        by [] none = refl
-        by (x ∷ rest) none = absurd (omega arith)

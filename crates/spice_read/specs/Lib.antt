@@ -1,5 +1,6 @@
 pub mod Expansions
 pub mod Frames
 pub mod Making
+pub mod Ports
 pub mod Scopes
 pub mod Steps

@@ -2,6 +2,7 @@
 
 ghost use Rattle.std.specs.Prelude.{◌≡◌, length, IfOk, IfErr, OnOk, Ok, Err, MatchResult};
 ghost use Rattle.spice_cards.specs.Stops.{IsFault};
+ghost use Rattle.spice_read.specs.Frames.{scope_of};
 ghost use Rattle.spice_read.specs.Making.{after, step_meaning};
 ghost use Rattle.spice_read.specs.Scopes as scopes;
 ghost use Rattle.spice_read.specs.Steps as spec;
@@ -9,9 +10,7 @@ ghost use Rattle.spice_read.specs.Steps as spec;
 use crate::frame::Frame;
 use crate::making::Made;
 use crate::names::{kind_of, nodes_of, strength_number, subcircuit_named};
-use spice_cards::{
-    Deck, DeckFault, DeckWhat, PartSort, Parts, Strength, Subcircuit, Word, word_at,
-};
+use spice_cards::{DeckFault, DeckWhat, PartSort, Parts, Strength, Subcircuit, Word, word_at};
 
 /// The most calls that are open inside one another.
 pub const MOST_OPEN: usize = 32;
@@ -27,26 +26,28 @@ pub const MOST_CALLS: u64 = 1_000_000;
 /// the circuit refuses.
 pub(crate) fn expand<'d, 'a>(
     made: &mut Made,
-    deck: &'d Deck<'a>,
     room: usize,
-    frame: &Frame,
+    frame: &mut Frame<'d, 'a>,
     parts: Parts<'d, 'a>,
 ) -> Result<(), DeckFault>
     ensures ok { OnOk result
-        (after made.old (spec.expand room deck.now frame.now parts.entry) ≡ Ok made.new) }
+        (after made.old (spec.expand room frame.old.deck (scope_of frame.old) parts.entry) ≡ Ok made.new) }
     ensures refused { IfErr result
-        (IsFault (after made.old (spec.expand room deck.now frame.now parts.entry))) }
+        (IsFault (after made.old (spec.expand room frame.old.deck (scope_of frame.old) parts.entry))) }
+
+    // The calls that it opens are closed again.
+    ensures closed { OnOk result (frame.new ≡ frame.old) }
 {
     for part in parts {
         match part.sort {
             PartSort::Transistor(strength) => {
-                match place(made, deck, frame, part.line, strength, part.words) {
+                match place(made, frame, part.line, strength, part.words) {
                     Ok(()) => {}
                     Err(fault) => return Err(fault),
                 }
             }
             PartSort::Call => {
-                let subcircuit = match entry(deck, frame, part.words) {
+                let subcircuit = match entry(frame, part.words) {
                     Ok(subcircuit) => subcircuit,
                     Err(what) => {
                         return Err(DeckFault::At {
@@ -65,19 +66,16 @@ pub(crate) fn expand<'d, 'a>(
                     Ok(()) => {}
                     Err(fault) => return Err(fault),
                 }
-                let inner = match frame.called(
-                    deck,
-                    part.words,
-                    subcircuit.line,
-                    subcircuit.ports,
-                ) {
-                    Ok(inner) => inner,
+                let depth = frame.depth();
+                match frame.open(part.words, subcircuit.line, subcircuit.ports) {
+                    Ok(()) => {}
                     Err(_) => return Err(DeckFault::NoMemory),
-                };
-                match expand(made, deck, room - 1, &inner, subcircuit.parts) {
+                }
+                match expand(made, room - 1, frame, subcircuit.parts) {
                     Ok(()) => {}
                     Err(fault) => return Err(fault),
                 }
+                frame.close(depth);
             }
             PartSort::Opening => {}
         }
@@ -88,26 +86,25 @@ pub(crate) fn expand<'d, 'a>(
 // Places a transistor, by its line, the strength that its card sets, and its words.
 fn place(
     made: &mut Made,
-    deck: &Deck<'_>,
-    frame: &Frame,
+    frame: &Frame<'_, '_>,
     line: u64,
     set: Strength,
     words: &[Word<'_>],
 ) -> Result<(), DeckFault>
     ensures ok { OnOk result
-        (step_meaning made.old (spec.transistor_step deck.now frame.now line set words.now) ≡ Ok made.new) }
+        (step_meaning made.old (spec.transistor_step frame.now.deck (scope_of frame.now) line set words.now) ≡ Ok made.new) }
     ensures refused { IfErr result
-        (IsFault (step_meaning made.old (spec.transistor_step deck.now frame.now line set words.now))) }
+        (IsFault (step_meaning made.old (spec.transistor_step frame.now.deck (scope_of frame.now) line set words.now))) }
 {
-    let Some(kind) = kind_of(deck, word_at(words, 5)) else {
+    let Some(kind) = kind_of(frame.deck(), word_at(words, 5)) else {
         return Err(DeckFault::At {
             line,
             what: DeckWhat::BadModel,
         });
     };
-    let gate = frame.node_of(deck, word_at(words, 2))?;
-    let source = frame.node_of(deck, word_at(words, 3))?;
-    let drain = frame.node_of(deck, word_at(words, 1))?;
+    let gate = frame.node_of(word_at(words, 2))?;
+    let source = frame.node_of(word_at(words, 3))?;
+    let drain = frame.node_of(word_at(words, 1))?;
     made.place(
         line,
         kind,
@@ -119,18 +116,14 @@ fn place(
 }
 
 // The subcircuit that a call opens, by the words of its card, or why it opens none.
-fn entry<'d, 'a>(
-    deck: &'d Deck<'a>,
-    frame: &Frame,
-    words: &[Word<'_>],
-) -> Result<Subcircuit<'d, 'a>, DeckWhat>
+fn entry<'d, 'a>(frame: &Frame<'d, 'a>, words: &[Word<'_>]) -> Result<Subcircuit<'d, 'a>, DeckWhat>
     ensures value { MatchResult result
-        (λ s. spec.entry_of deck.now frame.now words.now
+        (λ s. spec.entry_of frame.now.deck (scope_of frame.now) words.now
         ≡ Ok (record { line = s.line; ports = s.ports.now; parts = s.parts }))
-        (λ what. spec.entry_of deck.now frame.now words.now ≡ Err what) }
+        (λ what. spec.entry_of frame.now.deck (scope_of frame.now) words.now ≡ Err what) }
     ensures counted { IfOk result (λ s. length s.ports.now ≡ length (scopes.nodes_of words.now)) }
 {
-    let Some(subcircuit) = deck.find(subcircuit_named(words)) else {
+    let Some(subcircuit) = frame.deck().find(subcircuit_named(words)) else {
         return Err(DeckWhat::NoSubckt);
     };
     if nodes_of(words).len() != subcircuit.ports.len() {

@@ -1,165 +1,163 @@
-//! Where parts are expanded: outside every call, or in one.
+//! Where parts are expanded: outside every call, or in calls inside one another.
 
-ghost use Rattle.std.specs.Prelude.{◌≡◌, ◌==◌, length, option_map, [], IfOk, OnOk};
+ghost use Rattle.std.specs.Prelude.{◌≡◌, ◌==◌, if◌then◌else◌, [], length, take, IfOk, OnOk};
 ghost use Rattle.std.specs.List.{list_any};
-ghost use Rattle.spice_cards.specs.Tables.{named};
-ghost use Rattle.spice_read.specs.Frames.{entries_of};
+ghost use Rattle.spice_read.specs.Frames.{name_below, scope_from, scope_of};
 ghost use Rattle.spice_read.specs.Scopes as spec;
 
-use crate::names::{below, fixed_node, is_fixed, nodes_of};
-use indexmap::IndexMap;
+use crate::names::{fixed_node, is_fixed, nodes_of};
+use crate::open_call::OpenCall;
+use crate::ports::Ports;
 use spice_cards::{Deck, Word, word_at};
 use std::alloc::Global;
 use std::marker::Model;
 use table_keys::TableKeys;
 use ternary::NoMemory;
 
-/// Where parts are expanded: outside every call, or in a call, whose ports stand for nodes. Contracts see it
-/// as a `Scope`.
+/// Where parts are expanded: outside every call of a deck, or in calls, whose ports stand for nodes.
+///
+/// No node is written down for a call, nor its path: the node of a name is found where it is asked for,
+/// by the words on the cards of the calls from the innermost on.
 #[derive(Drop)]
-pub(crate) struct Frame {
-    // The path of the call, outside every call none.
-    path: Option<Vec<u8>>,
-    // The lines of the subcircuits that are being expanded.
-    expanding: Vec<u64>,
-    // The nodes that the ports stand for.
-    ports: IndexMap<Vec<u8>, Vec<u8>, TableKeys>,
+pub(crate) struct Frame<'d, 'a> {
+    deck: &'d Deck<'a>,
+    keys: TableKeys,
+    // The outermost first.
+    calls: Vec<OpenCall<'d, 'a>>,
 }
 
-impl Model for Frame {
-    ghost use Rattle.spice_read.specs.Frames.{scope_of};
-    ghost use Rattle.spice_read.specs.Scopes.{Scope};
+impl<'d, 'a> Model for Frame<'d, 'a> {
+    ghost use Rattle.spice_read.specs.Frames.{FrameData};
 
-    ghost Value = { Scope };
+    ghost Value = { FrameData };
 
-    ghost view = { λ frame. scope_of frame.path frame.expanding.items frame.ports.entries };
+    ghost view = { λ frame. record { deck = frame.deck.now; calls = frame.calls.items } };
 }
 
-impl Frame {
-    /// Outside every call. Names are hashed from these keys.
-    pub(crate) fn outside(alloc: Global, keys: TableKeys) -> Frame
-        ensures { result ≡ spec.outside }
+impl<'d, 'a> Frame<'d, 'a> {
+    /// Outside every call of a deck. Names are hashed from these keys.
+    pub(crate) fn outside(alloc: Global, keys: TableKeys, deck: &'d Deck<'a>) -> Frame<'d, 'a>
+        ensures { result ≡ record { deck = deck.now; calls = [] } }
     {
         Frame {
-            path: None,
-            expanding: Vec::new(alloc),
-            ports: IndexMap::with_hasher(alloc, keys),
+            deck,
+            keys,
+            calls: Vec::new(alloc),
         }
     }
 
-    /// Inside a call, by the words of its card, and by the line and the ports of its subcircuit.
-    pub(crate) fn called(
-        &self,
-        deck: &Deck<'_>,
-        words: &[Word<'_>],
+    /// The deck.
+    pub(crate) fn deck(&self) -> &'d Deck<'a>
+        ensures { result.now ≡ self.now.deck }
+    {
+        self.deck
+    }
+
+    /// How many calls are open.
+    pub(crate) fn depth(&self) -> usize
+        ensures { result ≡ length self.now.calls }
+    {
+        self.calls.len()
+    }
+
+    /// Opens a call, by the words of its card, and by the line and the ports of its subcircuit.
+    pub(crate) fn open(
+        &mut self,
+        words: &'d [Word<'a>],
         line: u64,
-        ports: &[Word<'_>],
-    ) -> Result<Frame, NoMemory>
+        ports: &'d [Word<'a>],
+    ) -> Result<(), NoMemory>
         requires { length ports.now ≡ length (spec.nodes_of words.now) }
-        ensures { IfOk result (λ inner. inner ≡ spec.called deck.now self.now words.now line ports.now) }
+        ensures scope { OnOk result
+            (scope_of self.new ≡ spec.called self.old.deck (scope_of self.old) words.now line ports.now) }
+        ensures outer { OnOk result (take (length self.old.calls) self.new.calls ≡ self.old.calls) }
+        ensures deck { self.new.deck ≡ self.old.deck }
     {
-        let alloc = *self.ports.allocator();
-        let path = below(alloc, self.path(), word_at(words, 0))?;
-        let mut expanding = Vec::from_slice(alloc, &self.expanding)?;
-        expanding.reserve(1)?;
-        expanding.push_reserved(line);
-        let ports = self.port_nodes(deck, ports, nodes_of(words))?;
-        Ok(Frame {
-            path: Some(path),
-            expanding,
+        let ports = Ports::new(*self.calls.allocator(), self.keys, ports, nodes_of(words))?;
+        self.calls.reserve(1)?;
+        self.calls.push_reserved(OpenCall {
+            name: word_at(words, 0),
+            line,
             ports,
-        })
+        });
+        Ok(())
     }
 
-    // The table of the nodes that ports stand for, by the names at the same places of a call.
-    fn port_nodes(
-        &self,
-        deck: &Deck<'_>,
-        ports: &[Word<'_>],
-        names: &[Word<'_>],
-    ) -> Result<IndexMap<Vec<u8>, Vec<u8>, TableKeys>, NoMemory>
-        requires { length ports.now ≡ length names.now }
-        ensures { IfOk result (λ table. entries_of table.entries
-            ≡ spec.with_each [] (spec.port_nodes deck.now self.now ports.now names.now)) }
+    /// Closes all calls but so many.
+    pub(crate) fn close(&mut self, depth: usize)
+        ensures { self.new ≡ record self.old { calls = take depth self.old.calls } }
     {
-        let mut table = IndexMap::with_hasher(*self.ports.allocator(), *self.ports.hasher());
-        for place in 0..ports.len() {
-            let node = self.node_of(deck, names[place].bytes())?;
-            put(&mut table, ports[place].bytes(), node)?;
-        }
-        Ok(table)
+        self.calls.truncate(depth);
     }
 
     /// The node that a name stands for.
-    pub(crate) fn node_of(&self, deck: &Deck<'_>, name: &[u8]) -> Result<Vec<u8>, NoMemory>
-        ensures { IfOk result (λ node. node.items ≡ spec.node_in deck.now self.now name.now) }
+    pub(crate) fn node_of(&self, name: &[u8]) -> Result<Vec<u8>, NoMemory>
+        ensures { IfOk result (λ node. node.items ≡ spec.node_in self.now.deck (scope_of self.now) name.now) }
     {
-        let alloc = *self.ports.allocator();
-        match (self.path(), self.port(name)) {
-            (None, _) => Ok(fixed_node(name).to_vec(alloc)?),
-            (Some(_), Some(node)) => Ok(node.to_vec(alloc)?),
-            (Some(path), None) => {
-                if is_fixed(deck, name) {
-                    Ok(fixed_node(name).to_vec(alloc)?)
-                } else {
-                    below(alloc, Some(path), name)
-                }
-            }
-        }
+        node_in(*self.calls.allocator(), self.deck, &self.calls, name)
     }
 
     /// Whether the subcircuit that begins on this line is being expanded.
     pub(crate) fn is_expanding(&self, line: u64) -> bool
-        ensures { result ≡ list_any (λ one. one == line) self.now.expanding }
+        ensures { result ≡ list_any (λ one. one == line) (scope_of self.now).expanding }
     {
-        self.expanding.iter().any(|&one| one == line)
-    }
-
-    // The path of the call, where there is one.
-    fn path(&self) -> Option<&[u8]>
-        ensures { option_map (λ path. path.now) result ≡ self.now.path }
-    {
-        match &self.path {
-            Some(path) => Some(path),
-            None => None,
-        }
-    }
-
-    // The node that a port of this name stands for, where there is one.
-    fn port(&self, name: &[u8]) -> Option<&[u8]>
-        ensures { option_map (λ node. node.now) result ≡ named self.now.ports name.now }
-    {
-        match self.ports.get(name) {
-            Some(node) => Some(node),
-            None => None,
-        }
+        is_open(&self.calls, line)
     }
 }
 
-// Makes a name stand for a node, whatever it stood for.
-fn put(
-    table: &mut IndexMap<Vec<u8>, Vec<u8>, TableKeys>,
+// Whether one of these calls is of the subcircuit that begins on this line.
+fn is_open(calls: &[OpenCall<'_, '_>], line: u64) -> bool
+    ensures { result ≡ list_any (λ call. call.line == line) calls.now }
+{
+    calls.iter().any(|call| call.line == line)
+}
+
+// The node that a name stands for in these calls.
+fn node_in(
+    alloc: Global,
+    deck: &Deck<'_>,
+    calls: &[OpenCall<'_, '_>],
     name: &[u8],
-    node: Vec<u8>,
-) -> Result<(), NoMemory>
-    ensures { OnOk result
-        (entries_of table.new.entries ≡ spec.with_last (entries_of table.old.entries) name.now node.items) }
+) -> Result<Vec<u8>, NoMemory>
+    ensures { IfOk result (λ node. node.items
+        ≡ spec.node_in deck.now (scope_from deck.now spec.outside calls.now) name.now) }
 {
-    let word = name.to_vec(*table.allocator())?;
-    insert(table, word, node)
+    match calls {
+        [] => Ok(fixed_node(name).to_vec(alloc)?),
+        [outer @ .., call] => match call.ports.find(name) {
+            Some(word) => node_in(alloc, deck, outer, word),
+            None => own_node(alloc, deck, calls, name),
+        },
+    }
 }
 
-// The same, for a name of its own.
-fn insert(
-    table: &mut IndexMap<Vec<u8>, Vec<u8>, TableKeys>,
-    name: Vec<u8>,
-    node: Vec<u8>,
-) -> Result<(), NoMemory>
-    ensures { OnOk result
-        (entries_of table.new.entries ≡ spec.with_last (entries_of table.old.entries) name.items node.items) }
+// The node in these calls of a name that is no port.
+fn own_node(
+    alloc: Global,
+    deck: &Deck<'_>,
+    calls: &[OpenCall<'_, '_>],
+    name: &[u8],
+) -> Result<Vec<u8>, NoMemory>
+    ensures { IfOk result (λ node. node.items
+        ≡ (if spec.is_fixed deck.now name.now then spec.fixed_node name.now else name_below calls.now name.now)) }
 {
-    match table.insert(name, node) {
-        Ok(_) => Ok(()),
-        Err(_) => Err(NoMemory),
+    if is_fixed(deck, name) {
+        Ok(fixed_node(name).to_vec(alloc)?)
+    } else {
+        below(alloc, calls, name)
     }
+}
+
+// What has this name in these calls.
+fn below(alloc: Global, calls: &[OpenCall<'_, '_>], name: &[u8]) -> Result<Vec<u8>, NoMemory>
+    ensures { IfOk result (λ bytes. bytes.items ≡ name_below calls.now name.now) }
+{
+    let mut bytes = Vec::new(alloc);
+    for call in calls {
+        bytes.extend_from_slice(call.name)?;
+        bytes.reserve(1)?;
+        bytes.push_reserved(b'.');
+    }
+    bytes.extend_from_slice(name)?;
+    Ok(bytes)
 }

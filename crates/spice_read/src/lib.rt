@@ -16,8 +16,8 @@
 //! ```
 //!
 //! Inside a call a name that is neither a port nor fixed stands for a node of that call alone, named by the
-//! path of the call, a dot and the name: `x1.x2.n`. A name has no greatest length, but each call and each
-//! terminal takes memory by its own.
+//! path of the call, a dot and the name: `x1.x2.n`. A name has no greatest length. It is written down where
+//! a transistor has it, and nowhere before: a call keeps no more than where the words of its card stand.
 //!
 //! For the proofs of crates above: `ReaderLemmas`, that a deck means what its front means.
 #![tactic(auto)]
@@ -27,6 +27,8 @@ mod frame;
 mod laws;
 mod making;
 mod names;
+mod open_call;
+mod ports;
 mod reader;
 #[cfg(test)]
 mod tests;

@@ -1,6 +1,6 @@
 //! What the words of a card name.
 
-ghost use Rattle.std.specs.Prelude.{◌≡◌, ◌-◌, length, option_map, Option, IfOk};
+ghost use Rattle.std.specs.Prelude.{◌≡◌};
 ghost use Rattle.spice_cards.specs.Tables.{named};
 ghost use Rattle.spice_read.specs.Scopes as spec;
 ghost use Rattle.spice_read.specs.Steps as steps;
@@ -8,8 +8,6 @@ ghost use Rattle.spice_read.specs.Steps as steps;
 use netlist::usual_strength;
 use path_meaning::SwitchKind;
 use spice_cards::{Deck, Strength, Word};
-use std::alloc::Global;
-use ternary::NoMemory;
 
 /// The node of a name outside every call: `0` is Gnd, and each other name stands for itself.
 pub(crate) fn fixed_node(name: &[u8]) -> &[u8]
@@ -40,28 +38,6 @@ fn is_rail(name: &[u8]) -> bool
         || name.eq_ignore_ascii_case(b"gnd!")
         || name.eq_ignore_ascii_case(b"vdd")
         || name.eq_ignore_ascii_case(b"vdd!")
-}
-
-/// What has this name in a call of this path; outside every call the name alone.
-pub(crate) fn below(alloc: Global, path: Option<&[u8]>, name: &[u8]) -> Result<Vec<u8>, NoMemory>
-    ensures { IfOk result (λ bytes. bytes.items
-        ≡ spec.below (option_map (λ p. p.now) path.entry) name.now) }
-{
-    match path {
-        None => Ok(name.to_vec(alloc)?),
-        Some(path) => joined(alloc, path, name),
-    }
-}
-
-// A path, a dot and a name.
-fn joined(alloc: Global, path: &[u8], name: &[u8]) -> Result<Vec<u8>, NoMemory>
-    ensures { IfOk result (λ bytes. bytes.items ≡ spec.below (Some path.now) name.now) }
-{
-    let mut bytes = path.to_vec(alloc)?;
-    bytes.reserve(1)?;
-    bytes.push_reserved(b'.');
-    bytes.extend_from_slice(name)?;
-    Ok(bytes)
 }
 
 /// The nodes on a call's card: the words between its name and its subcircuit.

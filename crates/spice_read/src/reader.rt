@@ -41,8 +41,8 @@ fn read_parts(alloc: Global, keys: TableKeys, deck: &Deck<'_>) -> Result<Circuit
     ensures refused { IfErr result (IsFault (spec.circuit_by (Ok deck.now))) }
 {
     let mut made = Made::new(alloc, keys)?;
-    let frame = Frame::outside(alloc, keys);
-    match expand(&mut made, deck, MOST_OPEN, &frame, deck.outside()) {
+    let mut frame = Frame::outside(alloc, keys, deck);
+    match expand(&mut made, MOST_OPEN, &mut frame, deck.outside()) {
         Ok(()) => Ok(made.into_circuit()),
         Err(fault) => Err(fault),
     }

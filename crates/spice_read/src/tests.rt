@@ -75,8 +75,12 @@ const INVERTERS: &[u8] = b"two inverters\n.global vdd!\n.SUBCKT inv a y vdd gnd\
 const CALLS: &[u8] = b"t\n.global g h\n.subckt s a b a h\nmn a b n 0 n strength=3\nmp n g h h p\n\
     .ends\n.subckt t a\nx1 a b c d s\n.ends\nx1 0 t\nx2 u v w h s\n";
 
+// More ports than are compared one after the other, the first and the last of one name.
+const MANY: &[u8] = b"t\n.subckt s a b c d e f g h i a\nmn a b c 0 n\nmp i h j j p\n.ends\n\
+    x1 1 2 3 4 5 6 7 8 9 10 s\n";
+
 // Each deck with how many nodes and transistors it makes, and the names of its nodes from node 2 on.
-const READ: [(&[u8], usize, usize, &[&[u8]]); 3] = [
+const READ: [(&[u8], usize, usize, &[&[u8]]); 4] = [
     (b"a title\n", 2, 0, &[]),
     (INVERTERS, 5, 4, &[b"in", b"m", b"out"]),
     (
@@ -87,6 +91,7 @@ const READ: [(&[u8], usize, usize, &[&[u8]]); 3] = [
             b"x1.b", b"x1.x1.n", b"x1.c", b"g", b"x1.d", b"v", b"x2.n", b"w", b"h",
         ],
     ),
+    (MANY, 8, 2, &[b"2", b"3", b"10", b"8", b"x1.j", b"9"]),
 ];
 
 #[test]
