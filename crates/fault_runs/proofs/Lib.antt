@@ -1,0 +1,10 @@
+mod ListLemmas
+mod TextLemmas
+mod BeginLemmas
+mod VerdictLemmas
+mod RunLemmas
+mod CountLemmas
+mod JudgingLemmas
+pub mod FrontLemmas
+mod OnceLemmas
+mod NameLemmas

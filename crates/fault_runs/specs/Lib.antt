@@ -1,0 +1,7 @@
+pub mod Rows
+pub mod Lists
+pub mod Traces
+pub mod Judging
+pub mod Counts
+pub mod Runnings
+pub mod Laws

@@ -1,0 +1,290 @@
+//! Judging the faults of a list.
+
+ghost use Rattle.std.specs.Prelude.{◌≡◌, ◌≢◌, ◌≤◌, ◌++◌, None, All, length, IfOk, IfErr, OnOk, OnErr};
+ghost use Rattle.std.specs.Io.KnownBytes.{append_known};
+ghost use Rattle.port_edge.specs.Sending.{WritesPart};
+ghost use Rattle.netlist.specs.Circuits.{HasVisibleNames, IsCircuit};
+ghost use Rattle.wave_print.specs.Verdicts.{faults_line_of};
+ghost use Rattle.cosmos_session.specs.Sessions.{start_of};
+ghost use Rattle.fault_sim.specs.Faults.{IsFault};
+ghost use Rattle.script_run.specs.Ends.{IsTold, IsToldBy};
+ghost use Rattle.script_run.specs.Stops.{faults_written, IsRefusedOnce};
+ghost use Rattle.fault_runs.specs.Judging.{AnswersList, AreJudgedFaults, IsJudgement, named_entry, verdict_line};
+ghost use Rattle.fault_runs.specs.Runnings.{IsCutShort, TellsCutShort, TellsJudged};
+
+use crate::bench::FaultBench;
+use crate::counts::VerdictCounts;
+use crate::list::{FaultList, read_list};
+use crate::running::run_under;
+use cosmos_session::Session;
+use fault_sim::{Trace, Verdict, judge};
+use group_analysis::Analyst;
+use netlist::Circuit;
+use port_edge::{Sink, send};
+use script_run::{End, Halt, Stop, refuse, refuse_size};
+use std::alloc::Global;
+use ternary::NoMemory;
+use wave_print::{
+    FAULTS_LINE_ROOM, FaultPlace, LineBuf, VERDICT_LINE_ROOM, detected_line, faults_line,
+    possible_line, refused_line, undetected_line,
+};
+
+/// Judges each fault of a list by the run of a script under it beside the good run, from the start in a
+/// circuit, and writes the verdicts' lines, each as soon as it is known, and last the line of the counts.
+///
+/// The first refused line of the list ends it before any run, and a line of the script that is refused in the
+/// good run before any verdict: its line is then the whole text.
+pub fn judge_faults<S: Sink, A: Analyst>(
+    alloc: Global,
+    circuit: Circuit,
+    script: &[u8],
+    list: &[u8],
+    out: &mut S,
+    analyst: &mut A,
+) -> Result<End, Stop>
+    requires { HasVisibleNames circuit }
+    ensures told { IsToldBy (AreJudgedFaults script.now list.now circuit) (S.written out.old) (S.written out.new)
+        (A.analysed analyst.old) (A.analysed analyst.new) result }
+    ensures no_read { IfErr result (λ stop. stop ≢ Stop.Read) }
+    ensures write { S.faults out.new ≡ faults_written (S.faults out.old) result }
+    ensures refused { IsRefusedOnce (S.refusals out.old) (S.refusals out.new) result }
+{
+    match read_list(alloc, &circuit, list)? {
+        Ok(faults) => judge_listed(alloc, circuit, script, &faults, out, analyst),
+        Err(refusal) => {
+            let place = FaultPlace::List(refusal.line);
+            refuse(alloc, place, refusal.code, End::ScriptRefused, out)
+        }
+    }
+}
+
+// Runs the script without a fault, and judges the faults beside that; or writes the line at which it is refused.
+fn judge_listed<S: Sink, A: Analyst>(
+    alloc: Global,
+    circuit: Circuit,
+    script: &[u8],
+    faults: &FaultList,
+    out: &mut S,
+    analyst: &mut A,
+) -> Result<End, Stop>
+    requires visible { HasVisibleNames circuit }
+    requires faults { All (λ listed. IsFault circuit listed.fault) faults.now }
+    ensures told { IsToldBy (IsJudgement circuit script.now faults.now) (S.written out.old) (S.written out.new)
+        (A.analysed analyst.old) (A.analysed analyst.new) result }
+    ensures no_read { IfErr result (λ stop. stop ≢ Stop.Read) }
+    ensures write { S.faults out.new ≡ faults_written (S.faults out.old) result }
+    ensures refused { IsRefusedOnce (S.refusals out.old) (S.refusals out.new) result }
+{
+    let session = first_session(alloc, &circuit)?;
+    judge_from(alloc, circuit, script, session, faults, out, analyst)
+}
+
+// A session at the start in a copy of a circuit.
+fn first_session(alloc: Global, circuit: &Circuit) -> Result<Session, NoMemory>
+    ensures { IfOk result (λ session. session ≡ record { core = start_of circuit.now; machine = None }) }
+{
+    Session::new(alloc, circuit.copy(alloc)?)
+}
+
+// The same, where the good run goes on in a session at the start in the circuit.
+fn judge_from<S: Sink, A: Analyst>(
+    alloc: Global,
+    circuit: Circuit,
+    script: &[u8],
+    session: Session,
+    faults: &FaultList,
+    out: &mut S,
+    analyst: &mut A,
+) -> Result<End, Stop>
+    requires start { session.core ≡ start_of circuit }
+    requires visible { HasVisibleNames circuit }
+    requires faults { All (λ listed. IsFault circuit listed.fault) faults.now }
+    ensures told { IsToldBy (IsJudgement circuit script.now faults.now) (S.written out.old) (S.written out.new)
+        (A.analysed analyst.old) (A.analysed analyst.new) result }
+    ensures no_read { IfErr result (λ stop. stop ≢ Stop.Read) }
+    ensures write { S.faults out.new ≡ faults_written (S.faults out.old) result }
+    ensures refused { IsRefusedOnce (S.refusals out.old) (S.refusals out.new) result }
+{
+    let mut session = session;
+    let (good, halt) = run_under(alloc, &mut session, &circuit, script, None, analyst)?;
+    match halt {
+        Halt::End => judge_beside(alloc, circuit, script, session, &good, faults, out, analyst),
+        _ => refuse_run(alloc, &session, halt, out),
+    }
+}
+
+// Writes the line at which a run ended in a session.
+fn refuse_run<S: Sink>(
+    alloc: Global,
+    session: &Session,
+    halt: Halt,
+    out: &mut S,
+) -> Result<End, Stop>
+    requires { IsCutShort session.now.core.circuit halt }
+    ensures told { IsTold (TellsCutShort session.now.core.circuit halt) (S.written out.old) (S.written out.new) result }
+    ensures no_read { IfErr result (λ stop. stop ≢ Stop.Read) }
+    ensures write { S.faults out.new ≡ faults_written (S.faults out.old) result }
+    ensures refused { IsRefusedOnce (S.refusals out.old) (S.refusals out.new) result }
+{
+    match halt {
+        Halt::End => unreachable!(),
+        Halt::Refused(line, code) => {
+            let place = FaultPlace::Script(line);
+            refuse(alloc, place, code, End::ScriptRefused, out)
+        }
+        Halt::TooLarge(line, size) => {
+            let place = FaultPlace::Script(line);
+            let circuit = session.circuit();
+            refuse_size(alloc, place, circuit, size, End::ScriptRefused, out)
+        }
+    }
+}
+
+// Judges the faults beside the good run, by runs that go on from its session.
+fn judge_beside<S: Sink, A: Analyst>(
+    alloc: Global,
+    circuit: Circuit,
+    script: &[u8],
+    session: Session,
+    good: &Trace,
+    faults: &FaultList,
+    out: &mut S,
+    analyst: &mut A,
+) -> Result<End, Stop>
+    requires visible { HasVisibleNames circuit }
+    requires faults { All (λ listed. IsFault circuit listed.fault) faults.now }
+    ensures told { IsToldBy (TellsJudged circuit script.now good.now session.core.kept faults.now)
+        (S.written out.old) (S.written out.new) (A.analysed analyst.old) (A.analysed analyst.new) result }
+    ensures no_read { IfErr result (λ stop. stop ≢ Stop.Read) }
+    ensures write { S.faults out.new ≡ faults_written (S.faults out.old) result }
+    ensures refused { IsRefusedOnce (S.refusals out.old) (S.refusals out.new) result }
+{
+    // for its contract alone: a circuit keeps itself well formed
+    let _graph = circuit.graph();
+    let mut bench = FaultBench::new(alloc, circuit, script, session);
+    judge_each(alloc, &mut bench, good, faults, out, analyst)
+}
+
+// Judges the faults one after the other, and writes the line of each verdict, and last that of the counts.
+fn judge_each<S: Sink, A: Analyst>(
+    alloc: Global,
+    bench: &mut FaultBench<'_>,
+    good: &Trace,
+    faults: &FaultList,
+    out: &mut S,
+    analyst: &mut A,
+) -> Result<End, Stop>
+    requires circuit { IsCircuit bench.old.start }
+    requires faults { All (λ listed. IsFault bench.old.start listed.fault) faults.now }
+    ensures told { IsToldBy (TellsJudged bench.old.start bench.old.script good.now bench.old.kept faults.now)
+        (S.written out.old) (S.written out.new) (A.analysed analyst.old) (A.analysed analyst.new) result }
+    ensures no_read { IfErr result (λ stop. stop ≢ Stop.Read) }
+    ensures write { S.faults out.new ≡ faults_written (S.faults out.old) result }
+    ensures refused { IsRefusedOnce (S.refusals out.old) (S.refusals out.new) result }
+{
+    let mut line = LineBuf::new(alloc, FAULTS_LINE_ROOM)?;
+    let mut counts = VerdictCounts::new();
+    for listed in faults.items() {
+        let verdict = judge(bench, good, listed.fault, analyst)?;
+        counts.add(verdict);
+        send_verdict(&mut line, good, listed.line, verdict, out)?;
+    }
+    send_counts(&mut line, faults.items().len() as u64, counts, out)?;
+    Ok(End::Done)
+}
+
+// Writes the line of a verdict.
+fn send_verdict<S: Sink>(
+    line: &mut LineBuf,
+    good: &Trace,
+    number: u64,
+    verdict: Verdict,
+    out: &mut S,
+) -> Result<(), Stop>
+    ensures ok { OnOk result (S.written out.new
+        ≡ append_known (S.written out.old) (verdict_line good.now number verdict)) }
+    ensures part { OnErr result (WritesPart (S.written out.old) (S.written out.new) (verdict_line good.now number verdict)) }
+    ensures no_read { IfErr result (λ stop. stop ≢ Stop.Read) }
+    ensures write { S.faults out.new ≡ faults_written (S.faults out.old) result }
+    ensures refused { IsRefusedOnce (S.refusals out.old) (S.refusals out.new) result }
+{
+    put_verdict(line, good, number, verdict)?;
+    match send(out, line.bytes()) {
+        Ok(()) => Ok(()),
+        Err(fault) => Err(Stop::of_write(fault)),
+    }
+}
+
+// Puts the line of a verdict in place of what the buffer holds.
+fn put_verdict(
+    line: &mut LineBuf,
+    good: &Trace,
+    number: u64,
+    verdict: Verdict,
+) -> Result<(), NoMemory>
+    ensures { OnOk result (line.new.bytes ≡ verdict_line good.now number verdict) }
+{
+    line.clear();
+    match verdict {
+        Verdict::Detected { row, entry } => {
+            let name = entry_name(good, entry);
+            line.reserve(VERDICT_LINE_ROOM + name.len())?;
+            detected_line(line, number, row, name);
+        }
+        Verdict::Refused { line: at } => {
+            line.reserve(VERDICT_LINE_ROOM)?;
+            refused_line(line, number, at);
+        }
+        Verdict::Possible { row, entry } => {
+            let name = entry_name(good, entry);
+            line.reserve(VERDICT_LINE_ROOM + name.len())?;
+            possible_line(line, number, row, name);
+        }
+        Verdict::Undetected => {
+            line.reserve(VERDICT_LINE_ROOM)?;
+            undetected_line(line, number);
+        }
+    }
+    Ok(())
+}
+
+// The name of an entry of the watch list at the end of the good run.
+fn entry_name(good: &Trace, entry: usize) -> &[u8]
+    ensures { result.now ≡ named_entry good.now entry }
+{
+    match good.names.items().get(entry) {
+        Some(name) => name.items(),
+        None => b"",
+    }
+}
+
+// Writes the line that counts the verdicts.
+fn send_counts<S: Sink>(
+    line: &mut LineBuf,
+    faults: u64,
+    counts: VerdictCounts,
+    out: &mut S,
+) -> Result<(), Stop>
+    ensures ok { OnOk result (S.written out.new ≡ append_known (S.written out.old)
+        (faults_line_of faults counts.detected counts.possible counts.undetected counts.refused)) }
+    ensures part { OnErr result (WritesPart (S.written out.old) (S.written out.new)
+        (faults_line_of faults counts.detected counts.possible counts.undetected counts.refused)) }
+    ensures no_read { IfErr result (λ stop. stop ≢ Stop.Read) }
+    ensures write { S.faults out.new ≡ faults_written (S.faults out.old) result }
+    ensures refused { IsRefusedOnce (S.refusals out.old) (S.refusals out.new) result }
+{
+    line.clear();
+    line.reserve(FAULTS_LINE_ROOM)?;
+    faults_line(
+        line,
+        faults,
+        counts.detected,
+        counts.possible,
+        counts.undetected,
+        counts.refused,
+    );
+    match send(out, line.bytes()) {
+        Ok(()) => Ok(()),
+        Err(fault) => Err(Stop::of_write(fault)),
+    }
+}

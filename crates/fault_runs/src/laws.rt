@@ -1,0 +1,13 @@
+//! Laws of the answer to a list of faults.
+
+ghost use Rattle.fault_runs.specs.Laws.{EntriesAreNamed, TextsAreAnalysedOnce};
+
+/// A law: over the good run and the runs under all faults of a list each text of a group is analysed once.
+pub fn each_text_is_analysed_once()
+    ensures { TextsAreAnalysedOnce }
+{}
+
+/// A law: each entry of each row of a trace has a name, so a line that tells of a difference names a node.
+pub fn each_entry_is_named()
+    ensures { EntriesAreNamed }
+{}
