@@ -1,0 +1,6 @@
+pub mod LineLemmas
+pub mod AlikeLemmas
+pub mod EndLemmas
+pub mod TurnLemmas
+pub mod RunLemmas
+pub mod AnswerLemmas

@@ -1,0 +1,75 @@
+-- What a line comes to in columns, by what its command comes to or by how it is refused.
+use Rattle.std.proofs.Common.{◌≡◌, ℕ, ◌<◌, ◌⊎◌, inl, inr, false, List, Option, None, Some, option_map, IfSome, Result, Ok, Err, refl, sym, ap, subst, ◌∙◌}
+use Rattle.line_words.specs.Files.{is_cut}
+use Rattle.script_lang.specs.declared.command.ScriptFault.{ScriptFault}
+use Rattle.script_lang.specs.declared.command.ScriptFault.TheVariants.{NoMemory}
+use Rattle.group_text.specs.Texts.{GroupTextData}
+use Rattle.lane_script.specs.declared.command.LaneCommand.{LaneCommand}
+use Rattle.lane_script.specs.Columns.{column_reading_of}
+use Rattle.lane_script.specs.Commands.{in_column}
+use Rattle.lane_script.specs.Forms.{IsFormed}
+use Rattle.cosmos_session.specs.Sessions.{SessionData}
+use Rattle.wave_print.specs.declared.faults.FaultCode.{FaultCode}
+use Rattle.lane_session.specs.LaneSessions.{LaneSessionData, session_in}
+use Rattle.lane_session.specs.Outcomes.{KeepsTogether}
+use Rattle.script_run.specs.declared.stop.Stop.{Stop}
+use Rattle.script_run.specs.declared.script.Turn.{Turn}
+use Rattle.script_run.specs.declared.script.Turn.TheVariants.{Accepted, Refused, TooLarge}
+use Rattle.script_run.specs.Codes.{plain_cause, script_code}
+use Rattle.script_run.specs.Runs.{refused, unread}
+use Rattle.lane_run.specs.Turns.{AreIdle, AskTogether, AreRefused, TakesTurn, TakesCommand}
+
+-- a line that asks for a command comes to what the command comes to
+pub takes_turn : (cut : Option ℕ) (line : ℕ × List ℕ) (command : LaneCommand) (old new : LaneSessionData) (before after : Option (List ℕ)) (asked told : List GroupTextData)
+    (result : Result Turn Stop) → AskTogether old.lanes cut (session_in old) line command → TakesCommand old command new before after asked told result →
+    TakesTurn cut line old new before after asked told result
+takes_turn cut line command old new before after asked told (Ok Accepted) asks accepts = inr (record { command = command; asks = asks; accepts = accepts })
+takes_turn cut line command old new before after asked told (Ok (Refused code)) asks (is, keeps) =
+    (λ lane inside. refused _ is.refusal (asks.each lane inside) (is.cause lane inside) (ap plain_cause is.coded), keeps)
+takes_turn cut line command old new before after asked told (Ok (TooLarge fault)) asks refuses = record { command = command; asks = asks; refuses = refuses }
+takes_turn cut line command old new before after asked told (Err stop) asks (inl same) = inl same
+takes_turn cut line command old new before after asked told (Err stop) asks (inr begins) = inr (record { command = command; asks = asks; begins = begins })
+
+-- a line that can't be read is refused in each column, where its fault has a code
+pub are_unread : (lanes : ℕ) (cut : Option ℕ) (columns : ℕ → SessionData) (line : ℕ × List ℕ) (fault : ScriptFault) (code : FaultCode) → is_cut cut line.0 ≡ false →
+    (fault ≡ NoMemory) ⊎ ((lane : ℕ) → lane < lanes → column_reading_of lanes lane line.1 ≡ Err fault) → script_code fault ≡ Some code →
+    AreRefused lanes cut columns line (plain_cause code)
+are_unread lanes cut columns line fault code inside (inl want) coded =
+    let none : None ≡ Some code = sym (ap script_code want) ∙ coded in absurd (cc)
+are_unread lanes cut columns line fault code inside (inr is) coded = λ lane within. unread fault code inside (is lane within) coded refl
+
+-- nothing was done
+pub keeps_all : (session : LaneSessionData) (known : Option (List ℕ)) (asked : List GroupTextData) → KeepsTogether session session known known asked asked
+keeps_all session known asked = record { stands = record { states = λ lane inside. refl; rest = refl }; unwritten = refl; unasked = refl }
+
+-- what was read for as many columns as there are was read for each
+module _ (lanes count : ℕ) (cut : Option ℕ) (columns : ℕ → SessionData) (line : ℕ × List ℕ) (found : Option LaneCommand) (inside : is_cut cut line.0 ≡ false)
+    (same : count ≡ lanes) where
+  -- a command
+  pub asks_together : (command : LaneCommand) → found ≡ Some command →
+      ((lane : ℕ) → lane < count → column_reading_of count lane line.1 ≡ Ok (option_map (in_column lane) found)) → IfSome found (IsFormed count) →
+      AskTogether lanes cut columns line command
+  asks_together command is read formed = record {
+    formed = subst (λ n. IsFormed n command) same (subst (λ (f : Option LaneCommand). IfSome f (IsFormed count)) is formed);
+    each = λ lane within. record {
+      inside = inside;
+      asked = subst (λ n. column_reading_of n lane line.1 ≡ Ok (Some (in_column lane command))) same
+          (read lane (subst (λ n. lane < n) (sym same) within) ∙ ap (λ (f : Option LaneCommand). Ok (option_map (in_column lane) f)) is);
+    };
+  }
+
+  -- or nothing
+  pub idle_together : found ≡ None → ((lane : ℕ) → lane < count → column_reading_of count lane line.1 ≡ Ok (option_map (in_column lane) found)) →
+      AreIdle lanes cut columns line
+  idle_together is read lane within = record {
+    inside = inside;
+    nothing = subst (λ n. column_reading_of n lane line.1 ≡ Ok None) same
+        (read lane (subst (λ n. lane < n) (sym same) within) ∙ ap (λ (f : Option LaneCommand). Ok (option_map (in_column lane) f)) is);
+  }
+
+-- or a refusal
+pub unread_in : (lanes count : ℕ) (bytes : List ℕ) (fault : ScriptFault) → count ≡ lanes →
+    (fault ≡ NoMemory) ⊎ ((lane : ℕ) → lane < count → column_reading_of count lane bytes ≡ Err fault) →
+    (fault ≡ NoMemory) ⊎ ((lane : ℕ) → lane < lanes → column_reading_of lanes lane bytes ≡ Err fault)
+unread_in lanes count bytes fault same read =
+    subst (λ n. (fault ≡ NoMemory) ⊎ ((lane : ℕ) → lane < n → column_reading_of n lane bytes ≡ Err fault)) same read

@@ -1,0 +1,35 @@
+-- A line comes to what its command comes to in each column, or is refused as it is read.
+use Rattle.std.proofs.Common.{sym, ◌∙◌, inl}
+use Rattle.script_run.proofs.TurnLemmas.{is_inside}
+use Rattle.lane_session.specs.LaneSessions.{session_in}
+use Rattle.lane_run.proofs.TurnLemmas.{takes_turn, are_unread, keeps_all, asks_together, idle_together, unread_in}
+use Rattle.lane_run.proofs.batch.run_line.Goals as goal
+
+pub returns-in-Ok-Some-clause-turn : goal.returns-in-Ok-Some-clause-turn
+returns-in-Ok-Some-clause-turn g c =
+    let session = c.args.session.now.core in
+    let inside = is_inside c.args.cut c.args.line.number c.eq.result c.eq.ensures c.if-eq.false in
+    let asks = asks_together session.lanes c.lanes.result c.args.cut (session_in session) (c.args.line.number, c.args.line.bytes.now) c.in-Ok-Some.field-0
+    inside c.lanes.ensures.value c.in-Ok-Some.command c.in-Ok-Some.field-0-is c.in-Ok-Some.ensures.ok c.in-Ok-Some.ensures.formed in
+    takes_turn c.args.cut (c.args.line.number, c.args.line.bytes.now) c.in-Ok-Some.command session c.run_command.new.session.core _ _ _ _ c.run_command.result asks
+    c.run_command.ensures.turn
+
+pub returns-in-Ok-None-clause-turn : goal.returns-in-Ok-None-clause-turn
+returns-in-Ok-None-clause-turn g c =
+    let session = c.args.session.now.core in
+    let inside = is_inside c.args.cut c.args.line.number c.eq.result c.eq.ensures c.if-eq.false in
+    inl (record {
+      idle = idle_together session.lanes c.lanes.result c.args.cut (session_in session) (c.args.line.number, c.args.line.bytes.now) c.in-Ok-None.field-0 inside
+          c.lanes.ensures.value c.in-Ok-None.field-0-is c.in-Ok-None.ensures.ok;
+      keeps = keeps_all session _ _;
+    })
+
+pub returns-in-Some-clause-turn : goal.returns-in-Some-clause-turn
+returns-in-Some-clause-turn g c =
+    let session = c.args.session.now.core in
+    let inside = is_inside c.args.cut c.args.line.number c.eq.result c.eq.ensures c.if-eq.false in (
+      are_unread session.lanes c.args.cut (session_in session) (c.args.line.number, c.args.line.bytes.now) c.in-Err.fault _ inside
+          (unread_in session.lanes c.lanes.result c.args.line.bytes.now c.in-Err.fault c.lanes.ensures.value c.in-Err.ensures.refused)
+          (sym c.script_code.ensures ∙ c.in-Some.is),
+      keeps_all session _ _,
+    )

@@ -1,0 +1,35 @@
+-- What a script for columns does when it runs: in each column it is a plain script, and what they write is told row by row.
+use Rattle.std.specs.Prelude.{◌≡◌, ℕ, ◌<◌, List, ◌++◌, Option, None, Some}
+use Rattle.group_text.specs.Texts.{GroupTextData}
+use Rattle.lane_script.specs.Columns.{column_reading_of}
+use Rattle.cosmos_session.specs.Sessions.{SessionData}
+use Rattle.script_run.specs.declared.status.Status.{Status}
+use Rattle.script_run.specs.declared.status.Status.TheVariants.{Done, ScriptRefused}
+use Rattle.script_run.specs.Runs.{Reading, RefusedLine, Outcome, Runs, Answer, refusal_text}
+use Rattle.lane_session.specs.Rows.{Interleaves}
+
+-- how lines are read in one of so many columns, whatever the circuit is: as a plain script's whose values are the column's letters
+abbrev pub reading_in : ℕ → ℕ → Reading
+reading_in lanes lane circuit line = column_reading_of lanes lane line
+
+-- a script runs in so many columns, each from its data: in each it runs as a plain script to an outcome, in all of them the same texts are
+-- analysed and the same refusal ends it, if one does, and row by row their lines are this text
+pub record RunsTogether (lanes : ℕ) (cut : Option ℕ) (start : ℕ → SessionData) (lines : List (ℕ × List ℕ)) (text : List ℕ) (texts : List GroupTextData)
+    (refused : Option RefusedLine) : Type 0 where
+  pub outcome : ℕ → Outcome
+  pub runs : (lane : ℕ) → lane < lanes → Runs (reading_in lanes lane) cut (start lane) lines (outcome lane)
+  pub analysed : (lane : ℕ) → lane < lanes → (outcome lane).texts ≡ texts
+  pub ended : (lane : ℕ) → lane < lanes → (outcome lane).refused ≡ refused
+  pub rows : Interleaves lanes (λ lane. (outcome lane).lines) text
+
+-- the status of a script for columns: a line was refused, or none
+abbrev pub status_ended : Option RefusedLine → Status
+status_ended None = Done
+status_ended (Some stopped) = ScriptRefused
+
+-- the answer of a script's lines in columns: the rows, and the line of the refusal that ended them, if one did
+pub record IsBatchAnswer (lanes : ℕ) (cut : Option ℕ) (start : ℕ → SessionData) (lines : List (ℕ × List ℕ)) (answer : Answer) : Type 0 where
+  pub text : List ℕ
+  pub refused : Option RefusedLine
+  pub runs : RunsTogether lanes cut start lines text answer.texts refused
+  pub told : answer ≡ record { status = status_ended refused; text = text ++ refusal_text refused; texts = answer.texts }

@@ -1,0 +1,15 @@
+//! What a script for several columns does when it runs, and what is answered of it.
+//!
+//! The main call is [`run_batch`], which obeys the lines of a script in a session of columns over any sink, and writes the
+//! line of the refusal that ends it, if one does. The layer above uses that it tells what `IsBatchAnswer` of `specs/`
+//! says: in each column the script runs as a plain script, whose values are the column's letters; the columns' lines are
+//! written row by row, each after the number of its column; and all columns end at the same refused line, if at any.
+//!
+//! ```text
+//! run_batch(alloc, session, "set a=01X\nphase\n", out, analyst)   writes `1 1 1 01`, `2 1 1 10` and `3 1 0 XX`
+//! ```
+#![tactic(auto)]
+
+mod batch;
+
+pub use batch::run_batch;

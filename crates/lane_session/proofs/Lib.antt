@@ -1,0 +1,12 @@
+pub mod ColumnLemmas
+pub mod RowLemmas
+pub mod RefusalLemmas
+pub mod BuildLemmas
+pub mod SharedLemmas
+pub mod FitLemmas
+pub mod StepLemmas
+pub mod BeatLemmas
+pub mod OutcomeLemmas
+pub mod InsideLemmas
+pub mod FormLemmas
+pub mod QuietLemmas

@@ -1,0 +1,310 @@
+-- Commands that take no step: what the plain session does of them, and what the parts of a session of columns are then.
+use Rattle.std.proofs.Common.{◌≡◌, ℕ, suc, ◌+◌, ◌-◌, ◌<◌, ◌≤◌, Bool, true, false, List, [], ◌∷◌, length, map, replicate, All, is_some, Option, None, Result, Ok, Err, IfSome, refl, sym, ap, subst, ◌∙◌, inl, inr, arith, length-append}
+use Rattle.std.specs.Prelude.{◌⊎◌, if◌then◌else◌}
+use Rattle.std.proofs.lemmas.List.{length-set}
+use Rattle.std.proofs.lemmas.List.Elements.{All-nil, All-cons, All-weaker}
+use Rattle.ternary.specs.declared.tern.Tern.{Tern}
+use Rattle.ternary.specs.declared.tern.Tern.TheVariants.{Zero, One, Unk}
+use Rattle.strength_order.specs.declared.TheConstants.{LEAST_SIZE_LEVEL}
+use Rattle.strength_order.specs.Levels.{level_of_size}
+use Rattle.path_meaning.specs.declared.TheConstants.{RAILS}
+use Rattle.path_meaning.specs.Graphs.{nodes}
+use Rattle.netlist.specs.Names.{node_of}
+use Rattle.netlist.specs.Circuits.{CircuitData, IsCircuit}
+use Rattle.netlist.specs.Edits.{node_named, with_node, with_new_node, with_nodes}
+use Rattle.group_text.specs.Texts.{GroupTextData}
+use Rattle.lane_script.specs.declared.command.LaneCommand.{LaneCommand}
+use Rattle.lane_script.specs.declared.command.LaneCommand.TheVariants.{Input, Store, Set, Charge, Watch, Limit, Step, Phase, Clock, Cycle, Add, Del, Strength, Kind, Wire}
+use Rattle.lane_script.specs.Commands.{in_column, value_in}
+use Rattle.lane_script.specs.Forms.{IsFormed, AreLaneValues, IsLaneValue}
+use Rattle.cosmos_session.specs.declared.fault.ApplyFault.{ApplyFault}
+use Rattle.cosmos_session.specs.declared.fault.ApplyFault.TheVariants.{Refused, GroupNodes, GroupSwitches, WriteFault, NoMemory}
+use Rattle.cosmos_session.specs.Sessions.{SessionData, HeldSession, ClockData, IsSession, start_of}
+use Rattle.cosmos_session.specs.Refusals.{refusal_of}
+use Rattle.cosmos_session.specs.Preparing.{builds, BuildsIf}
+use Rattle.cosmos_session.specs.Lines.{Line}
+use Rattle.cosmos_session.specs.Effects.{Effect, clock_of}
+use Rattle.cosmos_session.specs.Sinks.{faults_applied}
+use Rattle.cosmos_session.specs.Outcomes.{Obeys}
+use Rattle.cosmos_session.proofs.EffectLemmas.{nodes-with_inputs, ready-start}
+use Rattle.cosmos_session.proofs.RefusalLemmas.{set_known, charged_known}
+use Rattle.cosmos_session.proofs.StateLemmas.{set_past, charged_past}
+use Rattle.lane_session.specs.LaneSessions.{LaneSessionData, session_in}
+use Rattle.lane_session.specs.Stages.{StageData, states_in, AreSound, IsSoundState, Serves, AreInside, Shares, QuietlyTogether, one_column, with_columns, is_edit}
+use Rattle.lane_session.proofs.SharedLemmas.{effect-watch, effect-limit, effect-clock}
+use Rattle.lane_session.proofs.InsideLemmas.{data_of, done_quietly, unshared, unshared_inside, same_itself, none_serves}
+
+-- ---- the plain session
+
+-- an edit builds nothing
+pub edit_is_still : (command : LaneCommand) → is_edit command ≡ true → builds (in_column 0 command) ≡ false
+edit_is_still (Input names) is = refl
+edit_is_still (Store name size) is = refl
+edit_is_still (Add kind gate source drain strength) is = refl
+edit_is_still (Del number) is = refl
+edit_is_still (Strength number strength) is = refl
+edit_is_still (Kind number kind) is = refl
+edit_is_still (Wire number gate source drain) is = refl
+edit_is_still (Set list) is = absurd (cc)
+edit_is_still (Charge list) is = absurd (cc)
+edit_is_still (Watch names) is = absurd (cc)
+edit_is_still (Limit number) is = absurd (cc)
+edit_is_still Step is = absurd (cc)
+edit_is_still Phase is = absurd (cc)
+edit_is_still (Clock list) is = absurd (cc)
+edit_is_still (Cycle number) is = absurd (cc)
+
+-- values build nothing
+pub values_are_still : (command : LaneCommand) (list : List (List ℕ × List Tern)) → (command ≡ Set list) ⊎ (command ≡ Charge list) → builds (in_column 0 command) ≡ false
+values_are_still command list (inl set) = ap (λ (c : LaneCommand). builds (in_column 0 c)) set
+values_are_still command list (inr charge) = ap (λ (c : LaneCommand). builds (in_column 0 c)) charge
+
+-- a command that builds nothing tells no lines
+quiet_effect : (command : LaneCommand) (old new : SessionData) (lines : List Line) → builds (in_column 0 command) ≡ false → Effect old (in_column 0 command) new lines →
+    Effect old (in_column 0 command) new []
+quiet_effect (Input names) old new lines still effect = (effect.0, refl)
+quiet_effect (Store name size) old new lines still effect = (effect.0, refl)
+quiet_effect (Set list) old new lines still effect = (effect.0, refl)
+quiet_effect (Charge list) old new lines still effect = (effect.0, refl)
+quiet_effect (Watch names) old new lines still effect = (effect.0, refl)
+quiet_effect (Limit number) old new lines still effect = (effect.0, refl)
+quiet_effect (Clock list) old new lines still effect = (effect.0, refl)
+quiet_effect (Add kind gate source drain strength) old new lines still effect = (effect.0, refl)
+quiet_effect (Del number) old new lines still effect = (effect.0, refl)
+quiet_effect (Strength number strength) old new lines still effect = (effect.0, refl)
+quiet_effect (Kind number kind) old new lines still effect = (effect.0, refl)
+quiet_effect (Wire number gate source drain) old new lines still effect = (effect.0, refl)
+quiet_effect Step old new lines still effect = absurd (cc)
+quiet_effect Phase old new lines still effect = absurd (cc)
+quiet_effect (Cycle number) old new lines still effect = absurd (cc)
+
+-- what a plain session does of a command that builds nothing, over a sink that takes everything
+pub obeys_shared : (old new : HeldSession) (command : LaneCommand) (before after : Option (List ℕ)) (asked told : List GroupTextData) (result : Result (Unit {0}) ApplyFault) →
+    builds (in_column 0 command) ≡ false → Obeys old (in_column 0 command) new before after asked told 0 0 result → 0 ≡ faults_applied 0 result →
+    Shares old.core (in_column 0 command) new.core result
+obeys_shared old new command before after asked told (Ok done) still (accepts, same) none =
+    let prepares : (accepts.performs.mid ≡ old.core) × (accepts.texts ≡ []) =
+    subst (λ (b : Bool). BuildsIf b old.core accepts.performs.mid accepts.texts) still accepts.performs.prepares in
+    let does = accepts.performs.does in
+    subst (λ (s : SessionData). (refusal_of s (in_column 0 command) ≡ None) × Effect s (in_column 0 command) new.core []) prepares.0
+    (does.allowed, quiet_effect command accepts.performs.mid new.core does.lines still does.effect)
+obeys_shared old new command before after asked told (Err (Refused refusal)) still (refuses, same) none =
+    (refuses.cause, ap (λ (s : HeldSession). s.core) refuses.keeps.same)
+obeys_shared old new command before after asked told (Err (GroupNodes node count)) still (refuses, same) none =
+    let both : true ≡ false = sym refuses.building ∙ still in absurd (cc)
+obeys_shared old new command before after asked told (Err (GroupSwitches node count)) still (refuses, same) none =
+    let both : true ≡ false = sym refuses.building ∙ still in absurd (cc)
+obeys_shared old new command before after asked told (Err WriteFault) still obeys none = absurd (omega (arith, none))
+obeys_shared old new command before after asked told (Err NoMemory) still (inl (stays, same)) none = stays.core
+obeys_shared old new command before after asked told (Err NoMemory) still (inr (begins, more)) none = absurd (omega (arith, more))
+
+-- no fault of a sink ends a command that writes nothing
+pub quietly_faults : (old new : LaneSessionData) (command : LaneCommand) (faults : ℕ) (result : Result (Unit {0}) ApplyFault) → QuietlyTogether old command new result →
+    faults ≡ faults_applied faults result
+quietly_faults old new command faults (Ok done) quietly = refl
+quietly_faults old new command faults (Err (Refused refusal)) quietly = refl
+quietly_faults old new command faults (Err (GroupNodes node count)) none = absurd none
+quietly_faults old new command faults (Err (GroupSwitches node count)) none = absurd none
+quietly_faults old new command faults (Err WriteFault) none = absurd none
+quietly_faults old new command faults (Err NoMemory) quietly = refl
+
+-- ---- edits
+
+-- a name makes one node at most
+one_node : (c : CircuitData) (name : List ℕ) → nodes (with_node c name).graph ≤ nodes c.graph + 1
+one_node c name = by (is_some (node_of c.names name))
+  where
+    by : (used : Bool) → nodes (if used then c else with_new_node c name).graph ≤ nodes c.graph + 1
+    by true = omega arith
+    by false = omega (arith, length-append c.graph.levels (LEAST_SIZE_LEVEL ∷ []))
+
+-- so three names make three at most
+three_nodes : (c : CircuitData) (gate source drain : List ℕ) → nodes (with_nodes c (gate ∷ source ∷ drain ∷ [])).graph ≤ nodes c.graph + 3
+three_nodes c gate source drain =
+    let one = with_node c gate in
+    let two = with_node one source in
+    omega (arith, one_node c gate, one_node one source, one_node two drain)
+
+-- and an edit too
+edit_grows : (plain after : SessionData) (command : LaneCommand) → is_edit command ≡ true → Effect plain (in_column 0 command) after [] →
+    nodes after.circuit.graph ≤ nodes plain.circuit.graph + 3
+edit_grows plain after (Input names) is effect = omega (arith, ap (λ (s : SessionData). nodes s.circuit.graph) effect.0, nodes-with_inputs names plain.circuit)
+edit_grows plain after (Store name size) is effect = omega (
+  arith,
+  ap (λ (s : SessionData). nodes s.circuit.graph) effect.0,
+  length-set plain.circuit.graph.levels (node_named plain.circuit name) (level_of_size size),
+)
+edit_grows plain after (Add kind gate source drain strength) is effect =
+    omega (arith, ap (λ (s : SessionData). nodes s.circuit.graph) effect.0, three_nodes plain.circuit gate source drain)
+edit_grows plain after (Del number) is effect = omega (arith, ap (λ (s : SessionData). nodes s.circuit.graph) effect.0)
+edit_grows plain after (Strength number strength) is effect = omega (arith, ap (λ (s : SessionData). nodes s.circuit.graph) effect.0)
+edit_grows plain after (Kind number kind) is effect = omega (arith, ap (λ (s : SessionData). nodes s.circuit.graph) effect.0)
+edit_grows plain after (Wire number gate source drain) is effect =
+    omega (arith, ap (λ (s : SessionData). nodes s.circuit.graph) effect.0, three_nodes plain.circuit gate source drain)
+edit_grows plain after (Set list) is effect = absurd (cc)
+edit_grows plain after (Charge list) is effect = absurd (cc)
+edit_grows plain after (Watch names) is effect = absurd (cc)
+edit_grows plain after (Limit number) is effect = absurd (cc)
+edit_grows plain after Step is effect = absurd (cc)
+edit_grows plain after Phase is effect = absurd (cc)
+edit_grows plain after (Clock list) is effect = absurd (cc)
+edit_grows plain after (Cycle number) is effect = absurd (cc)
+
+-- there is room for the nodes that an edit makes
+pub room_for_edit : (plain after : SessionData) (command : LaneCommand) (high spare : ℕ) → is_edit command ≡ true → Effect plain (in_column 0 command) after [] →
+    nodes plain.circuit.graph ≤ high → 3 ≤ spare → nodes after.circuit.graph ≤ high + spare
+room_for_edit plain after command high spare edit effect words room = omega (arith, edit_grows plain after command edit effect, words, room)
+
+-- ---- values
+
+-- what holds of all that items are made to holds so of all items
+All-unmap : {X Y : Type 0} (P : X → Type 0) (f : Y → X) (ys : List Y) → All P (map f ys) → All (λ y. P (f y)) ys
+All-unmap P f [] all = All-nil (λ y. P (f y))
+All-unmap P f (y ∷ ys) all = All-cons (λ y. P (f y)) y ys (all 0 (f y) (omega arith)) (All-unmap P f ys (λ k d inside. all (suc k) d (omega (arith, inside))))
+
+module _ (plain after : SessionData) (lanes : ℕ) (command : LaneCommand) (list : List (List ℕ × List Tern)) (values : (command ≡ Set list) ⊎ (command ≡ Charge list))
+  where
+    -- a value has one state, or one for each column
+    pub values_fit : IsFormed lanes command → All (λ item. (length item.1 ≡ 1) ⊎ (length item.1 ≡ lanes)) list
+    values_fit formed =
+        All-weaker (IsLaneValue lanes) (λ (item : List ℕ × List Tern). (length item.1 ≡ 1) ⊎ (length item.1 ≡ lanes)) (λ item is. is.states) list (by values).1
+      where
+        by : (command ≡ Set list) ⊎ (command ≡ Charge list) → AreLaneValues lanes list
+        by (inl set) = subst (IsFormed lanes) set formed
+        by (inr charge) = subst (IsFormed lanes) charge formed
+
+    -- the names of values that aren't refused are in use
+    pub values_known : refusal_of plain (in_column 0 command) ≡ None → All (λ item. is_some (node_of plain.circuit.names item.0) ≡ true) list
+    values_known allowed = by values
+      where
+        by : (command ≡ Set list) ⊎ (command ≡ Charge list) → All (λ item. is_some (node_of plain.circuit.names item.0) ≡ true) list
+        by (inl set) =
+            All-unmap (λ (item : List ℕ × Tern). is_some (node_of plain.circuit.names item.0) ≡ true) (value_in 0) list
+            (set_known plain.circuit (map (value_in 0) list) (sym (ap (λ (c : LaneCommand). refusal_of plain (in_column 0 c)) set) ∙ allowed))
+        by (inr charge) =
+            All-unmap (λ (item : List ℕ × Tern). is_some (node_of plain.circuit.names item.0) ≡ true) (value_in 0) list
+            (charged_known plain.circuit (map (value_in 0) list) (sym (ap (λ (c : LaneCommand). refusal_of plain (in_column 0 c)) charge) ∙ allowed))
+
+    -- and no rails
+    pub values_past : refusal_of plain (in_column 0 command) ≡ None → All (λ item. RAILS ≤ node_named plain.circuit item.0) list
+    values_past allowed = by values
+      where
+        by : (command ≡ Set list) ⊎ (command ≡ Charge list) → All (λ item. RAILS ≤ node_named plain.circuit item.0) list
+        by (inl set) =
+            All-unmap (λ (item : List ℕ × Tern). RAILS ≤ node_named plain.circuit item.0) (value_in 0) list
+            (set_past plain.circuit (map (value_in 0) list) (sym (ap (λ (c : LaneCommand). refusal_of plain (in_column 0 c)) set) ∙ allowed))
+        by (inr charge) =
+            All-unmap (λ (item : List ℕ × Tern). RAILS ≤ node_named plain.circuit item.0) (value_in 0) list
+            (charged_past plain.circuit (map (value_in 0) list) (sym (ap (λ (c : LaneCommand). refusal_of plain (in_column 0 c)) charge) ∙ allowed))
+
+    -- the circuit stays
+    pub values_circuit : Effect plain (in_column 0 command) after [] → after.circuit ≡ plain.circuit
+    values_circuit effect = by values
+      where
+        by : (command ≡ Set list) ⊎ (command ≡ Charge list) → after.circuit ≡ plain.circuit
+        by (inl set) = ap (λ (s : SessionData). s.circuit) (subst (λ (c : LaneCommand). Effect plain (in_column 0 c) after []) set effect).0
+        by (inr charge) = ap (λ (s : SessionData). s.circuit) (subst (λ (c : LaneCommand). Effect plain (in_column 0 c) after []) charge effect).0
+
+-- ---- the watch list, the clocks and the limit
+
+-- what changes neither the circuit nor the states leaves the parts in step
+moved_apart : (plain after : SessionData) (stage : StageData) (clocks more : List ClockData) (limit next : ℕ) (kept : List GroupTextData) →
+    AreInside plain stage clocks limit kept → after.circuit ≡ plain.circuit → more ≡ after.clocks → next ≡ after.limit → AreInside after stage more next kept
+moved_apart plain after stage clocks more limit next kept inside same clocks_are limit_is = record {
+  clocks_are = clocks_are;
+  limit_is = limit_is;
+  sound = subst (λ (c : CircuitData). AreSound c.graph stage) (sym same) inside.sound;
+  machine = subst (λ (c : CircuitData). IfSome stage.machine (Serves c.graph kept)) (sym same) inside.machine;
+}
+
+module _ (plain after : SessionData) (is : IsSession plain) (stage : StageData) (clocks : List ClockData) (limit : ℕ) (kept : List GroupTextData) (count : ℕ)
+    (inside : AreInside plain stage clocks limit kept) (command : LaneCommand) where
+  -- what such a command comes to in the columns
+  abbrev Comes : Result (Unit {0}) ApplyFault → Type 0
+  Comes result = QuietlyTogether (data_of plain stage count kept) command (data_of after stage count kept) result
+
+  -- its effect
+  abbrev Came : LaneCommand → ℕ → Type 0
+  Came c lane = Effect (one_column plain (states_in stage lane) count kept) (in_column lane c) (one_column after (states_in stage lane) count kept) []
+
+  -- where it has its effect in each column, it comes to that
+  came : (result : Result (Unit {0}) ApplyFault) → (Effect plain (in_column 0 command) after [] → (lane : ℕ) → Came command lane) →
+      Shares plain (in_column 0 command) after result → Comes result
+  came (Ok done) effect shares =
+      done_quietly plain is stage clocks limit kept count inside after stage command refl shares.0 (λ lane within. effect shares.1 lane)
+  came (Err fault) effect shares = unshared plain after stage stage kept count command fault (same_itself stage) shares
+
+  pub watch_quietly : (names : List (List ℕ)) → command ≡ Watch names → (result : Result (Unit {0}) ApplyFault) → Shares plain (in_column 0 command) after result →
+      Comes result
+  watch_quietly names watch result shares =
+      came result
+      (λ effect lane.
+      subst (λ (c : LaneCommand). Came c lane) (sym watch)
+      (effect-watch plain after (states_in stage lane) count kept lane names (subst (λ (c : LaneCommand). Effect plain (in_column 0 c) after []) watch effect)))
+      shares
+
+  pub limit_quietly : (number : ℕ) → command ≡ Limit number → (result : Result (Unit {0}) ApplyFault) → Shares plain (in_column 0 command) after result → Comes result
+  limit_quietly number limited result shares =
+      came result
+      (λ effect lane.
+      subst (λ (c : LaneCommand). Came c lane) (sym limited)
+      (effect-limit plain after (states_in stage lane) count kept lane number (subst (λ (c : LaneCommand). Effect plain (in_column 0 c) after []) limited effect)))
+      shares
+
+  pub clock_quietly : (list : List (List ℕ × List Tern)) → command ≡ Clock list → (result : Result (Unit {0}) ApplyFault) → Shares plain (in_column 0 command) after result →
+      Comes result
+  clock_quietly list clock result shares =
+      came result
+      (λ effect lane.
+      subst (λ (c : LaneCommand). Came c lane) (sym clock)
+      (effect-clock plain after (states_in stage lane) count kept lane list (subst (λ (c : LaneCommand). Effect plain (in_column 0 c) after []) clock effect)))
+      shares
+
+  -- where it had no effect, the parts are in step as before
+  pub unmoved_inside : (fault : ApplyFault) → Shares plain (in_column 0 command) after (Err fault) → AreInside after stage clocks limit kept
+  unmoved_inside fault shares =
+      unshared_inside plain after stage stage clocks limit kept (in_column 0 command) fault inside (same_itself stage) shares (λ serves. serves)
+
+  -- and so they are after each of them
+  pub watch_inside : (names : List (List ℕ)) → command ≡ Watch names → (result : Result (Unit {0}) ApplyFault) → Shares plain (in_column 0 command) after result →
+      AreInside after stage clocks limit kept
+  watch_inside names watch (Ok done) shares =
+      let effect : Effect plain (in_column 0 (Watch names)) after [] = subst (λ (c : LaneCommand). Effect plain (in_column 0 c) after []) watch shares.1 in
+      moved_apart plain after stage clocks clocks limit limit kept inside (ap (λ (s : SessionData). s.circuit) effect.0)
+      (inside.clocks_are ∙ sym (ap (λ (s : SessionData). s.clocks) effect.0)) (inside.limit_is ∙ sym (ap (λ (s : SessionData). s.limit) effect.0))
+  watch_inside names watch (Err fault) shares = unmoved_inside fault shares
+
+  pub limit_inside : (number : ℕ) → command ≡ Limit number → Effect plain (in_column 0 command) after [] → AreInside after stage clocks number kept
+  limit_inside number limited done =
+      let effect : Effect plain (in_column 0 (Limit number)) after [] = subst (λ (c : LaneCommand). Effect plain (in_column 0 c) after []) limited done in
+      moved_apart plain after stage clocks clocks limit number kept inside (ap (λ (s : SessionData). s.circuit) effect.0)
+      (inside.clocks_are ∙ sym (ap (λ (s : SessionData). s.clocks) effect.0)) (sym (ap (λ (s : SessionData). s.limit) effect.0))
+
+  pub clock_inside : (list : List (List ℕ × List Tern)) (more : List ClockData) → command ≡ Clock list → more ≡ map (clock_of plain.circuit) list →
+      Effect plain (in_column 0 command) after [] → AreInside after stage more limit kept
+  clock_inside list more clock named done =
+      let effect : Effect plain (in_column 0 (Clock list)) after [] = subst (λ (c : LaneCommand). Effect plain (in_column 0 c) after []) clock done in
+      moved_apart plain after stage clocks more limit limit kept inside (ap (λ (s : SessionData). s.circuit) effect.0)
+      (named ∙ sym (ap (λ (s : SessionData). s.clocks) effect.0)) (inside.limit_is ∙ sym (ap (λ (s : SessionData). s.limit) effect.0))
+
+-- ---- the start
+
+module _ (circuit : CircuitData) (plain : SessionData) (stage : StageData) (kept : List GroupTextData) (start : plain ≡ start_of circuit) (empty : kept ≡ [])
+    (states : (lane : ℕ) → lane < stage.lanes → states_in stage lane ≡ Zero ∷ One ∷ replicate (nodes circuit.graph - RAILS) Unk) where
+  -- the parts are in step
+  pub start_inside : IsCircuit circuit → stage.machine ≡ None → AreInside plain stage [] 100 kept
+  start_inside is none = subst (λ (s : SessionData). AreInside s stage [] 100 kept) (sym start) (record {
+    clocks_are = refl;
+    limit_is = refl;
+    sound = λ lane inside.
+        let ready = ready-start circuit is in
+        subst (IsSoundState circuit.graph) (sym (states lane inside)) (record { counted = ready.states; sound = ready.sound });
+    machine = none_serves circuit.graph kept stage.machine none;
+  })
+
+  -- and each column is at its start
+  pub start_columns : (lane : ℕ) → lane < stage.lanes → session_in (with_columns plain stage 0 kept) lane ≡ start_of circuit
+  start_columns lane inside =
+      ap (λ (s : SessionData). one_column s (states_in stage lane) 0 kept) start
+      ∙ ap (λ (state : List Tern). one_column (start_of circuit) state 0 kept) (states lane inside)
+      ∙ ap (one_column (start_of circuit) (start_of circuit).state 0) empty

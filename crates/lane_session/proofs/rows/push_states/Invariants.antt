@@ -1,0 +1,11 @@
+use Rattle.std.proofs.Common.{◌≡◌, ◌≤◌, ◌+◌, ◌-◌, ◌++◌, map, take, length, vec_len, vec_capacity}
+use Rattle.path_meaning.specs.Switching.{state_at}
+use Rattle.lane_machine.specs.Columns.{column}
+use Rattle.lane_session.proofs.rows.push_states.Given as goal
+
+abbrev pub invariant-loop-node : goal.invariant-loop-node
+invariant-loop-node l = record {
+  items : l.values.items ≡ l.initial.values.items ++ map (state_at (column l.lane l.hi l.lo)) (take l.node-index l.nodes);
+  room : vec_len l.values + (length l.nodes - l.node-index) ≤ vec_capacity l.values;
+  capacity : vec_capacity l.values ≡ vec_capacity l.initial.values;
+}

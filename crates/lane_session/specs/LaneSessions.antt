@@ -1,0 +1,56 @@
+-- The data of a session of columns: each column is the session of a plain script.
+use Rattle.std.specs.Prelude.{◌≡◌, ℕ, ◌<◌, ◌≤◌, false, List, length}
+use Rattle.ternary.specs.declared.tern.Tern.{Tern}
+use Rattle.ternary.specs.Counts.{raised}
+use Rattle.group_text.specs.Texts.{GroupTextData}
+use Rattle.lane_machine.specs.Columns.{column}
+use Rattle.netlist.specs.Circuits.{CircuitData}
+use Rattle.cosmos_session.specs.Sessions.{SessionData, ClockData, IsSession, start_of}
+
+-- how many columns there are, what all of them share, and the states of each: the circuit, both rails of each node's states, bit i for column
+-- i, the nodes that are watched, the clocks, the limit of a phase, how many waveform lines each column has, and the texts of groups whose
+-- analyses are kept
+pub record LaneSessionData : Type 0 where
+  pub lanes : ℕ
+  pub circuit : CircuitData
+  pub hi : List ℕ
+  pub lo : List ℕ
+  pub watched : List ℕ
+  pub clocks : List ClockData
+  pub limit : ℕ
+  pub count : ℕ
+  pub kept : List GroupTextData
+
+-- the states of a column
+abbrev pub states_of : LaneSessionData → ℕ → List Tern
+states_of session lane = column lane session.hi session.lo
+
+-- a column, as the session of a plain script: no expectation was missed, and all that is kept was analysed since the last report, since a
+-- script for columns has neither
+abbrev pub session_in : LaneSessionData → ℕ → SessionData
+session_in session lane = record {
+  circuit = session.circuit;
+  state = states_of session lane;
+  watched = session.watched;
+  clocks = session.clocks;
+  limit = session.limit;
+  count = session.count;
+  missed = false;
+  kept = session.kept;
+  fresh = raised 0 (length session.kept);
+}
+
+-- each column is a session, and there are 1 to 64 of them
+pub record IsLaneSession (session : LaneSessionData) : Type 0 where
+  pub some : 1 ≤ session.lanes
+  pub few : session.lanes ≤ 64
+  pub each : (lane : ℕ) → lane < session.lanes → IsSession (session_in session lane)
+
+-- each column is at its start in this circuit
+abbrev pub IsStart : CircuitData → LaneSessionData → Type 0
+IsStart circuit session = (lane : ℕ) → lane < session.lanes → session_in session lane ≡ start_of circuit
+
+-- each column is as before, with these texts kept
+pub record Stands (old new : LaneSessionData) (kept : List GroupTextData) : Type 0 where
+  pub states : (lane : ℕ) → lane < old.lanes → states_of new lane ≡ states_of old lane
+  pub rest : new ≡ record old { hi = new.hi; lo = new.lo; kept = kept }

@@ -1,0 +1,17 @@
+use std::marker::Model;
+use ternary::Tern;
+
+/// A clock: a node, and its states at the places of a cycle.
+#[derive(Drop)]
+pub(crate) struct Clock {
+    pub(crate) node: usize,
+    pub(crate) states: Vec<Tern>,
+}
+
+impl Model for Clock {
+    ghost use Rattle.cosmos_session.specs.Sessions.{ClockData};
+
+    ghost Value = { ClockData };
+
+    ghost view = { λ clock. record { node = clock.node; states = clock.states.items } };
+}

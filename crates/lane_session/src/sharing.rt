@@ -1,0 +1,151 @@
+//! The commands that take no step: the plain session obeys them for all columns, and tells their refusals.
+
+ghost use Rattle.std.specs.Prelude.{◌≡◌, ◌⊎◌, ℕ, ◌<◌, ◌≤◌, true, false, is_some, length, map, All, IfOk};
+ghost use Rattle.path_meaning.specs.declared.TheConstants.{RAILS};
+ghost use Rattle.path_meaning.specs.Graphs.{nodes};
+ghost use Rattle.netlist.specs.Names.{node_of};
+ghost use Rattle.netlist.specs.Circuits.{IsCircuit};
+ghost use Rattle.netlist.specs.Edits.{node_named};
+ghost use Rattle.script_lang.specs.Forms as form;
+ghost use Rattle.lane_script.specs.declared.command.LaneCommand.TheVariants as asked;
+ghost use Rattle.lane_script.specs.Commands.{in_column, value_in};
+ghost use Rattle.lane_script.specs.Forms.{IsFormed};
+ghost use Rattle.cosmos_session.specs.Sessions.{IsSession};
+ghost use Rattle.cosmos_session.specs.Preparing.{builds};
+ghost use Rattle.cosmos_session.specs.Effects.{assigned, clock_of};
+ghost use Rattle.lane_session.specs.Stages.{AreSound, KeepsFit, Shares, QuietlyTogether, is_edit, states_in};
+
+use crate::clock::Clock;
+use crate::given::first_given;
+use crate::session::LaneSession;
+use crate::stage::LaneStage;
+use crate::unasked::Unasked;
+use crate::words::value_words;
+use cosmos_session::{ApplyFault, Session};
+use lane_script::LaneCommand;
+use netlist::Circuit;
+use port_edge::DropSink;
+use script_lang::{ClockList, Name, NameList, StateList};
+use std::alloc::Global;
+use ternary::NoMemory;
+
+impl LaneSession {
+    /// An edit of the circuit. Each node that is new is X in each column.
+    pub(crate) fn edit(&mut self, command: &LaneCommand) -> Result<(), ApplyFault>
+        requires formed { IsFormed self.old.core.lanes command.now }
+        requires edit { is_edit command.now ≡ true }
+        ensures { QuietlyTogether self.old.core command.now self.new.core result }
+    {
+        // a call for the proof alone: there is a column, which has a state for each node
+        let _some = self.stage.lanes();
+        self.stage.loosen(self.alloc)?;
+        share(self.alloc, command, &mut self.plain)?;
+        self.stage.grow(self.plain.circuit().graph().nodes());
+        Ok(())
+    }
+
+    /// `set` and `charge`: gives the named nodes their states in each column, from left to right.
+    pub(crate) fn assign(
+        &mut self,
+        command: &LaneCommand,
+        list: &ClockList,
+    ) -> Result<(), ApplyFault>
+        requires formed { IsFormed self.old.core.lanes command.now }
+        requires values { (command.now ≡ asked.Set list.now) ⊎ (command.now ≡ asked.Charge list.now) }
+        ensures { QuietlyTogether self.old.core command.now self.new.core result }
+    {
+        share(self.alloc, command, &mut self.plain)?;
+        assign_all(self.plain.circuit(), list.items(), &mut self.stage);
+        Ok(())
+    }
+
+    /// `watch`: appends the named nodes to the watch list.
+    pub(crate) fn watch(
+        &mut self,
+        command: &LaneCommand,
+        names: &NameList,
+    ) -> Result<(), ApplyFault>
+        requires formed { IsFormed self.old.core.lanes command.now }
+        requires names { command.now ≡ asked.Watch names.now }
+        ensures { QuietlyTogether self.old.core command.now self.new.core result }
+    {
+        let _ = names;
+        share(self.alloc, command, &mut self.plain)
+    }
+
+    /// `limit`: sets the limit of a phase.
+    pub(crate) fn set_limit(&mut self, command: &LaneCommand, limit: u64) -> Result<(), ApplyFault>
+        requires formed { IsFormed self.old.core.lanes command.now }
+        requires limit { command.now ≡ asked.Limit limit }
+        ensures { QuietlyTogether self.old.core command.now self.new.core result }
+    {
+        share(self.alloc, command, &mut self.plain)?;
+        self.limit = limit;
+        Ok(())
+    }
+
+    /// `clock`: puts these clocks in place of all others.
+    pub(crate) fn set_clocks(
+        &mut self,
+        command: &LaneCommand,
+        list: &ClockList,
+    ) -> Result<(), ApplyFault>
+        requires formed { IsFormed self.old.core.lanes command.now }
+        requires clocks { command.now ≡ asked.Clock list.now }
+        ensures { QuietlyTogether self.old.core command.now self.new.core result }
+    {
+        let clocks = named_clocks(self.alloc, self.plain.circuit(), list.items())?;
+        share(self.alloc, command, &mut self.plain)?;
+        self.clocks = clocks;
+        Ok(())
+    }
+}
+
+// Has the plain session obey what the first column is given of a command that takes no step.
+fn share(alloc: Global, command: &LaneCommand, plain: &mut Session) -> Result<(), ApplyFault>
+    requires formed { form.IsFormed (in_column 0 command.now) }
+    requires still { builds (in_column 0 command.now) ≡ false }
+    ensures shares { Shares plain.old.core (in_column 0 command.now) plain.new.core result }
+    ensures before { IsSession plain.old.core }
+    ensures after { IsSession plain.new.core }
+{
+    // a call for the proof alone: a session keeps itself well formed
+    let _circuit = plain.circuit();
+    let given = first_given(alloc, command)?;
+    plain.apply(&given, &mut Unasked {}, &mut DropSink::new())
+}
+
+// Gives these named nodes, which are in use and no rails, their states in each column, from left to right.
+fn assign_all(circuit: &Circuit, list: &[(Name, StateList)], stage: &mut LaneStage)
+    requires sound { AreSound circuit.now.graph stage.old }
+    requires fit { All (λ item. (length item.1 ≡ 1) ⊎ (length item.1 ≡ stage.old.lanes)) list.now }
+    requires known { All (λ item. is_some (node_of circuit.now.names item.0) ≡ true) list.now }
+    requires past { All (λ item. RAILS ≤ node_named circuit.now item.0) list.now }
+    ensures lanes { stage.new.lanes ≡ stage.old.lanes }
+    ensures states { (lane : ℕ) → lane < stage.old.lanes
+        → states_in stage.new lane ≡ assigned circuit.now (states_in stage.old lane) (map (value_in lane) list.now) }
+    ensures machine { KeepsFit circuit.now.graph stage.old.machine stage.new.machine }
+{
+    for (name, states) in list {
+        let node = circuit.find(name.items()).unwrap();
+        let words = value_words(states.items(), stage.lanes());
+        stage.set_node(circuit.graph(), node, words);
+    }
+}
+
+// The clocks of these names and letters; a name that isn't in use stands for node 0 until it is refused.
+fn named_clocks(
+    alloc: Global,
+    circuit: &Circuit,
+    list: &[(Name, StateList)],
+) -> Result<Vec<Clock>, NoMemory>
+    ensures items { IfOk result (λ clocks. clocks.items ≡ map (clock_of circuit.now) list.now) }
+{
+    let mut clocks = Vec::with_capacity(alloc, list.len())?;
+    for (name, states) in list {
+        let node = circuit.find(name.items()).unwrap_or(0);
+        let states = Vec::from_slice(alloc, states.items())?;
+        clocks.push_reserved(Clock { node, states });
+    }
+    Ok(clocks)
+}
