@@ -20,7 +20,7 @@ pub(crate) fn tell_stop(
     match status {
         Status::Usage => {
             let _ = eprintln!(rt;
-                "cosmos: the words are `sim NET SCRIPT`, `sim-spice DECK SCRIPT`, `check NET`, `groups NET`, `compile NET`, `gen PART KIND SEED N`, `large KIND SEED N` or `why NET SCRIPT NODE`, of a node in use at the script's end"
+                "cosmos: the words are `sim NET SCRIPT`, `sim-spice DECK SCRIPT`, `batch NET L SCRIPT`, `check NET`, `groups NET`, `compile NET`, `gen PART KIND SEED N`, `large KIND SEED N`, `faults NET SCRIPT LIST` or `why NET SCRIPT NODE`, of a node in use at the script's end"
             );
         }
         Status::ReadFault => tell_fault(rt, file.unwrap_or("a file"), "can't be read", of_file),

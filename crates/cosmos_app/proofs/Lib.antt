@@ -2,10 +2,12 @@ pub mod LowerLemmas
 pub mod EndLemmas
 pub mod NetLemmas
 pub mod DeckLemmas
+pub mod ColumnLemmas
 pub mod StartLemmas
 pub mod GroupsLemmas
 pub mod ListLemmas
 pub mod WholeLemmas
+pub mod FaultLemmas
 pub mod CountLemmas
 pub mod PieceLemmas
 pub mod FeedingLemmas

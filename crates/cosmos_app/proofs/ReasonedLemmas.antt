@@ -1,5 +1,5 @@
 -- What was told of a node at the end of a script, or of the refusal that ended it, is told of the answer to `why`.
-use Rattle.std.proofs.Common.{◌≡◌, ◌≢◌, ℕ, inl, inr, List, ◌++◌, Option, None, Some, IfSome, Result, Ok, Err, IfOk, IfErr, refl, sym, ap, subst, ◌∙◌, arith}
+use Rattle.std.proofs.Common.{◌≡◌, ◌≢◌, ℕ, inl, inr, List, Option, None, Some, IfSome, Result, Ok, Err, IfOk, IfErr, refl, sym, ap, subst, ◌∙◌, arith}
 use Rattle.line_words.specs.Files.{front_of, lines_in, cut_line}
 use Rattle.line_words.proofs.FileLemmas.{cut_line-front_of, lines_in-front_of}
 use Rattle.netlist.specs.Circuits.{CircuitData}

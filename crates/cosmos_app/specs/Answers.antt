@@ -26,12 +26,14 @@ use Rattle.cosmos_session.specs.Sessions.{start_of}
 use Rattle.script_run.specs.declared.status.Status.{Status}
 use Rattle.script_run.specs.declared.status.Status.TheVariants as status
 use Rattle.cosmos_app.specs.Codes.{net_code}
+use Rattle.cosmos_app.specs.Batching.{IsBatch}
 use Rattle.cosmos_app.specs.Samples.{Sample, text_of}
-use Rattle.cosmos_app.specs.Requests.{Question, Simulate, Check, Groups, Compile, Explain, Request, About, Generate, SumUp, OverDeck, Unclear, request_of}
+use Rattle.cosmos_app.specs.Requests.{Question, Simulate, Batch, Check, Groups, Compile, Explain, Judge, Request, About, Generate, SumUp, OverDeck, Unclear, request_of}
 use Rattle.script_run.specs.Runs.{Answer, plain_answer, plain_reading, IsScriptAnswer}
 use Rattle.script_run.specs.Answers.{IsRefusal, IsTooLarge, IsWritten, IsStopped, IsAnalysed}
 use Rattle.cosmos_app.specs.Summaries.{IsSummedUp}
 use Rattle.cosmos_app.specs.Reasoned.{IsReasoned}
+use Rattle.fault_runs.specs.Judging.{AreJudgedFaults}
 
 -- the answer is the usage line alone
 abbrev pub IsUsage : Answer → Type 0
@@ -85,10 +87,12 @@ IsCompiled circuit answer = IsListed circuit answer ⊎ IsTooLarge circuit NetWh
 -- the answer to a question about a circuit, by what the names hold
 abbrev pub IsAnswerIn : Question → (List ℕ → List ℕ) → CircuitData → Answer → Type 0
 IsAnswerIn (Simulate script) holds = IsSimulation (holds script)
+IsAnswerIn (Batch lanes script) holds = IsBatch lanes (holds script)
 IsAnswerIn Check holds = IsCheck
 IsAnswerIn Groups holds = IsGroups
 IsAnswerIn Compile holds = IsCompiled
 IsAnswerIn (Explain script node) holds = IsReasoned (holds script) node
+IsAnswerIn (Judge script list) holds = AreJudgedFaults (holds script) (holds list)
 
 -- the answer of a request for a part of a sample: its text
 abbrev pub IsGenerated : GenPart → Sample → Answer → Type 0

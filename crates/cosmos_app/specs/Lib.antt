@@ -1,5 +1,6 @@
 pub mod Codes
 pub mod Samples
+pub mod Batching
 pub mod Requests
 pub mod Summaries
 pub mod Countings

@@ -6,16 +6,20 @@ use Rattle.cosmos_app.specs.declared.request.Question as code_question
 use Rattle.cosmos_app.specs.declared.request.Question.TheVariants as code_question_is
 use Rattle.cosmos_app.specs.declared.request.Request as code_request
 use Rattle.cosmos_app.specs.declared.request.Request.TheVariants as code_request_is
+use Rattle.cosmos_app.specs.Batching.{lanes_of, lanes_seen}
 use Rattle.cosmos_app.specs.Samples.{Sample, part_of, sample_of, sample_seen}
 
--- what may be asked about a netlist: the run of the script with this name in its circuit, a check, its groups, its listing, or the reasons
--- of the node with the second name at the end of the script with the first
+-- what may be asked about a netlist: the run of the script with this name in its circuit, or in so many columns of it, a check, its groups,
+-- its listing, the reasons of the node with the second name at the end of the script with the first, or the verdicts on the faults of the
+-- list with the second name beside the run of the script with the first
 pub data Question : Type 0 where
   Simulate : List ℕ → Question
+  Batch : ℕ → List ℕ → Question
   Check : Question
   Groups : Question
   Compile : Question
   Explain : List ℕ → List ℕ → Question
+  Judge : List ℕ → List ℕ → Question
 
 -- what words ask for: a question about the netlist with this name, a part of a sample, a sample's run summed up, the run of a script in the
 -- circuit of a deck, by the deck's name and the script's, or nothing that there is
@@ -60,14 +64,21 @@ abbrev pub sum_up : Option Sample → Request
 sum_up (Some sample) = SumUp sample
 sum_up None = Unclear
 
--- what four words ask for, by the first: `large KIND SEED N` or `why NET SCRIPT NODE`
+-- the run of a script in columns, where a word tells how many
+abbrev pub in_columns : List ℕ → Option ℕ → List ℕ → Request
+in_columns net (Some lanes) script = About net (Batch lanes script)
+in_columns net None script = Unclear
+
+-- what four words ask for, by the first: `large KIND SEED N`, `why NET SCRIPT NODE`, `faults NET SCRIPT LIST` or `batch NET L SCRIPT`
 abbrev pub by_four : List ℕ → List ℕ → List ℕ → List ℕ → Request
 by_four command first second third =
     if bytes_eq command (codes "large") then sum_up (sample_of first second third)
-    else (if bytes_eq command (codes "why") then About first (Explain second third) else Unclear)
+    else (if bytes_eq command (codes "why") then About first (Explain second third)
+    else (if bytes_eq command (codes "faults") then About first (Judge second third)
+    else (if bytes_eq command (codes "batch") then in_columns first (lanes_of second) third else Unclear)))
 
 -- what words ask for, by their number: `sim NET SCRIPT`, `sim-spice DECK SCRIPT`, `check NET`, `groups NET`, `compile NET`,
--- `gen PART KIND SEED N`, `large KIND SEED N` and `why NET SCRIPT NODE`, and nothing else
+-- `gen PART KIND SEED N`, `large KIND SEED N`, `why NET SCRIPT NODE`, `faults NET SCRIPT LIST` and `batch NET L SCRIPT`, and nothing else
 abbrev pub request_of : List (List ℕ) → Request
 request_of (command ∷ circuit ∷ script ∷ []) = simulation command circuit script
 request_of (command ∷ net ∷ []) = about net (question_of command)
@@ -78,10 +89,12 @@ request_of _ = Unclear
 -- a question of the code, as it is meant here
 abbrev pub question_seen : code_question.Question → Question
 question_seen (code_question_is.Simulate script) = Simulate script.now
+question_seen (code_question_is.Batch lanes script) = Batch (lanes_seen lanes) script.now
 question_seen code_question_is.Check = Check
 question_seen code_question_is.Groups = Groups
 question_seen code_question_is.Compile = Compile
 question_seen (code_question_is.Explain script node) = Explain script.now node.now
+question_seen (code_question_is.Judge script list) = Judge script.now list.now
 
 -- and a request of the code
 abbrev pub request_seen : code_request.Request → Request

@@ -5,7 +5,7 @@ use Rattle.script_run.specs.declared.stop.Stop.{Stop}
 use Rattle.netlist.specs.Circuits.{CircuitData}
 use Rattle.sim_read.specs.Meaning.{netlist_of}
 use Rattle.spice_read.specs.Making.{circuit_of}
-use Rattle.cosmos_app.specs.Requests.{Question, Simulate, Explain, Request, About, Generate, SumUp, OverDeck, Unclear}
+use Rattle.cosmos_app.specs.Requests.{Question, Simulate, Batch, Explain, Judge, Request, About, Generate, SumUp, OverDeck, Unclear}
 
 -- the started names, where they are told
 abbrev pub Started : Type 0
@@ -15,15 +15,22 @@ Started = Option (List (List ℕ))
 abbrev pub StartsAtMost : Started → Started → List ℕ → Type 0
 StartsAtMost old new name = (new ≡ old) ⊎ (new ≡ with_name old name)
 
+-- nothing was started, or the file of the first name, or that and then the file of the second
+abbrev pub StartsInOrder : Started → Started → List ℕ → List ℕ → Type 0
+StartsInOrder old new first second = StartsAtMost old new first ⊎ (new ≡ with_name (with_name old first) second)
+
 -- the file of this name was started; where the run stopped, perhaps not
 abbrev pub StartsFile : {T : Type 0} → Started → Started → List ℕ → Result T Stop → Type 0
 StartsFile old new name (Ok _) = new ≡ with_name old name
 StartsFile old new name (Err stop) = StartsAtMost old new name
 
--- what a question starts beside the netlist: one that runs a script starts nothing or the script
+-- what a question starts beside the netlist: one that runs a script starts nothing or the script; one about faults nothing, or its
+-- script, or both its script and its list
 abbrev pub ScriptStarts : Question → Started → Started → Type 0
 ScriptStarts (Simulate script) old new = StartsAtMost old new script
+ScriptStarts (Batch lanes script) old new = StartsAtMost old new script
 ScriptStarts (Explain script node) old new = StartsAtMost old new script
+ScriptStarts (Judge script list) old new = StartsInOrder old new script list
 ScriptStarts _ old new = new ≡ old
 
 -- the netlist, or the deck, has no refusal

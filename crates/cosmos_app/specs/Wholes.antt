@@ -9,12 +9,14 @@ use Rattle.spice_read.specs.Making.{circuit_of}
 use Rattle.port_edge.specs.Taken.{Taken, with_files}
 use Rattle.script_run.specs.declared.status.Status.{Status}
 use Rattle.script_run.specs.declared.status.Status.TheVariants.{ReadFault, WriteFault, NoMemory}
-use Rattle.cosmos_app.specs.Requests.{Question, Simulate, Explain, Request, About, Generate, SumUp, OverDeck, Unclear}
+use Rattle.cosmos_app.specs.Requests.{Question, Simulate, Batch, Explain, Judge, Request, About, Generate, SumUp, OverDeck, Unclear}
 
--- the files that a question needs beside the netlist
+-- the files that a question needs beside the netlist, the last one first
 abbrev pub scripts_of : Question → List (List ℕ)
 scripts_of (Simulate script) = script ∷ []
+scripts_of (Batch lanes script) = script ∷ []
 scripts_of (Explain script node) = script ∷ []
+scripts_of (Judge script list) = list ∷ script ∷ []
 scripts_of _ = []
 
 -- the files that a question about a netlist of this meaning needs, the last one first: a script only where the netlist has no refusal

@@ -17,14 +17,21 @@
 //!     `large nodes 5 switches 4 lines 4 steps 4 marks 0 zeros 4 ones 4 unknown 0`
 //! run(alloc, ["why", "inverter.sim", "inverter.cmd", "out"], files, out) is Status::Done, and writes
 //!     the line of a reason why `out` may be 1 at the script's end, or that there is none, and that of 0
+//! run(alloc, ["faults", "inverter.sim", "inverter.cmd", "inverter.faults"], files, out) is Status::Done, and writes
+//!     a line for the verdict on each fault of the list, and one that counts them
+//! run(alloc, ["batch", "inverter.sim", "3", "columns.cmd"], files, out) is Status::Done, and writes
+//!     the waveform lines of the three columns row by row, each after the number of its column
 //! ```
 #![tactic(auto)]
 
+mod batch;
 mod codes;
 mod compile;
 mod counting;
 mod explain;
+mod faults;
 mod generated;
+mod lanes;
 mod reading;
 mod refusal;
 mod reports;

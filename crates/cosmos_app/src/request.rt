@@ -4,7 +4,10 @@ ghost use Rattle.std.specs.Prelude.{◌≡◌, ◌≤◌, IfSome};
 ghost use Rattle.std.specs.Option.{option_map};
 ghost use Rattle.cosmos_app.specs.Requests as spec;
 ghost use Rattle.cosmos_app.specs.Samples as samples;
+ghost use Rattle.cosmos_app.specs.Batching as batch;
 
+use crate::batch::lanes_of;
+use crate::lanes::Lanes;
 use crate::sample::Sample;
 use line_words::decimal;
 use net_gen::{GenKind, GenPart, MOST_ROWS};
@@ -38,6 +41,8 @@ pub(crate) enum Request<'a> {
 pub(crate) enum Question<'a> {
     /// The run of the script with this name in its circuit.
     Simulate(&'a str),
+    /// The run of the script with this name in so many columns of its circuit.
+    Batch(Lanes, &'a str),
     /// How many nodes, transistors and names it has.
     Check,
     /// Its channel-connected groups.
@@ -46,10 +51,13 @@ pub(crate) enum Question<'a> {
     Compile,
     /// The reasons of the node with this name, at the end of the script with that one.
     Explain { script: &'a str, node: &'a str },
+    /// The verdicts on the faults of the list with this name, beside the run of the script with that one.
+    Judge { script: &'a str, list: &'a str },
 }
 
 /// What the words of a command line ask for: `sim NET SCRIPT`, `sim-spice DECK SCRIPT`, `check NET`, `groups NET`,
-/// `compile NET`, `gen PART KIND SEED N`, `large KIND SEED N` and `why NET SCRIPT NODE`, and nothing else.
+/// `compile NET`, `gen PART KIND SEED N`, `large KIND SEED N`, `why NET SCRIPT NODE`, `faults NET SCRIPT LIST` and
+/// `batch NET L SCRIPT`, and nothing else.
 pub(crate) fn request_of(words: &[String]) -> Request<'_>
     ensures { spec.request_seen result ≡ spec.request_of (spec.names_of words.now) }
 {
@@ -105,6 +113,10 @@ fn by_four<'a>(command: &str, first: &'a str, second: &'a str, third: &'a str) -
         sum_up(sample_of(first, second, third))
     } else if command == "why" {
         explanation(first, second, third)
+    } else if command == "faults" {
+        judgement(first, second, third)
+    } else if command == "batch" {
+        in_columns(first, lanes_of(second), third)
     } else {
         Request::Unclear
     }
@@ -116,6 +128,27 @@ fn explanation<'a>(net: &'a str, script: &'a str, node: &'a str) -> Request<'a>
 {
     let question = Question::Explain { script, node };
     Request::About { net, question }
+}
+
+// The question about the faults of a list.
+fn judgement<'a>(net: &'a str, script: &'a str, list: &'a str) -> Request<'a>
+    ensures { spec.request_seen result ≡ spec.About net.now (spec.Judge script.now list.now) }
+{
+    let question = Question::Judge { script, list };
+    Request::About { net, question }
+}
+
+// The run of a script in columns, where it is told how many.
+fn in_columns<'a>(net: &'a str, lanes: Option<Lanes>, script: &'a str) -> Request<'a>
+    ensures { spec.request_seen result ≡ spec.in_columns net.now (option_map batch.lanes_seen lanes) script.now }
+{
+    match lanes {
+        Some(lanes) => {
+            let question = Question::Batch(lanes, script);
+            Request::About { net, question }
+        }
+        None => Request::Unclear,
+    }
 }
 
 // A sample's run summed up, where the words tell one.

@@ -15,8 +15,10 @@ ghost use Rattle.cosmos_app.specs.Wholes.{files_of, needed, needed_over, scripts
 ghost use Rattle.cosmos_app.specs.Starts.{DeckStarts, QuestionStarts, RequestStarts, ScriptStarts, StartsAtMost};
 ghost use Rattle.script_run.specs.Ends.{IsToldBy, IsUntouched, status_after};
 
+use crate::batch::run_columns;
 use crate::compile::write_listing;
 use crate::explain::explain;
+use crate::faults::judge_list;
 use crate::generated::write_part;
 use crate::reading::{read_circuit, read_deck_file, read_file};
 use crate::refusal::{refuse_deck, refuse_net, refuse_words};
@@ -37,6 +39,8 @@ use std::alloc::Global;
 /// order, writing a waveform line for each step and each phase, a line for each expectation that isn't
 /// met and one for each report; the analyst makes code of each text of a group that a command needs and
 /// that isn't kept. `sim-spice DECK SCRIPT` does the same in the circuit of the SPICE deck of that name.
+/// `batch NET L SCRIPT` does so in L columns at once, a decimal from 1 to 64, which differ in the letters of
+/// the script, and writes the columns' lines row by row.
 /// `check NET` reads the netlist and writes how many nodes, transistors and names it has;
 /// `groups NET` writes a line for each of its channel-connected groups; `compile NET` has the analyst
 /// make code of each text of a group that the circuit has, once, and writes a listing of the circuit,
@@ -49,8 +53,11 @@ use std::alloc::Global;
 /// many values are 0, 1 and X; an expectation that isn't met counts for nothing. `why NET SCRIPT NODE` runs the
 /// script as `sim` does, whose lines aren't written, and writes two lines for the node of the name NODE in the
 /// circuit and the state at the script's end: a strongest reason why it may be 1, or that there is none, and
-/// the same of 0. A name that isn't in use then is refused with the status of the usage line. All other words
-/// are answered by the usage line.
+/// the same of 0. A name that isn't in use then is refused with the status of the usage line.
+/// `faults NET SCRIPT LIST` reads the netlist, the script and the list of faults, runs the script as `sim` does,
+/// and then once more under each fault of the list, and writes a line with the verdict on each fault and one
+/// that counts the verdicts; the first refused line of the list, or else of the script in the run without a
+/// fault, ends it before, with the line of that refusal. All other words are answered by the usage line.
 ///
 /// A netlist, a deck or a script with a refused line ends the run with the line of that refusal. A file is
 /// read to its end, or to the first byte too many, before any refusal of it is answered. After a call
@@ -225,11 +232,17 @@ fn answer_in<F: Files, S: Sink, A: Analyst>(
 {
     match question {
         Question::Simulate(script) => run_script(alloc, circuit, script, files, out, analyst),
+        Question::Batch(lanes, script) => {
+            run_columns(alloc, circuit, lanes, script, files, out, analyst)
+        }
         Question::Check => report_check(alloc, &circuit, out),
         Question::Groups => list_groups(alloc, files.keys(), &circuit, out),
         Question::Compile => write_listing(alloc, files.keys(), &circuit, out, analyst),
         Question::Explain { script, node } => {
             explain_after(alloc, circuit, script, node, files, out, analyst)
+        }
+        Question::Judge { script, list } => {
+            judge_list(alloc, circuit, script, list, files, out, analyst)
         }
     }
 }

@@ -162,6 +162,35 @@ const REASONS: [(&[u8], &[u8], &str, Status, &[u8]); 5] = [
     ),
 ];
 
+// netlist, number of columns, script, status and text
+const COLUMNS: [(&[u8], &str, &[u8], Status, &[u8]); 3] = [
+    (
+        INVERTER,
+        "3",
+        b"input a\nwatch a out\nset a=01X\nphase\nset a=1\nphase\n",
+        Status::Done,
+        b"1 1 1 01\n2 1 1 10\n3 1 0 XX\n1 2 1 10\n2 2 0 10\n3 2 1 10\n",
+    ),
+    (
+        INVERTER,
+        "2",
+        b"input a\nwatch out\nset a=01\nphase\nset a=010\n",
+        Status::ScriptRefused,
+        b"1 1 1 1\n2 1 1 0\nscript line 5: S4 BadValue\n",
+    ),
+    (INVERTER, "65", SCRIPT, Status::Usage, b"bad command line\n"),
+];
+
+// what the inverter's script writes in two columns
+const ROWS: &[u8] = b"1 1 1 01\n2 1 1 01\n1 2 1 10\n2 2 1 10\n";
+
+// a list of faults
+const LIST: &[u8] = b"open 1\nzero a\n";
+
+// what the list's faults come to beside the inverter's script
+const VERDICTS: &[u8] = b"fault 1 possible 1 out\nfault 2 detected 2 a\n\
+    faults 2 detected 1 possible 1 undetected 0 refused 0\n";
+
 // words, status and text
 const SAMPLES: [(&[&str], Status, &[u8]); 6] = [
     (
@@ -205,7 +234,7 @@ pub(super) fn words_of(alloc: Global, words: &[&str]) -> Result<Vec<String>, Fai
     Ok(owned)
 }
 
-// What the names `net` and `script` hold.
+// What the names `net`, `script` and `list` hold.
 pub(super) fn table_of(
     alloc: Global,
     net: &[u8],
@@ -214,6 +243,7 @@ pub(super) fn table_of(
     let table = vec![in alloc;
         (String::from_str(alloc, "net")?, net.to_vec(alloc)?),
         (String::from_str(alloc, "script")?, script.to_vec(alloc)?),
+        (String::from_str(alloc, "list")?, LIST.to_vec(alloc)?),
     ]?;
     Ok(table)
 }
@@ -286,6 +316,17 @@ fn nodes_have_their_reasons(rt: HostRuntime) -> Result<(), Fail> {
 }
 
 #[test]
+fn columns_have_their_status_and_text(rt: HostRuntime) -> Result<(), Fail> {
+    for (net, lanes, script, status, text) in &COLUMNS {
+        let words = ["batch", "net", lanes, "script"];
+        let (found, written) = answer(rt.alloc(), &words, net, script)?;
+        assert_eq!(rt; found, *status);
+        assert_eq!(rt; written.as_slice(), *text);
+    }
+    Ok(())
+}
+
+#[test]
 fn decks_and_scripts_have_their_status_and_text(rt: HostRuntime) -> Result<(), Fail> {
     let script = b"input in\nwatch in m out\nset in=0\nphase\nset in=1\nphase\n";
     for (deck, status, text) in &DECKS {
@@ -331,6 +372,34 @@ fn each_write_that_fails_is_the_last(rt: HostRuntime) -> Result<(), Fail> {
     let (status, written) = answer_failing(rt.alloc(), &[], 0, 1)?;
     assert_eq!(rt; status, Status::WriteFault);
     assert!(rt; written.is_empty());
+    Ok(())
+}
+
+#[test]
+fn verdicts_end_at_the_write_that_fails(rt: HostRuntime) -> Result<(), Fail> {
+    let words = ["faults", "net", "script", "list"];
+    for sent in 0..VERDICTS.len() {
+        let (status, written) = answer_failing(rt.alloc(), &words, 0, sent as u64 + 1)?;
+        assert_eq!(rt; status, Status::WriteFault);
+        assert_eq!(rt; written.as_slice(), &VERDICTS[..sent]);
+    }
+    let (status, written) = answer_failing(rt.alloc(), &words, 0, 0)?;
+    assert_eq!(rt; status, Status::Done);
+    assert_eq!(rt; written.as_slice(), VERDICTS);
+    Ok(())
+}
+
+#[test]
+fn rows_of_columns_end_at_the_write_that_fails(rt: HostRuntime) -> Result<(), Fail> {
+    let words = ["batch", "net", "2", "script"];
+    for sent in 0..ROWS.len() {
+        let (status, written) = answer_failing(rt.alloc(), &words, 0, sent as u64 + 1)?;
+        assert_eq!(rt; status, Status::WriteFault);
+        assert_eq!(rt; written.as_slice(), &ROWS[..sent]);
+    }
+    let (status, written) = answer_failing(rt.alloc(), &words, 0, 0)?;
+    assert_eq!(rt; status, Status::Done);
+    assert_eq!(rt; written.as_slice(), ROWS);
     Ok(())
 }
 

@@ -1,0 +1,48 @@
+//! Judging the faults of a list that a file holds.
+
+ghost use Rattle.std.specs.Prelude.{◌≡◌, ◌+◌, [], ◌∷◌, IfSome, IfOk};
+ghost use Rattle.port_edge.specs.Taken.{TakesFiles};
+ghost use Rattle.netlist.specs.Circuits.{HasVisibleNames};
+ghost use Rattle.script_run.specs.Stops.{faults_read, faults_written, IsRefusedOnce};
+ghost use Rattle.script_run.specs.Ends.{IsToldBy, IsUntouched};
+ghost use Rattle.fault_runs.specs.Judging.{AreJudgedFaults};
+ghost use Rattle.cosmos_app.specs.Starts.{StartsInOrder};
+ghost use Rattle.cosmos_app.specs.Wholes.{ReadsWhole};
+
+use crate::reading::read_file;
+use fault_runs::judge_faults;
+use group_analysis::Analyst;
+use line_words::MOST_FILE_BYTES;
+use netlist::Circuit;
+use port_edge::{Files, Sink};
+use script_run::{End, Stop};
+use std::alloc::Global;
+
+/// Reads the script and then the list of faults, and judges the faults in the circuit, each by a run of the
+/// script beside the good one.
+pub(crate) fn judge_list<F: Files, S: Sink, A: Analyst>(
+    alloc: Global,
+    circuit: Circuit,
+    script: &str,
+    list: &str,
+    files: &mut F,
+    out: &mut S,
+    analyst: &mut A,
+) -> Result<End, Stop>
+    requires { HasVisibleNames circuit }
+    ensures told { IfSome (F.holds files.old) (λ holds. IsToldBy
+        (AreJudgedFaults (holds script.now) (holds list.now) circuit)
+        (S.written out.old) (S.written out.new) (A.analysed analyst.old) (A.analysed analyst.new) result) }
+    ensures started { StartsInOrder (F.started files.old) (F.started files.new) script.now list.now }
+    ensures taken { TakesFiles (F.taken files.old) (F.taken files.new) (MOST_FILE_BYTES + 1) }
+    ensures whole { IfOk result (λ _. IfSome (F.holds files.old) (λ holds.
+        ReadsWhole (F.taken files.old) (F.taken files.new) holds (list.now ∷ script.now ∷ []))) }
+    ensures read { F.faults files.new ≡ faults_read (F.faults files.old) result }
+    ensures write { S.faults out.new ≡ faults_written (S.faults out.old) result }
+    ensures refused { IsRefusedOnce (S.refusals out.old) (S.refusals out.new) result }
+    ensures untouched { IsUntouched out.old out.new result }
+{
+    let text = read_file(alloc, files, script)?;
+    let faults = read_file(alloc, files, list)?;
+    judge_faults(alloc, circuit, &text, &faults, out, analyst)
+}
