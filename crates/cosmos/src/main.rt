@@ -27,16 +27,18 @@
 
 mod named_files;
 mod telling;
+mod told_sink;
 
 use cosmos_app::{Status, run};
 use named_files::NamedFiles;
 use node_elimination::SymbolicAnalyst;
-use port_edge::{real_files, real_sink};
+use port_edge::real_files;
 use std::hash::RandomState;
 use std::process::ExitCode;
 use std::{env, io};
 use table_keys::TableKeys;
 use telling::{tell_start, tell_stop};
+use told_sink::ToldSink;
 
 fn main(rt: HostRuntime) -> ExitCode {
     ExitCode::from(status(&rt).code())
@@ -74,9 +76,10 @@ fn answer_drawn(rt: &HostRuntime, words: &[String]) -> Status {
 // Answers the words over the files of the system and the standard output.
 fn answer(rt: &HostRuntime, words: &[String], keys: TableKeys) -> Status {
     let mut files = NamedFiles::over(real_files(rt, keys));
-    let mut out = real_sink(rt);
+    let mut out = ToldSink::over(rt, words);
     let mut analyst = SymbolicAnalyst::with_keys(rt.alloc(), keys);
     let status = run(rt.alloc(), words, &mut files, &mut out, &mut analyst);
+    out.finish();
     tell_stop(
         rt,
         status,
