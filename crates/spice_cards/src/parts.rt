@@ -48,6 +48,13 @@ impl<'d, 'a> Parts<'d, 'a> {
     {
         Parts { words, places }
     }
+
+    /// The same parts, to be gone through once more.
+    pub fn again(&self) -> Parts<'d, 'a>
+        ensures { result ≡ self.now }
+    {
+        Parts::new(self.words, self.places)
+    }
 }
 
 impl<'d, 'a> Iterator for Parts<'d, 'a> {

@@ -1,17 +1,19 @@
 -- The scope of the calls that are open: that of the outer ones with one more, and the node of a name in it.
-use Rattle.std.proofs.Common.{◌≡◌, ℕ, ◌+◌, ◌-◌, ◌≤◌, length, get_or, take, take-append-drop, Result, Ok, Err, IfOk, arith, Bool, true, false, List, [], ◌∷◌, ◌++◌, Option, Some, None, option_map, append_assoc, if◌then◌else◌, refl, sym, ◌∙◌, ap, bytes_eq, ◌==◌, ◌||◌, append-nil, map}
+use Rattle.std.proofs.Common.{◌≡◌, ℕ, ◌+◌, ◌-◌, ◌≤◌, length, get_or, take, take-append-drop, Result, Ok, Err, IfOk, arith, Bool, true, false, List, [], ◌∷◌, ◌++◌, Option, Some, None, option_map, append_assoc, if◌then◌else◌, refl, sym, ◌∙◌, ap, bytes_eq, eq-eqb, not, ◌==◌, ◌||◌, append-nil, map}
 use Rattle.std.specs.List.{list_any, zip}
 use Rattle.std.proofs.lemmas.List.{at_drop_more, drop_all}
 use Rattle.spice_cards.specs.declared.fault.DeckFault.{DeckFault}
-use Rattle.spice_cards.specs.Decks.{DeckCards, PartCard}
+use Rattle.spice_cards.specs.declared.fault.DeckWhat.{DeckWhat}
+use Rattle.spice_cards.specs.declared.fault.DeckWhat.TheVariants.{PortCount, Recursion}
+use Rattle.spice_cards.specs.Decks.{DeckCards, PartCard, SubcircuitCards}
 use Rattle.spice_cards.specs.Reading.{word_at}
 use Rattle.spice_cards.specs.Tables.{named}
 use Rattle.spice_read.specs.declared.open_call.OpenCall.{OpenCall}
 use Rattle.spice_read.specs.Expansions.{last_named}
 use Rattle.spice_read.specs.Frames.{FrameData, inside, inside_call, name_below, scope_from, scope_of}
 use Rattle.spice_read.specs.Making.{MadeData, after}
-use Rattle.spice_read.specs.Scopes.{Scope, below, called, dot, fixed_node, is_fixed, node_by, node_in, nodes_of, outside, port_nodes, with_each}
-use Rattle.spice_read.specs.Steps.{expand}
+use Rattle.spice_read.specs.Scopes.{Scope, below, called, dot, fixed_node, is_fixed, node_by, node_in, nodes_of, outside, port_nodes, subcircuit_named, with_each}
+use Rattle.spice_read.specs.Steps.{entry_by, entry_of, expand}
 use Rattle.spice_read.proofs.PortsLemmas.{last_counts}
 
 -- inside one more call
@@ -154,6 +156,26 @@ any-map line (call ∷ calls) = ap (λ (later : Bool). (call.line == line) || la
 pub any-expanding : (deck : DeckCards) (calls : List OpenCall) (line : ℕ) →
     list_any (λ one. one == line) (scope_from deck outside calls).expanding ≡ list_any (λ (call : OpenCall). call.line == line) calls
 any-expanding deck calls line = ap (list_any (λ one. one == line)) (expanding-from deck calls outside) ∙ any-map line calls
+
+-- ---- the subcircuit of a call
+
+-- the subcircuit, unless it is being expanded
+abbrev pub entry_or : Bool → SubcircuitCards → Result SubcircuitCards DeckWhat
+entry_or again s = if again then Err Recursion else Ok s
+
+-- a call of as many nodes opens the subcircuit that was found, unless it is being expanded
+pub entry-found : (frame after : FrameData) (words : List (List ℕ)) (name : List ℕ) (s : SubcircuitCards) (again : Bool) →
+    length (nodes_of words) ≡ length s.ports → after ≡ frame → name ≡ subcircuit_named words → named frame.deck.subcircuits name ≡ Some s →
+    again ≡ list_any (λ one. one == s.line) (scope_of after).expanding →
+    entry_of frame.deck (scope_of frame) words ≡ entry_or again s
+entry-found frame after words name s again counted stays is_name found is =
+    let scope = scope_of frame in
+    let nodes = nodes_of words in
+    ap (λ (n : List ℕ). entry_by scope nodes (named frame.deck.subcircuits n)) (sym is_name)
+    ∙ ap (entry_by scope nodes) found
+    ∙ ap (λ (same : Bool). if not same then Err PortCount else entry_or (list_any (λ one. one == s.line) scope.expanding) s)
+    (eq-eqb (length nodes) (length s.ports) counted)
+    ∙ ap (λ (b : Bool). entry_or b s) (sym (is ∙ ap (λ (f : FrameData). list_any (λ one. one == s.line) (scope_of f).expanding) stays))
 
 -- ---- the bytes of names
 

@@ -1,5 +1,6 @@
 pub mod ExpansionLemmas
 pub mod FrameLemmas
+pub mod LookupLemmas
 pub mod PortsLemmas
 pub mod ReaderLemmas
 pub mod RefusalLemmas

@@ -47,7 +47,7 @@ pub(crate) fn expand<'d, 'a>(
                 }
             }
             PartSort::Call => {
-                let subcircuit = match entry(frame, part.words) {
+                let subcircuit = match entry(frame, part.line, part.words) {
                     Ok(subcircuit) => subcircuit,
                     Err(what) => {
                         return Err(DeckFault::At {
@@ -115,15 +115,20 @@ fn place(
     )
 }
 
-// The subcircuit that a call opens, by the words of its card, or why it opens none.
-fn entry<'d, 'a>(frame: &Frame<'d, 'a>, words: &[Word<'_>]) -> Result<Subcircuit<'d, 'a>, DeckWhat>
+// The subcircuit that a call opens, by the line and the words of its card, or why it opens none.
+fn entry<'d, 'a>(
+    frame: &mut Frame<'d, 'a>,
+    line: u64,
+    words: &[Word<'a>],
+) -> Result<Subcircuit<'d, 'a>, DeckWhat>
     ensures value { MatchResult result
-        (λ s. spec.entry_of frame.now.deck (scope_of frame.now) words.now
+        (λ s. spec.entry_of frame.old.deck (scope_of frame.old) words.now
         ≡ Ok (record { line = s.line; ports = s.ports.now; parts = s.parts }))
-        (λ what. spec.entry_of frame.now.deck (scope_of frame.now) words.now ≡ Err what) }
+        (λ what. spec.entry_of frame.old.deck (scope_of frame.old) words.now ≡ Err what) }
     ensures counted { IfOk result (λ s. length s.ports.now ≡ length (scopes.nodes_of words.now)) }
+    ensures stays { frame.new ≡ frame.old }
 {
-    let Some(subcircuit) = frame.deck().find(subcircuit_named(words)) else {
+    let Some(subcircuit) = frame.find(line, subcircuit_named(words)) else {
         return Err(DeckWhat::NoSubckt);
     };
     if nodes_of(words).len() != subcircuit.ports.len() {

@@ -1,14 +1,16 @@
 //! Where parts are expanded: outside every call, or in calls inside one another.
 
-ghost use Rattle.std.specs.Prelude.{◌≡◌, ◌==◌, if◌then◌else◌, [], length, take, IfOk, OnOk};
+ghost use Rattle.std.specs.Prelude.{◌≡◌, ◌==◌, if◌then◌else◌, [], length, take, IfOk, IfSome, IsNone, OnOk, None, Some};
 ghost use Rattle.std.specs.List.{list_any};
+ghost use Rattle.spice_cards.specs.Tables.{named};
 ghost use Rattle.spice_read.specs.Frames.{name_below, scope_from, scope_of};
 ghost use Rattle.spice_read.specs.Scopes as spec;
 
+use crate::lookups::Lookups;
 use crate::names::{fixed_node, is_fixed, nodes_of};
 use crate::open_call::OpenCall;
 use crate::ports::Ports;
-use spice_cards::{Deck, Word, word_at};
+use spice_cards::{Deck, Subcircuit, Word, word_at};
 use std::alloc::Global;
 use std::marker::Model;
 use table_keys::TableKeys;
@@ -20,7 +22,7 @@ use ternary::NoMemory;
 /// by the words on the cards of the calls from the innermost on.
 #[derive(Drop)]
 pub(crate) struct Frame<'d, 'a> {
-    deck: &'d Deck<'a>,
+    lookups: Lookups<'d, 'a>,
     keys: TableKeys,
     // The outermost first.
     calls: Vec<OpenCall<'d, 'a>>,
@@ -31,7 +33,7 @@ impl<'d, 'a> Model for Frame<'d, 'a> {
 
     ghost Value = { FrameData };
 
-    ghost view = { λ frame. record { deck = frame.deck.now; calls = frame.calls.items } };
+    ghost view = { λ frame. record { deck = frame.lookups; calls = frame.calls.items } };
 }
 
 impl<'d, 'a> Frame<'d, 'a> {
@@ -40,7 +42,7 @@ impl<'d, 'a> Frame<'d, 'a> {
         ensures { result ≡ record { deck = deck.now; calls = [] } }
     {
         Frame {
-            deck,
+            lookups: Lookups::new(alloc, keys, deck),
             keys,
             calls: Vec::new(alloc),
         }
@@ -50,7 +52,17 @@ impl<'d, 'a> Frame<'d, 'a> {
     pub(crate) fn deck(&self) -> &'d Deck<'a>
         ensures { result.now ≡ self.now.deck }
     {
-        self.deck
+        self.lookups.deck()
+    }
+
+    /// The subcircuit that the card on this line calls by this name, where there is one.
+    pub(crate) fn find(&mut self, line: u64, name: &'a [u8]) -> Option<Subcircuit<'d, 'a>>
+        ensures found { IfSome result (λ s. named self.old.deck.subcircuits name.now
+            ≡ Some (record { line = s.line; ports = s.ports.now; parts = s.parts })) }
+        ensures none { IsNone result → named self.old.deck.subcircuits name.now ≡ None }
+        ensures stays { self.new ≡ self.old }
+    {
+        self.lookups.find(line, name)
     }
 
     /// How many calls are open.
@@ -94,7 +106,12 @@ impl<'d, 'a> Frame<'d, 'a> {
     pub(crate) fn node_of(&self, name: &[u8]) -> Result<Vec<u8>, NoMemory>
         ensures { IfOk result (λ node. node.items ≡ spec.node_in self.now.deck (scope_of self.now) name.now) }
     {
-        node_in(*self.calls.allocator(), self.deck, &self.calls, name)
+        node_in(
+            *self.calls.allocator(),
+            self.lookups.deck(),
+            &self.calls,
+            name,
+        )
     }
 
     /// Whether the subcircuit that begins on this line is being expanded.

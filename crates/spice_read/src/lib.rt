@@ -23,8 +23,10 @@
 #![tactic(auto)]
 
 mod expansion;
+mod found;
 mod frame;
 mod laws;
+mod lookups;
 mod making;
 mod names;
 mod open_call;

@@ -2,7 +2,7 @@ use Rattle.std.proofs.Common.{◌-◌, List, [], ◌∷◌, refl, sym, ◌∙◌
 use Rattle.spice_cards.specs.declared.fault.DeckFault.TheVariants.{At}
 use Rattle.spice_cards.specs.declared.fault.DeckWhat.TheVariants.{TooDeep}
 use Rattle.spice_cards.specs.Decks.{DeckCards, PartCard, SubcircuitCards}
-use Rattle.spice_read.specs.Frames.{scope_of}
+use Rattle.spice_read.specs.Frames.{FrameData, scope_of}
 use Rattle.spice_read.specs.Making.{after, step_meaning}
 use Rattle.spice_read.specs.Scopes.{Scope, called}
 use Rattle.spice_read.specs.Steps.{Step, expand, transistor_step}
@@ -88,10 +88,11 @@ returns-in-Err-expand-clause-refused t c =
     part-refused c.loop-part.made c.args.room deck scope c.loop-part.part-iterator part c.next.new.self
     (opened line ∷ steps) _ c.in-Err-expand.fault c.in-Some.ensures.steps
     (opened-steps c.args.room deck scope (scope_of opened_frame) line c.in-Some.part.sort words s c.in-Call.is c.in-Ok-entry.ensures.value
-    (λ none. c.if-room-eq0.false none) c.in-Ok-open-2.ensures.scope)
+    (λ none. c.if-room-eq0.false none)
+    (c.in-Ok-open-2.ensures.scope ∙ ap (λ (f : FrameData). called f.deck (scope_of f) words found.line found.ports.now) c.in-Ok-entry.ensures.stays))
     c.loop-part.invariant.0
     (same-fault (sym (after-opened c.loop-part.made c.open.new.self line steps c.in-Ok-open.ensures.ok)) c.in-Err-expand.fault
-    (same-fault (ap (λ (d : DeckCards). after c.open.new.self (expand (c.args.room - 1) d (scope_of opened_frame) found.parts)) c.in-Ok-open-2.ensures.deck)
+    (same-fault (ap (λ (d : DeckCards). after c.open.new.self (expand (c.args.room - 1) d (scope_of opened_frame) found.parts)) (c.in-Ok-open-2.ensures.deck ∙ ap (λ (f : FrameData). f.deck) c.in-Ok-entry.ensures.stays))
     c.in-Err-expand.fault c.in-Err-expand.ensures.refused))
 
 pub loop-part-preserved-in-Call : goal.loop-part-preserved-in-Call
@@ -105,15 +106,16 @@ loop-part-preserved-in-Call t c =
     let s : SubcircuitCards = record { line = found.line; ports = found.ports.now; parts = found.parts } in
     let part : PartCard = record { line = line; sort = c.in-Some.part.sort; words = words } in
     let steps : List Step = expand (c.args.room - 1) deck (scope_of opened_frame) found.parts in
-    let kept = closed-frame c.loop-part.frame opened_frame c.expand.new.frame c.close.new.self c.depth-depth.result c.depth-depth.ensures
-    c.in-Ok-open-2.ensures.deck c.in-Ok-open-2.ensures.outer c.in-Ok-expand.ensures.closed c.close.ensures in
+    let kept = closed-frame c.entry.new.frame opened_frame c.expand.new.frame c.close.new.self c.depth-depth.result c.depth-depth.ensures
+    c.in-Ok-open-2.ensures.deck c.in-Ok-open-2.ensures.outer c.in-Ok-expand.ensures.closed c.close.ensures ∙ c.in-Ok-entry.ensures.stays in
     let made = part-made c.loop-part.made c.expand.new.made c.args.room deck scope c.loop-part.part-iterator part c.next.new.self
     (opened line ∷ steps) _ c.in-Some.ensures.steps
     (opened-steps c.args.room deck scope (scope_of opened_frame) line c.in-Some.part.sort words s c.in-Call.is c.in-Ok-entry.ensures.value
-    (λ none. c.if-room-eq0.false none) c.in-Ok-open-2.ensures.scope)
+    (λ none. c.if-room-eq0.false none)
+    (c.in-Ok-open-2.ensures.scope ∙ ap (λ (f : FrameData). called f.deck (scope_of f) words found.line found.ports.now) c.in-Ok-entry.ensures.stays))
     c.loop-part.invariant.0
     (after-opened c.loop-part.made c.open.new.self line steps c.in-Ok-open.ensures.ok
-    ∙ sym (ap (λ (d : DeckCards). after c.open.new.self (expand (c.args.room - 1) d (scope_of opened_frame) found.parts)) c.in-Ok-open-2.ensures.deck)
+    ∙ sym (ap (λ (d : DeckCards). after c.open.new.self (expand (c.args.room - 1) d (scope_of opened_frame) found.parts)) (c.in-Ok-open-2.ensures.deck ∙ ap (λ (f : FrameData). f.deck) c.in-Ok-entry.ensures.stays))
     ∙ c.in-Ok-expand.ensures.ok) in
     (same-after c.expand.new.made c.args.room c.close.new.self c.loop-part.frame c.next.new.self _ kept made, kept ∙ c.loop-part.invariant.1)
 

@@ -9,5 +9,5 @@ pub returns : goal.returns
 returns c =
     c.is_open.ensures
     ∙ ap (λ (calls : List OpenCall). list_any (λ (call : OpenCall). call.line == c.args.line) calls) c.deref.ensures.value
-    ∙ sym (any-expanding c.self.inside.deck.now c.self.inside.calls.items c.args.line)
+    ∙ sym (any-expanding c.self.inside.lookups c.self.inside.calls.items c.args.line)
     ∙ ap (λ (f : FrameData). list_any (λ one. one == c.args.line) (scope_of f).expanding) c.self.view_is
