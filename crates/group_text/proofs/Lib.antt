@@ -8,3 +8,4 @@ pub mod Locality
 pub mod FirstsLemmas
 pub mod GroupLemmas
 pub mod LocalRanges
+pub mod WriteLemmas
