@@ -1,3 +1,9 @@
 pub mod NewTextLemmas
-pub mod EntryLemmas
-pub mod KeepingLemmas
+pub mod HeldLemmas
+pub mod UseLemmas
+pub mod DistinctLemmas
+pub mod SettleLemmas
+pub mod TableLemmas
+pub mod CountLemmas
+pub mod FillLemmas
+pub mod CutLemmas

@@ -11,13 +11,13 @@ use Rattle.group_text.specs.Compared.{same_text, same_text_decides, same_text_eq
 use Rattle.group_text.specs.FirstTexts.{is_among, first_texts, new_texts}
 
 -- one of two holds where the first does, or where the first doesn't and the second does
-or_else : (a b : Bool) → (a || (not a && b)) ≡ (a || b)
+pub or_else : (a b : Bool) → (a || (not a && b)) ≡ (a || b)
 or_else true b = refl
 or_else false b = refl
 
 module _ {X : Type 0} where
   -- a test that each passes leaves a list
-  filter_every : (p : X → Bool) → ((x : X) → p x ≡ true) → (xs : List X) → filter p xs ≡ xs
+  pub filter_every : (p : X → Bool) → ((x : X) → p x ≡ true) → (xs : List X) → filter p xs ≡ xs
   filter_every p every [] = refl
   filter_every p every (x ∷ xs) = cond-true (p x) (x ∷ filter p xs) (filter p xs) (every x) ∙ ap (λ l. x ∷ l) (filter_every p every xs)
 
@@ -34,7 +34,7 @@ module _ {X : Type 0} where
       by false false is = cond-true (not (a x)) _ _ (ap not is) ∙ ap (λ l. x ∷ l) rest
 
   -- what two tests take out, one after the other, is what either takes out
-  filter_neither : (a b : X → Bool) (xs : List X) →
+  pub filter_neither : (a b : X → Bool) (xs : List X) →
       filter (λ x. not (a x)) (filter (λ x. not (b x)) xs) ≡ filter (λ x. not (a x || b x)) xs
   filter_neither a b [] = refl
   filter_neither a b (x ∷ xs) = neither_step a b x (filter (λ y. not (b y)) xs) _ (filter_neither a b xs)
@@ -54,18 +54,18 @@ module _ {X : Type 0} where
       by false false same k t s = rest ∙ ap (λ b. b && some) s
 
   -- where what passes the one test answers the other alike, one of what the other leaves passes where one of all does and the answer is yes
-  list_any-filter : (test p : X → Bool) (answer : Bool) → ((x : X) → test x ≡ true → p x ≡ answer) → (xs : List X) →
+  pub list_any-filter : (test p : X → Bool) (answer : Bool) → ((x : X) → test x ≡ true → p x ≡ answer) → (xs : List X) →
       list_any test (filter p xs) ≡ (answer && list_any test xs)
   list_any-filter test p answer alike [] = sym (and_right answer false refl)
   list_any-filter test p answer alike (x ∷ xs) =
       list_any_step test p answer (list_any test xs) x (filter p xs) (alike x) (list_any-filter test p answer alike xs)
 
 -- texts that are one answer a question alike
-alike_text : (question : GroupTextData → Bool) (text other : GroupTextData) → same_text text other ≡ true → question other ≡ question text
+pub alike_text : (question : GroupTextData → Bool) (text other : GroupTextData) → same_text text other ≡ true → question other ≡ question text
 alike_text question text other same = ap question (sym ((same_text_decides text other).0 same))
 
 -- a text is among the first appearances exactly where it is among the texts
-is_among-first : (texts : List GroupTextData) (text : GroupTextData) → is_among (first_texts texts) text ≡ is_among texts text
+pub is_among-first : (texts : List GroupTextData) (text : GroupTextData) → is_among (first_texts texts) text ≡ is_among texts text
 is_among-first [] text = refl
 is_among-first (first ∷ texts) text =
     ap (λ b. same_text text first || b)
@@ -94,7 +94,7 @@ pub new_texts-none_kept : (texts : List GroupTextData) → new_texts [] texts �
 new_texts-none_kept texts = filter_every (λ text. true) (λ text. refl) (first_texts texts)
 
 -- the texts behind some others add what isn't among those
-first_texts-append : (front back : List GroupTextData) →
+pub first_texts-append : (front back : List GroupTextData) →
     first_texts (front ++ back) ≡ first_texts front ++ filter (λ text. not (is_among front text)) (first_texts back)
 first_texts-append [] back = sym (filter_every (λ text. true) (λ text. refl) (first_texts back))
 first_texts-append (first ∷ front) back =

@@ -1,6 +1,6 @@
 -- Analyses that are kept under their texts.
 -- After Beatty and Bryant, "Fast Incremental Circuit Analysis Using Extracted Hierarchy", 1988.
-use Rattle.std.specs.Prelude.{◌≡◌, ℕ, ◌⊎◌, List, [], ◌++◌, length, map, Option, All}
+use Rattle.std.specs.Prelude.{◌≡◌, ℕ, ◌⊎◌, List, [], ◌++◌, length, map, Option, All, Contains}
 use Rattle.std.specs.List.{IsDistinct}
 use Rattle.std.specs.Map.{lookup}
 use Rattle.group_text.specs.Texts.{GroupTextData}
@@ -8,43 +8,65 @@ use Rattle.group_text.specs.Compared.{same_text}
 use Rattle.group_text.specs.FirstTexts.{new_texts}
 use Rattle.straight_code.specs.Code.{CodeData}
 use Rattle.group_analysis.specs.Meaning.{MeansText}
+use Rattle.group_analysis.specs.Held.{TextSet, with_texts, without_texts}
+use Rattle.group_analysis.specs.Using.{kept_after, cut_after}
 
--- what is kept, in order: texts, each with its code
-abbrev pub KeptData : Type 0
-KeptData = List (GroupTextData × CodeData)
+-- a text with its code
+abbrev pub Entry : Type 0
+Entry = GroupTextData × CodeData
+
+-- the texts of some entries
+abbrev pub entry_texts : List Entry → List GroupTextData
+entry_texts entries = map (λ entry. entry.0) entries
+
+-- what is kept: texts, each with its code, the most recently used first; and the bound on their number, where there is one
+pub record KeptData : Type 0 where
+  pub entries : List Entry
+  pub bound : Option ℕ
 
 -- the texts that are kept
 abbrev pub texts_of : KeptData → List GroupTextData
-texts_of kept = map (λ entry. entry.0) kept
+texts_of kept = entry_texts kept.entries
 
 -- the code that is kept under a text
 abbrev pub code_in : KeptData → GroupTextData → Option CodeData
-code_in kept text = lookup (same_text text) kept
+code_in kept text = lookup (same_text text) kept.entries
 
 -- no text is kept twice, and each code means its own text
-pub record IsKept (kept : KeptData) : Type 0 where
-  pub apart : IsDistinct same_text (texts_of kept)
-  pub means : All (λ entry. MeansText entry.0 entry.1) kept
+pub record IsKept (entries : List Entry) : Type 0 where
+  pub apart : IsDistinct same_text (entry_texts entries)
+  pub means : All (λ entry. MeansText entry.0 entry.1) entries
 
--- what was kept is kept, with its code, and what is new stands behind it
+-- what was kept is kept, in its order and with its code, and what is new stands behind it
 pub record IsGrown (old new : KeptData) : Type 0 where
-  pub more : KeptData
-  pub grown : new ≡ old ++ more
+  pub more : List Entry
+  pub grown : new.entries ≡ old.entries ++ more
+  pub bound : new.bound ≡ old.bound
 
--- the new ones of these texts were analysed, in order, and are kept behind what was kept; the count is their number
-pub record KeepsAll (old new : KeptData) (before after : List GroupTextData) (texts : List GroupTextData) (count : ℕ) : Type 0 where
-  pub more : KeptData
-  pub kept : new ≡ old ++ more
-  pub added : texts_of more ≡ new_texts (texts_of old) texts
-  pub analysed : after ≡ before ++ new_texts (texts_of old) texts
-  pub number : count ≡ length (new_texts (texts_of old) texts)
+-- the new ones of these present texts were analysed, in order; the count is their number. All present texts are at the front of what is
+-- kept, and what is past the bound was cut, and is held no more. What stays has the code that it had
+pub record KeepsAll (old new : KeptData) (before after : List GroupTextData) (held_before held_after : TextSet)
+    (present : List GroupTextData) (count : ℕ) : Type 0 where
+  pub more : List Entry
+  pub added : entry_texts more ≡ new_texts (texts_of old) present
+  pub texts : texts_of new ≡ kept_after old.bound present (texts_of old)
+  pub codes : (entry : Entry) → Contains new.entries entry → Contains (old.entries ++ more) entry
+  pub bound : new.bound ≡ old.bound
+  pub analysed : after ≡ before ++ new_texts (texts_of old) present
+  pub held : held_after
+      ≡ without_texts (with_texts held_before (new_texts (texts_of old) present)) (cut_after old.bound present (texts_of old))
+  pub number : count ≡ length (new_texts (texts_of old) present)
 
--- a front of the new texts was analysed, in order, and is kept behind what was kept; at most the next one was analysed beside
-pub record KeepsSome (old new : KeptData) (before after : List GroupTextData) (texts : List GroupTextData) : Type 0 where
-  pub more : KeptData
+-- a front of the new texts was analysed, in order, and is kept behind what was kept; at most the next one was analysed beside. The
+-- texts that were analysed are held, and nothing was cut
+pub record KeepsSome (old new : KeptData) (before after : List GroupTextData) (held_before held_after : TextSet)
+    (present : List GroupTextData) : Type 0 where
+  pub more : List Entry
   pub further : List GroupTextData
   pub rest : List GroupTextData
-  pub kept : new ≡ old ++ more
-  pub front : new_texts (texts_of old) texts ≡ texts_of more ++ (further ++ rest)
-  pub analysed : after ≡ before ++ (texts_of more ++ further)
+  pub kept : new.entries ≡ old.entries ++ more
+  pub bound : new.bound ≡ old.bound
+  pub front : new_texts (texts_of old) present ≡ entry_texts more ++ (further ++ rest)
+  pub analysed : after ≡ before ++ (entry_texts more ++ further)
+  pub held : held_after ≡ with_texts held_before (entry_texts more ++ further)
   pub one : (further ≡ []) ⊎ (length further ≡ 1)

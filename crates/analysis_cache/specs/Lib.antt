@@ -1,2 +1,5 @@
 pub mod Keeping
 pub mod Adding
+pub mod Table
+pub mod Cutting
+pub mod Laws

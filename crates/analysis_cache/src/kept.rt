@@ -1,12 +1,16 @@
-ghost use Rattle.std.specs.Prelude.{◌≡◌, length, [], option_map, All, Some, IsTrue, false, slice_get, IfOk, IfSome, OnOk, OnErr, is_none, not};
+ghost use Rattle.std.specs.Prelude.{◌≡◌, ◌<◌, ◌≤◌, ◌-◌, ℕ, max, length, List, [], option_map, All, None, Some, IsTrue, false, take, drop, IfOk, IfSome, OnOk, OnErr, is_none, not, Contains};
 ghost use Rattle.group_analysis.specs.Meaning.{MeansText};
-ghost use Rattle.group_text.specs.FirstTexts.{is_among};
-ghost use Rattle.analysis_cache.specs.Keeping.{code_in, IsKept, KeepsAll, KeepsSome, texts_of};
-ghost use Rattle.analysis_cache.specs.Adding.{AddsText, LacksText};
+ghost use Rattle.group_analysis.specs.Held.{without_texts};
+ghost use Rattle.group_text.specs.FirstTexts.{first_texts, is_among};
+ghost use Rattle.group_text.specs.Texts.{GroupTextData};
+ghost use Rattle.group_analysis.specs.Using.{used_texts, within, past, kept_after, cut_after};
+ghost use Rattle.analysis_cache.specs.Keeping.{Entry, code_in, KeepsAll, KeepsSome, texts_of};
+ghost use Rattle.analysis_cache.specs.Adding.{AddsText, FillsAll, LacksText};
+ghost use Rattle.analysis_cache.specs.Cutting.{StartsWith};
 
+use crate::recent::Recent;
 use group_analysis::Analyst;
 use group_text::GroupText;
-use indexmap::IndexMap;
 use std::alloc::Global;
 use std::marker::Model;
 use std::rc::Rc;
@@ -14,87 +18,110 @@ use straight_code::Code;
 use table_keys::TableKeys;
 use ternary::NoMemory;
 
-/// Analyses that are kept: code under the texts that it means, in the order in which they came.
+/// Analyses that are kept: code under the texts that it means, the most recently used first, and perhaps
+/// a bound on their number.
 #[derive(Drop)]
 pub struct Kept {
     alloc: Global,
-    codes: IndexMap<GroupText, Rc<Code>, TableKeys>,
+    recent: Recent,
+    bound: Option<u64>,
 }
 
 impl Model for Kept {
-    ghost use Rattle.std.specs.Prelude.{map};
-    ghost use Rattle.analysis_cache.specs.Keeping.{code_in, KeptData, IsKept};
+    ghost use Rattle.analysis_cache.specs.Keeping.{KeptData};
 
     ghost Value = { KeptData };
 
-    ghost view = { λ kept. map (λ entry. (entry.0, entry.1.value)) kept.codes.entries };
-
-    ghost invariant = { λ kept. IsKept (map (λ entry. (entry.0, entry.1.value)) kept.codes.entries) };
+    ghost view = { λ kept. record { entries = kept.recent; bound = kept.bound } };
 }
 
 impl Kept {
-    /// Nothing is kept. The table's hashes start from keys that are the same in every run.
+    /// Nothing is kept, and there is no bound. The table's hashes start from keys that are the same in
+    /// every run.
     pub fn new(alloc: Global) -> Kept
-        ensures { result ≡ [] }
+        ensures { result ≡ record { entries = []; bound = None } }
     {
         Kept::with_keys(alloc, TableKeys::fixed())
     }
 
-    /// Nothing is kept. The table's hashes start from these keys: texts of a circuit that others wrote
-    /// want keys that were drawn.
+    /// Nothing is kept, and there is no bound. The table's hashes start from these keys: texts of a circuit
+    /// that others wrote want keys that were drawn.
     pub fn with_keys(alloc: Global, keys: TableKeys) -> Kept
-        ensures { result ≡ [] }
+        ensures { result ≡ record { entries = []; bound = None } }
     {
         Kept {
             alloc,
-            codes: IndexMap::with_hasher(alloc, keys),
+            recent: Recent::new(alloc, keys),
+            bound: None,
         }
     }
 
     /// The keys from which the hashes of texts start.
     pub fn keys(&self) -> TableKeys {
-        *self.codes.hasher()
+        self.recent.keys()
     }
 
     /// How many texts are kept.
     pub fn size(&self) -> usize
-        ensures { result ≡ length self.now }
+        ensures { result ≡ length self.now.entries }
     {
-        self.codes.len()
+        self.recent.size()
     }
 
-    /// The code of a text, None exactly where the text isn't kept. It takes no memory.
+    /// The code of a text, None exactly where the text isn't kept. It takes no memory, and isn't a use of
+    /// the text.
     pub fn code(&self, text: &GroupText) -> Option<&Rc<Code>>
         ensures code { option_map (λ code. code.now.value) result ≡ code_in self.now text.now }
         ensures means { IfSome result (λ code. MeansText text.now code.now.value) }
         ensures none { is_none result ≡ not (is_among (texts_of self.now) text.now) }
     {
-        self.codes.get(text)
+        self.recent.code(text)
     }
 
-    /// The place of a text among those that are kept, None exactly where the text isn't kept. It takes no
-    /// memory.
-    pub fn place(&self, text: &GroupText) -> Option<usize>
-        ensures place { IfSome result (λ place. slice_get (texts_of self.now) place ≡ Some text.now) }
-        ensures none { is_none result ≡ not (is_among (texts_of self.now) text.now) }
-        ensures kept { IsKept self.now }
+    /// Sets the bound on the number of texts, or takes it away. It takes effect at the next `ensure`, and
+    /// takes no memory.
+    pub fn set_bound(&mut self, bound: Option<u64>)
+        ensures { self.new ≡ record { entries = self.old.entries; bound = bound } }
     {
-        self.codes.get_index_of(text)
+        self.bound = bound;
     }
 
-    /// Has the new ones of these texts analysed, and keeps their codes: afterwards all of the texts are
-    /// kept.
+    /// Has the new ones of these present texts analysed, and keeps their codes: afterwards all of the texts
+    /// are kept, in front of all others.
     ///
-    /// The answer is how many texts were new. At want of memory a front of the new texts was analysed
-    /// and is kept, and at most the next one was analysed without being kept.
+    /// The present texts come first, in order of first appearance, and after them the other kept texts in
+    /// their order. Where there is a bound, what is past it is cut, but no present text; the analyst
+    /// releases what is cut, and is compacted. The answer is how many texts were new. At want of memory a
+    /// front of the new texts was analysed and is kept behind what was kept, at most the next one was
+    /// analysed without being kept, and nothing was moved or cut.
     pub fn ensure<A: Analyst>(
         &mut self,
         texts: &[GroupText],
         analyst: &mut A,
     ) -> Result<u64, NoMemory>
-        ensures ok { IfOk result (λ count. KeepsAll self.old self.new (A.analysed analyst.old) (A.analysed analyst.new) texts.now count) }
+        ensures ok { IfOk result (λ count. KeepsAll self.old self.new (A.analysed analyst.old) (A.analysed analyst.new)
+            (A.held analyst.old) (A.held analyst.new) texts.now count) }
         ensures there { OnOk result (All (λ text. IsTrue (is_among (texts_of self.new) text)) texts.now) }
-        ensures err { OnErr result (KeepsSome self.old self.new (A.analysed analyst.old) (A.analysed analyst.new) texts.now) }
+        ensures err { OnErr result (KeepsSome self.old self.new (A.analysed analyst.old) (A.analysed analyst.new)
+            (A.held analyst.old) (A.held analyst.new) texts.now) }
+    {
+        let fresh = self.fill(texts, analyst)?;
+        self.put_first(texts, analyst);
+        Ok(fresh)
+    }
+
+    /// Has the new ones of these texts analysed, and keeps their codes behind what is kept: the first half of
+    /// `ensure`, which alone can lack memory. Nothing is moved or cut. The answer is how many texts were new.
+    pub fn fill<A: Analyst>(
+        &mut self,
+        texts: &[GroupText],
+        analyst: &mut A,
+    ) -> Result<u64, NoMemory>
+        ensures ok { IfOk result (λ count. FillsAll self.old self.new (A.analysed analyst.old) (A.analysed analyst.new)
+            (A.held analyst.old) (A.held analyst.new) texts.now count) }
+        ensures there { OnOk result (All (λ text. IsTrue (is_among (texts_of self.new) text)) texts.now) }
+        ensures err { OnErr result (KeepsSome self.old self.new (A.analysed analyst.old) (A.analysed analyst.new)
+            (A.held analyst.old) (A.held analyst.new) texts.now) }
     {
         let before = self.size();
         for text in texts {
@@ -105,17 +132,92 @@ impl Kept {
         Ok((self.size() - before) as u64)
     }
 
-    // Has a text analysed that isn't kept, and keeps its code.
+    /// Moves these texts, which are kept, to the front, in order of first appearance, and cuts what is past the
+    /// bound, where there is one, but none of these texts: the second half of `ensure`, which takes no memory.
+    ///
+    /// The analyst releases what is cut, and is compacted where that was something.
+    pub fn put_first<A: Analyst>(&mut self, texts: &[GroupText], analyst: &mut A)
+        requires { All (λ text. IsTrue (is_among (texts_of self.old) text)) texts.now }
+        ensures texts { texts_of self.new ≡ kept_after self.old.bound texts.now (texts_of self.old) }
+        ensures same { (entry : Entry) → Contains self.new.entries entry → Contains self.old.entries entry }
+        ensures bound { self.new.bound ≡ self.old.bound }
+        ensures analysed { A.analysed analyst.new ≡ A.analysed analyst.old }
+        ensures held { A.held analyst.new ≡ without_texts (A.held analyst.old) (cut_after self.old.bound texts.now (texts_of self.old)) }
+    {
+        self.use_all(texts);
+        self.cut(texts, analyst);
+    }
+
+    // Has a text analysed that isn't kept, and keeps its code behind what is kept.
     fn add<A: Analyst>(&mut self, text: &GroupText, analyst: &mut A) -> Result<(), NoMemory>
         requires { is_among (texts_of self.old) text.now ≡ false }
-        ensures ok { OnOk result (AddsText self.old self.new (A.analysed analyst.old) (A.analysed analyst.new) text.now) }
-        ensures err { OnErr result (LacksText self.old self.new (A.analysed analyst.old) (A.analysed analyst.new) text.now) }
+        ensures ok { OnOk result (AddsText self.old self.new (A.analysed analyst.old) (A.analysed analyst.new)
+            (A.held analyst.old) (A.held analyst.new) text.now) }
+        ensures err { OnErr result (LacksText self.old self.new (A.analysed analyst.old) (A.analysed analyst.new)
+            (A.held analyst.old) (A.held analyst.new) text.now) }
     {
         let code = analyst.analyse(self.alloc, text)?;
         let shared = share(self.alloc, code)?;
-        let key = text.copy(self.alloc)?;
-        self.codes.insert(key, shared).map_err(|_| NoMemory)?;
-        Ok(())
+        self.recent.push(text, shared)
+    }
+
+    // Moves these texts, which are kept, to the front, in order of first appearance.
+    fn use_all(&mut self, texts: &[GroupText])
+        requires { All (λ text. IsTrue (is_among (texts_of self.old) text)) texts.now }
+        ensures texts { texts_of self.new ≡ used_texts texts.now (texts_of self.old) }
+        ensures same { (entry : Entry) → Contains self.new.entries entry → Contains self.old.entries entry }
+        ensures bound { self.new.bound ≡ self.old.bound }
+    {
+        self.recent.use_all(texts);
+    }
+
+    // Cuts what is past the bound, but none of these texts, which stand in front.
+    fn cut<A: Analyst>(&mut self, texts: &[GroupText], analyst: &mut A)
+        requires { StartsWith (first_texts texts.now) (texts_of self.old) }
+        ensures entries { texts_of self.new ≡ within self.old.bound texts.now (texts_of self.old) }
+        ensures same { (entry : Entry) → Contains self.new.entries entry → Contains self.old.entries entry }
+        ensures bound { self.new.bound ≡ self.old.bound }
+        ensures analysed { A.analysed analyst.new ≡ A.analysed analyst.old }
+        ensures held { A.held analyst.new ≡ without_texts (A.held analyst.old) (past self.old.bound texts.now (texts_of self.old)) }
+    {
+        let Some(bound) = self.bound else {
+            return;
+        };
+        if self.size() as u64 <= bound {
+            return;
+        }
+        let room = self.recent.room(bound, texts);
+        self.cut_to(room, analyst);
+    }
+
+    // Cuts all but the first so many texts, and has the analyst compacted where there were more.
+    fn cut_to<A: Analyst>(&mut self, room: usize, analyst: &mut A)
+        ensures entries { self.new.entries ≡ take room self.old.entries }
+        ensures bound { self.new.bound ≡ self.old.bound }
+        ensures analysed { A.analysed analyst.new ≡ A.analysed analyst.old }
+        ensures held { A.held analyst.new ≡ without_texts (A.held analyst.old) (drop room (texts_of self.old)) }
+    {
+        if self.size() <= room {
+            return;
+        }
+        self.release_past(room, analyst);
+        // The texts that were cut are gone, whether or not there is memory for a smaller pool.
+        let _ = analyst.compact();
+    }
+
+    // Cuts all but the first so many texts, the last one first.
+    fn release_past<A: Analyst>(&mut self, room: usize, analyst: &mut A)
+        requires { room ≤ length self.old.entries }
+        ensures entries { self.new.entries ≡ take room self.old.entries }
+        ensures bound { self.new.bound ≡ self.old.bound }
+        ensures analysed { A.analysed analyst.new ≡ A.analysed analyst.old }
+        ensures held { A.held analyst.new ≡ without_texts (A.held analyst.old) (drop room (texts_of self.old)) }
+    {
+        while self.size() > room {
+            if let Some(text) = self.recent.pop() {
+                analyst.release(&text);
+            }
+        }
     }
 }
 

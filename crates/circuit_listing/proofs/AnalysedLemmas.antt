@@ -1,11 +1,12 @@
 -- Which texts an analyst was given where it was asked for the new ones and nothing was kept: the distinct texts, or a front of them.
-use Rattle.std.proofs.Common.{◌≡◌, ℕ, List, [], ◌++◌, map, Result, Ok, Err, OnErr, refl, sym, ap, ◌∙◌, append_assoc, append-nil}
+use Rattle.std.proofs.Common.{◌≡◌, ℕ, List, [], ◌++◌, map, None, Result, Ok, Err, OnErr, refl, sym, ap, ◌∙◌, append_assoc, append-nil}
 use Rattle.path_meaning.specs.Graphs.{GraphData}
 use Rattle.group_meaning.specs.Groups.{Group, AreGroups}
 use Rattle.group_meaning.proofs.UniqueGroups.{unique}
 use Rattle.group_text.specs.Texts.{GroupTextData, text_of_group}
 use Rattle.group_text.specs.FirstTexts.{first_texts}
-use Rattle.analysis_cache.specs.Keeping.{KeptData, KeepsAll, KeepsSome, texts_of}
+use Rattle.group_analysis.specs.Held.{TextSet}
+use Rattle.analysis_cache.specs.Keeping.{KeptData, KeepsAll, KeepsSome, entry_texts, texts_of}
 use Rattle.analysis_cache.proofs.NewTextLemmas.{new_texts-none_kept}
 use Rattle.circuit_listing.specs.Analysed.{AnalysesFront}
 
@@ -14,9 +15,13 @@ pub at_err : {T E P : Type 0} (result : Result T E) → P → OnErr result P
 at_err (Ok value) fact = tt
 at_err (Err fault) fact = fact
 
+-- nothing is kept, and there is no bound
+abbrev pub nothing_kept : KeptData
+nothing_kept = record { entries = []; bound = None }
+
 -- all distinct texts were analysed
-pub all_analysed : (old new : KeptData) (before after texts : List GroupTextData) (count : ℕ) → old ≡ [] →
-    KeepsAll old new before after texts count → after ≡ before ++ first_texts texts
+pub all_analysed : {held_before held_after : TextSet} (old new : KeptData) (before after texts : List GroupTextData) (count : ℕ) →
+    old ≡ nothing_kept → KeepsAll old new before after held_before held_after texts count → after ≡ before ++ first_texts texts
 all_analysed old new before after texts count none keeps =
     let kept : texts_of old ≡ [] = ap texts_of none in
     keeps.analysed ∙ ap (λ more. before ++ more) (rw kept (new_texts-none_kept texts))
@@ -30,16 +35,16 @@ pub front_none : (before after texts : List GroupTextData) → after ≡ before 
 front_none before after texts same = record { front = []; rest = texts; texts_are = refl; analysed = same ∙ sym (append-nil before) }
 
 -- where not all could be kept, a front of them was analysed
-pub front_some : (old new : KeptData) (before after texts : List GroupTextData) → old ≡ [] → KeepsSome old new before after texts →
-    AnalysesFront before after (first_texts texts)
+pub front_some : {held_before held_after : TextSet} (old new : KeptData) (before after texts : List GroupTextData) →
+    old ≡ nothing_kept → KeepsSome old new before after held_before held_after texts → AnalysesFront before after (first_texts texts)
 front_some old new before after texts none keeps =
     let kept : texts_of old ≡ [] = ap texts_of none in
     record {
-      front = texts_of keeps.more ++ keeps.further;
+      front = entry_texts keeps.more ++ keeps.further;
       rest = keeps.rest;
       texts_are =
           sym (rw kept (new_texts-none_kept texts)) ∙ keeps.front
-          ∙ sym (append_assoc (texts_of keeps.more) keeps.further keeps.rest);
+          ∙ sym (append_assoc (entry_texts keeps.more) keeps.further keeps.rest);
       analysed = keeps.analysed;
     }
 

@@ -6,7 +6,7 @@ use Rattle.ternary.specs.Counts.{raised}
 use Rattle.path_meaning.specs.Rails.{IsSound}
 use Rattle.group_text.specs.Texts.{GroupTextData}
 use Rattle.straight_code.specs.Code.{CodeData}
-use Rattle.analysis_cache.specs.Keeping.{KeptData, IsGrown, texts_of}
+use Rattle.analysis_cache.specs.Keeping.{KeptData, IsGrown, entry_texts, texts_of}
 use Rattle.circuit_texts.specs.Building.{Builds}
 use Rattle.unit_step.specs.Machines.{MachineData}
 use Rattle.unit_step.specs.Fitting.{IsKeptBy}
@@ -16,14 +16,14 @@ use Rattle.cosmos_session.specs.Machines.{Serves, IsHeldSession}
 use Rattle.cosmos_session.specs.Stages.{StageData, BuiltFrom, Readied}
 
 -- as many texts were new as more are kept
-pub length-fresh : (old new : KeptData) (fresh : List GroupTextData) → texts_of new ≡ texts_of old ++ fresh → length new - length old ≡ length fresh
+pub length-fresh : (old new : KeptData) (fresh : List GroupTextData) → texts_of new ≡ texts_of old ++ fresh → length new.entries - length old.entries ≡ length fresh
 length-fresh old new fresh grown =
-    omega (arith, ap length grown, length-append (texts_of old) fresh, length-map old (λ (entry : GroupTextData × CodeData). entry.0), length-map new (λ (entry : GroupTextData × CodeData). entry.0))
+    omega (arith, ap length grown, length-append (texts_of old) fresh, length-map old.entries (λ (entry : GroupTextData × CodeData). entry.0), length-map new.entries (λ (entry : GroupTextData × CodeData). entry.0))
 
 -- more entries that are kept are more texts
 pub texts-grown : (old new : KeptData) → IsGrown old new → (more : List GroupTextData) × (texts_of new ≡ texts_of old ++ more)
 texts-grown old new grown =
-    (texts_of grown.more, ap texts_of grown.grown ∙ map-append (λ (entry : GroupTextData × CodeData). entry.0) old grown.more)
+    (entry_texts grown.more, ap (λ entries. entry_texts entries) grown.grown ∙ map-append (λ (entry : GroupTextData × CodeData). entry.0) old.entries grown.more)
 
 -- a session is one with other texts kept, and another count of them
 core-kept : (session : SessionData) (state : List Tern) (kept : List GroupTextData) (fresh : ℕ) → state ≡ session.state → IsSession session →

@@ -11,3 +11,5 @@ pub mod InputLemmas
 pub mod DescentLemmas
 pub mod AnalysisLemmas
 pub mod MeaningLemmas
+pub mod HoldingLemmas
+pub mod HeldTableLemmas

@@ -1,6 +1,6 @@
 -- From formulas and the code that means them to code that means a text.
-use Rattle.std.proofs.Common.{◌≡◌, ℕ, ◌+◌, ◌*◌, ◌/◌, ◌%◌, ◌<◌, ◌≤◌, ◌==◌, Bool, true, false, List, length, Result, Ok, Err, refl, sym, ap, ◌∙◌, subst, true≢false, arith}
-use Rattle.std.specs.Prelude.{◌↔◌, IfOk, All, slice_index_or, if◌then◌else◌}
+use Rattle.std.proofs.Common.{◌≡◌, ℕ, ◌+◌, ◌*◌, ◌/◌, ◌%◌, ◌<◌, ◌≤◌, ◌==◌, Bool, true, false, List, length, refl, sym, ap, ◌∙◌, subst, true≢false, arith}
+use Rattle.std.specs.Prelude.{◌↔◌, All, slice_index_or, if◌then◌else◌}
 use Rattle.std.proofs.lemmas.List.{get_or-map}
 use Rattle.std.proofs.lemmas.List.Elements.{All-contains_itself}
 use Rattle.std.proofs.lemmas.Option.{slice_get-get_or}
@@ -105,17 +105,10 @@ module _ (text : GroupTextData) (is_text : IsText text) (pool : List Gate) (answ
     all_counted k d inside = (exact.each (slice_index_or exact.places k d)).0 (All-contains_itself exact.places k d inside)
 
     -- the code means the text
-    means_text : MeansText text code
-    means_text = record {
+    pub MeansText-made : MeansText text code
+    MeansText-made = record {
       inputs = inputs;
       outputs = outputs ∙ each_answer;
       responses = output_responds;
       few = subst (λ n. n ≤ bound_of text.graph text.members) exact.number (few exact.places exact.apart all_counted);
     }
-
-  -- whatever comes of it, code for the formulas of a text means the text
-  pub MeansText-made : {E : Type 0} (r : Result CodeData E) → IfOk r (λ code. code.inputs ≡ nodes text.graph) →
-      IfOk r (λ code. length code.outputs ≡ length answers) → IfOk r (Means pool answers) →
-      IfOk r (λ code. ReachExactly pool answers (length code.instructions)) → IfOk r (MeansText text)
-  MeansText-made (Ok code) inputs outputs means exact = means_text code inputs outputs means exact
-  MeansText-made (Err e) inputs outputs means exact = tt

@@ -8,3 +8,5 @@ pub mod LevelSystem
 pub mod Analysis
 pub mod Inputs
 pub mod Descent
+pub mod Holding
+pub mod HeldTable

@@ -1,11 +1,14 @@
-ghost use Rattle.std.specs.Prelude.{◌≡◌, ◌≢◌, [], length, IfOk};
+ghost use Rattle.std.specs.Prelude.{◌≡◌, ◌≢◌, [], length, IfOk, OnOk, OnErr};
+ghost use Rattle.bool_pool.specs.Gate.{Extends};
 ghost use Rattle.group_analysis.specs.Meaning.{MeansText};
+ghost use Rattle.node_elimination.specs.Holding.{AreFormulasOf, IsCompacted};
 
 use crate::analysis::analyse;
-use bool_pool::Pool;
+use crate::held::{Formulas, all_formulas, ids_of_pairs, put_formulas, split_formulas};
+use bool_pool::{Id, Pool};
 use group_analysis::Analyst;
 use group_text::GroupText;
-use std::alloc::{AllocError, Global};
+use std::alloc::Global;
 use std::marker::{Brand, Model};
 use std::sync::ledger::{Blank, Ledger};
 use straight_code::{Code, linearise};
@@ -14,74 +17,125 @@ use ternary::{NoMemory, Steps};
 
 /// An analyst that eliminates: its code is that of the formulas which [`analyse`] makes of a text.
 ///
-/// It owns the pool of all formulas, so that groups share what is alike in them, and stores the texts
-/// that it was given.
+/// It owns the pool of all formulas, so that groups share what is alike in them, holds the formulas of
+/// each text until it is released, and stores the texts that it was given.
 #[derive(Drop)]
 pub struct SymbolicAnalyst {
+    alloc: Global,
     pool: Pool,
     texts: Vec<GroupText>,
+    held: Formulas,
 }
 
 impl Model for SymbolicAnalyst {
-    ghost use Rattle.std.specs.Prelude.{List};
-    ghost use Rattle.group_text.specs.Texts.{GroupTextData};
+    ghost use Rattle.node_elimination.specs.Holding.{AnalystData, IsHolding};
+    ghost use Rattle.node_elimination.specs.HeldTable.{shown};
 
-    ghost Value = { List GroupTextData };
+    ghost Value = { AnalystData };
 
-    ghost view = { λ analyst. analyst.texts.items };
+    ghost view = { λ analyst. record { texts = analyst.texts.items; gates = analyst.pool; held = shown analyst.held.entries } };
+
+    ghost invariant = { λ analyst. IsHolding analyst.pool (shown analyst.held.entries) };
 }
 
 impl SymbolicAnalyst {
     /// An analyst that was given no text, whose keys are the same in every run.
     pub fn new(alloc: Global) -> SymbolicAnalyst
-        ensures { result ≡ [] }
+        ensures { result ≡ record { texts = []; gates = []; held = [] } }
     {
         SymbolicAnalyst::with_keys(alloc, TableKeys::fixed())
     }
 
-    /// An analyst that was given no text, and whose pool looks its gates up by hashes that start from
-    /// these keys.
+    /// An analyst that was given no text, and whose tables look gates and texts up by hashes that start
+    /// from these keys.
     pub fn with_keys(alloc: Global, keys: TableKeys) -> SymbolicAnalyst
-        ensures { result ≡ [] }
+        ensures { result ≡ record { texts = []; gates = []; held = [] } }
     {
         SymbolicAnalyst {
+            alloc,
             pool: Pool::with_keys(alloc, keys),
             texts: Vec::new(alloc),
+            held: Formulas::with_hasher(alloc, keys),
         }
     }
 
     /// How many texts it has analysed.
     pub fn analysed(&self) -> usize
-        ensures { result ≡ length self.now }
+        ensures { result ≡ length self.now.texts }
     {
         self.texts.len()
+    }
+
+    /// How many gates its pool has.
+    pub fn pool_size(&self) -> usize
+        ensures { result ≡ length self.now.gates }
+    {
+        self.pool.size()
     }
 }
 
 impl Analyst for SymbolicAnalyst {
-    ghost analysed = { λ analyst. analyst };
+    ghost use Rattle.std.specs.Map.{keys_of};
+    ghost use Rattle.group_analysis.specs.Held.{set_of};
+
+    ghost analysed = { λ analyst. analyst.texts };
+
+    ghost held = { λ analyst. set_of (keys_of analyst.held) };
 
     fn analyse(&mut self, alloc: Global, text: &GroupText) -> Result<Code, NoMemory> {
         let kept = text.copy(alloc)?;
-        let code = code_of::<Brand>(alloc, &mut self.pool, text, Blank::new(1))?;
-        self.texts.push(kept).map_err(AllocError::from)?;
-        Ok(code)
+        let key = text.copy(alloc)?;
+        self.texts.reserve(1)?;
+        let made = make::<Brand>(alloc, &mut self.pool, text, Blank::new(1))?;
+        self.held.insert(key, made.formulas).map_err(|_| NoMemory)?;
+        self.texts.push_reserved(kept);
+        Ok(made.code)
+    }
+
+    fn release(&mut self, text: &GroupText) {
+        self.held.swap_remove(text);
+    }
+
+    /// Leaves only the gates that the formulas of held texts reach, which keep their values.
+    fn compact(&mut self) -> Result<(), NoMemory>
+        ensures analysed { self.new.texts ≡ self.old.texts }
+        ensures holds { set_of (keys_of self.new.held) ≡ set_of (keys_of self.old.held) }
+        ensures compacted { OnOk result (IsCompacted self.old self.new) }
+        ensures err { OnErr result (self.new ≡ self.old) }
+    {
+        let roots = all_formulas(self.alloc, &self.held)?;
+        let (pool, found) = self.pool.compact(self.alloc, &roots)?;
+        let split = split_formulas(self.alloc, &self.held, &found)?;
+        put_formulas(&mut self.held, split);
+        self.pool = pool;
+        Ok(())
     }
 }
 
-// Code that means the text: that of its members' formulas.
-fn code_of<L: Ledger>(
+// What an analysis makes of a text.
+#[derive(Drop)]
+struct Made {
+    code: Code,
+    formulas: Vec<Id>,
+}
+
+// Code that means the text, and the formulas of its members, of which it is.
+fn make<L: Ledger>(
     alloc: Global,
     pool: &mut Pool,
     text: &GroupText,
     blank: Blank,
-) -> Result<Code, NoMemory>
+) -> Result<Made, NoMemory>
     requires name { blank.name ≡ L.name }
     requires parts { blank.parts ≡ L.parts }
     requires some { blank.parts ≢ 0 }
-    ensures { IfOk result (λ code. MeansText text.now code) }
+    ensures extends { Extends pool.old pool.new }
+    ensures means { IfOk result (λ made. MeansText text.now made.code) }
+    ensures formulas { IfOk result (λ made. AreFormulasOf pool.new text.now made.formulas.items) }
 {
     let mut steps: Steps<L> = Steps::new(blank);
     let answers = analyse(alloc, pool, text, &mut steps)?;
-    linearise(alloc, pool, &answers, text.graph().nodes())
+    let code = linearise(alloc, pool, &answers, text.graph().nodes())?;
+    let formulas = ids_of_pairs(alloc, &answers)?;
+    Ok(Made { code, formulas })
 }

@@ -20,6 +20,7 @@
 mod analysis;
 mod analyst;
 mod descent;
+mod held;
 mod inputs;
 mod laws;
 mod level;

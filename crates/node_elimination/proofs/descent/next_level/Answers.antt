@@ -1,7 +1,6 @@
 -- First U, and then D, from what was held before.
 use Rattle.std.proofs.Common.{true, false, ◌∙◌, arith}
 use Rattle.node_elimination.specs.declared.descent.Levels.{Levels}
-use Rattle.node_elimination.proofs.GrowthLemmas.{AreFormulas-extends}
 use Rattle.node_elimination.proofs.InputLemmas.{IsConstant-extends}
 use Rattle.node_elimination.proofs.PassingLemmas.{left-same}
 use Rattle.node_elimination.proofs.DescentLemmas.{HaveInputs-extends, ShowsState-extends, HaveDriven-extends, ShowsDriven-extends, Grows-next}

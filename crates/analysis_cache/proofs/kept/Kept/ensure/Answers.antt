@@ -1,70 +1,20 @@
--- A text that is kept changes nothing, and one that isn't is added.
-use Rattle.std.proofs.Common.{◌≡◌, ◌+◌, ◌-◌, ◌∷◌, ◌++◌, [], length, take, drop, Result, Ok, Err, OnErr, All, true, sym, ap, subst, ◌∙◌, arith}
-use Rattle.std.proofs.lemmas.List.{take_more, take_all, drop_more, take-append-drop}
+-- The new texts were analysed, and then the present ones put first.
+use Rattle.std.proofs.Common.{get_or, ap, ◌∙◌}
 use Rattle.group_text.specs.FirstTexts.{is_among}
 use Rattle.analysis_cache.specs.Keeping.{texts_of}
-use Rattle.analysis_cache.proofs.KeepingLemmas.{is_some-among, length-KeepsAll, each_kept, KeepsAll-known, KeepsAll-added, KeepsSome-lacking}
+use Rattle.analysis_cache.proofs.UseLemmas.{each_present}
+use Rattle.analysis_cache.proofs.FillLemmas.{KeepsAll-used}
 use Rattle.analysis_cache.proofs.kept.Kept.ensure.Goals as goal
-use Rattle.analysis_cache.proofs.kept.Kept.ensure.Goals.{then-is_none+in_ok-add, else-is_none}
 
--- what holds anyway holds on a fault
-at_err : {T E P : Type 0} (result : Result T E) → P → OnErr result P
-at_err (Ok value) fact = tt
-at_err (Err fault) fact = fact
-
-pub returns-in_err-add-clause-err : goal.returns-in_err-add-clause-err
-returns-in_err-add-clause-err g c =
-    let i = c.loop-text.text-index in
-    let texts = c.args.texts.now in
-    let text = c.text-item.result in
-    let old = c.args.self.now in
-    let now = c.loop-text.self in
-    let before = g.A.Analyst.analysed c.args.analyst.now in
-    let after = g.A.Analyst.analysed c.loop-text.analyst in
-    let there = is_some-among c.code.result (is_among (texts_of now) text) c.code.ensures.none in
-    let whole : texts ≡ take i texts ++ text ∷ drop (i + 1) texts =
-    sym (take-append-drop i texts)
-    ∙ ap (λ l. take i texts ++ l) (drop_more texts i text c.loop-text-test.true)
-    ∙ ap (λ next. take i texts ++ next ∷ drop (i + 1) texts) (sym c.text-item.is) in
-    at_err c.from_residual.result
-    (rw whole
-    (KeepsSome-lacking old now before after (take i texts) (length now - length old) c.loop-text.invariant
-    c.add.new.self (g.A.Analyst.analysed c.add.new.analyst) text (there ∙ c.if-is_none.ensures) c.in_err-add.ensures.err (drop (i + 1) texts)))
-
-pub loop-text-preserved : goal.loop-text-preserved
-loop-text-preserved g c =
-    let i = c.loop-text.text-index in
-    let texts = c.args.texts.now in
-    let text = c.text-item.result in
-    let old = c.args.self.now in
-    let now = c.loop-text.self in
-    let count = length now - length old in
-    let before = g.A.Analyst.analysed c.args.analyst.now in
-    let after = g.A.Analyst.analysed c.loop-text.analyst in
-    let there = is_some-among c.code.result (is_among (texts_of now) text) c.code.ensures.none in
-    let grown : take (i + 1) texts ≡ take i texts ++ text ∷ [] =
-    take_more texts i text c.loop-text-test.true ∙ ap (λ last. take i texts ++ last ∷ []) (sym c.text-item.is) in
-    elim c.if-is_none.branch [
-      | then-is_none+in_ok-add w ↦
-          let next = w.add.new.self in
-          let later = g.A.Analyst.analysed w.add.new.analyst in
-          let added =
-          KeepsAll-added old now before after (take i texts) count c.loop-text.invariant
-          next later text (there ∙ w.if-is_none.ensures) w.in_ok-add.ensures.ok in
-          let counted : length next - length old ≡ count + 1 =
-          omega (arith, length-KeepsAll old next before later (take i texts ++ text ∷ []) (count + 1) added) in
-          rw (w.self-is, w.analyst-is, grown, counted) added
-      | else-is_none w ↦
-          rw (w.self-is, w.analyst-is, grown)
-          (KeepsAll-known old now before after (take i texts) count c.loop-text.invariant text (there ∙ w.if-is_none.ensures))
-    ]
+pub returns-clause-ok : goal.returns-clause-ok
+returns-clause-ok g c =
+    KeepsAll-used c.args.self.now c.fill.new.self (g.A.Analyst.analysed c.args.analyst.now) (g.A.Analyst.analysed c.fill.new.analyst)
+    (g.A.Analyst.held c.args.analyst.now) (g.A.Analyst.held c.fill.new.analyst) c.args.texts.now c.in_ok-fresh.fresh c.in_ok-fresh.ensures.ok
+    c.put_first.new.self (g.A.Analyst.analysed c.put_first.new.analyst) (g.A.Analyst.held c.put_first.new.analyst)
+    c.put_first.ensures.texts c.put_first.ensures.same c.put_first.ensures.bound c.put_first.ensures.analysed c.put_first.ensures.held
 
 pub returns-clause-there : goal.returns-clause-there
 returns-clause-there g c =
     let texts = c.args.texts.now in
-    let old = c.args.self.now in
-    let now = c.loop-text.self in
-    let all : take c.loop-text.text-index texts ≡ texts = take_all c.loop-text.text-index texts (omega arith) in
-    subst (λ front. All (λ text. is_among (texts_of now) text ≡ true) front) all
-    (each_kept old now (g.A.Analyst.analysed c.args.analyst.now) (g.A.Analyst.analysed c.loop-text.analyst) (take c.loop-text.text-index texts)
-    (length now - length old) c.loop-text.invariant)
+    let filled = c.fill.new.self in
+    λ k d inside. ap (λ some. is_among some (get_or texts k d)) c.put_first.ensures.texts ∙ each_present filled.bound texts (texts_of filled) k d inside

@@ -23,10 +23,10 @@ returns-in-Ok g c =
     let built : BuiltFrom graph c.self.inside.stage c.build.new.self = rw c.graph-graph.ensures.value at c.in-Ok.ensures.built in
     let builds : Builds graph (texts_of c.self.inside.kept) (texts_of c.build.new.kept) (g.A.Analyst.analysed c.args.analyst.now) (g.A.Analyst.analysed c.build.new.analyst) =
     rw c.graph-graph.ensures.value at c.in-Ok.ensures.builds in
-    let number : length c.build.new.kept - length c.self.inside.kept ≡ length builds.fresh =
+    let number : length c.build.new.kept.entries - length c.self.inside.kept.entries ≡ length builds.fresh =
     length-fresh c.self.inside.kept c.build.new.kept builds.fresh builds.kept in
-    let size : c.size.result ≡ length c.build.new.kept = c.size.ensures in
-    let before : c.size-before.result ≡ length c.self.inside.kept = c.size-before.ensures in
+    let size : c.size.result ≡ length c.build.new.kept.entries = c.size.ensures in
+    let before : c.size-before.result ≡ length c.self.inside.kept.entries = c.size-before.ensures in
     let counted : c.saturating_add-self-inside.result ≡ raised session.core.fresh (length builds.fresh) = omega (arith, number, size, before) in
     rw (← c.self.view_is)
     (readied-built session c.self.inside.stage.spare (texts_of c.build.new.kept) c.build.new.self c.saturating_add-self-inside.result _ _ built builds counted)
