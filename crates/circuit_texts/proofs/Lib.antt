@@ -2,5 +2,6 @@ pub mod SizeLemmas
 pub mod PairedLists
 pub mod PartLemmas
 pub mod MemberLemmas
+mod ApartLemmas
 pub mod ReadLemmas
 pub mod ChosenLemmas

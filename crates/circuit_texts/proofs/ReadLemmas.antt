@@ -3,7 +3,6 @@ use Rattle.std.proofs.Common.{◌≡◌, ◌==◌, ℕ, zero, suc, ◌<◌, Bool
 use Rattle.std.specs.Prelude.{Contains, nat_eq, if◌then◌else◌}
 use Rattle.std.specs.List.{flat_map}
 use Rattle.std.specs.List.Sorted.{IsPermutation}
-use Rattle.std.proofs.lemmas.Bool.{cases_eq, eq-eqb, ne_eqb}
 use Rattle.std.proofs.lemmas.Bool.Decides.{Decides-eqb}
 use Rattle.std.proofs.lemmas.List.Sorted.{Contains-permutation, IsPermutation-sym}
 use Rattle.std.proofs.lemmas.Map.Keys.{IsDistinct-IsPermutation}
@@ -19,23 +18,7 @@ use Rattle.group_text.proofs.LocalNodes.{Contains-firsts, Contains-from_firsts, 
 use Rattle.group_rest.specs.Rest.{SwitchReads, Reads}
 use Rattle.group_rest.proofs.ReadNodes.{piece_of}
 use Rattle.circuit_texts.specs.Reading.{AreReads, inputs_of, reads_at}
-
--- equal numbers are equal the other way round
-eqb_flips : (x y : ℕ) → nat_eq x y ≡ nat_eq y x
-eqb_flips x y =
-    elim (cases_eq x y) [
-      | inl same ↦ eq-eqb x y same ∙ sym (eq-eqb y x (sym same))
-      | inr differs ↦ ne_eqb x y differs ∙ sym (ne_eqb y x (λ same. differs (sym same)))
-    ]
-
--- what stands in a list of one item is that item
-only_item : (x y : ℕ) → Contains (x ∷ []) y → x ≡ y
-only_item x y (zero, inside, is) = is
-only_item x y (suc k, inside, is) = absurd (omega (arith, inside))
-
--- and that item stands in it
-one_item : (x y : ℕ) → x ≡ y → Contains (x ∷ []) y
-one_item x y is = (0, omega arith, is)
+use Rattle.circuit_texts.proofs.ApartLemmas.{eqb_flips, only_item, one_item}
 
 -- a piece of an item's own is a piece of the whole
 Contains-flat_map : (f : ℕ → List ℕ) (xs : List ℕ) (x y : ℕ) → Contains xs x → Contains (f x) y → Contains (flat_map f xs) y

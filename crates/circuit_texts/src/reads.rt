@@ -1,8 +1,7 @@
 //! The nodes that groups read.
-ghost use Rattle.std.specs.Prelude.{◌≡◌, ◌<◌, length, map, nat_eq, All, IfOk, OnOk};
+ghost use Rattle.std.specs.Prelude.{◌≡◌, ◌<◌, ◌++◌, length, map, All, IfOk, OnOk};
 ghost use Rattle.std.specs.List.{AllZip, flat_map};
 ghost use Rattle.std.specs.List.Sorted.{IsPermutation};
-ghost use Rattle.indexmap.specs.IndexSet.{insert_all};
 ghost use Rattle.path_meaning.specs.Graphs.{nodes, place_at, FitsPlace};
 ghost use Rattle.group_meaning.specs.Groups.{AreGroups, id_of};
 ghost use Rattle.channel_groups.specs.Grouping.{IsId};
@@ -10,7 +9,6 @@ ghost use Rattle.group_text.specs.Texts.{firsts};
 ghost use Rattle.circuit_texts.specs.Reading.{AreReads, inputs_of, reads_at};
 
 use channel_groups::{GroupId, Groups};
-use indexmap::IndexSet;
 use path_meaning::{Graph, Switch};
 use std::alloc::{AllocError, Global};
 use strength_order::INPUT_LEVEL;
@@ -58,46 +56,48 @@ pub(crate) fn sorted_reads(
 {
     let mut reads = reads_in(alloc, graph, switches)?;
     reads.sort_unstable();
+    reads.dedup();
+    reads.shrink_to_fit();
     Ok(reads)
 }
 
-// The nodes that the switches at these places read, each once.
+// The nodes that each of the switches at these places reads, in turn.
 fn reads_in(alloc: Global, graph: &Graph, switches: &[usize]) -> Result<Vec<usize>, AllocError>
     requires { All (λ place. place < length graph.now.places) switches.now }
     ensures { IfOk result (λ list.
-        list.items ≡ firsts (flat_map (λ place. reads_at graph.now (place_at graph.now.places place)) switches.now)) }
+        list.items ≡ flat_map (λ place. reads_at graph.now (place_at graph.now.places place)) switches.now) }
 {
-    let mut reads = IndexSet::new(alloc);
+    let mut reads = Vec::with_capacity(alloc, 2 * switches.len())?;
     for &place in switches {
-        insert_reads(graph, graph.switch_at(place), &mut reads)?;
+        push_reads(graph, graph.switch_at(place), &mut reads)?;
     }
-    Vec::from_slice(alloc, reads.as_slice())
+    Ok(reads)
 }
 
-// Inserts the nodes that what stands at a place reads.
-fn insert_reads(
+// Adds the nodes that what stands at a place reads.
+fn push_reads(
     graph: &Graph,
     place: Option<Switch>,
-    reads: &mut IndexSet<usize>,
+    reads: &mut Vec<usize>,
 ) -> Result<(), AllocError>
     requires { FitsPlace (nodes graph.now) place }
-    ensures { OnOk result (reads.new.keys ≡ insert_all nat_eq reads.old.keys (reads_at graph.now place)) }
+    ensures { OnOk result (reads.new.items ≡ reads.old.items ++ reads_at graph.now place) }
 {
     if let Some(switch) = place {
-        reads.insert(switch.gate)?;
-        insert_input(graph, switch.a, reads)?;
-        insert_input(graph, switch.b, reads)?;
+        reads.push(switch.gate)?;
+        push_input(graph, switch.a, reads)?;
+        push_input(graph, switch.b, reads)?;
     }
     Ok(())
 }
 
-// Inserts a node where it is an input node.
-fn insert_input(graph: &Graph, node: usize, reads: &mut IndexSet<usize>) -> Result<(), AllocError>
+// Adds a node where it is an input node.
+fn push_input(graph: &Graph, node: usize, reads: &mut Vec<usize>) -> Result<(), AllocError>
     requires { node < nodes graph.now }
-    ensures { OnOk result (reads.new.keys ≡ insert_all nat_eq reads.old.keys (inputs_of graph.now node)) }
+    ensures { OnOk result (reads.new.items ≡ reads.old.items ++ inputs_of graph.now node) }
 {
     if graph.level(node) == INPUT_LEVEL {
-        reads.insert(node)?;
+        reads.push(node)?;
     }
     Ok(())
 }

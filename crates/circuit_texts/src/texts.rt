@@ -75,8 +75,8 @@ pub fn texts_of(alloc: Global, graph: &Graph, groups: &Groups) -> Result<GroupTe
     Ok(GroupTexts { texts, maps })
 }
 
-// The fault of a group's text, told of the group with this least node.
-pub(crate) fn fault_at(node: usize, fault: TextFault) -> BuildFault
+/// The fault of a group's text, told of the group with this least node.
+pub fn fault_at(node: usize, fault: TextFault) -> BuildFault
     ensures { result ≡ at_node node fault }
 {
     match fault {

@@ -1,17 +1,19 @@
 -- Numbers of texts: as many texts are in use as the parts have distinct ones.
-use Rattle.std.proofs.Common.{◌≡◌, ◌≢◌, ℕ, zero, suc, ◌+◌, ◌-◌, ◌<◌, ◌≤◌, Bool, true, false, cond, eqb, ◌||◌, inl, inr, ◌⊎◌, List, [], ◌∷◌, ◌++◌, length, map, get_or, All, Option, None, Some, refl, sym, ap, ap₂, subst, ◌∙◌, append_assoc, append-nil, arith, nat_lt, eq-eqb}
-use Rattle.std.specs.Prelude.{slice_get, slice_index, slice_index_or, slice_set, count_by, replicate, Contains}
-use Rattle.std.specs.Option.{option_and_then}
-use Rattle.std.specs.List.{IsDistinct, list_any, filter_map}
+use Rattle.std.proofs.Common.{◌≡◌, ◌≢◌, ℕ, zero, suc, ◌+◌, ◌-◌, ◌<◌, ◌≤◌, Bool, true, false, not, cond, eqb, ◌||◌, inl, inr, List, [], ◌∷◌, ◌++◌, length, map, get_or, All, Option, None, Some, refl, sym, ap, ap₂, subst, ◌∙◌, append_assoc, append-nil, arith, nat_lt, eq-eqb}
+use Rattle.std.specs.Prelude.{slice_get, slice_index, slice_index_or, slice_set, count_by, replicate, position}
+use Rattle.std.specs.Option.{option_and_then, IfSome}
+use Rattle.std.specs.List.{IsDistinct}
 use Rattle.std.proofs.lemmas.Bool.{cases_eq, false_from_ne_true, lt-ltb}
 use Rattle.std.proofs.lemmas.Bool.Decides.{Decides-eqb}
 use Rattle.std.proofs.lemmas.List.{ext_get_or, get_or-set_same, get_or-set_other, length-set, length_push, map-append, map-set}
 use Rattle.std.proofs.lemmas.List.Elements.{All-nil, All-cons, All-head, All-tail}
+use Rattle.std.proofs.lemmas.List.Quantifiers.{position-Some}
 use Rattle.std.proofs.lemmas.List.Sums.{sum_by_push, sum_by-cons, sum_by-set, count_by-le-length}
-use Rattle.std.proofs.lemmas.Option.{slice_get_within, slice_get_read, get_or_from_slice_get}
+use Rattle.std.proofs.lemmas.Option.{slice_get_read}
 use Rattle.group_text.specs.Texts.{GroupTextData}
 use Rattle.group_text.specs.Compared.{same_text, same_text_decides}
-use Rattle.group_text.specs.FirstTexts.{is_among, first_texts}
+use Rattle.group_text.specs.FirstTexts.{is_among, first_texts, new_texts}
+use Rattle.analysis_cache.proofs.NewTextLemmas.{is_among-first, first_texts-append}
 use Rattle.kept_parts.specs.Uses.{UsesData, IsNumbered, texts_used, some_texts, count_distinct, CountsUses, used, is_number, first_use, last_use, AreCounted}
 use Rattle.kept_parts.proofs.UseLemmas.{CountsUses-more, used-more, CountsUses-none, used-none, same_place, used-again, used-first}
 
@@ -191,12 +193,48 @@ used_known_more old new inside more =
         slice_get-grown old.known more.more number text here ∙ sym here in
         ap₂ (λ first rest. first ∷ rest) same (each numbers (λ k other is. inside (suc k) other is))
 
--- a part more with a text that has a number
-pub texts_pushed : (mid new : UsesData) (number : ℕ) (text : GroupTextData) → slice_get mid.known number ≡ Some text → new.known ≡ mid.known →
-    new.numbers ≡ mid.numbers ++ Some number ∷ [] → texts_used new ≡ texts_used mid ++ Some text ∷ []
-texts_pushed mid new number text here known numbers =
-    ap₂ (λ texts list. map (option_and_then (slice_get texts)) list) known numbers
-    ∙ (map-append (option_and_then (slice_get mid.known)) mid.numbers (Some number ∷ []) ∙ ap (λ last. texts_used mid ++ last ∷ []) here)
+-- where a text is found, it stands
+pub position-text : (texts : List GroupTextData) (text : GroupTextData) (place : ℕ) → Some place ≡ position (same_text text) texts →
+    slice_get texts place ≡ Some text
+position-text texts text place is =
+    let (inside, same, first) = position-Some (same_text text) texts place text (sym is) in
+    slice_get_read texts (length texts) place text refl inside ((same_text_decides text (get_or texts place text)).0 same)
+
+-- each number that a part may have is below a bound
+pub some_below : (slot : Option ℕ) (bound : ℕ) → ((number : ℕ) → slot ≡ Some number → number < bound) → IfSome slot (λ number. number < bound)
+some_below None bound all = tt
+some_below (Some number) bound all = all number refl
+
+-- the text with a part's number is the part's text
+pub text_of_number : (uses : UsesData) (texts : List GroupTextData) (i number : ℕ) → texts_used uses ≡ map Some texts → i < length uses.numbers →
+    slice_index_or uses.numbers i None ≡ Some number → slice_get uses.known number ≡ slice_get texts i
+text_of_number uses = each uses.numbers
+  where
+    each : (numbers : List (Option ℕ)) (texts : List GroupTextData) (i number : ℕ) →
+        map (option_and_then (slice_get uses.known)) numbers ≡ map Some texts → i < length numbers →
+        slice_index_or numbers i None ≡ Some number → slice_get uses.known number ≡ slice_get texts i
+    each [] texts i number same inside is = absurd (omega (arith, inside))
+    each (slot ∷ numbers) [] i number same inside is = absurd cc
+    each (slot ∷ numbers) (text ∷ texts) zero number same inside is =
+        let first : option_and_then (slice_get uses.known) slot ≡ Some text = cc in
+        ap (option_and_then (slice_get uses.known)) (sym is) ∙ first
+    each (slot ∷ numbers) (text ∷ texts) (suc i) number same inside is =
+        let rest : map (option_and_then (slice_get uses.known)) numbers ≡ map Some texts = cc in
+        each numbers texts i number rest (omega (arith, inside)) is
+
+-- a text that is known adds none
+pub known_again : (known : List GroupTextData) (text : GroupTextData) → is_among known text ≡ true → new_texts known (text ∷ []) ≡ []
+known_again known text is = ap (λ b. cond (not b) (text ∷ []) []) is
+
+-- and one that isn't adds itself
+pub known_first : (known : List GroupTextData) (text : GroupTextData) → is_among known text ≡ false → new_texts known (text ∷ []) ≡ text ∷ []
+known_first known text is = ap (λ b. cond (not b) (text ∷ []) []) is
+
+-- the distinct ones of some texts and of one more
+pub first_texts-more : (front : List GroupTextData) (text : GroupTextData) →
+    first_texts front ++ new_texts (first_texts front) (text ∷ []) ≡ first_texts (front ++ text ∷ [])
+first_texts-more front text =
+    ap (λ b. first_texts front ++ cond (not b) (text ∷ []) []) (is_among-first front text) ∙ sym (first_texts-append front (text ∷ []))
 
 -- with one use more of a text as many are in use, or one more where it is the first
 used_raised : (counts : List ℕ) (number : ℕ) → number < length counts →

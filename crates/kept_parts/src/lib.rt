@@ -1,8 +1,9 @@
 //! The parts of texts that are kept: the code of each text, over the nodes of its group.
 //!
-//! The two things are `parts_of`, which makes the parts, and `TextUses`, which knows the text of each part. The
-//! layers above use that a part's code means its text, and that the number of texts in use is that of the
-//! distinct ones, found without comparing texts pair by pair.
+//! `numbered_texts` finds the texts of all groups and holds each distinct one once; `TextUses` knows the text of each
+//! part by its number; `parts_by_number` and `parts_of` make the parts. The layers above use that a part's code
+//! means its text, and that the number of texts in use is that of the distinct ones, found without comparing texts
+//! pair by pair.
 //!
 //! ```text
 //! two inverters and a nor: three parts, the first two of which share their code
@@ -14,8 +15,10 @@
 //! After Beatty and Bryant, "Fast Incremental Circuit Analysis Using Extracted Hierarchy", 1988.
 #![tactic(auto)]
 
+mod numbered;
 mod parts;
 mod uses;
 
-pub use parts::parts_of;
+pub use numbered::{NumberedTexts, numbered_texts};
+pub use parts::{parts_by_number, parts_of};
 pub use uses::TextUses;

@@ -1,5 +1,6 @@
 //! Which texts the parts of a machine have, and how many of them are distinct.
-ghost use Rattle.std.specs.Prelude.{◌≡◌, ◌+◌, ◌++◌, ◌∷◌, [], ◌^◌, ◌<◌, None, Some, length, map, replicate, slice_get, slice_index_or, slice_set, IfOk, OnOk, OnErr};
+ghost use Rattle.std.specs.Prelude.{◌≡◌, ◌+◌, ◌++◌, ◌∷◌, [], ◌^◌, ◌<◌, None, Some, length, map, replicate, slice_get, slice_index_or, slice_set, IfOk, IfSome, OnOk, OnErr};
+ghost use Rattle.group_text.specs.FirstTexts.{new_texts};
 ghost use Rattle.kept_parts.specs.Uses.{IsNumbered, texts_used, count_distinct, first_use, last_use};
 
 use group_text::GroupText;
@@ -46,26 +47,37 @@ impl TextUses {
         })
     }
 
-    /// A part for each of these texts.
-    pub fn of_texts(
-        alloc: Global,
-        keys: TableKeys,
-        texts: &[GroupText],
-    ) -> Result<TextUses, NoMemory>
-        ensures { IfOk result (λ uses. texts_used uses ≡ map Some texts.now) }
+    /// Adds a part that has this text. A text that has no number yet gets the next one.
+    pub fn push_text(&mut self, alloc: Global, text: &GroupText) -> Result<(), NoMemory>
+        ensures texts { OnOk result (texts_used self.new ≡ texts_used self.old ++ Some text.now ∷ []) }
+        ensures known { OnOk result (self.new.known ≡ self.old.known ++ new_texts self.old.known (text.now ∷ [])) }
     {
-        let mut uses = TextUses::new(alloc, keys, 0)?;
-        for text in texts {
-            let number = uses.number(alloc, text)?;
-            uses.push(number)?;
-        }
-        Ok(uses)
+        let number = self.number(alloc, text)?;
+        self.push(number)?;
+        Ok(())
+    }
+
+    /// The texts that have a number, in the order of their numbers.
+    pub fn known(&self) -> &[GroupText]
+        ensures { result.now ≡ self.now.known }
+    {
+        self.known.as_slice()
+    }
+
+    /// The number of a part's text, if it has one.
+    pub fn number_of(&self, part: usize) -> Option<usize>
+        requires { part < length self.now.numbers }
+        ensures value { result ≡ slice_index_or self.now.numbers part None }
+        ensures known { IfSome result (λ number. number < length self.now.known) }
+    {
+        self.numbers[part]
     }
 
     /// The number of a text: it gets the next one, if it has none.
     pub fn number(&mut self, alloc: Global, text: &GroupText) -> Result<usize, NoMemory>
         ensures numbered { IsNumbered self.old self.new }
         ensures texts { texts_used self.new ≡ texts_used self.old }
+        ensures known { OnOk result (self.new.known ≡ self.old.known ++ new_texts self.old.known (text.now ∷ [])) }
         ensures number { IfOk result (λ number. slice_get self.new.known number ≡ Some text.now) }
     {
         if let Some(number) = self.known.get_index_of(text) {

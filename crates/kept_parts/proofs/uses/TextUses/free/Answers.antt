@@ -1,8 +1,8 @@
 -- One use less is counted.
-use Rattle.std.proofs.Common.{◌≡◌, ◌-◌, ◌+◌, ◌<◌, Some, None, length, ap, sym, subst, ◌∙◌, arith}
-use Rattle.std.specs.Prelude.{slice_index, slice_index_or, slice_set}
-use Rattle.std.proofs.lemmas.List.{get_or_default, set-get_or}
-use Rattle.kept_parts.specs.Uses.{UsesData, AreCounted, last_use}
+use Rattle.std.proofs.Common.{◌≡◌, ◌+◌, ◌<◌, Some, None, length, ap, sym, subst, ◌∙◌, arith}
+use Rattle.std.specs.Prelude.{slice_index, slice_index_or}
+use Rattle.std.proofs.lemmas.List.{get_or_default}
+use Rattle.kept_parts.specs.Uses.{UsesData, last_use}
 use Rattle.kept_parts.proofs.NumberLemmas.{free_inside, free_some, free_there, AreCounted-free}
 use Rattle.kept_parts.proofs.uses.TextUses.free.Goals as goal
 

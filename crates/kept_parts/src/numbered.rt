@@ -1,0 +1,55 @@
+//! The texts of a circuit's groups by their numbers.
+ghost use Rattle.std.specs.Prelude.{◌≡◌, ◌⊎◌, None, Some, map, All, IfOk, IfErr, OnOk};
+ghost use Rattle.group_meaning.specs.Groups.{AreGroups};
+ghost use Rattle.group_text.specs.FirstTexts.{first_texts};
+ghost use Rattle.group_text.specs.Texts.{local_nodes, text_of_group};
+ghost use Rattle.circuit_texts.specs.Sizes.{IsFirstTooLarge, fault_in};
+ghost use Rattle.kept_parts.specs.Uses.{texts_used};
+
+use crate::uses::TextUses;
+use channel_groups::Groups;
+use circuit_texts::{BuildFault, fault_at};
+use group_text::text_of;
+use path_meaning::Graph;
+use std::alloc::{AllocError, Global};
+use table_keys::TableKeys;
+
+/// The text of each group, and for each group the nodes that the text's local nodes stand for.
+#[derive(Drop)]
+pub struct NumberedTexts {
+    pub uses: TextUses,
+    pub maps: Vec<Vec<usize>>,
+}
+
+/// The texts of the groups of a graph, in the groups' order: each distinct text is held once, so this takes no
+/// more memory than the distinct texts and a number for each group. The hashes of texts start from these keys.
+///
+/// Where some group is too large, the first such group is told.
+pub fn numbered_texts(
+    alloc: Global,
+    keys: TableKeys,
+    graph: &Graph,
+    groups: &Groups,
+) -> Result<NumberedTexts, BuildFault>
+    requires { AreGroups graph.now groups.now.groups }
+    ensures texts { IfOk result (λ made. texts_used made.uses ≡ map Some (map (text_of_group graph.now) groups.now.groups)) }
+    ensures known { IfOk result (λ made. made.uses.known ≡ first_texts (map (text_of_group graph.now) groups.now.groups)) }
+    ensures maps { IfOk result (λ made. map (λ nodes. nodes.items) made.maps.items ≡ map (local_nodes graph.now) groups.now.groups) }
+    ensures fits { OnOk result (All (λ group. fault_in group ≡ None) groups.now.groups) }
+    ensures too_large { IfErr result (λ fault. (fault ≡ BuildFault.NoMemory) ⊎ IsFirstTooLarge groups.now.groups fault) }
+{
+    let mut uses = TextUses::new(alloc, keys, 0)?;
+    let mut maps = Vec::new(alloc);
+    let ids = groups.ids(alloc)?;
+    for &id in &ids {
+        let group = groups.group(id);
+        match text_of(alloc, graph, group.members(), group.switches()) {
+            Ok((text, nodes)) => {
+                uses.push_text(alloc, &text)?;
+                maps.push(nodes).map_err(AllocError::from)?;
+            }
+            Err(fault) => return Err(fault_at(group.id().node(), fault)),
+        }
+    }
+    Ok(NumberedTexts { uses, maps })
+}
