@@ -28,7 +28,7 @@ pub(crate) const PLACES: usize = 20_000;
 #[derive(Drop)]
 pub(crate) struct Placed {
     pub(crate) code: Rc<Code>,
-    pub(crate) nodes: Vec<usize>,
+    pub(crate) nodes: Vec<u32>,
 }
 
 /// The codes of the groups of a netlist of this size.
@@ -137,14 +137,16 @@ fn drawn_nodes(
     count: usize,
     nodes: usize,
     draws: &mut Draws,
-) -> Result<Vec<usize>, AllocError>
+) -> Result<Vec<u32>, AllocError>
     requires { 0 < nodes }
     ensures count { IfOk result (λ drawn. length drawn.items ≡ count) }
     ensures below { IfOk result (λ drawn. All (λ node. node < nodes) drawn.items) }
 {
     let mut drawn = Vec::new(alloc);
     for _k in 0..count {
-        let node = draws.below(nodes);
+        let Ok(node) = u32::try_from(draws.below(nodes)) else {
+            return Err(AllocError);
+        };
         drawn.push(node)?;
     }
     Ok(drawn)

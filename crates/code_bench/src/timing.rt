@@ -121,7 +121,7 @@ fn run_tagged<L: Ledger>(
     }
     let input = &mut room.input[..inputs];
     for (j, node) in part.nodes.iter().enumerate() {
-        input[j] = state[*node];
+        input[j] = state[*node as usize];
     }
     let out = &mut room.out[..outputs];
     code.run(input, &mut room.results, out, steps);

@@ -168,7 +168,7 @@ impl Code {
     pub fn run_mapped<L: Ledger>(
         &self,
         state: &[Tern],
-        nodes: &[usize],
+        nodes: &[u32],
         values: &mut [bool],
         out: &mut [Tern],
         steps: &mut Steps<L>,

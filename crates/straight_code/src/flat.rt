@@ -146,7 +146,7 @@ fn place_of(inputs: usize, results: usize, operand: Operand) -> u32
 
 /// Puts the constants and the rails of the inputs into the array: input j has the state of node j of
 /// these.
-pub(crate) fn fill_rails(state: &[Tern], nodes: &[usize], values: &mut [bool])
+pub(crate) fn fill_rails(state: &[Tern], nodes: &[u32], values: &mut [bool])
     requires below { All (λ node. node < length state.now) nodes.now }
     requires room { 2 + 2 * length nodes.now ≤ length values.old }
     ensures rails { take (2 + 2 * length nodes.now) values.new ≡ flat_values (map (state_at state.now) nodes.now) [] }
@@ -155,7 +155,7 @@ pub(crate) fn fill_rails(state: &[Tern], nodes: &[usize], values: &mut [bool])
     values[0] = false;
     values[1] = true;
     for (j, node) in nodes.iter().enumerate() {
-        let tern = state[*node];
+        let tern = state[*node as usize];
         values[2 + 2 * j] = tern.may_one();
         values[3 + 2 * j] = tern.may_zero();
     }

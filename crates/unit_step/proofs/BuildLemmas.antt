@@ -1,10 +1,11 @@
 -- A machine that starts with the parts of a graph's groups fits the graph: all its parts are marked, so none of them has to rest.
-use Rattle.std.proofs.Common.{◌≡◌, ℕ, zero, suc, ◌<◌, true, false, inl, inr, List, [], ◌∷◌, ◌++◌, length, map, take, All, Some, None, Result, Ok, Err, IfOk, Vec, Global, refl, sym, ap, subst, ◌∙◌, append-nil, arith}
+use Rattle.std.proofs.Common.{◌≡◌, ◌≢◌, ℕ, zero, suc, ◌<◌, true, false, inl, inr, List, [], ◌∷◌, length, map, take, All, Some, None, Result, Ok, Err, IfOk, Vec, Global, refl, sym, ap, subst, ◌∙◌, arith}
 use Rattle.std.specs.Prelude.{cond, Contains, Option, slice_get, slice_index_or, zip, count_by}
 use Rattle.std.specs.List.{AllZip}
+use Rattle.std.specs.Option.{option_and_then}
 use Rattle.std.specs.declared.rc.Rc.{Rc}
 use Rattle.std.proofs.lemmas.Bool.{lt-ltb}
-use Rattle.std.proofs.lemmas.List.{length-map, map-append, get_or-replicate, take-append-le, take_all}
+use Rattle.std.proofs.lemmas.List.{length-map, get_or-replicate, take-append-le, take_all}
 use Rattle.std.proofs.lemmas.List.Elements.{All-nil, All-cons, All-head, All-tail, All-weaker, All-contains_itself}
 use Rattle.std.proofs.lemmas.List.Sums.{sum_by-cons}
 use Rattle.std.proofs.lemmas.Slice.Zip.{AllZip-long}
@@ -20,10 +21,10 @@ use Rattle.group_text.proofs.LocalNodes.{members_begin}
 use Rattle.straight_code.specs.Code.{CodeData}
 use Rattle.straight_code.specs.declared.part.Part.{Part}
 use Rattle.circuit_texts.specs.Parts as made
-use Rattle.analysis_cache.specs.Keeping.{KeptData, KeepsAll, KeepsSome, texts_of}
+use Rattle.analysis_cache.proofs.DistinctLemmas.{new_texts-first}
 use Rattle.channel_groups.specs.Grouping.{GroupsData, AreOf}
 use Rattle.circuit_texts.specs.Sizes.{fault_in}
-use Rattle.circuit_texts.specs.Building.{BuildsFresh, IsCutOff}
+use Rattle.circuit_texts.specs.Building.{BuildsFresh}
 use Rattle.kept_parts.specs.Uses.{some_texts, count_distinct}
 use Rattle.circuit_texts.specs.Reading.{AreReads}
 use Rattle.circuit_texts.proofs.PairedLists.{partner_first, partner_second}
@@ -184,44 +185,37 @@ module _ (g : GraphData) where
           ∙ ap (λ list. length (first_texts (map (text_of_group g) list))) (unique g groups others (subst (AreGroups g) same are.are) others_are);
     }
 
+-- where each part has a text it has a number
+some_numbers : (text : ℕ → Option GroupTextData) (numbers : List (Option ℕ)) (texts : List GroupTextData) →
+    map (option_and_then text) numbers ≡ map Some texts → All (λ number. number ≢ None) numbers
+some_numbers text [] texts are = All-nil (λ (number : Option ℕ). number ≢ None)
+some_numbers text (number ∷ numbers) [] are = absurd cc
+some_numbers text (None ∷ numbers) (first ∷ texts) are = absurd cc
+some_numbers text (Some number ∷ numbers) (first ∷ texts) are =
+    All-cons (λ (one : Option ℕ). one ≢ None) (Some number) numbers (λ none. absurd cc) (some_numbers text numbers texts (cc))
+
 -- what is made holds more, where what holds of it does
 pub if_ok : {T E : Type 0} (P Q : T → Type 0) → ((made : T) → P made → Q made) → (result : Result T E) → IfOk result P → IfOk result Q
 if_ok P Q more (Ok made) holds = more made holds
 if_ok P Q more (Err fault) holds = tt
 
-module _ (g : GraphData) (state : List Tern) (plan : Plan) (is_plan : IsPlan g state plan) (old new : KeptData) (before after : List GroupTextData) where
-  -- what a build has analysed: the new ones of the plan's texts
-  fresh_texts : BuildsFresh g (texts_of old) (new_texts (texts_of old) plan.texts.items)
-  fresh_texts = record {
-    texts = plan.texts.items;
-    has = record { groups = plan.groups.groups; are = is_plan.are.are; fit = is_plan.fit; texts_are = is_plan.texts };
-    fresh_are = refl;
-  }
+module _ (g : GraphData) (state : List Tern) (plan : Plan) (is_plan : IsPlan g state plan) where
+  -- what a build has analysed: the new ones of the distinct texts are the new ones of the groups' texts
+  pub planned_texts : (kept : List GroupTextData) → BuildsFresh g kept (new_texts kept plan.uses.known)
+  planned_texts kept =
+      let texts = map (text_of_group g) plan.groups.groups in
+      record {
+        texts = texts;
+        has = record { groups = plan.groups.groups; are = is_plan.are.are; fit = is_plan.fit; texts_are = refl };
+        fresh_are = ap (new_texts kept) is_plan.known ∙ new_texts-first kept texts;
+      }
 
-  -- where not all could be kept, the build was cut off
-  pub cut_off_some : KeepsSome old new before after plan.texts.items → IsCutOff g (texts_of old) (texts_of new) before after
-  cut_off_some keeps = inr (record {
-    fresh = new_texts (texts_of old) plan.texts.items;
-    more = texts_of keeps.more;
-    further = keeps.further;
-    rest = keeps.rest;
-    news = fresh_texts;
-    front = keeps.front;
-    kept = ap texts_of keeps.kept ∙ map-append _ old keeps.more;
-    analysed = keeps.analysed;
-    one = keeps.one;
-  })
+  -- each group has a number
+  pub numbers_counted : length plan.uses.numbers ≡ length plan.groups.groups
+  numbers_counted =
+      let texts = map (text_of_group g) plan.groups.groups in
+      sym (length-map plan.uses.numbers (option_and_then (slice_get plan.uses.known)))
+      ∙ (ap length is_plan.texts ∙ (length-map texts Some ∙ length-map plan.groups.groups (text_of_group g)))
 
-  -- and it may be cut off after all were kept
-  pub cut_off_all : (count : ℕ) → KeepsAll old new before after plan.texts.items count → IsCutOff g (texts_of old) (texts_of new) before after
-  cut_off_all count keeps = inr (record {
-    fresh = new_texts (texts_of old) plan.texts.items;
-    more = texts_of keeps.more;
-    further = [];
-    rest = [];
-    news = fresh_texts;
-    front = sym keeps.added ∙ sym (append-nil (texts_of keeps.more));
-    kept = ap texts_of keeps.kept ∙ map-append _ old keeps.more;
-    analysed = keeps.analysed ∙ ap (λ l. before ++ l) (sym keeps.added ∙ sym (append-nil (texts_of keeps.more)));
-    one = inl refl;
-  })
+  pub all_numbered : All (λ number. number ≢ None) plan.uses.numbers
+  all_numbered = some_numbers (slice_get plan.uses.known) plan.uses.numbers (map (text_of_group g) plan.groups.groups) is_plan.texts

@@ -9,6 +9,7 @@ pub mod TakingLemmas
 pub mod AdvanceLemmas
 pub mod MachineLemmas
 pub mod MakingLemmas
+pub mod FillingLemmas
 pub mod BuildLemmas
 pub mod AlikeParts
 pub mod KeptLemmas
@@ -23,6 +24,7 @@ pub mod LeavingLemmas
 pub mod ClearingLemmas
 pub mod FinishingGroups
 pub mod FinishingWaiting
+pub mod DenseLemmas
 pub mod FinishingRoused
 pub mod FinishingBuilds
 pub mod RenewingLemmas

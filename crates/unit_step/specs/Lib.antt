@@ -12,4 +12,5 @@ pub mod Running
 pub mod Making
 pub mod Planning
 pub mod Finishing
+pub mod Dense
 pub mod Seating

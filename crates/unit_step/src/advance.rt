@@ -7,10 +7,12 @@ ghost use Rattle.unit_step.specs.Machines.{marked_sum, instructions_of};
 ghost use Rattle.unit_step.specs.Stepping.{Moves, Remarks};
 ghost use Rattle.unit_step.specs.Marking.{MarksAll};
 ghost use Rattle.unit_step.specs.Evaluating.{rooms};
+ghost use Rattle.unit_step.specs.Dense.{AreDense};
 ghost use Rattle.unit_step.specs.Running.{IsRunnable, AreAgreed, IsTaken, ReadsAny};
 ghost use Rattle.unit_step.specs.Readers.{readers_of};
 
 use crate::agenda::{Agenda, mark_all};
+use crate::dense::DenseParts;
 use crate::evaluation::{Change, Desk, evaluate_all};
 use crate::part::HeldPart;
 use crate::readers::ReaderLists;
@@ -25,12 +27,14 @@ use ternary::{Steps, Tern};
 pub(crate) fn advance<L: Ledger>(
     joining: bool,
     parts: &[HeldPart],
+    dense: &DenseParts,
     readers: &ReaderLists,
     state: &mut [Tern],
     agenda: &mut Agenda,
     desk: &mut Desk,
     steps: &mut Steps<L>,
 ) -> bool
+    requires dense { AreDense parts.now dense.now }
     requires runnable { IsRunnable parts.now agenda.old.marks agenda.old.waiting (length state.old) readers.now (rooms desk.old) }
     ensures moves { Moves joining parts.now agenda.old.marks state.old state.new }
     ensures marks { Remarks joining parts.now agenda.old.marks state.old state.new agenda.new.marks }
@@ -43,7 +47,7 @@ pub(crate) fn advance<L: Ledger>(
 {
     desk.changes.clear();
     desk.done.clear();
-    evaluate_all(joining, parts, state, agenda, desk, steps);
+    evaluate_all(joining, parts, dense, state, agenda, desk, steps);
     mark_again(joining, &desk.done, agenda);
     take_over(&desk.changes, readers, state, agenda);
     !desk.changes.is_empty()

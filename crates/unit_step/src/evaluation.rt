@@ -7,8 +7,10 @@ ghost use Rattle.unit_step.specs.Parts.{Stands, IsStale};
 ghost use Rattle.unit_step.specs.Machines.{IsMarked, count_marked, marked_sum, instructions_of, members_of};
 ghost use Rattle.unit_step.specs.Stepping.{after};
 ghost use Rattle.unit_step.specs.Evaluating.{rooms, IsSeated, Notes, Reports, Evaluated};
+ghost use Rattle.unit_step.specs.Dense.{AreDense, IsSeatOf};
 
 use crate::agenda::Agenda;
+use crate::dense::{DenseParts, Seat};
 use crate::part::HeldPart;
 use std::sync::ledger::Ledger;
 use straight_code::Code;
@@ -34,14 +36,18 @@ pub(crate) struct Desk {
 }
 
 // Evaluates all marked parts that have code, and clears their marks. No state is written.
+//
+// A part is read through its seat alone: what stands with the part itself is far apart in memory.
 pub(crate) fn evaluate_all<L: Ledger>(
     joining: bool,
     parts: &[HeldPart],
+    dense: &DenseParts,
     state: &[Tern],
     agenda: &mut Agenda,
     desk: &mut Desk,
     steps: &mut Steps<L>,
 )
+    requires dense { AreDense parts.now dense.now }
     requires counted { length agenda.old.marks ≡ length parts.now }
     requires seated { All (IsSeated (length state.now) (rooms desk.old)) parts.now }
     requires changes { desk.old.changes.items ≡ [] }
@@ -56,19 +62,23 @@ pub(crate) fn evaluate_all<L: Ledger>(
     ensures steps { steps.new ≤ steps.old + marked_sum instructions_of parts.now agenda.old.marks }
 {
     while let Some(k) = agenda.pop() {
-        evaluate(joining, &parts[k], state, desk, steps);
+        let seat = &dense.seats[k];
+        evaluate(joining, &parts[k], seat, &dense.nodes, state, desk, steps);
         desk.done.push_reserved(k);
     }
 }
 
-// Runs the code of a part, if it has one, and notes its members that change.
+// Runs the code of a part, if it has one, and notes its members that change. It reads the part's seat.
 fn evaluate<L: Ledger>(
     joining: bool,
     part: &HeldPart,
+    seat: &Seat,
+    nodes: &[u32],
     state: &[Tern],
     desk: &mut Desk,
     steps: &mut Steps<L>,
 )
+    requires dense { IsSeatOf part.now nodes.now seat.now }
     requires seated { IsSeated (length state.now) (rooms desk.old) part.now }
     requires room { vec_len desk.old.changes + part.now.members ≤ vec_capacity desk.old.changes }
     ensures changes { (parts : List HeldPart) (k : ℕ) → Stands parts k part.now
@@ -78,17 +88,18 @@ fn evaluate<L: Ledger>(
     ensures rooms { rooms desk.new ≡ rooms desk.old }
     ensures steps { steps.new ≤ steps.old + instructions_of part.now }
 {
-    if let Some(code) = &part.code {
-        run_part(code, &part.map, state, desk, steps);
-        let values = &desk.out[..part.members];
-        note_all(joining, &part.map, state, values, &mut desk.changes);
+    if let Some(code) = &seat.code {
+        let map = seat.map(nodes);
+        run_part(code, map, state, desk, steps);
+        let values = &desk.out[..seat.members()];
+        note_all(joining, map, state, values, &mut desk.changes);
     }
 }
 
 // Runs code on the states of the nodes of a map.
 fn run_part<L: Ledger>(
     code: &Code,
-    nodes: &[usize],
+    nodes: &[u32],
     state: &[Tern],
     desk: &mut Desk,
     steps: &mut Steps<L>,
@@ -109,7 +120,7 @@ fn run_part<L: Ledger>(
 // Runs code on the states of the nodes of a map, and writes those of its outputs to the front of `out`.
 fn run_front<L: Ledger>(
     code: &Code,
-    nodes: &[usize],
+    nodes: &[u32],
     state: &[Tern],
     values: &mut [bool],
     out: &mut [Tern],
@@ -129,7 +140,7 @@ fn run_front<L: Ledger>(
 // Notes each node at the front of a map whose next value differs from its state.
 fn note_all(
     joining: bool,
-    nodes: &[usize],
+    nodes: &[u32],
     state: &[Tern],
     values: &[Tern],
     changes: &mut Vec<Change>,
@@ -142,7 +153,7 @@ fn note_all(
     ensures capacity { vec_capacity changes.new ≡ vec_capacity changes.old }
 {
     for (place, value) in values.iter().enumerate() {
-        let node = nodes[place];
+        let node = nodes[place] as usize;
         let next = after(joining, state[node], *value);
         if next != state[node] {
             changes.push_reserved(Change { node, value: next });

@@ -48,7 +48,7 @@ impl Machine {
             return Ok(());
         }
         let waking = self.waking(graph)?;
-        kept.ensure(&waking.texts, analyst)?;
+        kept.fill(&waking.texts, analyst)?;
         Ok(self.rouse(graph, waking, kept)?)
     }
 
@@ -98,8 +98,10 @@ impl Machine {
         };
         let numbers = numbers_of(alloc, &texts, &mut self.uses)?;
         widen_for_codes(&mut self.desk, needs.values, needs.outs)?;
+        let seats = self.dense.seats_for(alloc, &fresh)?;
         self.readers.list_all(&slots, &fresh, &self.parts)?;
         put_texts(&slots, &numbers, &mut self.uses);
+        self.dense.put_all(&slots, seats);
         put_parts(&slots, fresh, &mut self.parts);
         self.agenda.rouse();
         Ok(())

@@ -18,6 +18,7 @@
 
 mod advance;
 mod agenda;
+mod dense;
 mod editing;
 mod evaluation;
 mod finishing;

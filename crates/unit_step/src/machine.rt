@@ -24,6 +24,7 @@ ghost use Rattle.unit_step.specs.Fitting.{Covers, FitsGraph};
 
 use crate::advance::advance;
 use crate::agenda::{Agenda, mark_all};
+use crate::dense::DenseParts;
 use crate::evaluation::Desk;
 use crate::making::{all_owners, count_held, desk_for, held_parts};
 use crate::part::HeldPart;
@@ -32,7 +33,7 @@ use crate::readers::ReaderLists;
 use analysis_cache::{Analyst, Kept};
 use channel_groups::Groups;
 use circuit_texts::BuildFault;
-use kept_parts::{TextUses, parts_of};
+use kept_parts::{TextUses, parts_by_number};
 use oscillation_x::Stepper;
 use path_meaning::{Graph, graphs_are_wired};
 use std::alloc::Global;
@@ -50,6 +51,8 @@ pub struct Machine {
     // the groups of the graph that the machine was built for, if it was
     pub(crate) groups: Option<Groups>,
     pub(crate) parts: Vec<HeldPart>,
+    // what a step reads of the parts
+    pub(crate) dense: DenseParts,
     // the text of each part that has a group and code
     pub(crate) uses: TextUses,
     // how many parts have a member
@@ -72,12 +75,14 @@ impl Model for Machine {
     ghost use Rattle.unit_step.specs.Machines.{MachineData};
     ghost use Rattle.unit_step.specs.Evaluating.{rooms};
     ghost use Rattle.unit_step.specs.Running.{IsMachine};
+    ghost use Rattle.unit_step.specs.Dense.{AreDense};
 
     ghost Value = { MachineData };
 
     ghost view = { λ m. record { groups = m.groups; parts = m.parts.items; uses = texts_used m.uses; marks = m.agenda.marks; state = m.state.items; texts = count_distinct (texts_used m.uses); moves = m.moves; placed = m.placed; spare = vec_capacity m.state - vec_len m.state } };
 
-    ghost invariant = { λ m. IsMachine m.parts.items m.agenda.marks m.agenda.waiting (length m.state.items) m.readers m.owners.items m.uses.numbers m.held m.most (rooms m.desk) };
+    ghost invariant = { λ m. IsMachine m.parts.items m.agenda.marks m.agenda.waiting (length m.state.items) m.readers m.owners.items m.uses.numbers m.held m.most (rooms m.desk)
+        × AreDense m.parts.items m.dense };
 }
 
 impl Machine {
@@ -104,15 +109,15 @@ impl Machine {
             ⊎ (TellsTooLarge graph.now fault × (kept.new ≡ kept.old) × (A.analysed analyst.new ≡ A.analysed analyst.old))) }
         ensures grown { IsGrown kept.old kept.new }
     {
-        let plan = plan_of(alloc, graph, state)?;
-        kept.ensure(&plan.texts, analyst)?;
+        let plan = plan_of(alloc, kept.keys(), graph, state)?;
+        kept.fill(plan.uses.known(), analyst)?;
         Ok(Machine::of_plan(alloc, graph, plan, kept)?)
     }
 
     // The machine of a plan whose texts are kept.
     fn of_plan(alloc: Global, graph: &Graph, plan: Plan, kept: &Kept) -> Result<Machine, NoMemory>
         requires plan { IsPlan graph.now plan.state.items plan }
-        requires kept { All (λ text. IsTrue (is_among (texts_of kept.now) text)) plan.texts.items }
+        requires kept { All (λ text. IsTrue (is_among (texts_of kept.now) text)) plan.uses.known }
         requires counted { length plan.state.items ≡ nodes graph.now }
         requires railed { IsRailed graph.now }
         requires sound { IsSound plan.state.items }
@@ -122,13 +127,12 @@ impl Machine {
         graphs_are_wired(graph);
         let Plan {
             groups,
-            texts,
+            uses,
             maps,
             reads,
             state,
         } = plan;
-        let uses = TextUses::of_texts(alloc, kept.keys(), &texts)?;
-        let parts = parts_of(alloc, kept, &texts, maps)?;
+        let parts = parts_by_number(alloc, kept, &uses, maps)?;
         let held = held_parts(alloc, parts, reads)?;
         Machine::assemble(alloc, Some(groups), held, state, uses)
     }
@@ -175,9 +179,11 @@ impl Machine {
         let owners = all_owners(alloc, &parts, nodes)?;
         let desk = desk_for(alloc, &parts)?;
         let most = desk.changes.capacity();
+        let dense = DenseParts::of_parts(alloc, &parts)?;
         Ok(Machine {
             groups,
             parts,
+            dense,
             uses,
             held,
             most,
@@ -301,6 +307,7 @@ impl Machine {
         let changed = advance(
             joining,
             &self.parts,
+            &self.dense,
             &self.readers,
             &mut self.state,
             &mut self.agenda,

@@ -4,32 +4,38 @@ ghost use Rattle.circuit_texts.specs.Sizes.{TellsTooLarge};
 ghost use Rattle.unit_step.specs.Planning.{IsPlan};
 
 use channel_groups::Groups;
-use circuit_texts::{BuildFault, GroupTexts, reads_of, texts_of};
-use group_text::GroupText;
+use circuit_texts::{BuildFault, reads_of};
+use kept_parts::{NumberedTexts, TextUses, numbered_texts};
 use path_meaning::Graph;
 use std::alloc::Global;
+use table_keys::TableKeys;
 use ternary::Tern;
 
-// The groups of a graph, for each of them its text, the nodes that the text's local nodes stand for, and
-// the nodes that it reads; and the state to start in.
+// The groups of a graph, for each of them the number of its text, the nodes that the text's local nodes stand
+// for, and the nodes that it reads; and the state to start in.
 #[derive(Drop)]
 pub(crate) struct Plan {
     pub(crate) groups: Groups,
-    pub(crate) texts: Vec<GroupText>,
+    pub(crate) uses: TextUses,
     pub(crate) maps: Vec<Vec<usize>>,
     pub(crate) reads: Vec<Vec<usize>>,
     pub(crate) state: Vec<Tern>,
 }
 
-// The plan of a machine of a graph that starts in this state.
-pub(crate) fn plan_of(alloc: Global, graph: &Graph, state: &[Tern]) -> Result<Plan, BuildFault>
+// The plan of a machine of a graph that starts in this state. The hashes of texts start from these keys.
+pub(crate) fn plan_of(
+    alloc: Global,
+    keys: TableKeys,
+    graph: &Graph,
+    state: &[Tern],
+) -> Result<Plan, BuildFault>
     ensures plan { IfOk result (IsPlan graph.now state.now) }
     ensures refused { IfErr result (λ fault. (fault ≡ BuildFault.NoMemory) ⊎ TellsTooLarge graph.now fault) }
 {
     let groups = Groups::of(alloc, graph)?;
-    let GroupTexts { texts, maps } = texts_of(alloc, graph, &groups)?;
+    let NumberedTexts { uses, maps } = numbered_texts(alloc, keys, graph, &groups)?;
     Ok(Plan {
-        texts,
+        uses,
         maps,
         reads: reads_of(alloc, graph, &groups)?,
         state: Vec::from_slice(alloc, state)?,

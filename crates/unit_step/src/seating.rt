@@ -18,6 +18,7 @@ impl Machine {
     {
         let alloc = *self.state.allocator();
         let gone = mem::replace(&mut self.parts[k], no_part(alloc));
+        self.dense.clear(k);
         disown(&gone.map[..gone.members], &mut self.owners);
         self.readers.unlist(k, &gone.reads, &self.parts);
         self.agenda.release(k);
@@ -43,11 +44,13 @@ impl Machine {
             return Err(NoMemory);
         };
         self.parts.reserve(1)?;
+        self.dense.make_room()?;
         widen_for_parts(&mut self.desk, most, self.parts.len() + 1)?;
         self.uses.add()?;
         self.agenda.wait_more()?;
         own(self.parts.len(), members, &mut self.owners);
         self.parts.push_reserved(part);
+        self.dense.add_stale();
         self.held += 1;
         self.most = most;
         Ok(())

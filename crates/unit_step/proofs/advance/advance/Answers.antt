@@ -21,6 +21,7 @@ evaluate_all-requires g c =
     let marks = c.args.agenda.now.marks in
     let same = cleared_rooms c.args.desk.now c.clear.new.self c.clear-2.new.self c.clear.ensures.capacity c.clear-2.ensures.capacity in
     record {
+      dense = c.requires.dense;
       counted = runs.counted;
       seated = λ k d inside. subst (λ room. IsSeated (length c.args.state.now) room (slice_index_or parts k d)) (sym same) (runs.seated k d inside);
       changes = c.clear.ensures.items;

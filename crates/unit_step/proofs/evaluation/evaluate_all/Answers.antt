@@ -6,7 +6,17 @@ use Rattle.unit_step.specs.Machines.{IsMarked, members_of, instructions_of}
 use Rattle.unit_step.specs.Evaluating.{Rooms, rooms, IsSeated}
 use Rattle.unit_step.proofs.MarkLemmas.{marked_inside, count_marked-cleared, marked_sum-cleared}
 use Rattle.unit_step.proofs.EvaluationLemmas.{Evaluated-more}
+use Rattle.unit_step.proofs.DenseLemmas.{IsSeatOf-at}
 use Rattle.unit_step.proofs.evaluation.evaluate_all.Goals as goal
+
+pub evaluate-requires-clause-dense : goal.evaluate-requires-clause-dense
+evaluate-requires-clause-dense g c =
+    let k = c.in-Some.k in
+    let inside : k < length c.args.parts.now =
+    omega (arith, marked_inside c.loop-k.agenda.marks k c.in-Some.ensures.marked, c.loop-k.invariant.count, c.requires.counted) in
+    rw c.deref.ensures.value
+    (IsSeatOf-at c.args.parts.now c.args.dense.now.nodes.items c.args.dense.now.seats.items k c.index-parts-k.result c.index-seat.result.now
+    c.requires.dense inside c.index-parts-k.is c.index-seat.ensures)
 
 pub evaluate-requires-clause-seated : goal.evaluate-requires-clause-seated
 evaluate-requires-clause-seated g c =

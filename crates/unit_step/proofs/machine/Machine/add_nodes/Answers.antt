@@ -12,8 +12,8 @@ invariant_of-self-2 c =
     let i = c.self.inside in
     let nodes = c.args.nodes in
     let count = length i.state.items in
-    let own = c.self.invariant.own.counted in
-    let read = c.self.invariant.runs.readers_counted in
+    let own = c.self.invariant.0.own.counted in
+    let read = c.self.invariant.0.runs.readers_counted in
     let states : length c.grow-2.new.state.items ≡ count + (nodes - count) =
     ap length c.grow-2.ensures.state ∙ (length-append i.state.items (replicate (nodes - count) Unk) ∙ ap (λ n. count + n) (length-replicate (nodes - count) Unk)) in
     let before : c.reserve.new.self.items ≡ i.owners.items = c.reserve.ensures.items in
@@ -24,8 +24,10 @@ invariant_of-self-2 c =
     ap length owners_are ∙ (length-append i.owners.items (replicate (nodes - count) None)
     ∙ omega (arith, length-replicate {A = Option ℕ} (nodes - count) None, own, states)) in
     let lists_count : length c.grow.new.self ≡ length c.grow-2.new.state.items =
-    omega (arith, c.in_ok-grow.ensures.count, read, states) in
-    IsMachine-grown i.parts.items i.agenda.marks i.agenda.waiting count (length c.grow-2.new.state.items) i.readers c.grow.new.self
-    i.owners.items c.grow_owners.new.owners.items i.uses.numbers i.held i.most (rooms i.desk) c.self.invariant (omega (arith, states)) lists_count
-    c.grow.ensures.same owners_count
-    (λ node. ap (λ list. slice_index_or list node None) owners_are ∙ none_more i.owners.items (nodes - count) node)
+    omega (arith, c.in_ok-grow.ensures.count, read, states) in (
+      IsMachine-grown i.parts.items i.agenda.marks i.agenda.waiting count (length c.grow-2.new.state.items) i.readers c.grow.new.self
+          i.owners.items c.grow_owners.new.owners.items i.uses.numbers i.held i.most (rooms i.desk) c.self.invariant.0 (omega (arith, states)) lists_count
+          c.grow.ensures.same owners_count
+          (λ node. ap (λ list. slice_index_or list node None) owners_are ∙ none_more i.owners.items (nodes - count) node),
+      c.self.invariant.1,
+    )

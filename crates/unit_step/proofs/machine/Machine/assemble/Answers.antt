@@ -6,6 +6,7 @@ use Rattle.unit_step.specs.Evaluating.{rooms}
 use Rattle.unit_step.specs.Running.{AreOwners}
 use Rattle.unit_step.specs.Readers.{readers_of}
 use Rattle.unit_step.specs.Making.{HasRoomFor}
+use Rattle.unit_step.specs.Dense.{AreDense}
 use Rattle.unit_step.proofs.MakingLemmas.{IsMachine-started}
 use Rattle.unit_step.proofs.machine.Machine.assemble.Goals as goal
 
@@ -31,6 +32,9 @@ invariant_of-result c =
     let number = c.count_held-held.ensures ∙ ap (count_by has_members) c.deref.ensures.value in
     let fits = subst (λ list. HasRoomFor list room) c.deref-4.ensures.value c.in_ok-desk.ensures in
     let waits : c.in_ok-agenda.agenda.waiting ≡ replicate (length parts) false = c.in_ok-agenda.ensures.waiting ∙ ap (λ n. replicate n false) count in
-    rw (marks, waits)
-    (IsMachine-started parts nodes lists owners c.args.uses.numbers c.count_held-held.result c.capacity-most.result room c.requires.formed c.requires.apart
-    (c.in_ok-readers.ensures.count ∙ nodes_are) readers reads own c.requires.numbered number c.capacity-most.ensures fits)
+    let dense = subst (λ list. AreDense list c.in_ok-dense.dense) c.deref-5.ensures.value c.in_ok-dense.ensures in (
+      rw (marks, waits)
+          (IsMachine-started parts nodes lists owners c.args.uses.numbers c.count_held-held.result c.capacity-most.result room c.requires.formed c.requires.apart
+          (c.in_ok-readers.ensures.count ∙ nodes_are) readers reads own c.requires.numbered number c.capacity-most.ensures fits),
+      dense,
+    )

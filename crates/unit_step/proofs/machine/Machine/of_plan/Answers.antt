@@ -1,7 +1,6 @@
 -- The parts are those of the graph's groups, all marked, so the machine fits the graph.
 use Rattle.std.proofs.Common.{◌≡◌, ℕ, Some, length, map, refl, sym, ap, subst, ◌∙◌, arith}
-use Rattle.std.specs.Prelude.{zip, slice_get}
-use Rattle.std.specs.Option.{option_and_then}
+use Rattle.std.specs.Prelude.{zip}
 use Rattle.std.proofs.lemmas.List.{length-map}
 use Rattle.std.proofs.lemmas.Slice.Zip.{AllZip-long}
 use Rattle.path_meaning.specs.Graphs.{nodes}
@@ -15,24 +14,29 @@ use Rattle.unit_step.specs.Making.{held, started}
 use Rattle.unit_step.specs.Machines.{MachineData}
 use Rattle.unit_step.specs.Fitting.{FitsGraph}
 use Rattle.unit_step.proofs.MakingLemmas.{formed_parts, apart_parts, reads_inside, held_few}
-use Rattle.unit_step.proofs.BuildLemmas.{fresh_parts, lists_inside, FitsGraph-started, if_ok}
+use Rattle.unit_step.proofs.BuildLemmas.{fresh_parts, lists_inside, FitsGraph-started, if_ok, numbers_counted, all_numbered}
 use Rattle.unit_step.proofs.machine.Machine.of_plan.Goals as goal
 
-pub parts_of-requires-clause-maps : goal.parts_of-requires-clause-maps
-parts_of-requires-clause-maps c =
+pub parts_by_number-requires-clause-maps : goal.parts_by_number-requires-clause-maps
+parts_by_number-requires-clause-maps c =
     let g = c.args.graph.now in
-    let groups = c.args.plan.groups.groups in
-    let plan = c.requires.plan in
-    sym (length-map c.args.plan.maps.items (λ nodes. nodes.items))
-    ∙ (ap length plan.maps ∙ length-map groups (local_nodes g) ∙ sym (ap length (c.deref-2.ensures.value ∙ plan.texts) ∙ length-map groups (text_of_group g)))
+    let plan = c.args.plan in
+    let groups = plan.groups.groups in
+    sym (length-map plan.maps.items (λ nodes. nodes.items))
+    ∙ (ap length c.requires.plan.maps ∙ length-map groups (local_nodes g) ∙ sym (numbers_counted g plan.state.items plan c.requires.plan))
+
+pub parts_by_number-requires-clause-numbered : goal.parts_by_number-requires-clause-numbered
+parts_by_number-requires-clause-numbered c =
+    all_numbered c.args.graph.now c.args.plan.state.items c.args.plan c.requires.plan
 
 pub held_parts-requires : goal.held_parts-requires
 held_parts-requires c =
     let g = c.args.graph.now in
     let groups = c.args.plan.groups.groups in
+    let texts = map (text_of_group g) groups in
     let parts = c.in_ok-parts.parts.items in
     let plan = c.requires.plan in
-    let of = parts_of_groups g groups _ _ parts (c.deref-2.ensures.value ∙ plan.texts) plan.maps c.in_ok-parts.ensures in
+    let of = parts_of_groups g groups texts _ parts refl plan.maps (c.in_ok-parts.ensures texts plan.texts) in
     AllZip-long (λ group list. AreReads g group list.items) groups c.args.plan.reads.items plan.reads
     ∙ sym (AllZip-long (IsPartOf g) groups parts of)
 
@@ -40,15 +44,13 @@ pub assemble-requires : goal.assemble-requires
 assemble-requires c =
     let g = c.args.graph.now in
     let groups = c.args.plan.groups.groups in
+    let texts = map (text_of_group g) groups in
     let parts = c.in_ok-parts.parts.items in
     let reads = c.args.plan.reads.items in
     let plan = c.requires.plan in
     let wired = c.graphs_are_wired.ensures in
-    let of = parts_of_groups g groups _ _ parts (c.deref-2.ensures.value ∙ plan.texts) plan.maps c.in_ok-parts.ensures in
-    let numbers : length c.in_ok-uses.uses.numbers ≡ length groups =
-    sym (length-map c.in_ok-uses.uses.numbers (option_and_then (slice_get c.in_ok-uses.uses.known)))
-    ∙ (ap length (c.in_ok-uses.ensures ∙ ap (map Some) (c.deref.ensures.value ∙ plan.texts)) ∙ length-map (map (text_of_group g) groups) Some
-    ∙ length-map groups (text_of_group g)) in
+    let of = parts_of_groups g groups texts _ parts refl plan.maps (c.in_ok-parts.ensures texts plan.texts) in
+    let numbers = numbers_counted g c.args.plan.state.items c.args.plan plan in
     rw (c.in_ok-held.ensures, c.requires.counted) (record {
       formed = formed_parts (nodes g) parts reads (parts_fit g wired groups plan.are.are parts of);
       apart = apart_parts parts reads (AreMembers-from_groups g groups plan.are.are parts of).once;
@@ -60,18 +62,18 @@ pub returns-clause-fits : goal.returns-clause-fits
 returns-clause-fits c =
     let g = c.args.graph.now in
     let groups = c.args.plan.groups.groups in
+    let texts = map (text_of_group g) groups in
     let parts = c.in_ok-parts.parts.items in
     let reads = c.args.plan.reads.items in
     let state = c.args.plan.state.items in
     let all = map held (zip parts reads) in
     let plan = c.requires.plan in
-    let uses = texts_used c.in_ok-uses.uses in
-    let of = parts_of_groups g groups _ _ parts (c.deref-2.ensures.value ∙ plan.texts) plan.maps c.in_ok-parts.ensures in
-    let uses_are : uses ≡ map Some (map (text_of_group g) groups) = c.in_ok-uses.ensures ∙ ap (map Some) (c.deref.ensures.value ∙ plan.texts) in
+    let uses = texts_used c.args.plan.uses in
+    let of = parts_of_groups g groups texts _ parts refl plan.maps (c.in_ok-parts.ensures texts plan.texts) in
     let fresh = fresh_parts g groups plan.are.are.each parts reads of plan.reads in
     let apart = apart_parts parts reads (AreMembers-from_groups g groups plan.are.are parts of).once in
     let fits = λ (spare : ℕ). FitsGraph-started g groups all fresh c.args.plan.groups refl plan.are plan.fit apart state c.requires.counted
-    c.requires.railed c.requires.sound uses uses_are spare in
+    c.requires.railed c.requires.sound uses plan.texts spare in
     let same : c.in_ok-held.held.items ≡ all = c.in_ok-held.ensures in
     if_ok (λ (machine : MachineData). machine ≡ started (Some c.args.plan.groups) c.in_ok-held.held.items state uses machine.spare) (FitsGraph g)
     (λ machine is. subst (FitsGraph g) (sym (is ∙ ap (λ list. started (Some c.args.plan.groups) list state uses machine.spare) same)) (fits machine.spare))

@@ -19,7 +19,7 @@ returns-in-Some-clause-ok c =
     let owner : slice_index_or i.owners.items c.args.node None ≡ Some k =
     ap (λ list. slice_index_or list c.args.node None) (sym c.deref.ensures.value) ∙ sym c.in-Some.ensures in
     let has : HasMember c.args.self.now.parts k c.args.node =
-    subst (λ list. HasMember list k c.args.node) (ap (λ (m : MachineData). m.parts) c.self.view_is) (c.self.invariant.own.member c.args.node k owner) in
+    subst (λ list. HasMember list k c.args.node) (ap (λ (m : MachineData). m.parts) c.self.view_is) (c.self.invariant.0.own.member c.args.node k owner) in
     inl (refl, inl (k, has))
 
 pub renew-requires-clause-some : goal.renew-requires-clause-some
@@ -51,7 +51,7 @@ returns-in-Some-group_at-clause-ok c =
       λ k has.
           let had : HasMember i.parts.items k c.args.node =
           subst (λ list. HasMember list k c.args.node) (ap (λ (m : MachineData). m.parts) (sym c.self.view_is)) has in
-          let both : None ≡ Some k = sym owner ∙ c.self.invariant.own.owner c.args.node k had in
+          let both : None ≡ Some k = sym owner ∙ c.self.invariant.0.own.owner c.args.node k had in
           absurd cc,
       (group, there, member, subst (λ members. Renews members c.args.self.now c.renew.new.self) c.members.ensures renews),
     )) c.renew.ensures.ok

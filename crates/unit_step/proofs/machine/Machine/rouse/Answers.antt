@@ -1,5 +1,5 @@
 -- The stale parts get their codes.
-use Rattle.std.proofs.Common.{◌≡◌, ◌≤◌, ◌<◌, Bool, List, length, map, All, Some, sym, ap, subst, ◌∙◌, arith}
+use Rattle.std.proofs.Common.{◌≡◌, ℕ, Vec, Global, ◌≤◌, ◌<◌, Bool, List, length, map, All, Some, sym, ap, subst, ◌∙◌, arith}
 use Rattle.std.specs.Prelude.{slice_get}
 use Rattle.std.specs.Vec.{with_items}
 use Rattle.std.proofs.lemmas.List.{length-map, with_items_is}
@@ -18,6 +18,8 @@ use Rattle.unit_step.specs.Fitting.{Covers}
 use Rattle.unit_step.specs.Editing.{Finishes}
 use Rattle.unit_step.specs.Finishing.{IsWaking, Puts}
 use Rattle.unit_step.specs.Readers.{ListsAll}
+use Rattle.unit_step.specs.Dense.{AreDense, AreSeatsOf}
+use Rattle.unit_step.proofs.DenseLemmas.{AreDense-more, AreSeatsOf-put, seats_counted}
 use Rattle.unit_step.proofs.FinishingRoused.{IsMachine-wider, HaveSameReaders-refl, AreMade-held, parts_counted, unlisted, known_inside, IsMachine-roused, Finishes-roused}
 use Rattle.unit_step.proofs.machine.Machine.rouse.Goals as goal
 
@@ -35,10 +37,21 @@ held_parts-requires c =
 
 pub invariant_of-self-in_err-widen_for_codes : goal.invariant_of-self-in_err-widen_for_codes
 invariant_of-self-in_err-widen_for_codes c =
-    let i = c.self.inside in
-    IsMachine-wider i.parts.items i.agenda.marks i.agenda.waiting _ i.readers i.readers i.owners.items i.uses.numbers c.numbers_of.new.uses.numbers
-    i.held i.most _ _ (omega (arith, c.widen_for_codes.ensures.more_values)) (omega (arith, c.widen_for_codes.ensures.more_outs)) c.widen_for_codes.ensures.changes c.widen_for_codes.ensures.done
-    c.numbers_of.ensures.parts (HaveSameReaders-refl i.readers) c.self.invariant
+    let i = c.self.inside in (
+      IsMachine-wider i.parts.items i.agenda.marks i.agenda.waiting _ i.readers i.readers i.owners.items i.uses.numbers c.numbers_of.new.uses.numbers
+          i.held i.most _ _ (omega (arith, c.widen_for_codes.ensures.more_values)) (omega (arith, c.widen_for_codes.ensures.more_outs)) c.widen_for_codes.ensures.changes c.widen_for_codes.ensures.done
+          c.numbers_of.ensures.parts (HaveSameReaders-refl i.readers) c.self.invariant.0,
+      c.self.invariant.1,
+    )
+
+pub invariant_of-self-in_err-seats : goal.invariant_of-self-in_err-seats
+invariant_of-self-in_err-seats c =
+    let i = c.self.inside in (
+      IsMachine-wider i.parts.items i.agenda.marks i.agenda.waiting _ i.readers i.readers i.owners.items i.uses.numbers c.numbers_of.new.uses.numbers
+          i.held i.most _ _ (omega (arith, c.widen_for_codes.ensures.more_values)) (omega (arith, c.widen_for_codes.ensures.more_outs)) c.widen_for_codes.ensures.changes c.widen_for_codes.ensures.done
+          c.numbers_of.ensures.parts (HaveSameReaders-refl i.readers) c.self.invariant.0,
+      AreDense-more i.parts.items i.dense c.seats_for.new.self c.seats_for.ensures.same c.seats_for.ensures.more c.self.invariant.1,
+    )
 
 pub list_all-requires-clause-counted : goal.list_all-requires-clause-counted
 list_all-requires-clause-counted c =
@@ -52,7 +65,7 @@ list_all-requires-clause-counted c =
     let fresh = c.in_ok-fresh.fresh.items in
     let made = AreMade-held g c.graphs_are_wired.ensures waking.groups waking.some slots i.parts.items waking.are waking.waiting parts
     c.args.waking.reads.items fresh (length i.state.items) of waking.reads c.in_ok-fresh.ensures covers.counted in
-    omega (arith, ap length c.deref-5.ensures.value, ap length c.deref-4.ensures.value, made.counted)
+    omega (arith, ap length c.deref-6.ensures.value, ap length c.deref-5.ensures.value, made.counted)
 
 pub list_all-requires-clause-below : goal.list_all-requires-clause-below
 list_all-requires-clause-below c =
@@ -66,14 +79,14 @@ list_all-requires-clause-below c =
     let fresh = c.in_ok-fresh.fresh.items in
     let made = AreMade-held g c.graphs_are_wired.ensures waking.groups waking.some slots i.parts.items waking.are waking.waiting parts
     c.args.waking.reads.items fresh (length i.state.items) of waking.reads c.in_ok-fresh.ensures covers.counted in
-    rw c.deref-5.ensures.value
-    (subst (λ n. All (λ (part : HeldPart). All (λ node. node < n) part.reads.items) fresh) (sym c.self.invariant.runs.readers_counted) made.below)
+    rw c.deref-6.ensures.value
+    (subst (λ n. All (λ (part : HeldPart). All (λ node. node < n) part.reads.items) fresh) (sym c.self.invariant.0.runs.readers_counted) made.below)
 
 pub list_all-requires-clause-once : goal.list_all-requires-clause-once
 list_all-requires-clause-once c =
     let i = c.self.inside in
     let waking = subst (λ (m : MachineData). IsWaking c.args.graph.now m.parts c.args.waking) (sym c.self.view_is) c.requires.waking in
-    rw c.deref-4.ensures.value waking.waiting.once
+    rw c.deref-5.ensures.value waking.waiting.once
 
 pub list_all-requires-clause-unlisted : goal.list_all-requires-clause-unlisted
 list_all-requires-clause-unlisted c =
@@ -84,15 +97,17 @@ list_all-requires-clause-unlisted c =
     let slots = c.args.waking.slots.items in
     let parts = c.in_ok-parts_of.field-0.items in
     let of = parts_of_groups g waking.some _ _ parts (c.deref.ensures.value ∙ waking.texts) waking.maps c.in_ok-parts_of.ensures in
-    rw c.deref-4.ensures.value
-    (unlisted g (the_view i) covers waking.groups waking.some slots waking.waiting i.readers c.self.invariant.runs.reads)
+    rw c.deref-5.ensures.value
+    (unlisted g (the_view i) covers waking.groups waking.some slots waking.waiting i.readers c.self.invariant.0.runs.reads)
 
 pub invariant_of-self-in_err-list_all : goal.invariant_of-self-in_err-list_all
 invariant_of-self-in_err-list_all c =
-    let i = c.self.inside in
-    IsMachine-wider i.parts.items i.agenda.marks i.agenda.waiting _ i.readers c.list_all.new.self i.owners.items i.uses.numbers
-    c.numbers_of.new.uses.numbers i.held i.most _ _ (omega (arith, c.widen_for_codes.ensures.more_values)) (omega (arith, c.widen_for_codes.ensures.more_outs))
-    c.widen_for_codes.ensures.changes c.widen_for_codes.ensures.done c.numbers_of.ensures.parts c.in_err-list_all.ensures.err c.self.invariant
+    let i = c.self.inside in (
+      IsMachine-wider i.parts.items i.agenda.marks i.agenda.waiting _ i.readers c.list_all.new.self i.owners.items i.uses.numbers
+          c.numbers_of.new.uses.numbers i.held i.most _ _ (omega (arith, c.widen_for_codes.ensures.more_values)) (omega (arith, c.widen_for_codes.ensures.more_outs))
+          c.widen_for_codes.ensures.changes c.widen_for_codes.ensures.done c.numbers_of.ensures.parts c.in_err-list_all.ensures.err c.self.invariant.0,
+      AreDense-more i.parts.items i.dense c.seats_for.new.self c.seats_for.ensures.same c.seats_for.ensures.more c.self.invariant.1,
+    )
 
 pub put_texts-requires-clause-inside : goal.put_texts-requires-clause-inside
 put_texts-requires-clause-inside c =
@@ -106,8 +121,8 @@ put_texts-requires-clause-inside c =
     let fresh = c.in_ok-fresh.fresh.items in
     let made = AreMade-held g c.graphs_are_wired.ensures waking.groups waking.some slots i.parts.items waking.are waking.waiting parts
     c.args.waking.reads.items fresh (length i.state.items) of waking.reads c.in_ok-fresh.ensures covers.counted in
-    rw c.deref-7.ensures.value
-    (λ k d inside. omega (arith, made.inside k d inside, c.self.invariant.numbered, ap length c.numbers_of.ensures.parts))
+    rw c.deref-8.ensures.value
+    (λ k d inside. omega (arith, made.inside k d inside, c.self.invariant.0.numbered, ap length c.numbers_of.ensures.parts))
 
 pub put_texts-requires-clause-counted : goal.put_texts-requires-clause-counted
 put_texts-requires-clause-counted c =
@@ -135,7 +150,7 @@ put_texts-requires-clause-counted c =
       length-map waking.some (text_of_group g),
       made.long,
     ) in
-    omega (arith, ap length c.deref-8.ensures.value, ap length c.deref-7.ensures.value, long)
+    omega (arith, ap length c.deref-9.ensures.value, ap length c.deref-8.ensures.value, long)
 
 pub put_texts-requires-clause-known : goal.put_texts-requires-clause-known
 put_texts-requires-clause-known c =
@@ -143,7 +158,40 @@ put_texts-requires-clause-known c =
     let texts = c.args.waking.texts.items in
     let numbered : map (slice_get c.numbers_of.new.uses.known) numbers ≡ map Some texts =
     c.in_ok-numbers.ensures.numbers ∙ ap (map Some) c.deref-3.ensures.value in
-    rw c.deref-8.ensures.value (known_inside c.numbers_of.new.uses.known numbers texts numbered)
+    rw c.deref-9.ensures.value (known_inside c.numbers_of.new.uses.known numbers texts numbered)
+
+pub put_all-requires-clause-inside : goal.put_all-requires-clause-inside
+put_all-requires-clause-inside c =
+    let g = c.args.graph.now in
+    let i = c.self.inside in
+    let covers = subst (Covers g) (sym c.self.view_is) c.requires.covers in
+    let waking = subst (λ (m : MachineData). IsWaking g m.parts c.args.waking) (sym c.self.view_is) c.requires.waking in
+    let slots = c.args.waking.slots.items in
+    let parts = c.in_ok-parts_of.field-0.items in
+    let of = parts_of_groups g waking.some _ _ parts (c.deref.ensures.value ∙ waking.texts) waking.maps c.in_ok-parts_of.ensures in
+    let fresh = c.in_ok-fresh.fresh.items in
+    let made = AreMade-held g c.graphs_are_wired.ensures waking.groups waking.some slots i.parts.items waking.are waking.waiting parts
+    c.args.waking.reads.items fresh (length i.state.items) of waking.reads c.in_ok-fresh.ensures covers.counted in
+    let old_seats = AreDense-more i.parts.items i.dense c.seats_for.new.self c.seats_for.ensures.same c.seats_for.ensures.more c.self.invariant.1 in
+    let counted = seats_counted i.parts.items c.seats_for.new.self.nodes.items c.seats_for.new.self.seats.items old_seats in
+    rw c.deref-10.ensures.value (λ k d inside. omega (arith, made.inside k d inside, counted))
+
+pub put_all-requires-clause-counted : goal.put_all-requires-clause-counted
+put_all-requires-clause-counted c =
+    let g = c.args.graph.now in
+    let i = c.self.inside in
+    let covers = subst (Covers g) (sym c.self.view_is) c.requires.covers in
+    let waking = subst (λ (m : MachineData). IsWaking g m.parts c.args.waking) (sym c.self.view_is) c.requires.waking in
+    let slots = c.args.waking.slots.items in
+    let parts = c.in_ok-parts_of.field-0.items in
+    let of = parts_of_groups g waking.some _ _ parts (c.deref.ensures.value ∙ waking.texts) waking.maps c.in_ok-parts_of.ensures in
+    let fresh = c.in_ok-fresh.fresh.items in
+    let made = AreMade-held g c.graphs_are_wired.ensures waking.groups waking.some slots i.parts.items waking.are waking.waiting parts
+    c.args.waking.reads.items fresh (length i.state.items) of waking.reads c.in_ok-fresh.ensures covers.counted in
+    let fresh_seats = subst (λ (list : List HeldPart). AreSeatsOf list c.seats_for.new.self.nodes.items c.in_ok-seats.seats.items) c.deref-4.ensures.value
+    c.in_ok-seats.ensures.seats in
+    let counted = seats_counted fresh c.seats_for.new.self.nodes.items c.in_ok-seats.seats.items fresh_seats in
+    omega (arith, ap length c.deref-10.ensures.value, made.counted, counted)
 
 pub put_parts-requires-clause-inside : goal.put_parts-requires-clause-inside
 put_parts-requires-clause-inside c =
@@ -157,7 +205,7 @@ put_parts-requires-clause-inside c =
     let fresh = c.in_ok-fresh.fresh.items in
     let made = AreMade-held g c.graphs_are_wired.ensures waking.groups waking.some slots i.parts.items waking.are waking.waiting parts
     c.args.waking.reads.items fresh (length i.state.items) of waking.reads c.in_ok-fresh.ensures covers.counted in
-    rw (c.deref-9.ensures.value, c.deref_mut.ensures.value) made.inside
+    rw (c.deref-11.ensures.value, c.deref_mut.ensures.value) made.inside
 
 pub put_parts-requires-clause-counted : goal.put_parts-requires-clause-counted
 put_parts-requires-clause-counted c =
@@ -171,7 +219,7 @@ put_parts-requires-clause-counted c =
     let fresh = c.in_ok-fresh.fresh.items in
     let made = AreMade-held g c.graphs_are_wired.ensures waking.groups waking.some slots i.parts.items waking.are waking.waiting parts
     c.args.waking.reads.items fresh (length i.state.items) of waking.reads c.in_ok-fresh.ensures covers.counted in
-    omega (arith, ap length c.deref-9.ensures.value, made.counted)
+    omega (arith, ap length c.deref-11.ensures.value, made.counted)
 
 pub invariant_of-self-2 : goal.invariant_of-self-2
 invariant_of-self-2 c =
@@ -190,13 +238,13 @@ invariant_of-self-2 c =
     let numbered : map (slice_get c.numbers_of.new.uses.known) numbers ≡ map Some texts =
     c.in_ok-numbers.ensures.numbers ∙ ap (map Some) c.deref-3.ensures.value in
     let new = c.put_parts.new.parts in
-    let puts : Puts slots fresh i.parts.items new = rw (c.deref-9.ensures.value, c.deref_mut.ensures.value) at c.put_parts.ensures in
+    let puts : Puts slots fresh i.parts.items new = rw (c.deref-11.ensures.value, c.deref_mut.ensures.value) at c.put_parts.ensures in
     let text_puts : Puts slots (map Some numbers) c.numbers_of.new.uses.numbers c.put_texts.new.uses.numbers =
-    rw (c.deref-7.ensures.value, c.deref-8.ensures.value) at c.put_texts.ensures.puts in
+    rw (c.deref-8.ensures.value, c.deref-9.ensures.value) at c.put_texts.ensures.puts in
     let parts_now : List HeldPart = (with_items i.parts new).items in
     let final_parts = with_items_is i.parts new (omega (arith, c.put_parts.auto.parts, c.deref_mut.ensures.len)) in
     let lists_now = c.list_all.new.self in
-    let listed : ListsAll slots fresh i.readers lists_now = rw (c.deref-4.ensures.value, c.deref-5.ensures.value) at c.in_ok-list_all.ensures.ok in
+    let listed : ListsAll slots fresh i.readers lists_now = rw (c.deref-5.ensures.value, c.deref-6.ensures.value) at c.in_ok-list_all.ensures.ok in
     let wide = rooms c.widen_for_codes.new.desk in
     let values_room : All (IsCodeRoom wide.values) fresh =
     All-weaker (IsCodeRoom c.in-Some.needs.values) (IsCodeRoom wide.values)
@@ -209,11 +257,25 @@ invariant_of-self-2 c =
     let base = IsMachine-roused g (the_view i) covers waking.groups waking.some slots waking.waiting fresh new (length i.state.items) made puts
     i.readers lists_now i.agenda.marks i.agenda.waiting c.rouse.new.self.waiting i.owners.items i.uses.numbers c.put_texts.new.uses.numbers
     i.held i.most (rooms i.desk) wide listed values_room outs_room (omega (arith, c.widen_for_codes.ensures.more_values)) (omega (arith, c.widen_for_codes.ensures.more_outs))
-    c.widen_for_codes.ensures.changes c.widen_for_codes.ensures.done c.rouse.ensures.waiting (text_puts.count ∙ ap length c.numbers_of.ensures.parts) c.self.invariant in
+    c.widen_for_codes.ensures.changes c.widen_for_codes.ensures.done c.rouse.ensures.waiting (text_puts.count ∙ ap length c.numbers_of.ensures.parts) c.self.invariant.0 in
     let with_parts = subst (λ (list : List HeldPart). IsMachine list i.agenda.marks c.rouse.new.self.waiting (length i.state.items) lists_now i.owners.items
     c.put_texts.new.uses.numbers i.held i.most wide) (sym final_parts) base in
-    subst (λ (marks : List Bool). IsMachine parts_now marks c.rouse.new.self.waiting (length i.state.items) lists_now i.owners.items c.put_texts.new.uses.numbers i.held i.most wide)
-    (sym c.rouse.ensures.marks) with_parts
+    let nodes = c.seats_for.new.self.nodes.items in
+    let seats = c.in_ok-seats.seats.items in
+    let before = c.seats_for.new.self.seats.items in
+    let after = c.put_all.new.self.seats.items in
+    let old_seats = AreDense-more i.parts.items i.dense c.seats_for.new.self c.seats_for.ensures.same c.seats_for.ensures.more c.self.invariant.1 in
+    let fresh_seats = subst (λ (list : List HeldPart). AreSeatsOf list nodes seats) c.deref-4.ensures.value c.in_ok-seats.ensures.seats in
+    let seat_puts = subst (λ (list : List ℕ). Puts list seats before after) c.deref-10.ensures.value c.put_all.ensures.puts in
+    let put : AreSeatsOf new nodes after =
+    AreSeatsOf-put slots waking.waiting.once nodes fresh i.parts.items new seats before after fresh_seats old_seats puts seat_puts in
+    let put_dense : AreDense new c.put_all.new.self =
+    subst (λ (list : Vec ℕ Global). AreSeatsOf new list.items after) (sym c.put_all.ensures.nodes) put in
+    let dense = subst (λ (list : List HeldPart). AreDense list c.put_all.new.self) (sym final_parts) put_dense in (
+      subst (λ (marks : List Bool). IsMachine parts_now marks c.rouse.new.self.waiting (length i.state.items) lists_now i.owners.items c.put_texts.new.uses.numbers i.held i.most wide)
+          (sym c.rouse.ensures.marks) with_parts,
+      dense,
+    )
 
 pub returns-clause-finishes : goal.returns-clause-finishes
 returns-clause-finishes c =
@@ -232,9 +294,9 @@ returns-clause-finishes c =
     let numbered : map (slice_get c.numbers_of.new.uses.known) numbers ≡ map Some texts =
     c.in_ok-numbers.ensures.numbers ∙ ap (map Some) c.deref-3.ensures.value in
     let new = c.put_parts.new.parts in
-    let puts : Puts slots fresh i.parts.items new = rw (c.deref-9.ensures.value, c.deref_mut.ensures.value) at c.put_parts.ensures in
+    let puts : Puts slots fresh i.parts.items new = rw (c.deref-11.ensures.value, c.deref_mut.ensures.value) at c.put_parts.ensures in
     let text_puts : Puts slots (map Some numbers) c.numbers_of.new.uses.numbers c.put_texts.new.uses.numbers =
-    rw (c.deref-7.ensures.value, c.deref-8.ensures.value) at c.put_texts.ensures.puts in
+    rw (c.deref-8.ensures.value, c.deref-9.ensures.value) at c.put_texts.ensures.puts in
     let parts_now : List HeldPart = (with_items i.parts new).items in
     let final_parts = with_items_is i.parts new (omega (arith, c.put_parts.auto.parts, c.deref_mut.ensures.len)) in
     let v = the_view i in

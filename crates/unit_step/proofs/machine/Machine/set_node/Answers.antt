@@ -17,8 +17,8 @@ mark_owner-requires c =
     let node = c.args.node in
     let inside : node < length i.state.items = omega (arith, c.requires.inside, ap (λ (m : MachineData). length m.state) c.self.view_is) in
     let owner_is : c.index-owner.result.now ≡ slice_index_or i.owners.items node None =
-    c.index-owner.ensures ∙ get_or_default i.owners.items node c.index-owner.result.now None (omega (arith, inside, c.self.invariant.own.counted)) in
-    owner_inside i.parts.items i.agenda.marks (length i.state.items) i.owners.items c.self.invariant.own c.self.invariant.runs.counted node
+    c.index-owner.ensures ∙ get_or_default i.owners.items node c.index-owner.result.now None (omega (arith, inside, c.self.invariant.0.own.counted)) in
+    owner_inside i.parts.items i.agenda.marks (length i.state.items) i.owners.items c.self.invariant.0.own c.self.invariant.0.runs.counted node
     c.index-owner.result.now owner_is
 
 pub mark_all-requires : goal.mark_all-requires
@@ -27,16 +27,18 @@ mark_all-requires c = λ k there.
     let node = c.args.node in
     let inside : node < length i.state.items = omega (arith, c.requires.inside, ap (λ (m : MachineData). length m.state) c.self.view_is) in
     let lists : c.of.result.now ≡ readers_of i.readers node = c.of.ensures in
-    let reads = c.self.invariant.runs.reads node k (subst (λ xs. Contains xs k) lists there) in
-    omega (arith, reads.stands.inside, c.self.invariant.runs.counted, c.mark_owner.ensures.marks.count)
+    let reads = c.self.invariant.0.runs.reads node k (subst (λ xs. Contains xs k) lists there) in
+    omega (arith, reads.stands.inside, c.self.invariant.0.runs.counted, c.mark_owner.ensures.marks.count)
 
 pub invariant_of-self : goal.invariant_of-self
 invariant_of-self c =
-    let i = c.self.inside in
-    IsMachine-again i.parts.items i.agenda.marks c.mark_all.new.agenda.marks i.agenda.waiting c.mark_all.new.agenda.waiting
-    (length i.state.items) _ i.readers i.owners.items i.uses.numbers i.held i.most (rooms i.desk) (rooms i.desk)
-    (c.mark_all.ensures.marks.count ∙ c.mark_owner.ensures.marks.count) (c.mark_all.ensures.waiting ∙ c.mark_owner.ensures.waiting)
-    (length-set i.state.items c.args.node c.args.value) refl c.self.invariant
+    let i = c.self.inside in (
+      IsMachine-again i.parts.items i.agenda.marks c.mark_all.new.agenda.marks i.agenda.waiting c.mark_all.new.agenda.waiting
+          (length i.state.items) _ i.readers i.owners.items i.uses.numbers i.held i.most (rooms i.desk) (rooms i.desk)
+          (c.mark_all.ensures.marks.count ∙ c.mark_owner.ensures.marks.count) (c.mark_all.ensures.waiting ∙ c.mark_owner.ensures.waiting)
+          (length-set i.state.items c.args.node c.args.value) refl c.self.invariant.0,
+      c.self.invariant.1,
+    )
 
 pub returns-clause-places : goal.returns-clause-places
 returns-clause-places c =
@@ -44,7 +46,7 @@ returns-clause-places c =
     let node = c.args.node in
     let inside : node < length i.state.items = omega (arith, c.requires.inside, ap (λ (m : MachineData). length m.state) c.self.view_is) in
     let owner_is : c.index-owner.result.now ≡ slice_index_or i.owners.items node None =
-    c.index-owner.ensures ∙ get_or_default i.owners.items node c.index-owner.result.now None (omega (arith, inside, c.self.invariant.own.counted)) in
+    c.index-owner.ensures ∙ get_or_default i.owners.items node c.index-owner.result.now None (omega (arith, inside, c.self.invariant.0.own.counted)) in
     let lists : c.of.result.now ≡ readers_of i.readers node = c.of.ensures in
     let old : MachineData = record {
       groups = i.groups;
@@ -57,7 +59,7 @@ returns-clause-places c =
       placed = i.placed;
       spare = vec_capacity i.state - vec_len i.state;
     } in
-    let places = Places-marked node c.args.value old i.agenda.waiting i.readers i.owners.items i.uses.numbers i.held i.most (rooms i.desk) c.self.invariant
+    let places = Places-marked node c.args.value old i.agenda.waiting i.readers i.owners.items i.uses.numbers i.held i.most (rooms i.desk) c.self.invariant.0
     c.index-owner.result.now owner_is c.mark_owner.new.agenda.marks c.mark_all.new.agenda.marks c.mark_owner.ensures.marks c.of.result.now lists
     c.mark_all.ensures.marks c.placed_after-self-inside.result in
     rw (← c.self.view_is) places
@@ -68,7 +70,7 @@ returns-clause-covers c =
     let node = c.args.node in
     let inside : node < length i.state.items = omega (arith, c.requires.inside, ap (λ (m : MachineData). length m.state) c.self.view_is) in
     let owner_is : c.index-owner.result.now ≡ slice_index_or i.owners.items node None =
-    c.index-owner.ensures ∙ get_or_default i.owners.items node c.index-owner.result.now None (omega (arith, inside, c.self.invariant.own.counted)) in
+    c.index-owner.ensures ∙ get_or_default i.owners.items node c.index-owner.result.now None (omega (arith, inside, c.self.invariant.0.own.counted)) in
     let lists : c.of.result.now ≡ readers_of i.readers node = c.of.ensures in
     let old : MachineData = record {
       groups = i.groups;
@@ -81,7 +83,7 @@ returns-clause-covers c =
       placed = i.placed;
       spare = vec_capacity i.state - vec_len i.state;
     } in
-    let places = Places-marked node c.args.value old i.agenda.waiting i.readers i.owners.items i.uses.numbers i.held i.most (rooms i.desk) c.self.invariant
+    let places = Places-marked node c.args.value old i.agenda.waiting i.readers i.owners.items i.uses.numbers i.held i.most (rooms i.desk) c.self.invariant.0
     c.index-owner.result.now owner_is c.mark_owner.new.agenda.marks c.mark_all.new.agenda.marks c.mark_owner.ensures.marks c.of.result.now lists
     c.mark_all.ensures.marks c.placed_after-self-inside.result in
     rw (← c.self.view_is) (λ covers. placing_keeps_cover c.args.graph.now node c.args.value old _ c.graphs_are_wired.ensures covers places)
@@ -92,7 +94,7 @@ returns-clause-fits c =
     let node = c.args.node in
     let inside : node < length i.state.items = omega (arith, c.requires.inside, ap (λ (m : MachineData). length m.state) c.self.view_is) in
     let owner_is : c.index-owner.result.now ≡ slice_index_or i.owners.items node None =
-    c.index-owner.ensures ∙ get_or_default i.owners.items node c.index-owner.result.now None (omega (arith, inside, c.self.invariant.own.counted)) in
+    c.index-owner.ensures ∙ get_or_default i.owners.items node c.index-owner.result.now None (omega (arith, inside, c.self.invariant.0.own.counted)) in
     let lists : c.of.result.now ≡ readers_of i.readers node = c.of.ensures in
     let old : MachineData = record {
       groups = i.groups;
@@ -105,7 +107,7 @@ returns-clause-fits c =
       placed = i.placed;
       spare = vec_capacity i.state - vec_len i.state;
     } in
-    let places = Places-marked node c.args.value old i.agenda.waiting i.readers i.owners.items i.uses.numbers i.held i.most (rooms i.desk) c.self.invariant
+    let places = Places-marked node c.args.value old i.agenda.waiting i.readers i.owners.items i.uses.numbers i.held i.most (rooms i.desk) c.self.invariant.0
     c.index-owner.result.now owner_is c.mark_owner.new.agenda.marks c.mark_all.new.agenda.marks c.mark_owner.ensures.marks c.of.result.now lists
     c.mark_all.ensures.marks c.placed_after-self-inside.result in
     rw (← c.self.view_is)
@@ -117,9 +119,9 @@ returns-clause-member c =
     let node = c.args.node in
     let inside : node < length i.state.items = omega (arith, c.requires.inside, ap (λ (m : MachineData). length m.state) c.self.view_is) in
     let owner_is : c.index-owner.result.now ≡ slice_index_or i.owners.items node None =
-    c.index-owner.ensures ∙ get_or_default i.owners.items node c.index-owner.result.now None (omega (arith, inside, c.self.invariant.own.counted)) in
+    c.index-owner.ensures ∙ get_or_default i.owners.items node c.index-owner.result.now None (omega (arith, inside, c.self.invariant.0.own.counted)) in
     rw (← c.self.view_is) (λ k has.
-    at_owner (c.placed_after-self-inside.result ≡ raised i.placed 1) c.index-owner.result.now k (owner_is ∙ c.self.invariant.own.owner node k has)
+    at_owner (c.placed_after-self-inside.result ≡ raised i.placed 1) c.index-owner.result.now k (owner_is ∙ c.self.invariant.0.own.owner node k has)
     c.placed_after-self-inside.ensures.some)
 
 pub returns-clause-no_member : goal.returns-clause-no_member
@@ -128,7 +130,7 @@ returns-clause-no_member c =
     let node = c.args.node in
     let inside : node < length i.state.items = omega (arith, c.requires.inside, ap (λ (m : MachineData). length m.state) c.self.view_is) in
     let owner_is : c.index-owner.result.now ≡ slice_index_or i.owners.items node None =
-    c.index-owner.ensures ∙ get_or_default i.owners.items node c.index-owner.result.now None (omega (arith, inside, c.self.invariant.own.counted)) in
+    c.index-owner.ensures ∙ get_or_default i.owners.items node c.index-owner.result.now None (omega (arith, inside, c.self.invariant.0.own.counted)) in
     rw (← c.self.view_is) (λ none.
     at_no_owner (c.placed_after-self-inside.result ≡ i.placed) c.index-owner.result.now
-    (λ k is. none k (c.self.invariant.own.member node k (sym owner_is ∙ is))) c.placed_after-self-inside.ensures.none)
+    (λ k is. none k (c.self.invariant.0.own.member node k (sym owner_is ∙ is))) c.placed_after-self-inside.ensures.none)

@@ -5,4 +5,4 @@ use Rattle.unit_step.specs.Parts.{AreApart}
 use Rattle.unit_step.proofs.machine.Machine.stale_parts_are_marked.Goals as goal
 
 pub returns-clause-apart : goal.returns-clause-apart
-returns-clause-apart c = subst AreApart (ap (λ (m : MachineData). m.parts) c.self.view_is) c.self.invariant.runs.apart
+returns-clause-apart c = subst AreApart (ap (λ (m : MachineData). m.parts) c.self.view_is) c.self.invariant.0.runs.apart

@@ -11,7 +11,7 @@ use Rattle.unit_step.proofs.machine.Machine.take.Goals as goal
 
 pub advance-changed-requires : goal.advance-changed-requires
 advance-changed-requires g c =
-    rw (c.deref.ensures.value, c.deref_mut.ensures.value) (record { runnable = c.self.invariant.runs })
+    rw (c.deref.ensures.value, c.deref_mut.ensures.value) (record { dense = c.self.invariant.1; runnable = c.self.invariant.0.runs })
 
 pub invariant_of-self : goal.invariant_of-self
 invariant_of-self g c =
@@ -19,10 +19,12 @@ invariant_of-self g c =
     let n = c.advance-changed.new.state in
     let step = c.advance-changed.ensures in
     let final = with_items_is i.state n (omega (arith, c.advance-changed.auto.state, c.deref_mut.ensures.len)) in
-    let nodes = ap length final ∙ (c.advance-changed.auto.state ∙ ap length c.deref_mut.ensures.value) in
-    IsMachine-again i.parts.items i.agenda.marks c.advance-changed.new.agenda.marks i.agenda.waiting c.advance-changed.new.agenda.waiting
-    (length i.state.items) _ i.readers i.owners.items i.uses.numbers i.held i.most (rooms i.desk) (rooms c.advance-changed.new.desk)
-    step.marks.count step.waiting nodes step.rooms c.self.invariant
+    let nodes = ap length final ∙ (c.advance-changed.auto.state ∙ ap length c.deref_mut.ensures.value) in (
+      IsMachine-again i.parts.items i.agenda.marks c.advance-changed.new.agenda.marks i.agenda.waiting c.advance-changed.new.agenda.waiting
+          (length i.state.items) _ i.readers i.owners.items i.uses.numbers i.held i.most (rooms i.desk) (rooms c.advance-changed.new.desk)
+          step.marks.count step.waiting nodes step.rooms c.self.invariant.0,
+      c.self.invariant.1,
+    )
 
 pub returns-clause-advances : goal.returns-clause-advances
 returns-clause-advances g c =

@@ -1,6 +1,6 @@
 -- The part leaves its members and what it reads.
-use Rattle.std.proofs.Common.{◌≡◌, ◌+◌, ◌-◌, ◌<◌, ◌≤◌, length, take, get_or, refl, sym, ap, subst, ◌∙◌, arith}
-use Rattle.std.specs.Prelude.{count_by}
+use Rattle.std.proofs.Common.{◌≡◌, ℕ, Vec, Global, ◌+◌, ◌-◌, ◌<◌, ◌≤◌, length, take, get_or, refl, sym, ap, subst, ◌∙◌, arith}
+use Rattle.std.specs.Prelude.{count_by, slice_set}
 use Rattle.std.specs.List.{sum_by}
 use Rattle.std.proofs.lemmas.List.{with_items_is}
 use Rattle.std.proofs.lemmas.List.Sums.{get_or-le-sum_by}
@@ -11,6 +11,8 @@ use Rattle.unit_step.specs.Machines.{MachineData, members_of}
 use Rattle.unit_step.specs.Evaluating.{rooms}
 use Rattle.unit_step.specs.Seating.{Disowns, IsVacant, one_of}
 use Rattle.unit_step.specs.Readers.{Unlists}
+use Rattle.unit_step.specs.Dense.{AreDense, AreSeatsOf}
+use Rattle.unit_step.proofs.DenseLemmas.{AreSeatsOf-cleared}
 use Rattle.unit_step.proofs.SeatingLemmas.{seat_of, members_there, reads_there, IsMachine-vacated}
 use Rattle.unit_step.proofs.machine.Machine.vacate.Goals as goal
 
@@ -24,8 +26,8 @@ disown-requires c =
     c.replace-gone.ensures.value ∙ (c.index_mut.ensures.value ∙ ap (get_or i.parts.items k) (sym c.replace-gone.ensures.value)) in
     let stands : Stands i.parts.items k gone = record { inside = inside; here = sym read } in
     let seat = seat_of i.parts.items i.agenda.marks i.agenda.waiting (length i.state.items) i.readers i.owners.items i.uses.numbers i.held i.most
-    (rooms i.desk) c.self.invariant k gone stands in
-    rw (c.deref.ensures.value, c.deref_mut.ensures.value, c.self.invariant.own.counted) (members_there (length i.state.items) gone seat.below)
+    (rooms i.desk) c.self.invariant.0 k gone stands in
+    rw (c.deref.ensures.value, c.deref_mut.ensures.value, c.self.invariant.0.own.counted) (members_there (length i.state.items) gone seat.below)
 
 pub unlist-requires : goal.unlist-requires
 unlist-requires c =
@@ -37,10 +39,10 @@ unlist-requires c =
     c.replace-gone.ensures.value ∙ (c.index_mut.ensures.value ∙ ap (get_or i.parts.items k) (sym c.replace-gone.ensures.value)) in
     let stands : Stands i.parts.items k gone = record { inside = inside; here = sym read } in
     let seat = seat_of i.parts.items i.agenda.marks i.agenda.waiting (length i.state.items) i.readers i.owners.items i.uses.numbers i.held i.most
-    (rooms i.desk) c.self.invariant k gone stands in
-    rw (c.deref-2.ensures.value, c.self.invariant.runs.readers_counted)
+    (rooms i.desk) c.self.invariant.0 k gone stands in
+    rw (c.deref-2.ensures.value, c.self.invariant.0.runs.readers_counted)
     (reads_there i.parts.items i.agenda.marks i.agenda.waiting (length i.state.items) i.readers i.owners.items i.uses.numbers i.held i.most
-    (rooms i.desk) c.self.invariant k gone stands)
+    (rooms i.desk) c.self.invariant.0 k gone stands)
 
 pub invariant_of-self : goal.invariant_of-self
 invariant_of-self c =
@@ -52,7 +54,7 @@ invariant_of-self c =
     c.replace-gone.ensures.value ∙ (c.index_mut.ensures.value ∙ ap (get_or i.parts.items k) (sym c.replace-gone.ensures.value)) in
     let stands : Stands i.parts.items k gone = record { inside = inside; here = sym read } in
     let seat = seat_of i.parts.items i.agenda.marks i.agenda.waiting (length i.state.items) i.readers i.owners.items i.uses.numbers i.held i.most
-    (rooms i.desk) c.self.invariant k gone stands in
+    (rooms i.desk) c.self.invariant.0 k gone stands in
     let e = c.replace-gone.new.dest in
     let vacant : IsVacant e = subst IsVacant (sym c.replace-gone.ensures.after) c.no_part.ensures in
     let owners = with_items_is i.owners c.disown.new.owners (omega (arith, c.disown.auto.owners, c.deref_mut.ensures.len)) in
@@ -65,11 +67,17 @@ invariant_of-self c =
     subst (λ (part : HeldPart). part.members ≤ sum_by members_of i.parts.items) (sym read) (get_or-le-sum_by members_of i.parts.items k gone inside) in
     let one : one_of gone ≤ count_by has_members i.parts.items =
     subst (λ (part : HeldPart). one_of part ≤ count_by has_members i.parts.items) (sym read) (get_or-le-sum_by one_of i.parts.items k gone inside) in
-    let held : i.held - c.count_one.result + one_of gone ≡ i.held = omega (arith, one, c.count_one.ensures, c.self.invariant.number) in
-    let most : i.most - gone.members + gone.members ≡ i.most = omega (arith, some, c.self.invariant.most_members) in
-    rw (owners, c.release.ensures.marks, c.release.ensures.waiting, c.free.ensures.numbers)
-    (IsMachine-vacated i.parts.items i.agenda.marks i.agenda.waiting (length i.state.items) i.readers i.owners.items i.uses.numbers i.held i.most
-    (rooms i.desk) c.self.invariant k gone stands e vacant c.unlist.new.self c.disown.new.owners disowns unlists _ _ held most)
+    let held : i.held - c.count_one.result + one_of gone ≡ i.held = omega (arith, one, c.count_one.ensures, c.self.invariant.0.number) in
+    let most : i.most - gone.members + gone.members ≡ i.most = omega (arith, some, c.self.invariant.0.most_members) in
+    let cleared = AreSeatsOf-cleared i.parts.items k e i.dense.nodes.items i.dense.seats.items c.clear.new.self.seats.items vacant.code
+    c.clear.ensures.inside c.clear.ensures.seats c.self.invariant.1 in
+    let dense : AreDense (slice_set i.parts.items k e) c.clear.new.self =
+    subst (λ (nodes : Vec ℕ Global). AreSeatsOf (slice_set i.parts.items k e) nodes.items c.clear.new.self.seats.items) (sym c.clear.ensures.nodes) cleared in (
+      rw (owners, c.release.ensures.marks, c.release.ensures.waiting, c.free.ensures.numbers)
+          (IsMachine-vacated i.parts.items i.agenda.marks i.agenda.waiting (length i.state.items) i.readers i.owners.items i.uses.numbers i.held i.most
+          (rooms i.desk) c.self.invariant.0 k gone stands e vacant c.unlist.new.self c.disown.new.owners disowns unlists _ _ held most),
+      dense,
+    )
 
 pub returns : goal.returns
 returns c =

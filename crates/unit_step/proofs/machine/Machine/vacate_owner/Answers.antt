@@ -11,7 +11,7 @@ vacate-requires c =
     let i = c.self.inside in
     let owner : slice_index_or i.owners.items c.args.node None ≡ Some c.in-Some.k =
     ap (λ list. slice_index_or list c.args.node None) (sym c.deref.ensures.value) ∙ sym c.in-Some.ensures in
-    let has = c.self.invariant.own.member c.args.node c.in-Some.k owner in
+    let has = c.self.invariant.0.own.member c.args.node c.in-Some.k owner in
     omega (arith, has.stands.inside, ap (λ (m : MachineData). length m.parts) c.self.view_is)
 
 pub returns-in-Some : goal.returns-in-Some
@@ -21,8 +21,8 @@ returns-in-Some c =
     let owner : slice_index_or i.owners.items c.args.node None ≡ Some k =
     ap (λ list. slice_index_or list c.args.node None) (sym c.deref.ensures.value) ∙ sym c.in-Some.ensures in
     let has : HasMember c.args.self.now.parts k c.args.node =
-    subst (λ list. HasMember list k c.args.node) (ap (λ (m : MachineData). m.parts) c.self.view_is) (c.self.invariant.own.member c.args.node k owner) in
-    let apart : AreApart c.args.self.now.parts = subst AreApart (ap (λ (m : MachineData). m.parts) c.self.view_is) c.self.invariant.runs.apart in
+    subst (λ list. HasMember list k c.args.node) (ap (λ (m : MachineData). m.parts) c.self.view_is) (c.self.invariant.0.own.member c.args.node k owner) in
+    let apart : AreApart c.args.self.now.parts = subst AreApart (ap (λ (m : MachineData). m.parts) c.self.view_is) c.self.invariant.0.runs.apart in
     Clears-vacated c.args.node k c.args.self.now c.vacate.new.self apart has c.vacate.ensures
 
 pub returns-in_default : goal.returns-in_default
@@ -33,5 +33,5 @@ returns-in_default c =
     Clears-none c.args.node c.args.self.now (λ k has.
     let had : HasMember i.parts.items k c.args.node =
     subst (λ list. HasMember list k c.args.node) (ap (λ (m : MachineData). m.parts) (sym c.self.view_is)) has in
-    let both : None ≡ Some k = sym owner ∙ c.self.invariant.own.owner c.args.node k had in
+    let both : None ≡ Some k = sym owner ∙ c.self.invariant.0.own.owner c.args.node k had in
     cc)
