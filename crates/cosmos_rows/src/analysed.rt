@@ -1,12 +1,12 @@
 //! What runs of `compile` have analysed and written, and which texts other runs have analysed.
-use crate::tests::{table_of, words_of};
-use crate::{run_in_memory, step_by_program};
+use crate::step_by_program;
+use crate::tests::{run_over, table_of, words_of};
 use cosmos_app::Status;
 use node_elimination::SymbolicAnalyst;
 use port_edge::{HonestFiles, HonestSink};
 use std::alloc::Global;
 use std::test::Fail;
-use ternary::Tern;
+use ternary::{NoMemory, Tern};
 
 const INVERTER: &[u8] = b"A a input\np a Vdd out\nn a Gnd out\n";
 
@@ -61,12 +61,11 @@ fn answer(
     net: &[u8],
     script: &[u8],
 ) -> Result<(Status, Vec<u8>, usize), Fail> {
+    let owned = words_of(alloc, words)?;
     let mut files = HonestFiles::new(alloc, table_of(alloc, net, script)?);
     let mut out = HonestSink::new(alloc);
-    let mut analyst = SymbolicAnalyst::new(alloc);
-    let owned = words_of(alloc, words)?;
-    let status = run_in_memory(alloc, &owned, &mut files, &mut out, &mut analyst);
-    Ok((status, out.written().to_vec(alloc)?, analyst.analysed()))
+    let (status, analysed) = run_over(alloc, &owned, &mut files, &mut out);
+    Ok((status, out.written().to_vec(alloc)?, analysed))
 }
 
 #[test]
@@ -103,9 +102,8 @@ fn whoever_has_the_written_text_makes_the_steps(rt: HostRuntime) -> Result<(), F
         for before in [Tern::Zero, Tern::One, Tern::Unk] {
             let words = words_of(rt.alloc(), COMPILE)?;
             let mut files = HonestFiles::new(rt.alloc(), table_of(rt.alloc(), INVERTER, b"")?);
-            let mut analyst = SymbolicAnalyst::new(rt.alloc());
             let state = [Tern::Zero, Tern::One, a, before];
-            match step_by_program(rt.alloc(), &words, &mut files, &state, &mut analyst)? {
+            match next_of(rt.alloc(), &words, &mut files, &state)? {
                 Some(next) => {
                     assert_eq!(rt; next.as_slice(), [Tern::Zero, Tern::One, a, out].as_slice())
                 }
@@ -114,4 +112,14 @@ fn whoever_has_the_written_text_makes_the_steps(rt: HostRuntime) -> Result<(), F
         }
     }
     Ok(())
+}
+
+// The states after a step, by the text that is written for these words.
+fn next_of(
+    alloc: Global,
+    words: &[String],
+    files: &mut HonestFiles,
+    state: &[Tern],
+) -> Result<Option<Vec<Tern>>, NoMemory> {
+    step_by_program(alloc, words, files, state, &mut SymbolicAnalyst::new(alloc))
 }

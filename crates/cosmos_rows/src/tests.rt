@@ -1,6 +1,6 @@
 use super::*;
 use node_elimination::SymbolicAnalyst;
-use port_edge::{MemFiles, MemSink};
+use port_edge::{MemFiles, MemSink, Sink};
 use std::test::Fail;
 
 const INVERTER: &[u8] = b"p a Vdd out\nn a Gnd out\n";
@@ -255,21 +255,41 @@ fn answer(
     net: &[u8],
     script: &[u8],
 ) -> Result<(Status, Vec<u8>), Fail> {
+    let owned = words_of(alloc, words)?;
     let mut files = HonestFiles::new(alloc, table_of(alloc, net, script)?);
     let mut out = HonestSink::new(alloc);
-    let mut analyst = SymbolicAnalyst::new(alloc);
-    let owned = words_of(alloc, words)?;
-    let status = run_in_memory(alloc, &owned, &mut files, &mut out, &mut analyst);
+    let (status, _) = run_over(alloc, &owned, &mut files, &mut out);
     Ok((status, out.written().to_vec(alloc)?))
+}
+
+// The status of a run over files and a sink in memory, and how many texts were analysed.
+pub(super) fn run_over(
+    alloc: Global,
+    words: &[String],
+    files: &mut HonestFiles,
+    out: &mut HonestSink,
+) -> (Status, usize) {
+    let mut analyst = SymbolicAnalyst::new(alloc);
+    let status = run_in_memory(alloc, words, files, out, &mut analyst);
+    (status, analyst.analysed())
+}
+
+// The status of a run over files that give pieces, and any sink.
+fn run_through<S: Sink>(
+    alloc: Global,
+    words: &[String],
+    files: &mut MemFiles,
+    out: &mut S,
+) -> Status {
+    run(alloc, words, files, out, &mut SymbolicAnalyst::new(alloc))
 }
 
 // The status and the text of a simulation whose files give one byte at a time.
 fn answer_by_bytes(alloc: Global, net: &[u8], script: &[u8]) -> Result<(Status, Vec<u8>), Fail> {
+    let owned = words_of(alloc, &["sim", "net", "script"])?;
     let mut files = MemFiles::new(alloc, table_of(alloc, net, script)?, Vec::new(alloc), 1);
     let mut out = HonestSink::new(alloc);
-    let mut analyst = SymbolicAnalyst::new(alloc);
-    let owned = words_of(alloc, &["sim", "net", "script"])?;
-    let status = run(alloc, &owned, &mut files, &mut out, &mut analyst);
+    let status = run_through(alloc, &owned, &mut files, &mut out);
     Ok((status, out.written().to_vec(alloc)?))
 }
 
@@ -281,12 +301,11 @@ fn answer_failing(
     read: u64,
     write: u64,
 ) -> Result<(Status, Vec<u8>), Fail> {
+    let owned = words_of(alloc, words)?;
     let table = table_of(alloc, INVERTER, SCRIPT)?;
     let mut files = MemFiles::new(alloc, table, vec![in alloc; read]?, 5);
     let mut out = MemSink::new(alloc, vec![in alloc; write]?, 1);
-    let mut analyst = SymbolicAnalyst::new(alloc);
-    let owned = words_of(alloc, words)?;
-    let status = run(alloc, &owned, &mut files, &mut out, &mut analyst);
+    let status = run_through(alloc, &owned, &mut files, &mut out);
     Ok((status, out.written().to_vec(alloc)?))
 }
 

@@ -1,8 +1,12 @@
+ghost use Rattle.netlist.specs.Circuits.{HasVisibleNames};
+
 use fault_runs::judge_faults;
+use netlist::Circuit;
 use node_elimination::SymbolicAnalyst;
 use port_edge::HonestSink;
-use script_run::End;
+use script_run::{End, Stop};
 use sim_read::read_netlist;
+use std::alloc::Global;
 use std::test::Fail;
 use table_keys::TableKeys;
 
@@ -83,10 +87,23 @@ fn faults_are_judged_beside_the_good_run(rt: HostRuntime) -> Result<(), Fail> {
     for (net, script, list, end, text) in &ROWS {
         let circuit = read_netlist(alloc, TableKeys::fixed(), net)?;
         let mut out = HonestSink::new(alloc);
-        let mut analyst = SymbolicAnalyst::new(alloc);
-        let ended = judge_faults(alloc, circuit, script, list, &mut out, &mut analyst);
+        let ended = judged(alloc, circuit, script, list, &mut out);
         assert_eq!(rt; ended, Ok(*end));
         assert_eq!(rt; out.written(), *text);
     }
     Ok(())
+}
+
+// How the faults of a list end that are judged.
+fn judged(
+    alloc: Global,
+    circuit: Circuit,
+    script: &[u8],
+    list: &[u8],
+    out: &mut HonestSink,
+) -> Result<End, Stop>
+    requires { HasVisibleNames circuit }
+{
+    let mut analyst = SymbolicAnalyst::new(alloc);
+    judge_faults(alloc, circuit, script, list, out, &mut analyst)
 }

@@ -1,9 +1,10 @@
 use cosmos_session::Session;
 use node_elimination::SymbolicAnalyst;
 use port_edge::HonestSink;
-use script_lang::read_command;
+use script_lang::{ScriptFault, read_command};
 use sim_read::read_netlist;
 use std::alloc::Global;
+use std::process::Abort;
 use std::test::Fail;
 use table_keys::TableKeys;
 
@@ -72,21 +73,39 @@ const ROWS: [Row; 3] = [
 #[test]
 fn commands_write_their_lines(rt: HostRuntime) -> Result<(), Fail> {
     for (net, lines) in &ROWS {
-        let mut session = session_of(rt.alloc(), net)?;
         let mut analyst = SymbolicAnalyst::new(rt.alloc());
-        let mut out = HonestSink::new(rt.alloc());
-        for (line, text) in *lines {
-            let before = out.written().len();
-            match read_command(rt.alloc(), line)? {
-                Some(command) => {
-                    assert_eq!(rt; session.apply(&command, &mut analyst, &mut out), Ok(()));
-                }
-                None => panic!(rt; "no command"),
-            }
-            assert_eq!(rt; out.written().get(before..), Some(*text));
-        }
+        follow(&rt, rt.alloc(), net, lines, &mut analyst)?;
     }
     Ok(())
+}
+
+// Runs lines in a session: each is accepted, and writes its text.
+fn follow(
+    rt: &impl Abort,
+    alloc: Global,
+    net: &[u8],
+    lines: &[(&[u8], &[u8])],
+    analyst: &mut SymbolicAnalyst,
+) -> Result<(), Fail> {
+    let mut session = session_of(alloc, net)?;
+    for (line, text) in lines {
+        let out = sent_for(alloc, &mut session, line, analyst)?;
+        assert_eq!(rt; out.written(), *text);
+    }
+    Ok(())
+}
+
+// What is sent for a line that is accepted in a session.
+fn sent_for(
+    alloc: Global,
+    session: &mut Session,
+    line: &[u8],
+    analyst: &mut SymbolicAnalyst,
+) -> Result<HonestSink, Fail> {
+    let command = read_command(alloc, line)?.ok_or(ScriptFault::BadCommand)?;
+    let mut out = HonestSink::new(alloc);
+    session.apply(&command, analyst, &mut out)?;
+    Ok(out)
 }
 
 // two inverters in a row, a -> b -> c
@@ -111,16 +130,19 @@ const MARKS: [(&[u8], Option<(usize, u64, u64)>); 12] = [
 
 #[test]
 fn the_machine_lives_through_edits(rt: HostRuntime) -> Result<(), Fail> {
-    let mut session = session_of(rt.alloc(), PAIR)?;
     let mut analyst = SymbolicAnalyst::new(rt.alloc());
-    let mut out = HonestSink::new(rt.alloc());
+    count_after_each(&rt, rt.alloc(), &mut analyst)
+}
+
+// Runs the lines in a session, with these numbers after each.
+fn count_after_each(
+    rt: &impl Abort,
+    alloc: Global,
+    analyst: &mut SymbolicAnalyst,
+) -> Result<(), Fail> {
+    let mut session = session_of(alloc, PAIR)?;
     for (line, counts) in &MARKS {
-        match read_command(rt.alloc(), line)? {
-            Some(command) => {
-                assert_eq!(rt; session.apply(&command, &mut analyst, &mut out), Ok(()));
-            }
-            None => panic!(rt; "no command"),
-        }
+        sent_for(alloc, &mut session, line, analyst)?;
         let machine = session.machine();
         assert_eq!(rt;
             machine.map(|machine| (machine.marked(), machine.moves(), machine.placed())),
