@@ -51,7 +51,7 @@ without_one p text out (other ∷ texts) = by (same_text other text) refl (witho
         again false rest = rest
 
 -- the first appearances of what passes a test are what passes of the first appearances
-first_texts-filter : (p : GroupTextData → Bool) (texts : List GroupTextData) → first_texts (filter p texts) ≡ filter p (first_texts texts)
+pub first_texts-filter : (p : GroupTextData → Bool) (texts : List GroupTextData) → first_texts (filter p texts) ≡ filter p (first_texts texts)
 first_texts-filter p [] = refl
 first_texts-filter p (text ∷ texts) = by (p text) refl (first_texts-filter p texts)
   where

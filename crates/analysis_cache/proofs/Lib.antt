@@ -7,3 +7,4 @@ pub mod TableLemmas
 pub mod CountLemmas
 pub mod FillLemmas
 pub mod CutLemmas
+pub mod OrderLemmas

@@ -26,7 +26,7 @@ filter-front {X} p (suc n) (x ∷ xs) = by (p x) refl (filter-front p n xs) (fil
     by false is fewer same = same
 
 -- of texts that are all among others none is left without those
-none_left : (others texts : List GroupTextData) → ((text : GroupTextData) → is_among texts text ≡ true → is_among others text ≡ true) →
+pub none_left : (others texts : List GroupTextData) → ((text : GroupTextData) → is_among texts text ≡ true → is_among others text ≡ true) →
     filter (λ text. not (is_among others text)) texts ≡ []
 none_left others [] there = refl
 none_left others (text ∷ texts) there =
@@ -64,7 +64,7 @@ none_is_new_again bound present kept =
     ∙ ap (λ b. b || is_among (behind bound present kept) text) is)
 
 -- there the order stays
-used_texts-again : (bound : Option ℕ) (present kept : List GroupTextData) →
+pub used_texts-again : (bound : Option ℕ) (present kept : List GroupTextData) →
     used_texts present (kept_after bound present kept) ≡ kept_after bound present kept
 used_texts-again bound present kept =
     let others : List GroupTextData → List GroupTextData = filter (λ text. not (is_among present text)) in

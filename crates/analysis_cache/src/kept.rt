@@ -4,7 +4,8 @@ ghost use Rattle.group_analysis.specs.Held.{without_texts};
 ghost use Rattle.group_text.specs.FirstTexts.{first_texts, is_among};
 ghost use Rattle.group_text.specs.Texts.{GroupTextData};
 ghost use Rattle.group_analysis.specs.Using.{used_texts, within, past, kept_after, cut_after};
-ghost use Rattle.analysis_cache.specs.Keeping.{Entry, code_in, KeepsAll, KeepsSome, texts_of};
+ghost use Rattle.group_analysis.specs.Using.{to_front};
+ghost use Rattle.analysis_cache.specs.Keeping.{Entry, IsKept, code_in, KeepsAll, KeepsSome, texts_of};
 ghost use Rattle.analysis_cache.specs.Adding.{AddsText, FillsAll, LacksText};
 ghost use Rattle.analysis_cache.specs.Cutting.{StartsWith};
 
@@ -61,9 +62,10 @@ impl Kept {
         self.recent.keys()
     }
 
-    /// How many texts are kept.
+    /// How many texts are kept, none of them twice.
     pub fn size(&self) -> usize
-        ensures { result ≡ length self.now.entries }
+        ensures size { result ≡ length self.now.entries }
+        ensures kept { IsKept self.now.entries }
     {
         self.recent.size()
     }
@@ -76,6 +78,13 @@ impl Kept {
         ensures none { is_none result ≡ not (is_among (texts_of self.now) text.now) }
     {
         self.recent.code(text)
+    }
+
+    /// The bound on the number of texts, where there is one.
+    pub fn bound(&self) -> Option<u64>
+        ensures { result ≡ self.now.bound }
+    {
+        self.bound
     }
 
     /// Sets the bound on the number of texts, or takes it away. It takes effect at the next `ensure`, and
@@ -148,6 +157,16 @@ impl Kept {
         self.cut(texts, analyst);
     }
 
+    /// Moves a text, which is kept, to the front. It takes no memory.
+    pub fn use_text(&mut self, text: &GroupText)
+        requires { IsTrue (is_among (texts_of self.old) text.now) }
+        ensures texts { texts_of self.new ≡ to_front text.now (texts_of self.old) }
+        ensures same { (entry : Entry) → Contains self.new.entries entry → Contains self.old.entries entry }
+        ensures bound { self.new.bound ≡ self.old.bound }
+    {
+        self.recent.use_text(text);
+    }
+
     // Has a text analysed that isn't kept, and keeps its code behind what is kept.
     fn add<A: Analyst>(&mut self, text: &GroupText, analyst: &mut A) -> Result<(), NoMemory>
         requires { is_among (texts_of self.old) text.now ≡ false }
@@ -190,8 +209,10 @@ impl Kept {
         self.cut_to(room, analyst);
     }
 
-    // Cuts all but the first so many texts, and has the analyst compacted where there were more.
-    fn cut_to<A: Analyst>(&mut self, room: usize, analyst: &mut A)
+    /// Cuts all but the first so many texts, whatever the bound is. It takes no memory but for the smaller pool.
+    ///
+    /// The analyst releases what is cut, and is compacted where that was something.
+    pub fn cut_to<A: Analyst>(&mut self, room: usize, analyst: &mut A)
         ensures entries { self.new.entries ≡ take room self.old.entries }
         ensures bound { self.new.bound ≡ self.old.bound }
         ensures analysed { A.analysed analyst.new ≡ A.analysed analyst.old }

@@ -20,7 +20,8 @@
 //!
 //! For the proofs of crates above: `NewTextLemmas` (the new texts of a list, from its front on), `UseLemmas` (what
 //! is kept once texts were used), `DistinctLemmas` (it is the same for the distinct ones of the texts),
-//! `SettleLemmas` (the present ones stand in front of it, and a further build leaves it).
+//! `SettleLemmas` (the present ones stand in front of it, and a further build leaves it), `OrderLemmas` (what one build
+//! after another leaves, however the present texts are listed, and wherever what is new stands).
 //!
 //! After Beatty and Bryant, "Fast Incremental Circuit Analysis Using Extracted Hierarchy", 1988.
 #![tactic(auto)]

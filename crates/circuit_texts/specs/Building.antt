@@ -1,10 +1,11 @@
 -- What a build of a machine has analysed, and what is kept afterwards.
 -- After Beatty and Bryant, "Fast Incremental Circuit Analysis Using Extracted Hierarchy", 1988.
-use Rattle.std.specs.Prelude.{◌≡◌, ◌⊎◌, List, [], ◌++◌, length, map, All, None}
+use Rattle.std.specs.Prelude.{◌≡◌, ◌⊎◌, ℕ, List, [], ◌++◌, length, map, All, Option, None}
 use Rattle.path_meaning.specs.Graphs.{GraphData}
 use Rattle.group_meaning.specs.Groups.{Group, AreGroups}
 use Rattle.group_text.specs.Texts.{GroupTextData, text_of_group}
 use Rattle.group_text.specs.FirstTexts.{new_texts}
+use Rattle.group_analysis.specs.Using.{kept_after}
 use Rattle.circuit_texts.specs.Sizes.{fault_in}
 
 -- the texts of the graph's groups, in order; none of the groups is too large
@@ -20,14 +21,25 @@ pub record BuildsFresh (g : GraphData) (kept fresh : List GroupTextData) : Type 
   pub has : HasTexts g texts
   pub fresh_are : fresh ≡ new_texts kept texts
 
--- a build was done: what was new was analysed, in order, and is kept behind what was kept
-pub record Builds (g : GraphData) (old new before after : List GroupTextData) : Type 0 where
+-- a build was done: so many texts were new, and were analysed, in order; all present texts are at the front of what is kept, in order of
+-- first appearance, and what is past the bound was cut
+pub record Builds (g : GraphData) (bound : Option ℕ) (old new before after : List GroupTextData) (count : ℕ) : Type 0 where
+  pub present : List GroupTextData
+  pub has : HasTexts g present
+  pub kept : new ≡ kept_after bound present old
+  pub analysed : after ≡ before ++ new_texts old present
+  pub number : count ≡ length (new_texts old present)
+
+-- what isn't kept of the texts that a build of the graph wants was analysed, in order, and is kept behind what was kept; the count is its
+-- number
+pub record Fills (g : GraphData) (old new before after : List GroupTextData) (count : ℕ) : Type 0 where
   pub fresh : List GroupTextData
   pub news : BuildsFresh g old fresh
   pub kept : new ≡ old ++ fresh
   pub analysed : after ≡ before ++ fresh
+  pub number : count ≡ length fresh
 
--- a build was cut off: a front of what is new was analysed and is kept, and at most the next one was analysed beside
+-- a build was cut off: a front of what is new was analysed and is kept behind what was kept, and at most the next one was analysed beside
 pub record BuildsSome (g : GraphData) (old new before after : List GroupTextData) : Type 0 where
   pub fresh : List GroupTextData
   pub more : List GroupTextData

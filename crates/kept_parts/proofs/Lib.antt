@@ -2,3 +2,4 @@ pub mod PairLemmas
 pub mod GroupParts
 pub mod UseLemmas
 pub mod NumberLemmas
+pub mod BoundLemmas

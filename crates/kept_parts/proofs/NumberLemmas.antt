@@ -18,7 +18,7 @@ use Rattle.kept_parts.specs.Uses.{UsesData, IsNumbered, texts_used, some_texts, 
 use Rattle.kept_parts.proofs.UseLemmas.{CountsUses-more, used-more, CountsUses-none, used-none, same_place, used-again, used-first}
 
 -- what stands at a place of a list
-there : {A : Type 0} (xs : List A) (i : ℕ) → i < length xs → (x : A) × (slice_get xs i ≡ Some x)
+pub there : {A : Type 0} (xs : List A) (i : ℕ) → i < length xs → (x : A) × (slice_get xs i ≡ Some x)
 there [] i inside = absurd (omega (arith, inside))
 there (x ∷ xs) zero inside = (x, refl)
 there (x ∷ xs) (suc i) inside = there xs i (omega (arith, inside))
@@ -91,7 +91,7 @@ module _ (known : List GroupTextData) where
   Inside numbers = (k number : ℕ) → slice_index_or numbers k None ≡ Some number → number < length known
 
   -- the texts that are used are known
-  used_known : (numbers : List (Option ℕ)) → Inside numbers → All (λ text. is_among known text ≡ true) (some_texts (map text_at numbers))
+  pub used_known : (numbers : List (Option ℕ)) → Inside numbers → All (λ text. is_among known text ≡ true) (some_texts (map text_at numbers))
   used_known [] inside = All-nil (λ text. is_among known text ≡ true)
   used_known (None ∷ numbers) inside = used_known numbers (λ k number is. inside (suc k) number is)
   used_known (Some number ∷ numbers) inside =
@@ -100,7 +100,7 @@ module _ (known : List GroupTextData) where
       rw here (All-cons (λ one. is_among known one ≡ true) text (some_texts (map text_at numbers)) (among_at known number text here) later)
 
   -- a text is used as often as its number is
-  count_of_numbers : IsDistinct same_text known → (number : ℕ) (text : GroupTextData) → slice_get known number ≡ Some text →
+  pub count_of_numbers : IsDistinct same_text known → (number : ℕ) (text : GroupTextData) → slice_get known number ≡ Some text →
       (numbers : List (Option ℕ)) → Inside numbers →
       count_by (is_number number) numbers ≡ count_by (same_text text) (some_texts (map text_at numbers))
   count_of_numbers apart number text here [] inside = refl

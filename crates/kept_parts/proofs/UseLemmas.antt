@@ -15,7 +15,7 @@ use Rattle.analysis_cache.proofs.NewTextLemmas.{new_texts-none_kept, new_texts-k
 use Rattle.kept_parts.specs.Uses.{CountsUses, used}
 
 -- a text is among those among which it stands at least once
-is_among-count : (texts : List GroupTextData) (text : GroupTextData) → is_among texts text ≡ nat_lt 0 (count_by (same_text text) texts)
+pub is_among-count : (texts : List GroupTextData) (text : GroupTextData) → is_among texts text ≡ nat_lt 0 (count_by (same_text text) texts)
 is_among-count [] text = refl
 is_among-count (first ∷ texts) text = by (same_text text first) refl (is_among-count texts text)
   where

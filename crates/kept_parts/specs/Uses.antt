@@ -1,10 +1,12 @@
 -- Which texts the parts of a machine have, and how many of them are distinct.
-use Rattle.std.specs.Prelude.{◌≡◌, ℕ, ◌==◌, ◌<◌, ◌++◌, Bool, false, if◌then◌else◌, List, length, map, count_by, nat_lt, Option, None, Some, slice_get, slice_index, slice_index_or}
+use Rattle.std.specs.Prelude.{◌≡◌, ℕ, ◌==◌, ◌<◌, ◌++◌, Bool, false, if◌then◌else◌, List, length, map, filter, count_by, nat_lt, Option, None, Some, All, IsTrue, slice_get, slice_index, slice_index_or}
 use Rattle.std.specs.Option.{option_and_then}
 use Rattle.std.specs.List.{IsDistinct, filter_map}
 use Rattle.group_text.specs.Texts.{GroupTextData}
 use Rattle.group_text.specs.Compared.{same_text}
-use Rattle.group_text.specs.FirstTexts.{first_texts}
+use Rattle.group_text.specs.FirstTexts.{first_texts, is_among}
+use Rattle.group_analysis.specs.Using.{used_texts, kept_after}
+use Rattle.analysis_cache.specs.Keeping.{KeptData, texts_of}
 
 -- the texts that have a number, in the order of their numbers, and for each part the number of its text, if it has one
 pub record UsesData : Type 0 where
@@ -22,6 +24,21 @@ some_texts texts = filter_map (λ text. text) texts
 -- how many distinct ones these are
 abbrev pub count_distinct : List (Option GroupTextData) → ℕ
 count_distinct texts = length (first_texts (some_texts texts))
+
+-- the known texts that some part has, in the order of their numbers
+abbrev pub in_use : UsesData → List GroupTextData
+in_use uses = filter (is_among (some_texts (texts_used uses))) uses.known
+
+-- the same texts are among these and those
+abbrev pub AreSame : List GroupTextData → List GroupTextData → Type 0
+AreSame these those = (text : GroupTextData) → is_among these text ≡ is_among those text
+
+-- a build with these present texts, whose new ones stand behind what was kept, left this kept, once the present ones stand in front: what is
+-- past the bound was cut, and no present text
+pub record CutsTo (texts : List GroupTextData) (old new : KeptData) : Type 0 where
+  pub kept : (present : List GroupTextData) → AreSame present texts → used_texts present (texts_of new) ≡ kept_after old.bound present (texts_of old)
+  pub there : All (λ text. IsTrue (is_among (texts_of new) text)) texts
+  pub bound : new.bound ≡ old.bound
 
 -- each of the known texts is used as often as it stands among these texts
 pub record CountsUses (known texts : List GroupTextData) (counts : List ℕ) : Type 0 where

@@ -1,8 +1,12 @@
 //! Which texts the parts of a machine have, and how many of them are distinct.
-ghost use Rattle.std.specs.Prelude.{◌≡◌, ◌+◌, ◌++◌, ◌∷◌, [], ◌^◌, ◌<◌, None, Some, length, map, replicate, slice_get, slice_index_or, slice_set, IfOk, IfSome, OnOk, OnErr};
-ghost use Rattle.group_text.specs.FirstTexts.{new_texts};
-ghost use Rattle.kept_parts.specs.Uses.{IsNumbered, texts_used, count_distinct, first_use, last_use};
+ghost use Rattle.std.specs.Prelude.{◌≡◌, ◌+◌, ◌++◌, ◌∷◌, [], ◌^◌, ◌<◌, None, Some, All, IsTrue, length, map, max, replicate, slice_get, slice_index_or, slice_set, IfOk, IfSome, OnOk, OnErr};
+ghost use Rattle.group_text.specs.Texts.{GroupTextData};
+ghost use Rattle.group_text.specs.FirstTexts.{new_texts, is_among};
+ghost use Rattle.group_analysis.specs.Using.{used_texts};
+ghost use Rattle.analysis_cache.specs.Keeping.{texts_of};
+ghost use Rattle.kept_parts.specs.Uses.{IsNumbered, CutsTo, in_use, some_texts, texts_used, count_distinct, first_use, last_use};
 
+use analysis_cache::{Analyst, Kept};
 use group_text::GroupText;
 use indexmap::IndexSet;
 use std::alloc::{AllocError, Global};
@@ -143,12 +147,64 @@ impl TextUses {
         self.distinct = with_use(self.distinct, before);
     }
 
+    /// Whether some part has the text with this number.
+    pub fn is_used(&self, number: usize) -> bool
+        requires { number < length self.now.known }
+        ensures { (text : GroupTextData) → slice_get self.now.known number ≡ Some text → result ≡ is_among (some_texts (texts_used self.now)) text }
+    {
+        self.counts[number] > 0
+    }
+
+    /// Cuts what is kept past its bound, where it has one, but no text that some part has: so far as it is kept
+    /// now, with these texts in front of it.
+    ///
+    /// The analyst releases what is cut, and is compacted where that was something. It takes no memory. Where
+    /// nothing is past the bound, it takes no time either.
+    pub fn cut_past_bound<A: Analyst>(&self, kept: &mut Kept, analyst: &mut A)
+        requires { All (λ text. IsTrue (is_among (texts_of kept.old) text)) (in_use self.now) }
+        ensures cuts { CutsTo (in_use self.now) kept.old kept.new }
+        ensures analysed { A.analysed analyst.new ≡ A.analysed analyst.old }
+    {
+        let Some(bound) = kept.bound() else {
+            return;
+        };
+        let room = room_for(bound, self.distinct);
+        if kept.size() <= room {
+            return;
+        }
+        self.use_all(kept);
+        kept.cut_to(room, analyst);
+    }
+
+    // Moves the texts that some part has to the front, in the order of their numbers.
+    fn use_all(&self, kept: &mut Kept)
+        requires { All (λ text. IsTrue (is_among (texts_of kept.old) text)) (in_use self.now) }
+        ensures texts { texts_of kept.new ≡ used_texts (in_use self.now) (texts_of kept.old) }
+        ensures bound { kept.new.bound ≡ kept.old.bound }
+    {
+        let known = self.known();
+        let mut number = known.len();
+        while number > 0 {
+            number -= 1;
+            if self.is_used(number) {
+                kept.use_text(&known[number]);
+            }
+        }
+    }
+
     /// How many distinct texts the parts have.
     pub fn distinct(&self) -> usize
         ensures { result ≡ count_distinct (texts_used self.now) }
     {
         self.distinct
     }
+}
+
+// For how many texts there is room: as many as the bound, or as there are present ones, where these are more.
+fn room_for(bound: u64, present: usize) -> usize
+    ensures { result ≡ max bound present }
+{
+    (bound as usize).max(present)
 }
 
 // How many distinct texts there are with one use less of a text that was used so often.

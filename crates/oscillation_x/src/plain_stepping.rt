@@ -93,6 +93,8 @@ impl Stepper for PlainStepper {
 
     ghost placed = { λ _. 0 };
 
+    ghost fixed = { λ _. tt };
+
     fn step<L: Ledger>(&mut self, graph: &Graph, _steps: &mut Steps<L>) -> bool {
         if !self.has_room(graph) {
             return false;

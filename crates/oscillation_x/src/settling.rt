@@ -49,6 +49,7 @@ pub fn settle<M: Stepper, L: Ledger>(
     ensures bound { result.steps ≤ limit + length (M.state m.old) }
     ensures moves { M.moves m.new ≡ raised (M.moves m.old) result.steps }
     ensures placed { M.placed m.new ≡ M.placed m.old }
+    ensures fixed { M.fixed m.new ≡ M.fixed m.old }
 {
     graphs_are_wired(graph);
     let first = step_while_changing(m, graph, limit, steps);
@@ -79,6 +80,7 @@ fn step_while_changing<M: Stepper, L: Ledger>(
     ensures moving { Moving limit (M.state m.old) result (M.state m.new) }
     ensures moves { M.moves m.new ≡ raised (M.moves m.old) result }
     ensures placed { M.placed m.new ≡ M.placed m.old }
+    ensures fixed { M.fixed m.new ≡ M.fixed m.old }
 {
     for count in 0..limit {
         if !m.step(graph, steps) {
@@ -101,6 +103,7 @@ fn join_while_changing<M: Stepper, L: Ledger>(m: &mut M, graph: &Graph, steps: &
     ensures few { result < 2 ^ 63 }
     ensures moves { M.moves m.new ≡ raised (M.moves m.old) result }
     ensures placed { M.placed m.new ≡ M.placed m.old }
+    ensures fixed { M.fixed m.new ≡ M.fixed m.old }
 {
     let mut count: u64 = 0;
     while m.join_step(graph, steps) {

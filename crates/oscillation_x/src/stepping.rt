@@ -13,9 +13,10 @@ use ternary::Steps;
 
 /// A state that moves by unit steps.
 ///
-/// Contracts see four meanings: the state of each node; the graphs that the stepper fits, on which
-/// its calls do what they say; how often a call changed the state; and how often a node that the
-/// stepper computes was placed from outside. The two numbers stop at `u64::MAX`.
+/// Contracts see five meanings: the state of each node; the graphs that the stepper fits, on which
+/// its calls do what they say; how often a call changed the state; how often a node that the
+/// stepper computes was placed from outside; and what no step changes. The two numbers stop at
+/// `u64::MAX`.
 ///
 /// No call changes the number of nodes, takes memory or has a refusal.
 pub trait Stepper {
@@ -26,6 +27,10 @@ pub trait Stepper {
     ghost moves: { Self → ℕ };
 
     ghost placed: { Self → ℕ };
+
+    ghost Fixed: { Type 0 } = { Unit {0} };
+
+    ghost fixed: { Self → Self.Fixed };
 
     /// Takes a unit step of the graph, and answers whether that changed the state.
     ///
@@ -42,7 +47,8 @@ pub trait Stepper {
         ensures same { OnFalse result (state self.new ≡ state self.old) }
         ensures moved { OnTrue result (moves self.new ≡ raised (moves self.old) 1) }
         ensures rested { OnFalse result (moves self.new ≡ moves self.old) }
-        ensures placed { placed self.new ≡ placed self.old };
+        ensures placed { placed self.new ≡ placed self.old }
+        ensures fixed { fixed self.new ≡ fixed self.old };
 
     /// Takes a joining step of the graph, and answers whether that changed the state.
     ///
@@ -61,5 +67,6 @@ pub trait Stepper {
         ensures same { OnFalse result (state self.new ≡ state self.old) }
         ensures moved { OnTrue result (moves self.new ≡ raised (moves self.old) 1) }
         ensures rested { OnFalse result (moves self.new ≡ moves self.old) }
-        ensures placed { placed self.new ≡ placed self.old };
+        ensures placed { placed self.new ≡ placed self.old }
+        ensures fixed { fixed self.new ≡ fixed self.old };
 }

@@ -20,6 +20,7 @@ loop-count-init g c = record {
   bound = omega (arith, known-all (λ _. true) (g.M.Stepper.state c.args.m.now));
   moves = raised-none (g.M.Stepper.moves c.args.m.now);
   placed = refl;
+  fixed = refl;
 }
 
 pub loop-count-preserved : goal.loop-count-preserved
@@ -55,6 +56,7 @@ loop-count-preserved g c =
       moves = OnTrue_at c.loop-count-test.true c.join_step.ensures.moved ∙
           (ap (λ moves. raised moves 1) loop.invariant.moves ∙ raised-more (g.M.Stepper.moves c.args.m.now) loop.count 1);
       placed = c.join_step.ensures.placed ∙ loop.invariant.placed;
+      fixed = c.join_step.ensures.fixed ∙ loop.invariant.fixed;
     }
 
 pub loop-count-smaller : goal.loop-count-smaller

@@ -21,6 +21,7 @@ invariant-loop-count g l = record {
   bound : l.count + known (λ _. true) (g.M.Stepper.state l.m) ≤ length (g.M.Stepper.state l.initial.m);
   moves : g.M.Stepper.moves l.m ≡ raised (g.M.Stepper.moves l.initial.m) l.count;
   placed : g.M.Stepper.placed l.m ≡ g.M.Stepper.placed l.initial.m;
+  fixed : g.M.Stepper.fixed l.m ≡ g.M.Stepper.fixed l.initial.m;
 }
 
 abbrev pub decreases-loop-count : goal.decreases-loop-count

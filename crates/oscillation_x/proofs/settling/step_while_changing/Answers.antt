@@ -24,6 +24,7 @@ loop-count-preserved g c =
       moves = OnTrue_at c.if-not-step.false c.step.ensures.moved ∙
           (ap (λ moves. raised moves 1) loop.invariant.moves ∙ raised-more (g.M.Stepper.moves c.args.m.now) loop.count 1);
       placed = c.step.ensures.placed ∙ loop.invariant.placed;
+      fixed = c.step.ensures.fixed ∙ loop.invariant.fixed;
     }
 
 pub returns-then-not-step-clause-stepping : goal.returns-then-not-step-clause-stepping
