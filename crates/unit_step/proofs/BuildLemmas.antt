@@ -24,7 +24,7 @@ use Rattle.circuit_texts.specs.Parts as made
 use Rattle.analysis_cache.proofs.DistinctLemmas.{new_texts-first}
 use Rattle.channel_groups.specs.Grouping.{GroupsData, AreOf}
 use Rattle.circuit_texts.specs.Sizes.{fault_in}
-use Rattle.circuit_texts.specs.Building.{BuildsFresh}
+use Rattle.circuit_texts.specs.Building.{HasTexts, BuildsFresh}
 use Rattle.kept_parts.specs.Uses.{some_texts, count_distinct}
 use Rattle.circuit_texts.specs.Reading.{AreReads}
 use Rattle.circuit_texts.proofs.PairedLists.{partner_first, partner_second}
@@ -153,8 +153,9 @@ module _ (g : GraphData) where
     -- so a machine that starts with them fits the graph
     pub FitsGraph-started : (held : GroupsData) → held.groups ≡ groups → AreOf g held → All (λ group. fault_in group ≡ None) groups →
         AreApart parts → (state : List Tern) → length state ≡ nodes g → IsRailed g → IsSound state → (uses : List (Option GroupTextData)) →
-        uses ≡ map Some (map (text_of_group g) groups) → (spare : ℕ) → FitsGraph g (started (Some held) parts state uses spare)
-    FitsGraph-started held same are fit apart state counted railed sound uses uses_are spare = record {
+        uses ≡ map Some (map (text_of_group g) groups) → (last : List GroupTextData) (spare : ℕ) →
+        FitsGraph g (started (Some held) parts state uses last spare)
+    FitsGraph-started held same are fit apart state counted railed sound uses uses_are last spare = record {
       covers = record {
         groups = held;
         kept = refl;
@@ -194,19 +195,18 @@ some_numbers text (None ∷ numbers) (first ∷ texts) are = absurd cc
 some_numbers text (Some number ∷ numbers) (first ∷ texts) are =
     All-cons (λ (one : Option ℕ). one ≢ None) (Some number) numbers (λ none. absurd cc) (some_numbers text numbers texts (cc))
 
--- what is made holds more, where what holds of it does
-pub if_ok : {T E : Type 0} (P Q : T → Type 0) → ((made : T) → P made → Q made) → (result : Result T E) → IfOk result P → IfOk result Q
-if_ok P Q more (Ok made) holds = more made holds
-if_ok P Q more (Err fault) holds = tt
-
 module _ (g : GraphData) (state : List Tern) (plan : Plan) (is_plan : IsPlan g state plan) where
+  -- the texts of the groups are the graph's
+  pub HasTexts-planned : HasTexts g (map (text_of_group g) plan.groups.groups)
+  HasTexts-planned = record { groups = plan.groups.groups; are = is_plan.are.are; fit = is_plan.fit; texts_are = refl }
+
   -- what a build has analysed: the new ones of the distinct texts are the new ones of the groups' texts
   pub planned_texts : (kept : List GroupTextData) → BuildsFresh g kept (new_texts kept plan.uses.known)
   planned_texts kept =
       let texts = map (text_of_group g) plan.groups.groups in
       record {
         texts = texts;
-        has = record { groups = plan.groups.groups; are = is_plan.are.are; fit = is_plan.fit; texts_are = refl };
+        has = HasTexts-planned;
         fresh_are = ap (new_texts kept) is_plan.known ∙ new_texts-first kept texts;
       }
 

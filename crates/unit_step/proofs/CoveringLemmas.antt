@@ -381,6 +381,7 @@ module _ (g : GraphData) (change : Change) (old : MachineData) (covers : Covers 
       stays = λ k part group stands is_part untouched. (still_then k part group stands is_part untouched).stood;
       marks = λ k part group stands is_part untouched.
           still_marks k part stands (has_some k part group stands is_part) (still_then k part group stands is_part untouched);
+      last = renews.last ∙ clears.last;
       moves = renews.moves ∙ clears.moves;
       placed = renews.placed ∙ clears.placed;
     }

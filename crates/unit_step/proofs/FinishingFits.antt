@@ -13,7 +13,7 @@ use Rattle.group_text.specs.Texts.{GroupTextData, text_of_group}
 use Rattle.group_text.specs.Compared.{same_text, same_text_decides}
 use Rattle.group_text.specs.FirstTexts.{is_among, first_texts, new_texts}
 use Rattle.circuit_texts.specs.Sizes.{fault_in}
-use Rattle.circuit_texts.specs.Building.{Builds}
+use Rattle.circuit_texts.specs.Building.{Fills}
 use Rattle.kept_parts.specs.Uses.{some_texts, count_distinct}
 use Rattle.kept_parts.proofs.NumberLemmas.{or_true}
 use Rattle.unit_step.specs.declared.part.HeldPart.{HeldPart}
@@ -22,7 +22,7 @@ use Rattle.unit_step.specs.Machines.{MachineData, IsMarked}
 use Rattle.unit_step.specs.Evaluating.{Rooms}
 use Rattle.unit_step.specs.Running.{IsRunnable}
 use Rattle.unit_step.specs.Fitting.{IsPartOf, Covers, FitsGraph, IsKeptBy}
-use Rattle.unit_step.specs.Editing.{Finishes}
+use Rattle.unit_step.specs.Editing.{Rouses}
 use Rattle.unit_step.proofs.KeptLemmas.{group_there}
 use Rattle.unit_step.proofs.FinishingTexts.{new_texts-waiting, same_distinct}
 
@@ -98,7 +98,7 @@ none_stale parts marks waiting count lists room runs none k part stands some is 
 
 module _ (g : GraphData) (m : MachineData) (covers : Covers g m) (coded : AllCoded m) where
   -- the parts' texts are the groups' texts
-  same_texts : (text : GroupTextData) → is_among (some_texts m.uses) text ≡ is_among (map (text_of_group g) covers.groups.groups) text
+  pub same_texts : (text : GroupTextData) → is_among (some_texts m.uses) text ≡ is_among (map (text_of_group g) covers.groups.groups) text
   same_texts text = both_ways _ _ to back
     where
       to : is_among (some_texts m.uses) text ≡ true → is_among (map (text_of_group g) covers.groups.groups) text ≡ true
@@ -150,8 +150,8 @@ module _ (g : GraphData) (m : MachineData) (covers : Covers g m) (coded : AllCod
       (covers.known has.k has.part has.stands (coded has.k has.part has.stands (some_members has.is_part)) group has.is_part).fits
 
   -- and where all texts are kept, none is new
-  pub Builds-none : (kept analysed : List GroupTextData) → IsKeptBy g kept m → Builds g kept kept analysed analysed
-  Builds-none kept analysed known = record {
+  pub Fills-none : (kept analysed : List GroupTextData) → IsKeptBy g kept m → Fills g kept kept analysed analysed 0
+  Fills-none kept analysed known = record {
     fresh = [];
     news = record {
       texts = map (text_of_group g) covers.groups.groups;
@@ -161,6 +161,7 @@ module _ (g : GraphData) (m : MachineData) (covers : Covers g m) (coded : AllCod
     };
     kept = sym (append-nil kept);
     analysed = sym (append-nil analysed);
+    number = refl;
   }
     where
       old : (group : Group) → Contains covers.groups.groups group → false ≡ false → is_among kept (text_of_group g group) ≡ true
@@ -173,10 +174,11 @@ module _ (g : GraphData) (m : MachineData) (covers : Covers g m) (coded : AllCod
       none_left [] = refl
       none_left (group ∷ groups) = none_left groups
 
-  -- so it is finished
-  pub Finishes-coded : m.texts ≡ count_distinct m.uses → IsRailed g → IsSound m.state → Finishes g m m
-  Finishes-coded counts railed sound = record {
+  -- so there is nothing to give
+  pub Rouses-coded : m.texts ≡ count_distinct m.uses → IsRailed g → IsSound m.state → Rouses g m m
+  Rouses-coded counts railed sound = record {
     fits = FitsGraph-covered counts railed sound;
+    last = refl;
     groups = refl;
     parts = λ k part stands some. stands;
     marks = refl;

@@ -1,10 +1,11 @@
 -- What is put in places of a list.
-use Rattle.std.proofs.Common.{◌≡◌, ◌≢◌, ℕ, zero, suc, ◌+◌, ◌<◌, inl, inr, List, [], ◌∷◌, ◌++◌, length, map, take, get_or, Some, refl, sym, ap, ap₂, subst, ◌∙◌, arith}
+use Rattle.std.proofs.Common.{◌≡◌, ◌≢◌, ℕ, zero, suc, ◌+◌, ◌<◌, inl, inr, List, [], ◌∷◌, ◌++◌, length, map, take, get_or, Some, refl, sym, ap, ap₂, subst, ◌∙◌, append_assoc, append-nil, arith}
 use Rattle.std.specs.Prelude.{Contains, slice_set, slice_get}
 use Rattle.std.proofs.lemmas.Bool.{cases_eq}
 use Rattle.std.proofs.lemmas.List.{length-set, take_more, length-take-le}
 use Rattle.std.proofs.lemmas.List.Elements.{Contains-push, Contains-push_cases, Contains-append_left}
 use Rattle.group_text.specs.Texts.{GroupTextData}
+use Rattle.kept_parts.specs.Uses.{UsesData, IsNumbered}
 use Rattle.unit_step.specs.Finishing.{Puts}
 use Rattle.kept_parts.proofs.NumberLemmas.{slice_get-last, slice_get-grown}
 
@@ -74,3 +75,14 @@ known_more known more (n ∷ numbers) (text ∷ texts) are =
     let first : slice_get known n ≡ Some text = cc in
     let rest : map (slice_get known) numbers ≡ map Some texts = cc in
     ap₂ (λ one list. one ∷ list) (slice_get-grown known more n text first) (known_more known more numbers texts rest)
+
+-- no text more is known, or more are, and then still more
+pub IsNumbered-none : (uses : UsesData) → IsNumbered uses uses
+IsNumbered-none uses = record { more = []; known = sym (append-nil uses.known); numbers = refl }
+
+pub IsNumbered-then : (old mid new : UsesData) → IsNumbered old mid → IsNumbered mid new → IsNumbered old new
+IsNumbered-then old mid new first later = record {
+  more = first.more ++ later.more;
+  known = later.known ∙ (ap (λ known. known ++ later.more) first.known ∙ append_assoc old.known first.more later.more);
+  numbers = later.numbers ∙ first.numbers;
+}

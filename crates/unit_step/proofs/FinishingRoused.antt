@@ -26,7 +26,7 @@ use Rattle.unit_step.specs.declared.part.HeldPart.{HeldPart}
 use Rattle.unit_step.specs.Parts.{Stands, IsMemberAt, HasMember, ReadsAt, IsStale, AreApart, has_members}
 use Rattle.unit_step.specs.Machines.{MachineData, IsMarked, members_of}
 use Rattle.unit_step.specs.Making.{held, IsFormed, IsCodeRoom}
-use Rattle.unit_step.specs.Editing.{Finishes}
+use Rattle.unit_step.specs.Editing.{Rouses}
 use Rattle.unit_step.specs.Evaluating.{Rooms, IsSeated}
 use Rattle.unit_step.specs.Running.{IsRunnable, AreOwners, IsMachine}
 use Rattle.unit_step.specs.Readers.{readers_of}
@@ -56,10 +56,10 @@ same_sums f (x ∷ xs) (y ∷ ys) counted same =
     )
 
 -- a part stands where the list has it
-Stands-at : (parts : List HeldPart) (k : ℕ) (part : HeldPart) → slice_get parts k ≡ Some part → Stands parts k part
+pub Stands-at : (parts : List HeldPart) (k : ℕ) (part : HeldPart) → slice_get parts k ≡ Some part → Stands parts k part
 Stands-at parts k part at = record { inside = slice_get_within parts k part at; here = get_or_from_slice_get parts k part part at }
 
-at-Stands : (parts : List HeldPart) (k : ℕ) (part : HeldPart) → Stands parts k part → slice_get parts k ≡ Some part
+pub at-Stands : (parts : List HeldPart) (k : ℕ) (part : HeldPart) → Stands parts k part → slice_get parts k ≡ Some part
 at-Stands parts k part stands = slice_get_read parts (length parts) k part refl stands.inside (sym stands.here)
 
 part_here : (parts : List HeldPart) (k : ℕ) → k < length parts → (part : HeldPart) × Stands parts k part
@@ -121,12 +121,12 @@ pub HaveSameReaders-refl : (lists : List (SmallVec ℕ)) → HaveSameReaders lis
 HaveSameReaders-refl lists = record { count = refl; stays = λ node l there. there; only = λ node l there. there }
 
 -- a part that stays, with code if it has a member
-record StaysAt (old : List HeldPart) (k : ℕ) (part : HeldPart) : Type 0 where
+pub record StaysAt (old : List HeldPart) (k : ℕ) (part : HeldPart) : Type 0 where
   pub stands : Stands old k part
   pub coded : 0 < part.members → part.code ≢ None
 
 -- a part that got its code
-record ComesAt (g : GraphData) (old : List HeldPart) (some : List Group) (slots : List ℕ) (fresh : List HeldPart) (k : ℕ) (part : HeldPart) : Type 0 where
+pub record ComesAt (g : GraphData) (old : List HeldPart) (some : List Group) (slots : List ℕ) (fresh : List HeldPart) (k : ℕ) (part : HeldPart) : Type 0 where
   pub i : ℕ
   pub slot : slice_get slots i ≡ Some k
   pub there : slice_get fresh i ≡ Some part
@@ -138,7 +138,7 @@ record ComesAt (g : GraphData) (old : List HeldPart) (some : List Group) (slots 
 module _ (g : GraphData) (m : MachineData) (covers : Covers g m) (groups some : List Group) (slots : List ℕ) (waiting : AreWaiting g m.parts groups some slots)
     (fresh : List HeldPart) (fresh_are : AllZip (IsFresh g) some fresh) (new : List HeldPart) (puts : Puts slots fresh m.parts new) where
   -- each part stays or comes
-  stays_or_comes : (k : ℕ) (part : HeldPart) → Stands new k part → StaysAt m.parts k part ⊎ ComesAt g m.parts some slots fresh k part
+  pub stays_or_comes : (k : ℕ) (part : HeldPart) → Stands new k part → StaysAt m.parts k part ⊎ ComesAt g m.parts some slots fresh k part
   stays_or_comes k part stands =
       elim (one_or_none slots k) [
         | inl there ↦
@@ -436,7 +436,7 @@ map_some h [] = refl
 map_some h (x ∷ xs) = ap (λ rest. h x ∷ rest) (map_some h xs)
 
 -- what stands in a list is read with a default
-read_same : {X : Type 0} (xs ys : List (Option X)) (k : ℕ) → slice_get xs k ≡ slice_get ys k → slice_index_or xs k None ≡ slice_index_or ys k None
+pub read_same : {X : Type 0} (xs ys : List (Option X)) (k : ℕ) → slice_get xs k ≡ slice_get ys k → slice_index_or xs k None ≡ slice_index_or ys k None
 read_same xs ys k same = sym (unwrap_or-slice_get xs k None) ∙ (ap (λ found. unwrap_or found None) same ∙ unwrap_or-slice_get ys k None)
 
 -- numbers of texts are those of known ones
@@ -559,18 +559,19 @@ module _ (g : GraphData) (m : MachineData) (covers : Covers g m) (groups some : 
         read_map (slice_get uses.known) uses.numbers k
         ∙ (ap (λ list. option_and_then (slice_get list) (slice_index_or uses.numbers k None)) known ∙ (ap f number_is ∙ text_is))
 
-    abbrev pub finished : MachineData
-    finished = record m { parts = new; uses = now_used; texts = count_distinct now_used }
+    abbrev pub woken : MachineData
+    woken = record m { parts = new; uses = now_used; texts = count_distinct now_used }
 
-    pub Finishes-roused : IsRailed g → IsSound m.state → Finishes g m finished
-    Finishes-roused railed sound = record {
+    pub Rouses-roused : IsRailed g → IsSound m.state → Rouses g m woken
+    Rouses-roused railed sound = record {
       fits =
-          FitsGraph-covered g finished
+          FitsGraph-covered g woken
           (Covers-roused g m covers groups some slots waiting fresh are_made.fresh_are new puts now_used used_counted used_stay used_come fit (count_distinct now_used))
           (λ k part stands has none.
           none_stale_new g m covers groups some slots waiting fresh are_made.fresh_are new puts k
           (record { part = part; stands = stands; some = has; none = none }))
           refl railed sound;
+      last = refl;
       groups = refl;
       parts = parts_roused g m covers groups some slots waiting fresh are_made.fresh_are new puts now_used used_counted used_stay used_come fit (count_distinct now_used);
       marks = refl;

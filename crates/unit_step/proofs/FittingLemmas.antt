@@ -142,15 +142,16 @@ module _ (g : GraphData) (wired : IsWired g) (old : MachineData) (fits : FitsGra
 
 -- a machine in which all but states, marks and counts are the same
 pub same_machine : (old new : MachineData) → new.groups ≡ old.groups → new.parts ≡ old.parts → new.uses ≡ old.uses →
-    new.texts ≡ old.texts → new.spare ≡ old.spare →
+    new.texts ≡ old.texts → new.last ≡ old.last → new.spare ≡ old.spare →
     record old { marks = new.marks; state = new.state; moves = new.moves; placed = new.placed } ≡ new
-same_machine old new groups parts uses texts spare = λ i. record {
+same_machine old new groups parts uses texts last spare = λ i. record {
   groups = sym groups i;
   parts = sym parts i;
   uses = sym uses i;
   marks = new.marks;
   state = new.state;
   texts = sym texts i;
+  last = sym last i;
   moves = new.moves;
   placed = new.placed;
   spare = sym spare i;
@@ -160,7 +161,7 @@ same_machine old new groups parts uses texts spare = λ i. record {
 FitsGraph-in_column : (g : GraphData) → IsWired g → (joining : Bool) (old new : MachineData) → FitsGraph g old → AdvancesInColumn joining old new →
     FitsGraph g new
 FitsGraph-in_column g wired joining old new fits advances =
-    subst (FitsGraph g) (same_machine old new advances.groups advances.parts advances.uses advances.texts advances.spare)
+    subst (FitsGraph g) (same_machine old new advances.groups advances.parts advances.uses advances.texts advances.last advances.spare)
     (fits_again g wired old fits new.state joining advances.moves new.marks advances.marks new.moves new.placed)
 
 -- a step sets the marks that it needs
@@ -172,6 +173,7 @@ in_column joining old new advances = record {
   parts = advances.parts;
   uses = advances.uses;
   texts = advances.texts;
+  last = advances.last;
   spare = advances.spare;
 }
 

@@ -3,7 +3,7 @@ use Rattle.std.proofs.Common.{◌≡◌, ℕ, zero, suc, ◌<◌, Bool, true, fa
 use Rattle.std.specs.Prelude.{Contains, slice_get}
 use Rattle.std.proofs.lemmas.Bool.{cases_lt}
 use Rattle.std.proofs.lemmas.List.Elements.{All-push}
-use Rattle.std.proofs.lemmas.Option.{slice_get_read, get_or_from_slice_get}
+use Rattle.std.proofs.lemmas.Option.{slice_get_read, slice_get_within, get_or_from_slice_get}
 use Rattle.path_meaning.specs.declared.switching.Switch.{Switch}
 use Rattle.path_meaning.specs.Graphs.{GraphData, IsWired, FitsPlace}
 use Rattle.group_meaning.specs.Groups.{Group, IsGroup, AreGroups, id_of}
@@ -17,12 +17,12 @@ use Rattle.channel_groups.proofs.KeptLemmas.{IsKept-untouched}
 use Rattle.channel_groups.proofs.StoreLemmas.{same_more}
 use Rattle.group_text.specs.Texts.{GroupTextData, text_of_group}
 use Rattle.group_text.specs.Compared.{same_text}
-use Rattle.group_text.specs.FirstTexts.{is_among, new_texts}
+use Rattle.group_text.specs.FirstTexts.{is_among}
+use Rattle.group_analysis.specs.Using.{kept_after}
 use Rattle.group_rest.specs.Alike.{IsAlike}
 use Rattle.group_rest.specs.Rest.{Rests}
 use Rattle.group_rest.proofs.AlikeGroups.{alike_groups_have_one_text, alike_groups_rest_alike}
-use Rattle.analysis_cache.proofs.NewTextLemmas.{is_among-kept}
-use Rattle.kept_parts.proofs.NumberLemmas.{among_at, or_true}
+use Rattle.analysis_cache.proofs.UseLemmas.{each_present}
 use Rattle.unit_step.specs.declared.part.HeldPart.{HeldPart}
 use Rattle.unit_step.specs.Parts.{Stands}
 use Rattle.unit_step.specs.Machines.{MachineData, groups_in}
@@ -86,16 +86,16 @@ made_at f (first ∷ xs) (suc i) x at = made_at f xs i x at
 
 -- after a build all texts are kept
 pub built_texts_are_kept : BuiltTextsAreKept
-built_texts_are_kept g old new before after m fits builds k part stands coded group is_part =
-    let texts = builds.news.texts in
-    let has = builds.news.has in
+built_texts_are_kept g bound old new before after count m fits builds k part stands coded group is_part =
+    let present = builds.present in
+    let has = builds.has in
     let text = text_of_group g group in
     let (i, inside, at) = group_there g has.groups has.are group is_part.is_group in
-    let there : slice_get texts i ≡ Some text =
+    let there : slice_get present i ≡ Some text =
     ap (λ list. slice_get list i) has.texts_are ∙ made_at (text_of_group g) has.groups i group at in
-    let among : (is_among old text || is_among texts text) ≡ true = or_true (is_among old text) (is_among texts text) (among_at texts i text there) in
-    let grown : new ≡ old ++ new_texts old texts = builds.kept ∙ ap (λ fresh. old ++ fresh) builds.news.fresh_are in
-    ap (λ list. is_among list text) grown ∙ (is_among-kept old texts text ∙ among)
+    let kept = each_present bound present old i text (slice_get_within present i text there) in
+    ap (λ list. is_among list text) builds.kept
+    ∙ subst (λ one. is_among (kept_after bound present old) one ≡ true) (get_or_from_slice_get present i text text there) kept
 
 -- an edit touches a group or doesn't
 touched_or_not : (b : Bool) → (b ≡ true) ⊎ (b ≡ false)

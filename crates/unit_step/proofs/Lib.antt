@@ -31,3 +31,12 @@ pub mod RenewingLemmas
 pub mod CountingLemmas
 pub mod TouchedLemmas
 pub mod CoveringLemmas
+pub mod LastingEdits
+pub mod LastingLemmas
+pub mod LastingOrder
+pub mod LeavingOrder
+pub mod UsedInTurn
+pub mod LastingGroups
+pub mod DraftLemmas
+pub mod LastingRoused
+pub mod FinishingOrder

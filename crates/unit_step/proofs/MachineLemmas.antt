@@ -91,6 +91,7 @@ Places-marked node value old waiting lists owners numbers held most room machine
   parts = refl;
   uses = refl;
   texts = refl;
+  last = refl;
   moves = refl;
   spare = refl;
 }

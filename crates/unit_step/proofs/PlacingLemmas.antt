@@ -84,7 +84,7 @@ module _ (g : GraphData) (wired : IsWired g) (node : ℕ) (value : Tern) (old ne
 -- a machine covers the graph again
 pub placing_keeps_cover : PlacingKeepsCover
 placing_keeps_cover g node value old new wired covers places =
-    subst (Covers g) (same_machine old new places.groups places.parts places.uses places.texts places.spare)
+    subst (Covers g) (same_machine old new places.groups places.parts places.uses places.texts places.last places.spare)
     (covers_again g wired node value old new covers places new.moves new.placed)
 
 -- and fits it
@@ -99,4 +99,4 @@ placing_keeps_fit g node value old new wired no_rail fits places =
       sound = record { gnd = gnd_stays ∙ fits.sound.gnd; vdd = vdd_stays ∙ fits.sound.vdd };
       texts = fits.texts;
     } in
-    subst (FitsGraph g) (same_machine old new places.groups places.parts places.uses places.texts places.spare) again
+    subst (FitsGraph g) (same_machine old new places.groups places.parts places.uses places.texts places.last places.spare) again

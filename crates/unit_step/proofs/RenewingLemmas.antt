@@ -203,6 +203,7 @@ module _ (g : GraphData) (groups : List Group) (are : AreGroups g groups) where
     tidy = λ tidy. tidy;
     groups = refl;
     state = refl;
+    last = refl;
     moves = refl;
     placed = refl;
     spare = refl;
@@ -250,6 +251,7 @@ module _ (g : GraphData) (groups : List Group) (are : AreGroups g groups) where
       tidy = first.tidy;
       groups = first.groups;
       state = first.state;
+      last = first.last;
       moves = first.moves;
       placed = first.placed;
       spare = first.spare;
@@ -306,6 +308,7 @@ module _ (g : GraphData) (groups : List Group) (are : AreGroups g groups) where
         tidy = λ tidy. then.tidy (first.tidy tidy);
         groups = then.groups ∙ first.groups;
         state = then.state ∙ first.state;
+        last = then.last ∙ first.last;
         moves = then.moves ∙ first.moves;
         placed = then.placed ∙ first.placed;
         spare = then.spare ∙ first.spare;

@@ -27,6 +27,7 @@ pub record AdvancesInColumn (joining : Bool) (old new : MachineData) : Type 0 wh
   pub parts : new.parts ≡ old.parts
   pub uses : new.uses ≡ old.uses
   pub texts : new.texts ≡ old.texts
+  pub last : new.last ≡ old.last
   pub spare : new.spare ≡ old.spare
 
 -- such a step of a machine that fits a graph is the graph's unit step, and the machine fits the graph afterwards

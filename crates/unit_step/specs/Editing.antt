@@ -11,6 +11,7 @@ use Rattle.unit_step.specs.declared.part.HeldPart.{HeldPart}
 use Rattle.unit_step.specs.Parts.{Stands}
 use Rattle.unit_step.specs.Machines.{MachineData, IsMarked, groups_in}
 use Rattle.unit_step.specs.Fitting.{IsPartOf, Covers, FitsGraph}
+use Rattle.unit_step.specs.Lasting.{HasLast}
 
 -- these states, and X for each node more
 abbrev pub with_new_nodes : List Tern → ℕ → List Tern
@@ -33,12 +34,26 @@ pub record Edits (g : GraphData) (change : Change) (old new : MachineData) : Typ
       is_touched_in g change old group ≡ false → Stands old.parts k part
   pub marks : (k : ℕ) (part : HeldPart) (group : Group) → Stands new.parts k part → IsPartOf g group part →
       is_touched_in g change old group ≡ false → IsMarked new.marks k ↔ IsMarked old.marks k
+  pub last : new.last ≡ old.last
   pub moves : new.moves ≡ old.moves
   pub placed : new.placed ≡ old.placed
 
--- the stale parts got their codes: the machine fits the graph, and states, marks, and the parts that had code stay
+-- the stale parts got their codes: the machine fits the graph, whose groups' texts are those of the last build from now on, and states,
+-- marks, and the parts that had code stay
 pub record Finishes (g : GraphData) (old new : MachineData) : Type 0 where
   pub fits : FitsGraph g new
+  pub last : HasLast g new.last
+  pub groups : new.groups ≡ old.groups
+  pub parts : (k : ℕ) (part : HeldPart) → Stands old.parts k part → part.code ≢ None → Stands new.parts k part
+  pub marks : new.marks ≡ old.marks
+  pub state : new.state ≡ old.state
+  pub moves : new.moves ≡ old.moves
+  pub placed : new.placed ≡ old.placed
+
+-- the stale parts got their codes, and the texts of the last build are still those from before
+pub record Rouses (g : GraphData) (old new : MachineData) : Type 0 where
+  pub fits : FitsGraph g new
+  pub last : new.last ≡ old.last
   pub groups : new.groups ≡ old.groups
   pub parts : (k : ℕ) (part : HeldPart) → Stands old.parts k part → part.code ≢ None → Stands new.parts k part
   pub marks : new.marks ≡ old.marks

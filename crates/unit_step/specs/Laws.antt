@@ -1,6 +1,6 @@
 -- Laws of a machine's steps, each proved as the contract of a function in `src/laws.rt`.
 -- After Bryant, Beatty, Brace, Cho and Sheffler, "COSMOS: A Compiled Simulator for MOS Circuits", 1987.
-use Rattle.std.specs.Prelude.{ℕ, ◌≤◌, Bool, true, false, List, [], ◌∷◌, ◌++◌, None}
+use Rattle.std.specs.Prelude.{ℕ, ◌≤◌, Bool, true, false, List, [], ◌∷◌, ◌++◌, Option, None}
 use Rattle.ternary.specs.declared.tern.Tern.{Tern}
 use Rattle.path_meaning.specs.declared.TheConstants.{RAILS}
 use Rattle.path_meaning.specs.Graphs.{GraphData, IsWired}
@@ -63,8 +63,8 @@ EmptyPlacesKeepTexts =
 -- where a machine fits a graph whose build was done, all texts of its parts are kept
 abbrev pub BuiltTextsAreKept : Type 0
 BuiltTextsAreKept =
-    (g : GraphData) (old new before after : List GroupTextData) (m : MachineData) → FitsGraph g m → Builds g old new before after →
-    IsKeptBy g new m
+    (g : GraphData) (bound : Option ℕ) (old new before after : List GroupTextData) (count : ℕ) (m : MachineData) → FitsGraph g m →
+    Builds g bound old new before after count → IsKeptBy g new m
 
 -- and they are after more texts were kept
 abbrev pub MoreTextsAreKept : Type 0

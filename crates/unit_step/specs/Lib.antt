@@ -12,5 +12,7 @@ pub mod Running
 pub mod Making
 pub mod Planning
 pub mod Finishing
+pub mod Lasting
 pub mod Dense
 pub mod Seating
+pub mod Drafting

@@ -7,8 +7,8 @@ use Rattle.group_text.specs.Texts.{GroupTextData}
 use Rattle.unit_step.specs.declared.part.HeldPart.{HeldPart}
 
 -- the groups that the machine has, if it was built for a graph; its parts, the text of each that has a group and code, and whether each
--- is marked; the state of each node; the number of distinct texts; how often a step changed the state, and how often a member was placed
--- from outside; and for how many nodes more there is room
+-- is marked; the state of each node; the number of distinct texts; the texts of the groups at the last build, in order; how often a step
+-- changed the state, and how often a member was placed from outside; and for how many nodes more there is room
 pub record MachineData : Type 0 where
   pub groups : Option GroupsData
   pub parts : List HeldPart
@@ -16,6 +16,7 @@ pub record MachineData : Type 0 where
   pub marks : List Bool
   pub state : List Tern
   pub texts : ℕ
+  pub last : List GroupTextData
   pub moves : ℕ
   pub placed : ℕ
   pub spare : ℕ

@@ -23,15 +23,17 @@ ShareNone parts = (node k j l i : ℕ) → straight.IsMemberAt parts node k j �
 abbrev pub held : Part × Vec ℕ Global → HeldPart
 held (part, reads) = record { code = Some part.code; map = part.map; members = part.members; reads = reads }
 
--- a machine that starts in this state with these parts, all of them marked, and these texts: it was neither moved nor placed
-abbrev pub started : Option GroupsData → List HeldPart → List Tern → List (Option GroupTextData) → ℕ → MachineData
-started groups parts state uses spare = record {
+-- a machine that starts in this state with these parts, all of them marked, and these texts, and these at the last build: it was
+-- neither moved nor placed
+abbrev pub started : Option GroupsData → List HeldPart → List Tern → List (Option GroupTextData) → List GroupTextData → ℕ → MachineData
+started groups parts state uses last spare = record {
   groups = groups;
   parts = parts;
   uses = uses;
   marks = replicate (length parts) true;
   state = state;
   texts = count_distinct uses;
+  last = last;
   moves = 0;
   placed = 0;
   spare = spare;

@@ -45,6 +45,7 @@ pub record Vacates (k : ℕ) (old new : MachineData) : Type 0 where
   pub marks : new.marks ≡ old.marks
   pub groups : new.groups ≡ old.groups
   pub state : new.state ≡ old.state
+  pub last : new.last ≡ old.last
   pub moves : new.moves ≡ old.moves
   pub placed : new.placed ≡ old.placed
   pub spare : new.spare ≡ old.spare
@@ -59,6 +60,7 @@ pub record Seats (members : List ℕ) (old new : MachineData) : Type 0 where
   pub marks : new.marks ≡ old.marks ++ true ∷ []
   pub groups : new.groups ≡ old.groups
   pub state : new.state ≡ old.state
+  pub last : new.last ≡ old.last
   pub moves : new.moves ≡ old.moves
   pub placed : new.placed ≡ old.placed
   pub spare : new.spare ≡ old.spare
@@ -74,6 +76,7 @@ pub record Clears (nodes : List ℕ) (old new : MachineData) : Type 0 where
   pub marks : new.marks ≡ old.marks
   pub groups : new.groups ≡ old.groups
   pub state : new.state ≡ old.state
+  pub last : new.last ≡ old.last
   pub moves : new.moves ≡ old.moves
   pub placed : new.placed ≡ old.placed
   pub spare : new.spare ≡ old.spare
@@ -94,6 +97,7 @@ pub record Renews (members : List ℕ) (old new : MachineData) : Type 0 where
   pub tidy : IsTidy old → IsTidy new
   pub groups : new.groups ≡ old.groups
   pub state : new.state ≡ old.state
+  pub last : new.last ≡ old.last
   pub moves : new.moves ≡ old.moves
   pub placed : new.placed ≡ old.placed
   pub spare : new.spare ≡ old.spare
@@ -150,6 +154,7 @@ pub record RenewsAll (all : List Group) (nodes : List ℕ) (old new : MachineDat
   pub tidy : IsTidy old → IsTidy new
   pub groups : new.groups ≡ old.groups
   pub state : new.state ≡ old.state
+  pub last : new.last ≡ old.last
   pub moves : new.moves ≡ old.moves
   pub placed : new.placed ≡ old.placed
   pub spare : new.spare ≡ old.spare

@@ -64,6 +64,7 @@ pub record Advances (joining : Bool) (old new : MachineData) : Type 0 where
   pub parts : new.parts ≡ old.parts
   pub uses : new.uses ≡ old.uses
   pub texts : new.texts ≡ old.texts
+  pub last : new.last ≡ old.last
   pub placed : new.placed ≡ old.placed
   pub spare : new.spare ≡ old.spare
 
@@ -82,5 +83,6 @@ pub record Places (node : ℕ) (value : Tern) (old new : MachineData) : Type 0 w
   pub parts : new.parts ≡ old.parts
   pub uses : new.uses ≡ old.uses
   pub texts : new.texts ≡ old.texts
+  pub last : new.last ≡ old.last
   pub moves : new.moves ≡ old.moves
   pub spare : new.spare ≡ old.spare

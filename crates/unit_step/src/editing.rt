@@ -11,7 +11,6 @@ ghost use Rattle.unit_step.specs.Seating.{AreOfSome, IsWithAny, RenewsAll, Renew
 ghost use Rattle.unit_step.specs.Fitting.{Covers};
 ghost use Rattle.unit_step.specs.Editing.{with_new_nodes, Edits};
 
-use crate::growing::grow;
 use crate::machine::Machine;
 use crate::seating::owner_of;
 use channel_groups::{Change, Group, Groups, nodes_after, nodes_before};
@@ -19,16 +18,16 @@ use path_meaning::{Graph, graphs_are_wired};
 use std::alloc::{AllocError, Global};
 use std::mem;
 use std::sync::ledger::Ledger;
-use ternary::{NoMemory, Steps, Tern};
+use ternary::{NoMemory, Steps};
 
 /// The most nodes that one edit makes: the gate, the source and the drain of a transistor.
 pub const NEW_NODES: usize = 3;
 
-/// There was want of memory in an edit: the machine is gone, and its states are handed back, with X for
-/// each new node.
+/// There was want of memory in an edit: the machine can't go on. Its states are those from before, but that
+/// some new nodes may be X already, with room for them all, and it knows the texts of its last build.
 #[derive(Drop)]
 pub struct EditRefused {
-    pub state: Vec<Tern>,
+    pub machine: Machine,
 }
 
 impl Machine {
@@ -51,7 +50,7 @@ impl Machine {
     /// `finish`. Every other group keeps its part, with its code and its mark. New nodes are X, all other
     /// nodes stay. The work is that of `regroup`, and of the members and the reads of the touched groups: the
     /// bound on `regroup`'s steps holds whatever the answer, `found` being the groups of the graph. At want of
-    /// memory the states are handed back.
+    /// memory the machine is handed back for its states.
     pub fn edit<L: Ledger>(
         self,
         graph: &Graph,
@@ -62,18 +61,16 @@ impl Machine {
         requires wired { IsWired (undo graph.now change.now) }
         requires room { nodes graph.now ≤ length self.state + self.spare }
         ensures edits { IfOk result (Edits graph.now change.now self) }
-        ensures refused { IfErr result (λ refused. refused.state.items ≡ with_new_nodes self.state (nodes graph.now)) }
+        ensures refused { IfErr result (λ refused. with_new_nodes refused.machine.state (nodes graph.now) ≡ with_new_nodes self.state (nodes graph.now)) }
+        ensures room { IfErr result (λ refused. nodes graph.now ≤ length refused.machine.state + refused.machine.spare) }
+        ensures last { IfErr result (λ refused. refused.machine.last ≡ self.last) }
         ensures ticks { (found : List Group) → AreGroups graph.now found →
             steps.new ≤ steps.old + 8 * touched_size graph.now change.now (groups_in self.groups) found }
     {
         let mut machine = self;
         match machine.follow(graph, change, steps) {
             Ok(()) => Ok(machine),
-            Err(NoMemory) => {
-                let mut state = machine.state;
-                grow(&mut state, graph.nodes());
-                Err(EditRefused { state })
-            }
+            Err(NoMemory) => Err(EditRefused { machine }),
         }
     }
 
@@ -90,6 +87,7 @@ impl Machine {
         ensures ok { OnOk result (Edits graph.now change.now self.old self.new) }
         ensures state { with_new_nodes self.new.state (nodes graph.now) ≡ with_new_nodes self.old.state (nodes graph.now) }
         ensures room { nodes graph.now ≤ length self.new.state + self.new.spare }
+        ensures last { self.new.last ≡ self.old.last }
         ensures ticks { (found : List Group) → AreGroups graph.now found →
             steps.new ≤ steps.old + 8 * touched_size graph.now change.now (groups_in self.old.groups) found }
     {
@@ -103,7 +101,7 @@ impl Machine {
         let mut nodes = members_with(alloc, &groups, before, &nodes_before(alloc, change)?)?;
         groups.regroup(graph, change, steps)?;
         nodes.extend_from_slice(&nodes_after(alloc, graph, change)?)?;
-        self.vacate_all(&nodes);
+        self.vacate_all(&nodes)?;
         self.renew_all(graph, &groups, &nodes)?;
         self.stale_parts_are_marked();
         self.groups = Some(groups);
@@ -118,6 +116,7 @@ impl Machine {
         ensures ok { OnOk result (RenewsAll groups.now.groups these.now self.old self.new) }
         ensures state { self.new.state ≡ self.old.state }
         ensures spare { self.new.spare ≡ self.old.spare }
+        ensures last { self.new.last ≡ self.old.last }
     {
         for node in these {
             self.renew_at(graph, groups, *node)?;
@@ -140,6 +139,7 @@ impl Machine {
         ensures ok { OnOk result (RenewsAt groups.now.groups node self.old self.new) }
         ensures state { self.new.state ≡ self.old.state }
         ensures spare { self.new.spare ≡ self.old.spare }
+        ensures last { self.new.last ≡ self.old.last }
     {
         if node >= graph.nodes() {
             return Ok(());

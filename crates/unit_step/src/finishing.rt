@@ -1,12 +1,17 @@
 //! The codes of the parts that an edit made stale.
-ghost use Rattle.std.specs.Prelude.{◌≡◌, ◌⊎◌, All, IsTrue, Err, IfOk, IfErr, OnOk, OnErr};
+ghost use Rattle.std.specs.Prelude.{◌≡◌, ℕ, ◌⊎◌, None, All, IsTrue, Err, IfOk, IfErr, OnOk, OnErr, slice_index_or};
 ghost use Rattle.path_meaning.specs.Rails.{IsRailed, IsSound};
 ghost use Rattle.group_text.specs.FirstTexts.{is_among};
 ghost use Rattle.analysis_cache.specs.Keeping.{texts_of, IsGrown};
 ghost use Rattle.circuit_texts.specs.Sizes.{TellsTooLarge};
-ghost use Rattle.circuit_texts.specs.Building.{Builds, IsCutOff};
+ghost use Rattle.circuit_texts.specs.Building.{Builds, Fills, IsCutOff};
+ghost use Rattle.group_analysis.specs.Using.{used_texts};
+ghost use Rattle.kept_parts.specs.Uses.{some_texts};
+ghost use Rattle.unit_step.specs.declared.part.HeldPart.{HeldPart};
+ghost use Rattle.unit_step.specs.Parts.{Stands};
 ghost use Rattle.unit_step.specs.Fitting.{Covers, IsKeptBy};
-ghost use Rattle.unit_step.specs.Editing.{Finishes};
+ghost use Rattle.unit_step.specs.Editing.{Finishes, Rouses};
+ghost use Rattle.unit_step.specs.Lasting.{AreInOrder, IsLeft};
 ghost use Rattle.unit_step.specs.Finishing.{IsWaking};
 
 use crate::machine::Machine;
@@ -20,24 +25,58 @@ use path_meaning::{Graph, graphs_are_wired};
 use ternary::NoMemory;
 
 impl Machine {
-    /// Gives the stale parts their codes, so that the machine fits the graph that it covers.
+    /// Gives the stale parts their codes, so that the machine fits the graph that it covers. The answer is how
+    /// many texts were new.
     ///
     /// Code comes from what is kept; texts that aren't kept are analysed first, each once, in the order of
     /// the groups, and kept. With the texts of the other parts, which are kept, that is what a build of the
-    /// graph analyses. States, marks, and the parts that had code stay. The refusals are those of `build`;
-    /// after them the machine is as before.
+    /// graph analyses. Then the texts that were there at the last build, and are gone, are in front of what is
+    /// kept, in order, and what is past its bound is cut: so with the present texts in front it is what a build
+    /// keeps. States, marks, and the parts that had code stay. The refusals are those of `build`; after them
+    /// the machine is as before, and nothing was moved or cut.
     pub fn finish<A: Analyst>(
         &mut self,
         graph: &Graph,
         kept: &mut Kept,
         analyst: &mut A,
-    ) -> Result<(), BuildFault>
+    ) -> Result<u64, BuildFault>
         requires covers { Covers graph.now self.old }
         requires railed { IsRailed graph.now }
         requires sound { IsSound self.old.state }
         requires known { IsKeptBy graph.now (texts_of kept.old) self.old }
+        requires last { All (λ text. IsTrue (is_among (texts_of kept.old) text)) self.old.last }
         ensures finishes { OnOk result (Finishes graph.now self.old self.new) }
-        ensures builds { OnOk result (Builds graph.now (texts_of kept.old) (texts_of kept.new) (A.analysed analyst.old) (A.analysed analyst.new)) }
+        ensures builds { IfOk result (Builds graph.now kept.old.bound (used_texts self.old.last (texts_of kept.old)) (used_texts self.new.last (texts_of kept.new))
+            (A.analysed analyst.old) (A.analysed analyst.new)) }
+        ensures there { OnOk result (All (λ text. IsTrue (is_among (texts_of kept.new) text)) self.new.last) }
+        ensures bound { kept.new.bound ≡ kept.old.bound }
+        ensures cut_off { result ≡ Err BuildFault.NoMemory → IsCutOff graph.now (used_texts self.old.last (texts_of kept.old)) (used_texts self.old.last (texts_of kept.new))
+            (A.analysed analyst.old) (A.analysed analyst.new) }
+        ensures refused { IfErr result (λ fault. (fault ≡ BuildFault.NoMemory)
+            ⊎ (TellsTooLarge graph.now fault × (kept.new ≡ kept.old) × (A.analysed analyst.new ≡ A.analysed analyst.old))) }
+        ensures err { OnErr result (self.new ≡ self.old) }
+        ensures grown { OnErr result (IsGrown kept.old kept.new) }
+    {
+        let fresh = self.wake(graph, kept, analyst)?;
+        self.settle_last(kept, analyst);
+        Ok(fresh)
+    }
+
+    // Gives the stale parts their codes. The texts that aren't kept are analysed first, and kept behind what is
+    // kept; the answer is how many were.
+    fn wake<A: Analyst>(
+        &mut self,
+        graph: &Graph,
+        kept: &mut Kept,
+        analyst: &mut A,
+    ) -> Result<u64, BuildFault>
+        requires covers { Covers graph.now self.old }
+        requires railed { IsRailed graph.now }
+        requires sound { IsSound self.old.state }
+        requires known { IsKeptBy graph.now (texts_of kept.old) self.old }
+        ensures rouses { OnOk result (Rouses graph.now self.old self.new) }
+        ensures fills { IfOk result (Fills graph.now (texts_of kept.old) (texts_of kept.new) (A.analysed analyst.old) (A.analysed analyst.new)) }
+        ensures bound { kept.new.bound ≡ kept.old.bound }
         ensures cut_off { result ≡ Err BuildFault.NoMemory → IsCutOff graph.now (texts_of kept.old) (texts_of kept.new) (A.analysed analyst.old) (A.analysed analyst.new) }
         ensures refused { IfErr result (λ fault. (fault ≡ BuildFault.NoMemory)
             ⊎ (TellsTooLarge graph.now fault × (kept.new ≡ kept.old) × (A.analysed analyst.new ≡ A.analysed analyst.old))) }
@@ -45,11 +84,30 @@ impl Machine {
         ensures grown { IsGrown kept.old kept.new }
     {
         if self.agenda.none_waits() {
-            return Ok(());
+            return Ok(0);
         }
         let waking = self.waking(graph)?;
-        kept.fill(&waking.texts, analyst)?;
-        Ok(self.rouse(graph, waking, kept)?)
+        let fresh = kept.fill(&waking.texts, analyst)?;
+        self.rouse(graph, waking, kept)?;
+        Ok(fresh)
+    }
+
+    // The texts that the parts have now are those of the last build from now on: those that are gone are used,
+    // in order, and what is past the bound is cut, but no text that a part has.
+    fn settle_last<A: Analyst>(&mut self, kept: &mut Kept, analyst: &mut A)
+        requires textless { (k : ℕ) (part : HeldPart) → Stands self.old.parts k part → part.members ≡ 0 → slice_index_or self.old.uses k None ≡ None }
+        requires last { All (λ text. IsTrue (is_among (texts_of kept.old) text)) self.old.last }
+        requires used { All (λ text. IsTrue (is_among (texts_of kept.old) text)) (some_texts self.old.uses) }
+        ensures same { self.new ≡ record self.old { last = self.new.last } }
+        ensures order { AreInOrder self.new.parts self.new.uses self.new.last }
+        ensures left { IsLeft kept.old.bound self.old.last (texts_of kept.old) self.new.last (texts_of kept.new) }
+        ensures there { All (λ text. IsTrue (is_among (texts_of kept.new) text)) self.new.last }
+        ensures bound { kept.new.bound ≡ kept.old.bound }
+        ensures analysed { A.analysed analyst.new ≡ A.analysed analyst.old }
+    {
+        self.lasting.use_leavers(&self.parts, &self.uses, kept);
+        self.uses.cut_past_bound(kept, analyst);
+        self.lasting.renew(&self.parts, &self.uses, &self.owners);
     }
 
     // What is found of the groups whose parts wait.
@@ -81,7 +139,7 @@ impl Machine {
         requires sound { IsSound self.old.state }
         requires waking { IsWaking graph.now self.old.parts waking }
         requires kept { All (λ text. IsTrue (is_among (texts_of kept.now) text)) waking.texts.items }
-        ensures finishes { OnOk result (Finishes graph.now self.old self.new) }
+        ensures rouses { OnOk result (Rouses graph.now self.old self.new) }
         ensures err { OnErr result (self.new ≡ self.old) }
     {
         graphs_are_wired(graph);
@@ -99,6 +157,7 @@ impl Machine {
         let numbers = numbers_of(alloc, &texts, &mut self.uses)?;
         widen_for_codes(&mut self.desk, needs.values, needs.outs)?;
         let seats = self.dense.seats_for(alloc, &fresh)?;
+        self.lasting.note_all(&slots, &self.parts)?;
         self.readers.list_all(&slots, &fresh, &self.parts)?;
         put_texts(&slots, &numbers, &mut self.uses);
         self.dense.put_all(&slots, seats);

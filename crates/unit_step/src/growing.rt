@@ -15,9 +15,11 @@ impl Machine {
     {
         let more = nodes.saturating_sub(self.state.len());
         self.owners.reserve(more)?;
+        self.lasting.numbers.reserve(more)?;
         self.readers.grow(nodes)?;
         grow(&mut self.state, nodes);
-        grow_owners(&mut self.owners, nodes);
+        grow_none(&mut self.owners, nodes);
+        grow_none(&mut self.lasting.numbers, nodes);
         Ok(())
     }
 }
@@ -33,12 +35,12 @@ pub(crate) fn grow(state: &mut Vec<Tern>, nodes: usize)
     }
 }
 
-// Adds nodes without an owner, up to so many, in room that is there.
-fn grow_owners(owners: &mut Vec<Option<usize>>, nodes: usize)
-    requires { nodes ≤ vec_capacity owners.old }
-    ensures { owners.new.items ≡ owners.old.items ++ replicate (nodes - length owners.old.items) None }
+// Adds nodes for which there is nothing, up to so many, in room that is there.
+fn grow_none(all: &mut Vec<Option<usize>>, nodes: usize)
+    requires { nodes ≤ vec_capacity all.old }
+    ensures { all.new.items ≡ all.old.items ++ replicate (nodes - length all.old.items) None }
 {
-    for _node in owners.len()..nodes {
-        owners.push_reserved(None);
+    for _node in all.len()..nodes {
+        all.push_reserved(None);
     }
 }

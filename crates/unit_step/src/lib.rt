@@ -19,10 +19,12 @@
 mod advance;
 mod agenda;
 mod dense;
+mod drafting;
 mod editing;
 mod evaluation;
 mod finishing;
 mod growing;
+mod lasting;
 mod laws;
 mod machine;
 mod making;

@@ -1,5 +1,5 @@
 //! The machine.
-ghost use Rattle.std.specs.Prelude.{◌≡◌, ◌≢◌, ℕ, ◌+◌, ◌^◌, ◌<◌, ◌≤◌, ◌⊎◌, true, false, length, map, zip, count_by, replicate, option_map, All, None, Some, Err, IsTrue, IfSome, IfNone, IfOk, IfErr, OnOk};
+ghost use Rattle.std.specs.Prelude.{◌≡◌, ◌≢◌, ℕ, List, [], ◌-◌, vec_len, vec_capacity, ◌+◌, ◌^◌, ◌<◌, ◌≤◌, ◌⊎◌, true, false, length, map, zip, count_by, replicate, option_map, All, None, Some, Err, IsTrue, IfSome, IfNone, IfOk, IfErr, OnOk, OnErr};
 ghost use Rattle.std.specs.Bool.{OnTrue, OnFalse};
 ghost use Rattle.ternary.specs.Counts.{raised};
 ghost use Rattle.path_meaning.specs.declared.TheConstants.{RAILS};
@@ -9,14 +9,16 @@ ghost use Rattle.path_meaning.specs.Step.{IsStep};
 ghost use Rattle.oscillation_x.specs.Settling.{IsJoinStep, StaysOrBecomesX};
 ghost use Rattle.straight_code.specs.Parts.{IsPart};
 ghost use Rattle.analysis_cache.specs.Keeping.{texts_of, IsGrown};
+ghost use Rattle.group_text.specs.Texts.{GroupTextData};
 ghost use Rattle.group_text.specs.FirstTexts.{is_among};
-ghost use Rattle.kept_parts.specs.Uses.{texts_used};
-ghost use Rattle.unit_step.specs.Planning.{IsPlan};
+ghost use Rattle.group_analysis.specs.Using.{used_texts};
+ghost use Rattle.unit_step.specs.Lasting.{HasLast};
 ghost use Rattle.circuit_texts.specs.Sizes.{TellsTooLarge};
 ghost use Rattle.circuit_texts.specs.Building.{Builds, IsCutOff};
 ghost use Rattle.unit_step.specs.Parts.{HasMember, ReadsAt, AreApart, has_members};
 ghost use Rattle.unit_step.specs.Columns.{AreSeated};
-ghost use Rattle.unit_step.specs.Making.{ShareNone, held, started, IsFormed};
+ghost use Rattle.unit_step.specs.Making.{ShareNone, held, started};
+ghost use Rattle.unit_step.specs.Drafting.{CanStart, drafted};
 ghost use Rattle.unit_step.specs.Machines.{count_marked, marked_sum, instructions_of};
 ghost use Rattle.unit_step.specs.Stepping.{Advances, Places};
 ghost use Rattle.unit_step.specs.Marking.{MarksAll};
@@ -25,15 +27,17 @@ ghost use Rattle.unit_step.specs.Fitting.{Covers, FitsGraph};
 use crate::advance::advance;
 use crate::agenda::{Agenda, mark_all};
 use crate::dense::DenseParts;
+use crate::drafting::Draft;
 use crate::evaluation::Desk;
-use crate::making::{all_owners, count_held, desk_for, held_parts};
+use crate::lasting::Lasting;
+use crate::making::held_parts;
 use crate::part::HeldPart;
-use crate::planning::{Plan, plan_of};
+use crate::planning::plan_of;
 use crate::readers::ReaderLists;
 use analysis_cache::{Analyst, Kept};
 use channel_groups::Groups;
 use circuit_texts::BuildFault;
-use kept_parts::{TextUses, parts_by_number};
+use kept_parts::TextUses;
 use oscillation_x::Stepper;
 use path_meaning::{Graph, graphs_are_wired};
 use std::alloc::Global;
@@ -55,6 +59,8 @@ pub struct Machine {
     pub(crate) dense: DenseParts,
     // the text of each part that has a group and code
     pub(crate) uses: TextUses,
+    // the texts of the last build
+    pub(crate) lasting: Lasting,
     // how many parts have a member
     pub(crate) held: usize,
     // at least as many as all parts have members
@@ -76,65 +82,49 @@ impl Model for Machine {
     ghost use Rattle.unit_step.specs.Evaluating.{rooms};
     ghost use Rattle.unit_step.specs.Running.{IsMachine};
     ghost use Rattle.unit_step.specs.Dense.{AreDense};
+    ghost use Rattle.unit_step.specs.Lasting.{AreLasting, texts_lasting};
 
     ghost Value = { MachineData };
 
-    ghost view = { λ m. record { groups = m.groups; parts = m.parts.items; uses = texts_used m.uses; marks = m.agenda.marks; state = m.state.items; texts = count_distinct (texts_used m.uses); moves = m.moves; placed = m.placed; spare = vec_capacity m.state - vec_len m.state } };
+    ghost view = { λ m. record { groups = m.groups; parts = m.parts.items; uses = texts_used m.uses; marks = m.agenda.marks; state = m.state.items; texts = count_distinct (texts_used m.uses); last = texts_lasting m.uses.known m.lasting; moves = m.moves; placed = m.placed; spare = vec_capacity m.state - vec_len m.state } };
 
     ghost invariant = { λ m. IsMachine m.parts.items m.agenda.marks m.agenda.waiting (length m.state.items) m.readers m.owners.items m.uses.numbers m.held m.most (rooms m.desk)
-        × AreDense m.parts.items m.dense };
+        × AreDense m.parts.items m.dense × AreLasting m.parts.items m.uses.numbers (length m.state.items) (length m.uses.known) m.lasting };
 }
 
 impl Machine {
     /// The machine of a graph, in this state: a part for each group, with the code of the group's text.
     ///
     /// Code comes from what is kept; texts that aren't kept are analysed first, each once, in the order
-    /// of the groups, and kept. Every part is marked. Where some group is too large, the first such group
-    /// is told and nothing is analysed. At want of memory nothing was analysed, or a front of what is new.
+    /// of the groups, and kept; the count is their number. All texts of the groups are in front of what is kept
+    /// then, and what is past its bound is cut. Every part is marked. Where some group is too large, the first
+    /// such group is told and nothing is analysed. At want of memory nothing was analysed, or a front of what
+    /// is new, and nothing is moved or cut.
     pub fn build<A: Analyst>(
         alloc: Global,
         graph: &Graph,
         state: &[Tern],
         kept: &mut Kept,
         analyst: &mut A,
-    ) -> Result<Machine, BuildFault>
+    ) -> Result<(Machine, u64), BuildFault>
         requires counted { length state.now ≡ nodes graph.now }
         requires railed { IsRailed graph.now }
         requires sound { IsSound state.now }
-        ensures fits { IfOk result (λ machine. FitsGraph graph.now machine) }
-        ensures fresh { IfOk result (λ machine. (machine.state ≡ state.now) × (machine.moves ≡ 0) × (machine.placed ≡ 0)) }
-        ensures builds { OnOk result (Builds graph.now (texts_of kept.old) (texts_of kept.new) (A.analysed analyst.old) (A.analysed analyst.new)) }
+        ensures fits { IfOk result (λ made. FitsGraph graph.now made.0) }
+        ensures fresh { IfOk result (λ made. (made.0.state ≡ state.now) × (made.0.moves ≡ 0) × (made.0.placed ≡ 0)) }
+        ensures last { IfOk result (λ made. HasLast graph.now made.0.last) }
+        ensures builds { IfOk result (λ made. Builds graph.now kept.old.bound (texts_of kept.old) (texts_of kept.new) (A.analysed analyst.old) (A.analysed analyst.new) made.1) }
+        ensures bound { kept.new.bound ≡ kept.old.bound }
         ensures cut_off { result ≡ Err BuildFault.NoMemory → IsCutOff graph.now (texts_of kept.old) (texts_of kept.new) (A.analysed analyst.old) (A.analysed analyst.new) }
         ensures refused { IfErr result (λ fault. (fault ≡ BuildFault.NoMemory)
             ⊎ (TellsTooLarge graph.now fault × (kept.new ≡ kept.old) × (A.analysed analyst.new ≡ A.analysed analyst.old))) }
-        ensures grown { IsGrown kept.old kept.new }
+        ensures grown { OnErr result (IsGrown kept.old kept.new) }
     {
         let plan = plan_of(alloc, kept.keys(), graph, state)?;
-        kept.fill(plan.uses.known(), analyst)?;
-        Ok(Machine::of_plan(alloc, graph, plan, kept)?)
-    }
-
-    // The machine of a plan whose texts are kept.
-    fn of_plan(alloc: Global, graph: &Graph, plan: Plan, kept: &Kept) -> Result<Machine, NoMemory>
-        requires plan { IsPlan graph.now plan.state.items plan }
-        requires kept { All (λ text. IsTrue (is_among (texts_of kept.now) text)) plan.uses.known }
-        requires counted { length plan.state.items ≡ nodes graph.now }
-        requires railed { IsRailed graph.now }
-        requires sound { IsSound plan.state.items }
-        ensures fits { IfOk result (FitsGraph graph.now) }
-        ensures fresh { IfOk result (λ machine. (machine.state ≡ plan.state.items) × (machine.moves ≡ 0) × (machine.placed ≡ 0)) }
-    {
-        graphs_are_wired(graph);
-        let Plan {
-            groups,
-            uses,
-            maps,
-            reads,
-            state,
-        } = plan;
-        let parts = parts_by_number(alloc, kept, &uses, maps)?;
-        let held = held_parts(alloc, parts, reads)?;
-        Machine::assemble(alloc, Some(groups), held, state, uses)
+        let fresh = kept.fill(plan.uses.known(), analyst)?;
+        let draft = Draft::of_plan(alloc, graph, plan, kept)?;
+        kept.put_first(draft.uses.known(), analyst);
+        Ok((Machine::start(draft), fresh))
     }
 
     /// A machine of these parts, in this state: part k reads the nodes of list k.
@@ -150,43 +140,41 @@ impl Machine {
         requires apart { ShareNone parts.items }
         requires counted { length reads.items ≡ length parts.items }
         requires below { All (λ nodes. All (λ node. node < length state.now) nodes.items) reads.items }
-        ensures { IfOk result (λ machine. machine ≡ started None (map held (zip parts.items reads.items)) state.now (replicate (length parts.items) None) machine.spare) }
+        ensures { IfOk result (λ machine. machine ≡ started None (map held (zip parts.items reads.items)) state.now (replicate (length parts.items) None) [] machine.spare) }
     {
         let held = held_parts(alloc, parts, reads)?;
         let copy = Vec::from_slice(alloc, state)?;
         let uses = TextUses::new(alloc, TableKeys::fixed(), held.len())?;
-        Machine::assemble(alloc, None, held, copy, uses)
+        let draft = Draft::of_parts(alloc, None, held, copy, uses)?;
+        Ok(Machine::start(draft))
     }
 
-    // A machine of these parts, which have code, in this state.
-    fn assemble(
-        alloc: Global,
-        groups: Option<Groups>,
-        parts: Vec<HeldPart>,
-        state: Vec<Tern>,
-        uses: TextUses,
-    ) -> Result<Machine, NoMemory>
-        requires formed { All (IsFormed (length state.items)) parts.items }
-        requires apart { AreApart parts.items }
-        requires reads { All (λ part. All (λ node. node < length state.items) part.reads.items) parts.items }
-        requires numbered { length parts.items ≤ length uses.numbers }
-        ensures { IfOk result (λ machine. machine ≡ started groups parts.items state.items (texts_used uses) machine.spare) }
+    // The machine that starts with what was made for it. It takes no memory.
+    fn start(draft: Draft) -> Machine
+        requires { CanStart draft }
+        ensures { result ≡ drafted draft result.spare }
     {
-        let nodes = state.len();
-        let held = count_held(&parts);
-        let agenda = Agenda::all(alloc, parts.len())?;
-        let readers = ReaderLists::of_parts(alloc, &parts, nodes)?;
-        let owners = all_owners(alloc, &parts, nodes)?;
-        let desk = desk_for(alloc, &parts)?;
-        let most = desk.changes.capacity();
-        let dense = DenseParts::of_parts(alloc, &parts)?;
-        Ok(Machine {
+        let Draft {
             groups,
             parts,
             dense,
             uses,
+            lasting,
             held,
-            most,
+            agenda,
+            readers,
+            owners,
+            state,
+            desk,
+        } = draft;
+        Machine {
+            groups,
+            parts,
+            dense,
+            uses,
+            lasting,
+            held,
+            most: desk.changes.capacity(),
             agenda,
             readers,
             owners,
@@ -194,7 +182,7 @@ impl Machine {
             desk,
             moves: 0,
             placed: 0,
-        })
+        }
     }
 
     /// The state of each node.
@@ -204,9 +192,10 @@ impl Machine {
         &self.state
     }
 
-    /// The state of each node, for what goes on without the machine.
+    /// The state of each node, for what goes on without the machine, with its room for more.
     pub fn into_state(self) -> Vec<Tern>
-        ensures { result.items ≡ self.state }
+        ensures state { result.items ≡ self.state }
+        ensures room { vec_capacity result - vec_len result ≡ self.spare }
     {
         self.state
     }
@@ -248,6 +237,19 @@ impl Machine {
         ensures { result ≡ self.now.texts }
     {
         self.uses.distinct()
+    }
+
+    /// Moves the texts that its groups had at the last build to the front of what is kept, in their order, for
+    /// what goes on without the machine. It takes no memory.
+    ///
+    /// What a build leaves is kept in the order of use, the present texts first. So long as there is a machine,
+    /// only it knows their order.
+    pub fn use_last(&self, kept: &mut Kept)
+        requires { All (λ text. IsTrue (is_among (texts_of kept.old) text)) self.now.last }
+        ensures texts { texts_of kept.new ≡ used_texts self.now.last (texts_of kept.old) }
+        ensures bound { kept.new.bound ≡ kept.old.bound }
+    {
+        self.lasting.use_all(&self.uses, kept);
     }
 
     /// How often a step changed the state. It stays at `u64::MAX` once it is there.
@@ -328,6 +330,10 @@ impl Stepper for Machine {
 
     ghost placed = { λ machine. machine.placed };
 
+    ghost Fixed = { List GroupTextData };
+
+    ghost fixed = { λ machine. machine.last };
+
     fn step<L: Ledger>(&mut self, graph: &Graph, steps: &mut Steps<L>) -> bool
         ensures advances { Advances false self.old self.new }
         ensures ticks { steps.new ≤ steps.old + marked_sum instructions_of self.old.parts self.old.marks }
@@ -340,6 +346,7 @@ impl Stepper for Machine {
         ensures moved { OnTrue result (self.new.moves ≡ raised self.old.moves 1) }
         ensures rested { OnFalse result (self.new.moves ≡ self.old.moves) }
         ensures placed { self.new.placed ≡ self.old.placed }
+        ensures fixed { self.new.last ≡ self.old.last }
     {
         graphs_are_wired(graph);
         self.take(false, steps)
@@ -358,6 +365,7 @@ impl Stepper for Machine {
         ensures moved { OnTrue result (self.new.moves ≡ raised self.old.moves 1) }
         ensures rested { OnFalse result (self.new.moves ≡ self.old.moves) }
         ensures placed { self.new.placed ≡ self.old.placed }
+        ensures fixed { self.new.last ≡ self.old.last }
     {
         graphs_are_wired(graph);
         self.take(true, steps)

@@ -1,6 +1,6 @@
 //! The stale parts get their codes.
 ghost use Rattle.std.specs.Prelude.{◌≡◌, ℕ, ◌<◌, ◌≤◌, ◌==◌, length, map, vec_capacity, filter, not, All, Contains, Some, IfOk, OnOk, OnErr, slice_get};
-ghost use Rattle.kept_parts.specs.Uses.{texts_used};
+ghost use Rattle.kept_parts.specs.Uses.{IsNumbered, texts_used};
 ghost use Rattle.unit_step.specs.Finishing.{Puts};
 
 use crate::part::HeldPart;
@@ -29,7 +29,7 @@ pub(crate) fn numbers_of(
     uses: &mut TextUses,
 ) -> Result<Vec<usize>, NoMemory>
     ensures same { texts_used uses.new ≡ texts_used uses.old }
-    ensures parts { uses.new.numbers ≡ uses.old.numbers }
+    ensures numbered { IsNumbered uses.old uses.new }
     ensures numbers { IfOk result (λ numbers. map (slice_get uses.new.known) numbers.items ≡ map Some texts.now) }
 {
     let mut numbers = Vec::new(alloc);

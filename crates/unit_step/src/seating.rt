@@ -12,10 +12,14 @@ use ternary::NoMemory;
 
 impl Machine {
     // Takes a part's group away: it has no members and no code any more, and reads nothing.
-    pub(crate) fn vacate(&mut self, k: usize)
+    //
+    // The node at which it begins is noted first, for the next build, which can lack memory.
+    pub(crate) fn vacate(&mut self, k: usize) -> Result<(), AllocError>
         requires { k < length self.old.parts }
-        ensures { Vacates k self.old self.new }
+        ensures ok { OnOk result (Vacates k self.old self.new) }
+        ensures err { OnErr result (self.new ≡ self.old) }
     {
+        self.lasting.note(&self.parts[k])?;
         let alloc = *self.state.allocator();
         let gone = mem::replace(&mut self.parts[k], no_part(alloc));
         self.dense.clear(k);
@@ -25,6 +29,7 @@ impl Machine {
         self.uses.free(k);
         self.held -= count_one(&gone);
         self.most -= gone.members;
+        Ok(())
     }
 
     // Seats a part for a group with these members, which are no members of other parts: it is stale and
@@ -38,6 +43,7 @@ impl Machine {
         ensures counted { length self.old.marks ≡ length self.old.parts }
         ensures state { self.new.state ≡ self.old.state }
         ensures spare { self.new.spare ≡ self.old.spare }
+        ensures last { self.new.last ≡ self.old.last }
     {
         let part = part_of(*self.state.allocator(), members)?;
         let Some(most) = self.most.checked_add(members.len()) else {
@@ -57,21 +63,27 @@ impl Machine {
     }
 
     // Takes its group away from the part that has this node as a member, if there is one.
-    fn vacate_owner(&mut self, node: usize)
-        ensures { Clears (node ∷ []) self.old self.new }
+    fn vacate_owner(&mut self, node: usize) -> Result<(), AllocError>
+        ensures ok { OnOk result (Clears (node ∷ []) self.old self.new) }
+        ensures err { OnErr result (self.new ≡ self.old) }
     {
-        if let Some(k) = owner_of(&self.owners, node) {
-            self.vacate(k);
+        match owner_of(&self.owners, node) {
+            Some(k) => self.vacate(k),
+            None => Ok(()),
         }
     }
 
     // Takes their groups away from the parts that have these nodes as members.
-    pub(crate) fn vacate_all(&mut self, nodes: &[usize])
-        ensures { Clears nodes.now self.old self.new }
+    pub(crate) fn vacate_all(&mut self, nodes: &[usize]) -> Result<(), AllocError>
+        ensures ok { OnOk result (Clears nodes.now self.old self.new) }
+        ensures state { self.new.state ≡ self.old.state }
+        ensures spare { self.new.spare ≡ self.old.spare }
+        ensures last { self.new.last ≡ self.old.last }
     {
         for node in nodes {
-            self.vacate_owner(*node);
+            self.vacate_owner(*node)?;
         }
+        Ok(())
     }
 
     // Seats a part for a group with these members, in place of the parts that have them.
@@ -82,8 +94,9 @@ impl Machine {
         ensures ok { OnOk result (Renews members.now self.old self.new) }
         ensures state { self.new.state ≡ self.old.state }
         ensures spare { self.new.spare ≡ self.old.spare }
+        ensures last { self.new.last ≡ self.old.last }
     {
-        self.vacate_all(members);
+        self.vacate_all(members)?;
         self.seat(members)
     }
 }

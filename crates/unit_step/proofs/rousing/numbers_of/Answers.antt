@@ -3,7 +3,7 @@ use Rattle.std.proofs.Common.{◌≡◌, [], ◌∷◌, ◌++◌, true, Some, ma
 use Rattle.std.specs.Prelude.{slice_get}
 use Rattle.std.specs.Result.{is_ok}
 use Rattle.circuit_texts.proofs.PairedLists.{map_pushed}
-use Rattle.unit_step.proofs.FinishingParts.{known_more}
+use Rattle.unit_step.proofs.FinishingParts.{IsNumbered-then, known_more}
 use Rattle.unit_step.proofs.rousing.numbers_of.Goals as goal
 
 pub loop-text-preserved : goal.loop-text-preserved
@@ -18,7 +18,7 @@ loop-text-preserved c =
     (known_more c.loop-text.uses.known numbered.more c.loop-text.numbers.items (take i texts) c.loop-text.invariant.numbers) in
     record {
       same = c.number.ensures.texts ∙ c.loop-text.invariant.same;
-      parts = numbered.numbers ∙ c.loop-text.invariant.parts;
+      numbered = IsNumbered-then c.args.uses.now c.loop-text.uses c.number.new.self c.loop-text.invariant.numbered numbered;
       numbers = rw pushed (map_pushed (slice_get c.number.new.self.known) Some c.loop-text.numbers.items c.in_ok-number.number texts c.text-item.result i
           c.loop-text-test.true c.text-item.is front c.in_ok-number.ensures.number);
     }

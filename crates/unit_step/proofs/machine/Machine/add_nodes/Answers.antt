@@ -1,11 +1,32 @@
 -- The new nodes have no owner and no readers.
-use Rattle.std.proofs.Common.{◌≡◌, ◌+◌, ◌-◌, ◌++◌, ℕ, List, None, Option, length, ap, ◌∙◌, arith}
+use Rattle.std.proofs.Common.{◌≡◌, ◌+◌, ◌-◌, ◌++◌, ℕ, List, None, Option, length, refl, ap, ◌∙◌, arith}
 use Rattle.std.specs.Prelude.{replicate, slice_index_or}
 use Rattle.std.proofs.lemmas.List.{length-append, length-replicate}
 use Rattle.ternary.specs.declared.tern.Tern.TheVariants.{Unk}
 use Rattle.unit_step.specs.Evaluating.{rooms}
 use Rattle.unit_step.proofs.EditingLemmas.{none_more, IsMachine-grown}
+use Rattle.unit_step.proofs.LastingEdits.{AreLasting-same, AreLasting-grown, texts_numbered-grown}
 use Rattle.unit_step.proofs.machine.Machine.add_nodes.Goals as goal
+
+pub invariant_of-self-in_err-reserve-2 : goal.invariant_of-self-in_err-reserve-2
+invariant_of-self-in_err-reserve-2 c =
+    let i = c.self.inside in
+    rw c.reserve.ensures.items (
+      c.self.invariant.0,
+      c.self.invariant.1,
+      AreLasting-same i.parts.items i.uses.numbers (length i.state.items) (length i.uses.known) i.lasting c.self.invariant.2 i.uses.numbers _
+          (λ k. refl) c.reserve-2.ensures.items refl,
+    )
+
+pub invariant_of-self-in_err-grow : goal.invariant_of-self-in_err-grow
+invariant_of-self-in_err-grow c =
+    let i = c.self.inside in
+    rw (c.reserve.ensures.items, c.in_err-grow.ensures.err) (
+      c.self.invariant.0,
+      c.self.invariant.1,
+      AreLasting-same i.parts.items i.uses.numbers (length i.state.items) (length i.uses.known) i.lasting c.self.invariant.2 i.uses.numbers _
+          (λ k. refl) c.reserve-2.ensures.items refl,
+    )
 
 pub invariant_of-self-2 : goal.invariant_of-self-2
 invariant_of-self-2 c =
@@ -17,17 +38,36 @@ invariant_of-self-2 c =
     let states : length c.grow-2.new.state.items ≡ count + (nodes - count) =
     ap length c.grow-2.ensures.state ∙ (length-append i.state.items (replicate (nodes - count) Unk) ∙ ap (λ n. count + n) (length-replicate (nodes - count) Unk)) in
     let before : c.reserve.new.self.items ≡ i.owners.items = c.reserve.ensures.items in
-    let owners_are : c.grow_owners.new.owners.items ≡ i.owners.items ++ replicate (nodes - count) None =
-    c.grow_owners.ensures ∙ ap (λ (list : List (Option ℕ)). list ++ replicate (nodes - length list) None) before
+    let owners_are : c.grow_none.new.all.items ≡ i.owners.items ++ replicate (nodes - count) None =
+    c.grow_none.ensures ∙ ap (λ (list : List (Option ℕ)). list ++ replicate (nodes - length list) None) before
     ∙ ap (λ n. i.owners.items ++ replicate (nodes - n) None) own in
-    let owners_count : length c.grow_owners.new.owners.items ≡ length c.grow-2.new.state.items =
+    let owners_count : length c.grow_none.new.all.items ≡ length c.grow-2.new.state.items =
     ap length owners_are ∙ (length-append i.owners.items (replicate (nodes - count) None)
     ∙ omega (arith, length-replicate {A = Option ℕ} (nodes - count) None, own, states)) in
+    let lasting_are : c.grow_none-2.new.all.items ≡ i.lasting.numbers.items ++ replicate (nodes - count) None =
+    c.grow_none-2.ensures ∙ ap (λ (list : List (Option ℕ)). list ++ replicate (nodes - length list) None) c.reserve-2.ensures.items
+    ∙ ap (λ n. i.lasting.numbers.items ++ replicate (nodes - n) None) c.self.invariant.2.counted in
+    let lasting_count : length c.grow_none-2.new.all.items ≡ length c.grow-2.new.state.items =
+    ap length lasting_are ∙ (length-append i.lasting.numbers.items (replicate (nodes - count) None)
+    ∙ omega (arith, length-replicate {A = Option ℕ} (nodes - count) None, c.self.invariant.2.counted, states)) in
     let lists_count : length c.grow.new.self ≡ length c.grow-2.new.state.items =
     omega (arith, c.in_ok-grow.ensures.count, read, states) in (
       IsMachine-grown i.parts.items i.agenda.marks i.agenda.waiting count (length c.grow-2.new.state.items) i.readers c.grow.new.self
-          i.owners.items c.grow_owners.new.owners.items i.uses.numbers i.held i.most (rooms i.desk) c.self.invariant.0 (omega (arith, states)) lists_count
+          i.owners.items c.grow_none.new.all.items i.uses.numbers i.held i.most (rooms i.desk) c.self.invariant.0 (omega (arith, states)) lists_count
           c.grow.ensures.same owners_count
           (λ node. ap (λ list. slice_index_or list node None) owners_are ∙ none_more i.owners.items (nodes - count) node),
       c.self.invariant.1,
+      AreLasting-grown i.parts.items i.uses.numbers count (length i.uses.known) i.lasting c.self.invariant.2 (length c.grow-2.new.state.items) _
+          (omega (arith, states)) lasting_count
+          (λ node. ap (λ list. slice_index_or list node None) lasting_are ∙ none_more i.lasting.numbers.items (nodes - count) node) refl,
     )
+
+pub returns-clause-ok : goal.returns-clause-ok
+returns-clause-ok c =
+    let i = c.self.inside in
+    let nodes = c.args.nodes in
+    let count = length i.state.items in
+    let lasting_are : c.grow_none-2.new.all.items ≡ i.lasting.numbers.items ++ replicate (nodes - length i.lasting.numbers.items) None =
+    c.grow_none-2.ensures ∙ ap (λ (list : List (Option ℕ)). list ++ replicate (nodes - length list) None) c.reserve-2.ensures.items in
+    rw (← c.self.view_is, c.grow-2.ensures.state)
+    (rw (lasting_are, texts_numbered-grown i.uses.known i.lasting.numbers.items (nodes - length i.lasting.numbers.items)) refl)

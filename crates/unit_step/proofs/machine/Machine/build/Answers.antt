@@ -1,17 +1,21 @@
 -- The new ones of the distinct texts are analysed, which are the new ones of the groups' texts.
-use Rattle.std.proofs.Common.{List, subst}
+use Rattle.std.proofs.Common.{◌≡◌, List, sym, ap, subst, ◌∙◌}
 use Rattle.group_text.specs.Texts.{GroupTextData}
+use Rattle.group_analysis.specs.Using.{kept_after}
 use Rattle.analysis_cache.specs.Keeping.{KeepsSome, texts_of}
 use Rattle.analysis_cache.specs.Adding.{FillsAll}
-use Rattle.unit_step.proofs.FillingLemmas.{IsGrown-same, IsGrown-filled, IsGrown-cut_off, Builds-filled, cut_off_front, cut_off_end}
-use Rattle.unit_step.proofs.BuildLemmas.{planned_texts}
+use Rattle.circuit_texts.specs.Building.{Builds}
+use Rattle.kept_parts.specs.Uses.{UsesData}
+use Rattle.unit_step.specs.Fitting.{FitsGraph}
+use Rattle.unit_step.proofs.FillingLemmas.{on_err, IsGrown-same, IsGrown-filled, IsGrown-cut_off, Builds-first, cut_off_front, cut_off_end}
+use Rattle.unit_step.proofs.BuildLemmas.{HasTexts-planned, planned_texts}
 use Rattle.unit_step.proofs.machine.Machine.build.Goals as goal
 
 pub returns-in_err-plan-clause-grown : goal.returns-in_err-plan-clause-grown
-returns-in_err-plan-clause-grown g c = IsGrown-same c.args.kept.now
+returns-in_err-plan-clause-grown g c = on_err c.from_residual.result (IsGrown-same c.args.kept.now)
 
-pub returns-in_err-fill-clause-cut_off : goal.returns-in_err-fill-clause-cut_off
-returns-in_err-fill-clause-cut_off g c = λ is.
+pub returns-in_err-fresh-clause-cut_off : goal.returns-in_err-fresh-clause-cut_off
+returns-in_err-fresh-clause-cut_off g c = λ is.
     let kept = c.args.kept.now in
     let new = c.fill.new.self in
     let before = g.A.Analyst.analysed c.args.analyst.now in
@@ -21,15 +25,16 @@ returns-in_err-fill-clause-cut_off g c = λ is.
     let plan = c.in_ok-plan.plan in
     let fresh = planned_texts c.args.graph.now c.args.state.now plan c.in_ok-plan.ensures.plan (texts_of kept) in
     cut_off_front c.args.graph.now kept new before after held_before held_after plan.uses.known fresh
-    (subst (λ (list : List GroupTextData). KeepsSome kept new before after held_before held_after list) c.known.ensures c.in_err-fill.ensures.err)
+    (subst (λ (list : List GroupTextData). KeepsSome kept new before after held_before held_after list) c.known.ensures c.in_err-fresh.ensures.err)
 
-pub returns-in_err-fill-clause-grown : goal.returns-in_err-fill-clause-grown
-returns-in_err-fill-clause-grown g c =
-    IsGrown-cut_off c.args.graph.now c.args.kept.now c.fill.new.self (g.A.Analyst.analysed c.args.analyst.now) (g.A.Analyst.analysed c.fill.new.analyst)
-    (g.A.Analyst.held c.args.analyst.now) (g.A.Analyst.held c.fill.new.analyst) c.known.result.now c.in_err-fill.ensures.err
+pub returns-in_err-fresh-clause-grown : goal.returns-in_err-fresh-clause-grown
+returns-in_err-fresh-clause-grown g c =
+    on_err c.from_residual-in_err-fresh.result
+    (IsGrown-cut_off c.args.graph.now c.args.kept.now c.fill.new.self (g.A.Analyst.analysed c.args.analyst.now) (g.A.Analyst.analysed c.fill.new.analyst)
+    (g.A.Analyst.held c.args.analyst.now) (g.A.Analyst.held c.fill.new.analyst) c.known.result.now c.in_err-fresh.ensures.err)
 
-pub returns-in_err-of_plan-clause-cut_off : goal.returns-in_err-of_plan-clause-cut_off
-returns-in_err-of_plan-clause-cut_off g c = λ is.
+pub returns-in_err-draft-clause-cut_off : goal.returns-in_err-draft-clause-cut_off
+returns-in_err-draft-clause-cut_off g c = λ is.
     let kept = c.args.kept.now in
     let new = c.fill.new.self in
     let before = g.A.Analyst.analysed c.args.analyst.now in
@@ -38,28 +43,33 @@ returns-in_err-of_plan-clause-cut_off g c = λ is.
     let held_after = g.A.Analyst.held c.fill.new.analyst in
     let plan = c.in_ok-plan.plan in
     let fresh = planned_texts c.args.graph.now c.args.state.now plan c.in_ok-plan.ensures.plan (texts_of kept) in
-    cut_off_end c.args.graph.now kept new before after held_before held_after plan.uses.known fresh c.in_ok-fill.field-0
-    (subst (λ (list : List GroupTextData). FillsAll kept new before after held_before held_after list c.in_ok-fill.field-0) c.known.ensures c.in_ok-fill.ensures.ok)
+    cut_off_end c.args.graph.now kept new before after held_before held_after plan.uses.known fresh c.in_ok-fresh.fresh
+    (subst (λ (list : List GroupTextData). FillsAll kept new before after held_before held_after list c.in_ok-fresh.fresh) c.known.ensures c.in_ok-fresh.ensures.ok)
 
-pub returns-in_err-of_plan-clause-grown : goal.returns-in_err-of_plan-clause-grown
-returns-in_err-of_plan-clause-grown g c =
-    IsGrown-filled c.args.graph.now c.args.kept.now c.fill.new.self (g.A.Analyst.analysed c.args.analyst.now) (g.A.Analyst.analysed c.fill.new.analyst)
-    (g.A.Analyst.held c.args.analyst.now) (g.A.Analyst.held c.fill.new.analyst) c.known.result.now c.in_ok-fill.field-0 c.in_ok-fill.ensures.ok
+pub returns-in_err-draft-clause-grown : goal.returns-in_err-draft-clause-grown
+returns-in_err-draft-clause-grown g c =
+    on_err c.from_residual-in_err-draft.result
+    (IsGrown-filled c.args.graph.now c.args.kept.now c.fill.new.self (g.A.Analyst.analysed c.args.analyst.now) (g.A.Analyst.analysed c.fill.new.analyst)
+    (g.A.Analyst.held c.args.analyst.now) (g.A.Analyst.held c.fill.new.analyst) c.known.result.now c.in_ok-fresh.fresh c.in_ok-fresh.ensures.ok)
 
 pub returns-clause-builds : goal.returns-clause-builds
 returns-clause-builds g c =
     let kept = c.args.kept.now in
-    let new = c.fill.new.self in
+    let filled = c.fill.new.self in
     let before = g.A.Analyst.analysed c.args.analyst.now in
     let after = g.A.Analyst.analysed c.fill.new.analyst in
     let held_before = g.A.Analyst.held c.args.analyst.now in
     let held_after = g.A.Analyst.held c.fill.new.analyst in
     let plan = c.in_ok-plan.plan in
-    let fresh = planned_texts c.args.graph.now c.args.state.now plan c.in_ok-plan.ensures.plan (texts_of kept) in
-    Builds-filled c.args.graph.now kept new before after held_before held_after plan.uses.known fresh c.in_ok-fill.field-0
-    (subst (λ (list : List GroupTextData). FillsAll kept new before after held_before held_after list c.in_ok-fill.field-0) c.known.ensures c.in_ok-fill.ensures.ok)
+    let planned = c.in_ok-plan.ensures.plan in
+    let known_are : c.known-2.result.now ≡ plan.uses.known = c.known-2.ensures ∙ ap (λ (uses : UsesData). uses.known) c.in_ok-draft.ensures.uses in
+    let fills = subst (λ (list : List GroupTextData). FillsAll kept filled before after held_before held_after list c.in_ok-fresh.fresh) c.known.ensures
+    c.in_ok-fresh.ensures.ok in
+    let first = c.put_first.ensures.texts ∙ ap (λ known. kept_after filled.bound known (texts_of filled)) known_are in
+    let builds = Builds-first c.args.graph.now kept filled before after held_before held_after _ plan.uses.known (texts_of c.put_first.new.self)
+    c.in_ok-fresh.fresh (HasTexts-planned c.args.graph.now c.args.state.now plan planned) planned.known fills first in
+    subst (λ told. Builds c.args.graph.now kept.bound (texts_of kept) (texts_of c.put_first.new.self) before told c.in_ok-fresh.fresh)
+    (sym c.put_first.ensures.analysed) builds
 
-pub returns-clause-grown : goal.returns-clause-grown
-returns-clause-grown g c =
-    IsGrown-filled c.args.graph.now c.args.kept.now c.fill.new.self (g.A.Analyst.analysed c.args.analyst.now) (g.A.Analyst.analysed c.fill.new.analyst)
-    (g.A.Analyst.held c.args.analyst.now) (g.A.Analyst.held c.fill.new.analyst) c.known.result.now c.in_ok-fill.field-0 c.in_ok-fill.ensures.ok
+pub returns-clause-fits : goal.returns-clause-fits
+returns-clause-fits g c = subst (FitsGraph c.args.graph.now) (sym c.start.ensures) (c.in_ok-draft.ensures.fits c.start.result.spare)

@@ -1,92 +1,51 @@
--- Where no part waits, all have code.
-use Rattle.std.proofs.Common.{◌≡◌, List, refl, subst}
-use Rattle.group_text.specs.Texts.{GroupTextData}
-use Rattle.analysis_cache.specs.Keeping.{KeepsSome, texts_of}
-use Rattle.analysis_cache.specs.Adding.{FillsAll}
-use Rattle.unit_step.proofs.FillingLemmas.{IsGrown-same, IsGrown-filled, IsGrown-cut_off, Builds-filled, cut_off_front, cut_off_end}
-use Rattle.unit_step.proofs.FinishingBuilds.{waiting_texts}
-use Rattle.kept_parts.specs.Uses.{count_distinct}
-use Rattle.unit_step.specs.Machines.{MachineData}
-use Rattle.unit_step.proofs.FinishingFits.{AllCoded, none_stale, Finishes-coded, Builds-none}
+-- What is woken fits the graph, and with the texts of the last build in front it leaves what a build leaves.
+use Rattle.std.proofs.Common.{◌≡◌, true, inl, All, sym, subst}
+use Rattle.std.proofs.lemmas.Result.{err_from_is_err_and}
+use Rattle.group_text.specs.FirstTexts.{is_among}
+use Rattle.group_analysis.specs.Using.{used_texts}
+use Rattle.analysis_cache.specs.Keeping.{texts_of}
+use Rattle.circuit_texts.specs.Building.{Builds}
+use Rattle.unit_step.specs.Lasting.{IsLeft}
+use Rattle.unit_step.proofs.FinishingOrder.{IsCutOff-used, last_filled, used_filled, Builds-left, HasLast-settled, Finishes-settled}
 use Rattle.unit_step.proofs.machine.Machine.finish.Goals as goal
 
-pub returns-then-none_waits-clause-finishes : goal.returns-then-none_waits-clause-finishes
-returns-then-none_waits-clause-finishes g c =
-    let none = rw c.if-none_waits.true at c.none_waits.ensures in
-    let coded : AllCoded c.args.self.now = subst AllCoded c.self.view_is (none_stale _ _ _ _ _ _ c.self.invariant.0.runs none) in
-    let counts : c.args.self.now.texts ≡ count_distinct c.args.self.now.uses =
-    subst (λ (m : MachineData). m.texts ≡ count_distinct m.uses) c.self.view_is refl in
-    Finishes-coded c.args.graph.now c.args.self.now c.requires.covers coded counts c.requires.railed c.requires.sound
+pub returns-in_err-fresh-clause-cut_off : goal.returns-in_err-fresh-clause-cut_off
+returns-in_err-fresh-clause-cut_off g c = λ is.
+    let p = err_from_is_err_and c.from_residual.result c.from_residual.ensures.1 in
+    IsCutOff-used c.args.graph.now c.args.self.now.last (texts_of c.args.kept.now) c.requires.last (texts_of c.wake.new.kept)
+    (g.A.Analyst.analysed c.args.analyst.now) (g.A.Analyst.analysed c.wake.new.analyst) (c.in_err-fresh.ensures.cut_off (cc (p.1, p.2, is)))
 
-pub returns-then-none_waits-clause-builds : goal.returns-then-none_waits-clause-builds
-returns-then-none_waits-clause-builds g c =
-    let none = rw c.if-none_waits.true at c.none_waits.ensures in
-    let coded : AllCoded c.args.self.now = subst AllCoded c.self.view_is (none_stale _ _ _ _ _ _ c.self.invariant.0.runs none) in
-    Builds-none c.args.graph.now c.args.self.now c.requires.covers coded (texts_of c.args.kept.now) (g.A.Analyst.analysed c.args.analyst.now)
-    c.requires.known
+pub settle_last-requires-clause-textless : goal.settle_last-requires-clause-textless
+settle_last-requires-clause-textless g c = λ k part stands none. c.in_ok-fresh.ensures.rouses.fits.covers.textless k part stands (inl none)
 
-pub returns-then-none_waits-clause-grown : goal.returns-then-none_waits-clause-grown
-returns-then-none_waits-clause-grown g c = IsGrown-same c.args.kept.now
+pub settle_last-requires-clause-last : goal.settle_last-requires-clause-last
+settle_last-requires-clause-last g c =
+    subst (All (λ text. is_among (texts_of c.wake.new.kept) text ≡ true)) (sym c.in_ok-fresh.ensures.rouses.last)
+    (last_filled c.args.graph.now c.args.self.now.last (texts_of c.args.kept.now) c.requires.last (texts_of c.wake.new.kept)
+    (g.A.Analyst.analysed c.args.analyst.now) (g.A.Analyst.analysed c.wake.new.analyst) c.in_ok-fresh.fresh c.in_ok-fresh.ensures.fills)
 
-pub returns-in_err-waking-clause-grown : goal.returns-in_err-waking-clause-grown
-returns-in_err-waking-clause-grown g c = IsGrown-same c.args.kept.now
+pub settle_last-requires-clause-used : goal.settle_last-requires-clause-used
+settle_last-requires-clause-used g c =
+    used_filled c.args.graph.now c.args.self.now.last (texts_of c.args.kept.now) c.requires.last (texts_of c.wake.new.kept)
+    (g.A.Analyst.analysed c.args.analyst.now) (g.A.Analyst.analysed c.wake.new.analyst) c.in_ok-fresh.fresh c.in_ok-fresh.ensures.fills
+    c.wake.new.self c.in_ok-fresh.ensures.rouses.fits
 
-pub returns-in_err-fill-clause-cut_off : goal.returns-in_err-fill-clause-cut_off
-returns-in_err-fill-clause-cut_off g c = λ is.
-    let kept = c.args.kept.now in
-    let new = c.fill.new.self in
-    let before = g.A.Analyst.analysed c.args.analyst.now in
-    let after = g.A.Analyst.analysed c.fill.new.analyst in
-    let held_before = g.A.Analyst.held c.args.analyst.now in
-    let held_after = g.A.Analyst.held c.fill.new.analyst in
-    let waking = c.in_ok-waking.ensures.waking in
-    let texts = c.in_ok-waking.waking.texts.items in
-    let fresh = waiting_texts c.args.graph.now c.args.self.now c.requires.covers waking.groups waking.some c.in_ok-waking.waking.slots.items waking.are
-    waking.waiting waking.fit (texts_of kept) c.requires.known texts waking.texts in
-    cut_off_front c.args.graph.now kept new before after held_before held_after texts fresh
-    (subst (λ (list : List GroupTextData). KeepsSome kept new before after held_before held_after list) c.deref.ensures.value c.in_err-fill.ensures.err)
-
-pub returns-in_err-fill-clause-grown : goal.returns-in_err-fill-clause-grown
-returns-in_err-fill-clause-grown g c =
-    IsGrown-cut_off c.args.graph.now c.args.kept.now c.fill.new.self (g.A.Analyst.analysed c.args.analyst.now) (g.A.Analyst.analysed c.fill.new.analyst)
-    (g.A.Analyst.held c.args.analyst.now) (g.A.Analyst.held c.fill.new.analyst) c.deref.result.now c.in_err-fill.ensures.err
-
-pub returns-in_err-rouse-clause-cut_off : goal.returns-in_err-rouse-clause-cut_off
-returns-in_err-rouse-clause-cut_off g c = λ is.
-    let kept = c.args.kept.now in
-    let new = c.fill.new.self in
-    let before = g.A.Analyst.analysed c.args.analyst.now in
-    let after = g.A.Analyst.analysed c.fill.new.analyst in
-    let held_before = g.A.Analyst.held c.args.analyst.now in
-    let held_after = g.A.Analyst.held c.fill.new.analyst in
-    let waking = c.in_ok-waking.ensures.waking in
-    let texts = c.in_ok-waking.waking.texts.items in
-    let fresh = waiting_texts c.args.graph.now c.args.self.now c.requires.covers waking.groups waking.some c.in_ok-waking.waking.slots.items waking.are
-    waking.waiting waking.fit (texts_of kept) c.requires.known texts waking.texts in
-    cut_off_end c.args.graph.now kept new before after held_before held_after texts fresh c.in_ok-fill.field-0
-    (subst (λ (list : List GroupTextData). FillsAll kept new before after held_before held_after list c.in_ok-fill.field-0) c.deref.ensures.value c.in_ok-fill.ensures.ok)
-
-pub returns-in_err-rouse-clause-grown : goal.returns-in_err-rouse-clause-grown
-returns-in_err-rouse-clause-grown g c =
-    IsGrown-filled c.args.graph.now c.args.kept.now c.fill.new.self (g.A.Analyst.analysed c.args.analyst.now) (g.A.Analyst.analysed c.fill.new.analyst)
-    (g.A.Analyst.held c.args.analyst.now) (g.A.Analyst.held c.fill.new.analyst) c.deref.result.now c.in_ok-fill.field-0 c.in_ok-fill.ensures.ok
+pub returns-clause-finishes : goal.returns-clause-finishes
+returns-clause-finishes g c =
+    Finishes-settled c.args.graph.now c.args.self.now c.wake.new.self c.settle_last.new.self c.in_ok-fresh.ensures.rouses c.settle_last.ensures.same
+    c.settle_last.ensures.order
 
 pub returns-clause-builds : goal.returns-clause-builds
 returns-clause-builds g c =
-    let kept = c.args.kept.now in
-    let new = c.fill.new.self in
     let before = g.A.Analyst.analysed c.args.analyst.now in
-    let after = g.A.Analyst.analysed c.fill.new.analyst in
-    let held_before = g.A.Analyst.held c.args.analyst.now in
-    let held_after = g.A.Analyst.held c.fill.new.analyst in
-    let waking = c.in_ok-waking.ensures.waking in
-    let texts = c.in_ok-waking.waking.texts.items in
-    let fresh = waiting_texts c.args.graph.now c.args.self.now c.requires.covers waking.groups waking.some c.in_ok-waking.waking.slots.items waking.are
-    waking.waiting waking.fit (texts_of kept) c.requires.known texts waking.texts in
-    Builds-filled c.args.graph.now kept new before after held_before held_after texts fresh c.in_ok-fill.field-0
-    (subst (λ (list : List GroupTextData). FillsAll kept new before after held_before held_after list c.in_ok-fill.field-0) c.deref.ensures.value c.in_ok-fill.ensures.ok)
-
-pub returns-clause-grown : goal.returns-clause-grown
-returns-clause-grown g c =
-    IsGrown-filled c.args.graph.now c.args.kept.now c.fill.new.self (g.A.Analyst.analysed c.args.analyst.now) (g.A.Analyst.analysed c.fill.new.analyst)
-    (g.A.Analyst.held c.args.analyst.now) (g.A.Analyst.held c.fill.new.analyst) c.deref.result.now c.in_ok-fill.field-0 c.in_ok-fill.ensures.ok
+    let last = c.settle_last.new.self.last in
+    let now = texts_of c.settle_last.new.kept in
+    let rouses = c.in_ok-fresh.ensures.rouses in
+    let has = HasLast-settled c.args.graph.now c.args.self.now c.wake.new.self c.settle_last.new.self rouses c.settle_last.ensures.same c.settle_last.ensures.order in
+    let left : IsLeft c.args.kept.now.bound c.args.self.now.last (texts_of c.wake.new.kept) last now =
+    subst (λ bound. IsLeft bound c.args.self.now.last (texts_of c.wake.new.kept) last now) c.in_ok-fresh.ensures.bound
+    (subst (λ was. IsLeft c.wake.new.kept.bound was (texts_of c.wake.new.kept) last now) rouses.last c.settle_last.ensures.left) in
+    let builds = Builds-left c.args.graph.now c.args.self.now.last (texts_of c.args.kept.now) c.requires.last (texts_of c.wake.new.kept) before
+    (g.A.Analyst.analysed c.wake.new.analyst) c.in_ok-fresh.fresh c.in_ok-fresh.ensures.fills c.args.kept.now.bound last now has left in
+    subst (λ told. Builds c.args.graph.now c.args.kept.now.bound (used_texts c.args.self.now.last (texts_of c.args.kept.now)) (used_texts last now) before told c.in_ok-fresh.fresh)
+    (sym c.settle_last.ensures.analysed) builds

@@ -41,6 +41,12 @@ returns-in_err-extend_from_slice-clause-state g c =
     (ap (λ (m : MachineData). m.state) (c.self-2.view_is ∙ c.in_ok-add_nodes.ensures.ok
     ∙ ap (λ n. record c.args.self.now { state = with_new_nodes c.args.self.now.state n; spare = c.add_nodes.new.self.spare }) c.nodes.ensures))
 
+pub returns-in_err-vacate_all-clause-state : goal.returns-in_err-vacate_all-clause-state
+returns-in_err-vacate_all-clause-state g c =
+    grown_again c.args.self.now.state c.vacate_all.new.self.state (nodes c.args.graph.now)
+    (c.vacate_all.ensures.state ∙ ap (λ (m : MachineData). m.state) (c.self-2.view_is ∙ c.in_ok-add_nodes.ensures.ok
+    ∙ ap (λ n. record c.args.self.now { state = with_new_nodes c.args.self.now.state n; spare = c.add_nodes.new.self.spare }) c.nodes.ensures))
+
 pub returns-in_err-renew_all-clause-state : goal.returns-in_err-renew_all-clause-state
 returns-in_err-renew_all-clause-state g c =
     grown_again c.args.self.now.state c.renew_all.new.self.state (nodes c.args.graph.now)
@@ -73,7 +79,7 @@ renew_all-requires-clause-counted g c =
 
 pub renew_all-requires-clause-free : goal.renew_all-requires-clause-free
 renew_all-requires-clause-free g c = λ k node there.
-    c.vacate_all.ensures.none k node (subst (λ list. Contains list node) (c.deref-4.ensures.value ∙ sym c.deref-3.ensures.value) there)
+    c.in_ok-vacate_all.ensures.ok.none k node (subst (λ list. Contains list node) (c.deref-4.ensures.value ∙ sym c.deref-3.ensures.value) there)
 
 pub returns-clause-ok : goal.returns-clause-ok
 returns-clause-ok g c =
@@ -103,7 +109,7 @@ returns-clause-ok g c =
     ∙ ap (λ (groups : Option GroupsData). record old { groups = groups; state = with_new_nodes old.state (nodes graph); spare = spare }) c.replace.ensures.after in
     let clears : Clears all (record old { groups = None; state = with_new_nodes old.state (nodes graph); spare = spare }) cleared =
     subst (λ list. Clears list (record old { groups = None; state = with_new_nodes old.state (nodes graph); spare = spare }) cleared)
-    c.deref-3.ensures.value (subst (λ m. Clears c.deref-3.result.now m cleared) begun c.vacate_all.ensures) in
+    c.deref-3.ensures.value (subst (λ m. Clears c.deref-3.result.now m cleared) begun c.in_ok-vacate_all.ensures.ok) in
     let renews : RenewsAll now.groups all cleared made = subst (λ list. RenewsAll now.groups list cleared made) c.deref-4.ensures.value c.in_ok-renew_all.ensures.ok in
     subst (Edits graph change old) (ap (λ (m : MachineData). record m { groups = Some now }) (sym c.self-3.view_is))
     (follows graph change old covers c.requires.wired c.graphs_are_wired.ensures now c.in_ok-regroup.ensures.ok spare found all found_are nodes_are

@@ -1,11 +1,11 @@
 -- The stale parts get their codes.
-use Rattle.std.proofs.Common.{◌≡◌, ℕ, Vec, Global, ◌≤◌, ◌<◌, Bool, List, length, map, All, Some, sym, ap, subst, ◌∙◌, arith}
-use Rattle.std.specs.Prelude.{slice_get}
+use Rattle.std.proofs.Common.{◌≡◌, ℕ, Vec, Global, ◌≤◌, ◌<◌, ◌⊎◌, Bool, List, length, map, All, Some, refl, sym, ap, subst, ◌∙◌, arith}
+use Rattle.std.specs.Prelude.{Contains, slice_get}
 use Rattle.std.specs.Vec.{with_items}
 use Rattle.std.proofs.lemmas.List.{length-map, with_items_is}
 use Rattle.std.proofs.lemmas.List.Elements.{All-weaker}
 use Rattle.path_meaning.specs.Rails.{IsSound}
-use Rattle.group_text.specs.Texts.{text_of_group}
+use Rattle.group_text.specs.Texts.{GroupTextData, text_of_group}
 use Rattle.kept_parts.specs.Uses.{texts_used, count_distinct}
 use Rattle.kept_parts.proofs.GroupParts.{parts_of_groups}
 use Rattle.unit_step.specs.declared.part.HeldPart.{HeldPart}
@@ -15,12 +15,15 @@ use Rattle.unit_step.specs.Making.{IsCodeRoom}
 use Rattle.unit_step.specs.Evaluating.{rooms}
 use Rattle.unit_step.specs.Running.{IsMachine}
 use Rattle.unit_step.specs.Fitting.{Covers}
-use Rattle.unit_step.specs.Editing.{Finishes}
+use Rattle.unit_step.specs.Editing.{Rouses}
 use Rattle.unit_step.specs.Finishing.{IsWaking, Puts}
 use Rattle.unit_step.specs.Readers.{ListsAll}
 use Rattle.unit_step.specs.Dense.{AreDense, AreSeatsOf}
+use Rattle.unit_step.specs.Lasting.{BeginsAt, AreLasting, texts_lasting}
+use Rattle.unit_step.proofs.LastingRoused.{AreLasting-numbered, AreLasting-noted, AreLasting-roused, texts_lasting-numbered, same_texts_left}
+use Rattle.unit_step.proofs.FillingLemmas.{on_err}
 use Rattle.unit_step.proofs.DenseLemmas.{AreDense-more, AreSeatsOf-put, seats_counted}
-use Rattle.unit_step.proofs.FinishingRoused.{IsMachine-wider, HaveSameReaders-refl, AreMade-held, parts_counted, unlisted, known_inside, IsMachine-roused, Finishes-roused}
+use Rattle.unit_step.proofs.FinishingRoused.{IsMachine-wider, HaveSameReaders-refl, AreMade-held, parts_counted, unlisted, known_inside, IsMachine-roused, Rouses-roused}
 use Rattle.unit_step.proofs.machine.Machine.rouse.Goals as goal
 
 pub held_parts-requires : goal.held_parts-requires
@@ -35,23 +38,96 @@ held_parts-requires c =
     parts_counted g c.graphs_are_wired.ensures waking.groups waking.some slots i.parts.items waking.are waking.waiting parts c.args.waking.reads.items of
     waking.reads
 
+pub invariant_of-self : goal.invariant_of-self
+invariant_of-self c =
+    let i = c.self.inside in (
+      IsMachine-wider i.parts.items i.agenda.marks i.agenda.waiting _ i.readers i.readers i.owners.items i.uses.numbers c.numbers_of.new.uses.numbers
+          i.held i.most (rooms i.desk) (rooms i.desk) (omega arith) (omega arith) refl refl c.numbers_of.ensures.numbered.numbers (HaveSameReaders-refl i.readers)
+          c.self.invariant.0,
+      c.self.invariant.1,
+      AreLasting-numbered i.parts.items i.uses c.numbers_of.new.uses (length i.state.items) i.lasting c.numbers_of.ensures.numbered c.self.invariant.2,
+    )
+
+pub returns-in_err-numbers-clause-err : goal.returns-in_err-numbers-clause-err
+returns-in_err-numbers-clause-err c =
+    let i = c.self.inside in
+    let uses = c.numbers_of.new.uses in
+    let last_is = texts_lasting-numbered i.uses uses uses.known i.lasting i.lasting c.numbers_of.ensures.numbered refl refl c.self.invariant.2.inside in
+    on_err c.from_residual-in_err-numbers.result
+    (same_texts_left (the_view i) (texts_used uses) (texts_lasting uses.known i.lasting) c.numbers_of.ensures.same last_is ∙ c.self.view_is)
+
 pub invariant_of-self-in_err-widen_for_codes : goal.invariant_of-self-in_err-widen_for_codes
 invariant_of-self-in_err-widen_for_codes c =
     let i = c.self.inside in (
       IsMachine-wider i.parts.items i.agenda.marks i.agenda.waiting _ i.readers i.readers i.owners.items i.uses.numbers c.numbers_of.new.uses.numbers
           i.held i.most _ _ (omega (arith, c.widen_for_codes.ensures.more_values)) (omega (arith, c.widen_for_codes.ensures.more_outs)) c.widen_for_codes.ensures.changes c.widen_for_codes.ensures.done
-          c.numbers_of.ensures.parts (HaveSameReaders-refl i.readers) c.self.invariant.0,
+          c.numbers_of.ensures.numbered.numbers (HaveSameReaders-refl i.readers) c.self.invariant.0,
       c.self.invariant.1,
+      AreLasting-numbered i.parts.items i.uses c.numbers_of.new.uses (length i.state.items) i.lasting c.numbers_of.ensures.numbered c.self.invariant.2,
     )
+
+pub returns-in_err-widen_for_codes-clause-err : goal.returns-in_err-widen_for_codes-clause-err
+returns-in_err-widen_for_codes-clause-err c =
+    let i = c.self.inside in
+    let uses = c.numbers_of.new.uses in
+    let last_is = texts_lasting-numbered i.uses uses uses.known i.lasting i.lasting c.numbers_of.ensures.numbered refl refl c.self.invariant.2.inside in
+    on_err c.from_residual-in_err-widen_for_codes.result
+    (same_texts_left (the_view i) (texts_used uses) (texts_lasting uses.known i.lasting) c.numbers_of.ensures.same last_is ∙ c.self.view_is)
 
 pub invariant_of-self-in_err-seats : goal.invariant_of-self-in_err-seats
 invariant_of-self-in_err-seats c =
     let i = c.self.inside in (
       IsMachine-wider i.parts.items i.agenda.marks i.agenda.waiting _ i.readers i.readers i.owners.items i.uses.numbers c.numbers_of.new.uses.numbers
           i.held i.most _ _ (omega (arith, c.widen_for_codes.ensures.more_values)) (omega (arith, c.widen_for_codes.ensures.more_outs)) c.widen_for_codes.ensures.changes c.widen_for_codes.ensures.done
-          c.numbers_of.ensures.parts (HaveSameReaders-refl i.readers) c.self.invariant.0,
+          c.numbers_of.ensures.numbered.numbers (HaveSameReaders-refl i.readers) c.self.invariant.0,
       AreDense-more i.parts.items i.dense c.seats_for.new.self c.seats_for.ensures.same c.seats_for.ensures.more c.self.invariant.1,
+      AreLasting-numbered i.parts.items i.uses c.numbers_of.new.uses (length i.state.items) i.lasting c.numbers_of.ensures.numbered c.self.invariant.2,
     )
+
+pub returns-in_err-seats-clause-err : goal.returns-in_err-seats-clause-err
+returns-in_err-seats-clause-err c =
+    let i = c.self.inside in
+    let uses = c.numbers_of.new.uses in
+    let last_is = texts_lasting-numbered i.uses uses uses.known i.lasting i.lasting c.numbers_of.ensures.numbered refl refl c.self.invariant.2.inside in
+    on_err c.from_residual-in_err-seats.result
+    (same_texts_left (the_view i) (texts_used uses) (texts_lasting uses.known i.lasting) c.numbers_of.ensures.same last_is ∙ c.self.view_is)
+
+pub note_all-requires-clause-inside : goal.note_all-requires-clause-inside
+note_all-requires-clause-inside c =
+    let g = c.args.graph.now in
+    let i = c.self.inside in
+    let covers = subst (Covers g) (sym c.self.view_is) c.requires.covers in
+    let waking = subst (λ (m : MachineData). IsWaking g m.parts c.args.waking) (sym c.self.view_is) c.requires.waking in
+    let slots = c.args.waking.slots.items in
+    let parts = c.in_ok-parts_of.field-0.items in
+    let of = parts_of_groups g waking.some _ _ parts (c.deref.ensures.value ∙ waking.texts) waking.maps c.in_ok-parts_of.ensures in
+    let fresh = c.in_ok-fresh.fresh.items in
+    let made = AreMade-held g c.graphs_are_wired.ensures waking.groups waking.some slots i.parts.items waking.are waking.waiting parts
+    c.args.waking.reads.items fresh (length i.state.items) of waking.reads c.in_ok-fresh.ensures covers.counted in
+    rw (c.deref-5.ensures.value, c.deref-6.ensures.value) made.inside
+
+pub invariant_of-self-in_err-note_all : goal.invariant_of-self-in_err-note_all
+invariant_of-self-in_err-note_all c =
+    let i = c.self.inside in
+    let slots = c.deref-5.result.now in
+    let only = subst (λ parts. (node : ℕ) → Contains c.note_all.new.self.changed.items node →
+    Contains i.lasting.changed.items node ⊎ ((k : ℕ) × Contains slots k × BeginsAt parts k node)) c.deref-6.ensures.value c.note_all.ensures.only in
+    let more = AreLasting-numbered i.parts.items i.uses c.numbers_of.new.uses (length i.state.items) i.lasting c.numbers_of.ensures.numbered c.self.invariant.2 in (
+      IsMachine-wider i.parts.items i.agenda.marks i.agenda.waiting _ i.readers i.readers i.owners.items i.uses.numbers c.numbers_of.new.uses.numbers
+          i.held i.most _ _ (omega (arith, c.widen_for_codes.ensures.more_values)) (omega (arith, c.widen_for_codes.ensures.more_outs)) c.widen_for_codes.ensures.changes c.widen_for_codes.ensures.done
+          c.numbers_of.ensures.numbered.numbers (HaveSameReaders-refl i.readers) c.self.invariant.0,
+      AreDense-more i.parts.items i.dense c.seats_for.new.self c.seats_for.ensures.same c.seats_for.ensures.more c.self.invariant.1,
+      AreLasting-noted i.parts.items c.numbers_of.new.uses.numbers (length i.state.items) (length c.numbers_of.new.uses.known) (rooms i.desk)
+          c.self.invariant.0.runs.seated slots i.lasting c.note_all.new.self c.note_all.ensures.numbers c.note_all.ensures.stays only more,
+    )
+
+pub returns-in_err-note_all-clause-err : goal.returns-in_err-note_all-clause-err
+returns-in_err-note_all-clause-err c =
+    let i = c.self.inside in
+    let uses = c.numbers_of.new.uses in
+    let last_is = texts_lasting-numbered i.uses uses uses.known i.lasting c.note_all.new.self c.numbers_of.ensures.numbered refl c.note_all.ensures.numbers c.self.invariant.2.inside in
+    on_err c.from_residual-in_err-note_all.result
+    (same_texts_left (the_view i) (texts_used uses) (texts_lasting uses.known c.note_all.new.self) c.numbers_of.ensures.same last_is ∙ c.self.view_is)
 
 pub list_all-requires-clause-counted : goal.list_all-requires-clause-counted
 list_all-requires-clause-counted c =
@@ -65,7 +141,7 @@ list_all-requires-clause-counted c =
     let fresh = c.in_ok-fresh.fresh.items in
     let made = AreMade-held g c.graphs_are_wired.ensures waking.groups waking.some slots i.parts.items waking.are waking.waiting parts
     c.args.waking.reads.items fresh (length i.state.items) of waking.reads c.in_ok-fresh.ensures covers.counted in
-    omega (arith, ap length c.deref-6.ensures.value, ap length c.deref-5.ensures.value, made.counted)
+    omega (arith, ap length c.deref-8.ensures.value, ap length c.deref-7.ensures.value, made.counted)
 
 pub list_all-requires-clause-below : goal.list_all-requires-clause-below
 list_all-requires-clause-below c =
@@ -79,14 +155,14 @@ list_all-requires-clause-below c =
     let fresh = c.in_ok-fresh.fresh.items in
     let made = AreMade-held g c.graphs_are_wired.ensures waking.groups waking.some slots i.parts.items waking.are waking.waiting parts
     c.args.waking.reads.items fresh (length i.state.items) of waking.reads c.in_ok-fresh.ensures covers.counted in
-    rw c.deref-6.ensures.value
+    rw c.deref-8.ensures.value
     (subst (λ n. All (λ (part : HeldPart). All (λ node. node < n) part.reads.items) fresh) (sym c.self.invariant.0.runs.readers_counted) made.below)
 
 pub list_all-requires-clause-once : goal.list_all-requires-clause-once
 list_all-requires-clause-once c =
     let i = c.self.inside in
     let waking = subst (λ (m : MachineData). IsWaking c.args.graph.now m.parts c.args.waking) (sym c.self.view_is) c.requires.waking in
-    rw c.deref-5.ensures.value waking.waiting.once
+    rw c.deref-7.ensures.value waking.waiting.once
 
 pub list_all-requires-clause-unlisted : goal.list_all-requires-clause-unlisted
 list_all-requires-clause-unlisted c =
@@ -97,17 +173,31 @@ list_all-requires-clause-unlisted c =
     let slots = c.args.waking.slots.items in
     let parts = c.in_ok-parts_of.field-0.items in
     let of = parts_of_groups g waking.some _ _ parts (c.deref.ensures.value ∙ waking.texts) waking.maps c.in_ok-parts_of.ensures in
-    rw c.deref-5.ensures.value
+    rw c.deref-7.ensures.value
     (unlisted g (the_view i) covers waking.groups waking.some slots waking.waiting i.readers c.self.invariant.0.runs.reads)
 
 pub invariant_of-self-in_err-list_all : goal.invariant_of-self-in_err-list_all
 invariant_of-self-in_err-list_all c =
-    let i = c.self.inside in (
+    let i = c.self.inside in
+    let slots = c.deref-5.result.now in
+    let only = subst (λ parts. (node : ℕ) → Contains c.note_all.new.self.changed.items node →
+    Contains i.lasting.changed.items node ⊎ ((k : ℕ) × Contains slots k × BeginsAt parts k node)) c.deref-6.ensures.value c.note_all.ensures.only in
+    let more = AreLasting-numbered i.parts.items i.uses c.numbers_of.new.uses (length i.state.items) i.lasting c.numbers_of.ensures.numbered c.self.invariant.2 in (
       IsMachine-wider i.parts.items i.agenda.marks i.agenda.waiting _ i.readers c.list_all.new.self i.owners.items i.uses.numbers
           c.numbers_of.new.uses.numbers i.held i.most _ _ (omega (arith, c.widen_for_codes.ensures.more_values)) (omega (arith, c.widen_for_codes.ensures.more_outs))
-          c.widen_for_codes.ensures.changes c.widen_for_codes.ensures.done c.numbers_of.ensures.parts c.in_err-list_all.ensures.err c.self.invariant.0,
+          c.widen_for_codes.ensures.changes c.widen_for_codes.ensures.done c.numbers_of.ensures.numbered.numbers c.in_err-list_all.ensures.err c.self.invariant.0,
       AreDense-more i.parts.items i.dense c.seats_for.new.self c.seats_for.ensures.same c.seats_for.ensures.more c.self.invariant.1,
+      AreLasting-noted i.parts.items c.numbers_of.new.uses.numbers (length i.state.items) (length c.numbers_of.new.uses.known) (rooms i.desk)
+          c.self.invariant.0.runs.seated slots i.lasting c.note_all.new.self c.note_all.ensures.numbers c.note_all.ensures.stays only more,
     )
+
+pub returns-in_err-list_all-clause-err : goal.returns-in_err-list_all-clause-err
+returns-in_err-list_all-clause-err c =
+    let i = c.self.inside in
+    let uses = c.numbers_of.new.uses in
+    let last_is = texts_lasting-numbered i.uses uses uses.known i.lasting c.note_all.new.self c.numbers_of.ensures.numbered refl c.note_all.ensures.numbers c.self.invariant.2.inside in
+    on_err c.from_residual-in_err-list_all.result
+    (same_texts_left (the_view i) (texts_used uses) (texts_lasting uses.known c.note_all.new.self) c.numbers_of.ensures.same last_is ∙ c.self.view_is)
 
 pub put_texts-requires-clause-inside : goal.put_texts-requires-clause-inside
 put_texts-requires-clause-inside c =
@@ -121,8 +211,8 @@ put_texts-requires-clause-inside c =
     let fresh = c.in_ok-fresh.fresh.items in
     let made = AreMade-held g c.graphs_are_wired.ensures waking.groups waking.some slots i.parts.items waking.are waking.waiting parts
     c.args.waking.reads.items fresh (length i.state.items) of waking.reads c.in_ok-fresh.ensures covers.counted in
-    rw c.deref-8.ensures.value
-    (λ k d inside. omega (arith, made.inside k d inside, c.self.invariant.0.numbered, ap length c.numbers_of.ensures.parts))
+    rw c.deref-10.ensures.value
+    (λ k d inside. omega (arith, made.inside k d inside, c.self.invariant.0.numbered, ap length c.numbers_of.ensures.numbered.numbers))
 
 pub put_texts-requires-clause-counted : goal.put_texts-requires-clause-counted
 put_texts-requires-clause-counted c =
@@ -150,7 +240,7 @@ put_texts-requires-clause-counted c =
       length-map waking.some (text_of_group g),
       made.long,
     ) in
-    omega (arith, ap length c.deref-9.ensures.value, ap length c.deref-8.ensures.value, long)
+    omega (arith, ap length c.deref-11.ensures.value, ap length c.deref-10.ensures.value, long)
 
 pub put_texts-requires-clause-known : goal.put_texts-requires-clause-known
 put_texts-requires-clause-known c =
@@ -158,7 +248,7 @@ put_texts-requires-clause-known c =
     let texts = c.args.waking.texts.items in
     let numbered : map (slice_get c.numbers_of.new.uses.known) numbers ≡ map Some texts =
     c.in_ok-numbers.ensures.numbers ∙ ap (map Some) c.deref-3.ensures.value in
-    rw c.deref-9.ensures.value (known_inside c.numbers_of.new.uses.known numbers texts numbered)
+    rw c.deref-11.ensures.value (known_inside c.numbers_of.new.uses.known numbers texts numbered)
 
 pub put_all-requires-clause-inside : goal.put_all-requires-clause-inside
 put_all-requires-clause-inside c =
@@ -174,7 +264,7 @@ put_all-requires-clause-inside c =
     c.args.waking.reads.items fresh (length i.state.items) of waking.reads c.in_ok-fresh.ensures covers.counted in
     let old_seats = AreDense-more i.parts.items i.dense c.seats_for.new.self c.seats_for.ensures.same c.seats_for.ensures.more c.self.invariant.1 in
     let counted = seats_counted i.parts.items c.seats_for.new.self.nodes.items c.seats_for.new.self.seats.items old_seats in
-    rw c.deref-10.ensures.value (λ k d inside. omega (arith, made.inside k d inside, counted))
+    rw c.deref-12.ensures.value (λ k d inside. omega (arith, made.inside k d inside, counted))
 
 pub put_all-requires-clause-counted : goal.put_all-requires-clause-counted
 put_all-requires-clause-counted c =
@@ -191,7 +281,7 @@ put_all-requires-clause-counted c =
     let fresh_seats = subst (λ (list : List HeldPart). AreSeatsOf list c.seats_for.new.self.nodes.items c.in_ok-seats.seats.items) c.deref-4.ensures.value
     c.in_ok-seats.ensures.seats in
     let counted = seats_counted fresh c.seats_for.new.self.nodes.items c.in_ok-seats.seats.items fresh_seats in
-    omega (arith, ap length c.deref-10.ensures.value, made.counted, counted)
+    omega (arith, ap length c.deref-12.ensures.value, made.counted, counted)
 
 pub put_parts-requires-clause-inside : goal.put_parts-requires-clause-inside
 put_parts-requires-clause-inside c =
@@ -205,7 +295,7 @@ put_parts-requires-clause-inside c =
     let fresh = c.in_ok-fresh.fresh.items in
     let made = AreMade-held g c.graphs_are_wired.ensures waking.groups waking.some slots i.parts.items waking.are waking.waiting parts
     c.args.waking.reads.items fresh (length i.state.items) of waking.reads c.in_ok-fresh.ensures covers.counted in
-    rw (c.deref-11.ensures.value, c.deref_mut.ensures.value) made.inside
+    rw (c.deref-13.ensures.value, c.deref_mut.ensures.value) made.inside
 
 pub put_parts-requires-clause-counted : goal.put_parts-requires-clause-counted
 put_parts-requires-clause-counted c =
@@ -219,7 +309,7 @@ put_parts-requires-clause-counted c =
     let fresh = c.in_ok-fresh.fresh.items in
     let made = AreMade-held g c.graphs_are_wired.ensures waking.groups waking.some slots i.parts.items waking.are waking.waiting parts
     c.args.waking.reads.items fresh (length i.state.items) of waking.reads c.in_ok-fresh.ensures covers.counted in
-    omega (arith, ap length c.deref-11.ensures.value, made.counted)
+    omega (arith, ap length c.deref-13.ensures.value, made.counted)
 
 pub invariant_of-self-2 : goal.invariant_of-self-2
 invariant_of-self-2 c =
@@ -238,13 +328,13 @@ invariant_of-self-2 c =
     let numbered : map (slice_get c.numbers_of.new.uses.known) numbers ≡ map Some texts =
     c.in_ok-numbers.ensures.numbers ∙ ap (map Some) c.deref-3.ensures.value in
     let new = c.put_parts.new.parts in
-    let puts : Puts slots fresh i.parts.items new = rw (c.deref-11.ensures.value, c.deref_mut.ensures.value) at c.put_parts.ensures in
+    let puts : Puts slots fresh i.parts.items new = rw (c.deref-13.ensures.value, c.deref_mut.ensures.value) at c.put_parts.ensures in
     let text_puts : Puts slots (map Some numbers) c.numbers_of.new.uses.numbers c.put_texts.new.uses.numbers =
-    rw (c.deref-8.ensures.value, c.deref-9.ensures.value) at c.put_texts.ensures.puts in
+    rw (c.deref-10.ensures.value, c.deref-11.ensures.value) at c.put_texts.ensures.puts in
     let parts_now : List HeldPart = (with_items i.parts new).items in
     let final_parts = with_items_is i.parts new (omega (arith, c.put_parts.auto.parts, c.deref_mut.ensures.len)) in
     let lists_now = c.list_all.new.self in
-    let listed : ListsAll slots fresh i.readers lists_now = rw (c.deref-5.ensures.value, c.deref-6.ensures.value) at c.in_ok-list_all.ensures.ok in
+    let listed : ListsAll slots fresh i.readers lists_now = rw (c.deref-7.ensures.value, c.deref-8.ensures.value) at c.in_ok-list_all.ensures.ok in
     let wide = rooms c.widen_for_codes.new.desk in
     let values_room : All (IsCodeRoom wide.values) fresh =
     All-weaker (IsCodeRoom c.in-Some.needs.values) (IsCodeRoom wide.values)
@@ -257,7 +347,7 @@ invariant_of-self-2 c =
     let base = IsMachine-roused g (the_view i) covers waking.groups waking.some slots waking.waiting fresh new (length i.state.items) made puts
     i.readers lists_now i.agenda.marks i.agenda.waiting c.rouse.new.self.waiting i.owners.items i.uses.numbers c.put_texts.new.uses.numbers
     i.held i.most (rooms i.desk) wide listed values_room outs_room (omega (arith, c.widen_for_codes.ensures.more_values)) (omega (arith, c.widen_for_codes.ensures.more_outs))
-    c.widen_for_codes.ensures.changes c.widen_for_codes.ensures.done c.rouse.ensures.waiting (text_puts.count ∙ ap length c.numbers_of.ensures.parts) c.self.invariant.0 in
+    c.widen_for_codes.ensures.changes c.widen_for_codes.ensures.done c.rouse.ensures.waiting (text_puts.count ∙ ap length c.numbers_of.ensures.numbered.numbers) c.self.invariant.0 in
     let with_parts = subst (λ (list : List HeldPart). IsMachine list i.agenda.marks c.rouse.new.self.waiting (length i.state.items) lists_now i.owners.items
     c.put_texts.new.uses.numbers i.held i.most wide) (sym final_parts) base in
     let nodes = c.seats_for.new.self.nodes.items in
@@ -266,19 +356,34 @@ invariant_of-self-2 c =
     let after = c.put_all.new.self.seats.items in
     let old_seats = AreDense-more i.parts.items i.dense c.seats_for.new.self c.seats_for.ensures.same c.seats_for.ensures.more c.self.invariant.1 in
     let fresh_seats = subst (λ (list : List HeldPart). AreSeatsOf list nodes seats) c.deref-4.ensures.value c.in_ok-seats.ensures.seats in
-    let seat_puts = subst (λ (list : List ℕ). Puts list seats before after) c.deref-10.ensures.value c.put_all.ensures.puts in
+    let seat_puts = subst (λ (list : List ℕ). Puts list seats before after) c.deref-12.ensures.value c.put_all.ensures.puts in
     let put : AreSeatsOf new nodes after =
     AreSeatsOf-put slots waking.waiting.once nodes fresh i.parts.items new seats before after fresh_seats old_seats puts seat_puts in
     let put_dense : AreDense new c.put_all.new.self =
     subst (λ (list : Vec ℕ Global). AreSeatsOf new list.items after) (sym c.put_all.ensures.nodes) put in
-    let dense = subst (λ (list : List HeldPart). AreDense list c.put_all.new.self) (sym final_parts) put_dense in (
+    let dense = subst (λ (list : List HeldPart). AreDense list c.put_all.new.self) (sym final_parts) put_dense in
+    let only = subst (λ list. (node : ℕ) → Contains c.note_all.new.self.changed.items node →
+    Contains i.lasting.changed.items node ⊎ ((k : ℕ) × Contains c.deref-5.result.now k × BeginsAt list k node)) c.deref-6.ensures.value c.note_all.ensures.only in
+    let more = AreLasting-numbered i.parts.items i.uses c.numbers_of.new.uses (length i.state.items) i.lasting c.numbers_of.ensures.numbered c.self.invariant.2 in
+    let known = length c.numbers_of.new.uses.known in
+    let are_noted = AreLasting-noted i.parts.items c.numbers_of.new.uses.numbers (length i.state.items) known (rooms i.desk)
+    c.self.invariant.0.runs.seated c.deref-5.result.now i.lasting c.note_all.new.self c.note_all.ensures.numbers c.note_all.ensures.stays only more in
+    let noted : (k node : ℕ) → Contains slots k → BeginsAt i.parts.items k node → Contains c.note_all.new.self.changed.items node =
+    rw (c.deref-5.ensures.value, c.deref-6.ensures.value) at c.in_ok-note_all.ensures.all in
+    let are_lasting = AreLasting-roused g (the_view i) covers waking.groups waking.some slots waking.waiting fresh made.fresh_are new puts c.numbers_of.new.uses.numbers
+    c.put_texts.new.uses.numbers (map Some numbers) text_puts (length i.state.items) known c.note_all.new.self are_noted noted made.inside in
+    let lasting_known = subst (λ (list : List GroupTextData). AreLasting new c.put_texts.new.uses.numbers (length i.state.items) (length list) c.note_all.new.self)
+    (sym c.put_texts.ensures.known) are_lasting in
+    let lasting = subst (λ (list : List HeldPart). AreLasting list c.put_texts.new.uses.numbers (length i.state.items) (length c.put_texts.new.uses.known) c.note_all.new.self)
+    (sym final_parts) lasting_known in (
       subst (λ (marks : List Bool). IsMachine parts_now marks c.rouse.new.self.waiting (length i.state.items) lists_now i.owners.items c.put_texts.new.uses.numbers i.held i.most wide)
           (sym c.rouse.ensures.marks) with_parts,
       dense,
+      lasting,
     )
 
-pub returns-clause-finishes : goal.returns-clause-finishes
-returns-clause-finishes c =
+pub returns-clause-rouses : goal.returns-clause-rouses
+returns-clause-rouses c =
     let g = c.args.graph.now in
     let i = c.self.inside in
     let covers = subst (Covers g) (sym c.self.view_is) c.requires.covers in
@@ -294,20 +399,25 @@ returns-clause-finishes c =
     let numbered : map (slice_get c.numbers_of.new.uses.known) numbers ≡ map Some texts =
     c.in_ok-numbers.ensures.numbers ∙ ap (map Some) c.deref-3.ensures.value in
     let new = c.put_parts.new.parts in
-    let puts : Puts slots fresh i.parts.items new = rw (c.deref-11.ensures.value, c.deref_mut.ensures.value) at c.put_parts.ensures in
+    let puts : Puts slots fresh i.parts.items new = rw (c.deref-13.ensures.value, c.deref_mut.ensures.value) at c.put_parts.ensures in
     let text_puts : Puts slots (map Some numbers) c.numbers_of.new.uses.numbers c.put_texts.new.uses.numbers =
-    rw (c.deref-8.ensures.value, c.deref-9.ensures.value) at c.put_texts.ensures.puts in
+    rw (c.deref-10.ensures.value, c.deref-11.ensures.value) at c.put_texts.ensures.puts in
     let parts_now : List HeldPart = (with_items i.parts new).items in
     let final_parts = with_items_is i.parts new (omega (arith, c.put_parts.auto.parts, c.deref_mut.ensures.len)) in
     let v = the_view i in
     let sound = subst (λ (m : MachineData). IsSound m.state) (sym c.self.view_is) c.requires.sound in
     let mid_are : texts_used c.numbers_of.new.uses ≡ v.uses = c.numbers_of.ensures.same in
-    let base = Finishes-roused g v covers waking.groups waking.some slots waking.waiting fresh new (length i.state.items) made puts
+    let base = Rouses-roused g v covers waking.groups waking.some slots waking.waiting fresh new (length i.state.items) made puts
     c.numbers_of.new.uses c.put_texts.new.uses numbers texts mid_are c.put_texts.ensures.known text_puts numbered waking.texts waking.fit
     c.requires.railed sound in
     let used = texts_used c.put_texts.new.uses in
-    let machine : List HeldPart → List Bool → MachineData = λ list marks.
-    record v { parts = list; uses = used; marks = marks; texts = count_distinct used } in
-    let with_parts = subst (λ (list : List HeldPart). Finishes g v (machine list i.agenda.marks)) (sym final_parts) base in
-    let with_marks = subst (λ (marks : List Bool). Finishes g v (machine parts_now marks)) (sym c.rouse.ensures.marks) with_parts in
-    subst (λ (old : MachineData). Finishes g old (machine parts_now c.rouse.new.self.marks)) c.self.view_is with_marks
+    let last = texts_lasting c.put_texts.new.uses.known c.note_all.new.self in
+    let last_is : last ≡ v.last =
+    texts_lasting-numbered i.uses c.numbers_of.new.uses c.put_texts.new.uses.known i.lasting c.note_all.new.self c.numbers_of.ensures.numbered
+    c.put_texts.ensures.known c.note_all.ensures.numbers c.self.invariant.2.inside in
+    let machine : List HeldPart → List Bool → List GroupTextData → MachineData = λ list marks texts_left.
+    record v { parts = list; uses = used; marks = marks; texts = count_distinct used; last = texts_left } in
+    let with_parts = subst (λ (list : List HeldPart). Rouses g v (machine list i.agenda.marks v.last)) (sym final_parts) base in
+    let with_marks = subst (λ (marks : List Bool). Rouses g v (machine parts_now marks v.last)) (sym c.rouse.ensures.marks) with_parts in
+    let with_last = subst (λ (texts_left : List GroupTextData). Rouses g v (machine parts_now c.rouse.new.self.marks texts_left)) (sym last_is) with_marks in
+    subst (λ (old : MachineData). Rouses g old (machine parts_now c.rouse.new.self.marks last)) c.self.view_is with_last

@@ -12,9 +12,16 @@ use Rattle.unit_step.specs.Parts.{HasMember}
 use Rattle.unit_step.specs.Marking.{AgendaData}
 use Rattle.unit_step.specs.Making.{Owns}
 use Rattle.unit_step.specs.Dense.{AreDense, AreSeatsOf}
+use Rattle.unit_step.specs.Lasting.{texts_lasting}
 use Rattle.unit_step.proofs.DenseLemmas.{AreSeatsOf-stale, AreDense-same}
 use Rattle.unit_step.proofs.SeatingLemmas.{IsMachine-roomier, IsMachine-seated}
+use Rattle.unit_step.proofs.LastingEdits.{AreLasting-same, AreLasting-seated}
 use Rattle.unit_step.proofs.machine.Machine.seat.Goals as goal
+
+-- the numbers of the parts read as before
+numbers_read : (old new : UsesData) → new.numbers ≡ old.numbers ++ None ∷ [] → (k : ℕ) →
+    slice_index_or new.numbers k None ≡ slice_index_or old.numbers k None
+numbers_read old new pushed k = ap (λ (list : List (Option ℕ)). slice_index_or list k None) pushed ∙ same_more ℕ old.numbers k
 
 pub invariant_of-self-in_err-widen_for_parts : goal.invariant_of-self-in_err-widen_for_parts
 invariant_of-self-in_err-widen_for_parts c =
@@ -24,6 +31,7 @@ invariant_of-self-in_err-widen_for_parts c =
       (IsMachine-roomier i.parts.items i.agenda.marks i.agenda.waiting (length i.state.items) i.readers i.owners.items i.uses.numbers i.held i.most (rooms i.desk) c.self.invariant.0 i.uses.numbers (rooms c.widen_for_parts.new.desk) (omega arith)
           c.widen_for_parts.ensures.values c.widen_for_parts.ensures.outs c.widen_for_parts.ensures.changes c.widen_for_parts.ensures.parts),
       AreDense-same i.parts.items i.dense c.make_room.new.self c.make_room.ensures.nodes c.make_room.ensures.seats c.self.invariant.1,
+      c.self.invariant.2,
     )
 
 pub invariant_of-self-in_err-add : goal.invariant_of-self-in_err-add
@@ -35,6 +43,8 @@ invariant_of-self-in_err-add c =
       (IsMachine-roomier i.parts.items i.agenda.marks i.agenda.waiting (length i.state.items) i.readers i.owners.items i.uses.numbers i.held i.most (rooms i.desk) c.self.invariant.0 c.add.new.self.numbers (rooms c.widen_for_parts.new.desk)
           (omega (arith, same)) c.widen_for_parts.ensures.values c.widen_for_parts.ensures.outs c.widen_for_parts.ensures.changes c.widen_for_parts.ensures.parts),
       AreDense-same i.parts.items i.dense c.make_room.new.self c.make_room.ensures.nodes c.make_room.ensures.seats c.self.invariant.1,
+      rw (ap (λ (uses : UsesData). length uses.known) c.in_err-add.ensures.err, ap (λ (uses : UsesData). uses.numbers) c.in_err-add.ensures.err)
+          c.self.invariant.2,
     )
 
 pub invariant_of-self-in_err-wait_more : goal.invariant_of-self-in_err-wait_more
@@ -46,6 +56,8 @@ invariant_of-self-in_err-wait_more c =
       (IsMachine-roomier i.parts.items i.agenda.marks i.agenda.waiting (length i.state.items) i.readers i.owners.items i.uses.numbers i.held i.most (rooms i.desk) c.self.invariant.0 c.add.new.self.numbers (rooms c.widen_for_parts.new.desk)
           (omega (arith, more, length_push i.uses.numbers None)) c.widen_for_parts.ensures.values c.widen_for_parts.ensures.outs c.widen_for_parts.ensures.changes c.widen_for_parts.ensures.parts),
       AreDense-same i.parts.items i.dense c.make_room.new.self c.make_room.ensures.nodes c.make_room.ensures.seats c.self.invariant.1,
+      rw c.add.ensures.known (AreLasting-same i.parts.items i.uses.numbers (length i.state.items) (length i.uses.known) i.lasting c.self.invariant.2
+          c.add.new.self.numbers i.lasting (numbers_read i.uses c.add.new.self c.in_ok-add.ensures.ok) refl refl),
     )
 
 pub invariant_of-self-2 : goal.invariant_of-self-2
@@ -83,6 +95,8 @@ invariant_of-self-2 c =
           room roomier members e c.in_ok-part.ensures c.requires.some inside c.requires.once free c.own.new.owners owns c.add.new.self.numbers numbers
           (omega (arith, most, c.in_ok-widen_for_parts.ensures.more_changes)) (omega (arith, before, c.in_ok-widen_for_parts.ensures.more_parts)) waiting),
       dense,
+      rw c.add.ensures.known (AreLasting-seated i.parts.items i.uses.numbers (length i.state.items) (length i.uses.known) i.lasting c.self.invariant.2
+          e c.add.new.self.numbers (numbers_read i.uses c.add.new.self c.in_ok-add.ensures.ok)),
     )
 
 pub returns-clause-ok : goal.returns-clause-ok
@@ -101,6 +115,7 @@ returns-clause-ok c =
       marks = ap (λ (agenda : AgendaData). agenda.marks) c.in_ok-wait_more.ensures.ok;
       groups = refl;
       state = refl;
+      last = ap (λ known. texts_lasting known i.lasting) c.add.ensures.known;
       moves = refl;
       placed = refl;
       spare = refl;

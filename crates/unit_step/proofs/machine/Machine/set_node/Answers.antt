@@ -7,6 +7,7 @@ use Rattle.kept_parts.specs.Uses.{texts_used, count_distinct}
 use Rattle.unit_step.specs.Machines.{MachineData}
 use Rattle.unit_step.specs.Evaluating.{rooms}
 use Rattle.unit_step.specs.Readers.{readers_of}
+use Rattle.unit_step.specs.Lasting.{AreLasting, texts_lasting}
 use Rattle.unit_step.proofs.PlacingLemmas.{placing_keeps_cover, placing_keeps_fit}
 use Rattle.unit_step.proofs.MachineLemmas.{IsMachine-again, owner_inside, at_owner, at_no_owner, Places-marked}
 use Rattle.unit_step.proofs.machine.Machine.set_node.Goals as goal
@@ -38,6 +39,8 @@ invariant_of-self c =
           (c.mark_all.ensures.marks.count ∙ c.mark_owner.ensures.marks.count) (c.mark_all.ensures.waiting ∙ c.mark_owner.ensures.waiting)
           (length-set i.state.items c.args.node c.args.value) refl c.self.invariant.0,
       c.self.invariant.1,
+      subst (λ n. AreLasting i.parts.items i.uses.numbers n (length i.uses.known) i.lasting)
+          (sym (length-set i.state.items c.args.node c.args.value)) c.self.invariant.2,
     )
 
 pub returns-clause-places : goal.returns-clause-places
@@ -55,6 +58,7 @@ returns-clause-places c =
       marks = i.agenda.marks;
       state = i.state.items;
       texts = count_distinct (texts_used i.uses);
+      last = texts_lasting i.uses.known i.lasting;
       moves = i.moves;
       placed = i.placed;
       spare = vec_capacity i.state - vec_len i.state;
@@ -79,6 +83,7 @@ returns-clause-covers c =
       marks = i.agenda.marks;
       state = i.state.items;
       texts = count_distinct (texts_used i.uses);
+      last = texts_lasting i.uses.known i.lasting;
       moves = i.moves;
       placed = i.placed;
       spare = vec_capacity i.state - vec_len i.state;
@@ -103,6 +108,7 @@ returns-clause-fits c =
       marks = i.agenda.marks;
       state = i.state.items;
       texts = count_distinct (texts_used i.uses);
+      last = texts_lasting i.uses.known i.lasting;
       moves = i.moves;
       placed = i.placed;
       spare = vec_capacity i.state - vec_len i.state;

@@ -6,6 +6,7 @@ use Rattle.oscillation_x.specs.Settling.{StaysOrBecomesX}
 use Rattle.unit_step.specs.Machines.{marked_sum, instructions_of}
 use Rattle.unit_step.specs.Stepping.{Moves, Remarks}
 use Rattle.unit_step.specs.Evaluating.{rooms}
+use Rattle.unit_step.specs.Lasting.{AreLasting}
 use Rattle.unit_step.proofs.MachineLemmas.{IsMachine-again}
 use Rattle.unit_step.proofs.machine.Machine.take.Goals as goal
 
@@ -24,6 +25,7 @@ invariant_of-self g c =
           (length i.state.items) _ i.readers i.owners.items i.uses.numbers i.held i.most (rooms i.desk) (rooms c.advance-changed.new.desk)
           step.marks.count step.waiting nodes step.rooms c.self.invariant.0,
       c.self.invariant.1,
+      subst (λ n. AreLasting i.parts.items i.uses.numbers n (length i.uses.known) i.lasting) (sym nodes) c.self.invariant.2,
     )
 
 pub returns-clause-advances : goal.returns-clause-advances
@@ -48,6 +50,7 @@ returns-clause-advances g c =
       parts = refl;
       uses = refl;
       texts = refl;
+      last = refl;
       placed = refl;
       spare = refl;
     })

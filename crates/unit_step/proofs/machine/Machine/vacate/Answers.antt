@@ -1,8 +1,8 @@
 -- The part leaves its members and what it reads.
-use Rattle.std.proofs.Common.{◌≡◌, ℕ, Vec, Global, ◌+◌, ◌-◌, ◌<◌, ◌≤◌, length, take, get_or, refl, sym, ap, subst, ◌∙◌, arith}
+use Rattle.std.proofs.Common.{◌≡◌, ℕ, Option, Vec, Global, ◌+◌, ◌-◌, ◌++◌, ◌<◌, ◌≤◌, length, take, get_or, refl, sym, ap, subst, ◌∙◌, arith}
 use Rattle.std.specs.Prelude.{count_by, slice_set}
 use Rattle.std.specs.List.{sum_by}
-use Rattle.std.proofs.lemmas.List.{with_items_is}
+use Rattle.std.proofs.lemmas.List.{with_items_is, get_or_default}
 use Rattle.std.proofs.lemmas.List.Sums.{get_or-le-sum_by}
 use Rattle.kept_parts.proofs.NumberLemmas.{texts_freed}
 use Rattle.unit_step.specs.declared.part.HeldPart.{HeldPart}
@@ -12,8 +12,10 @@ use Rattle.unit_step.specs.Evaluating.{rooms}
 use Rattle.unit_step.specs.Seating.{Disowns, IsVacant, one_of}
 use Rattle.unit_step.specs.Readers.{Unlists}
 use Rattle.unit_step.specs.Dense.{AreDense, AreSeatsOf}
+use Rattle.unit_step.specs.Lasting.{starts_of, texts_numbered, texts_lasting}
 use Rattle.unit_step.proofs.DenseLemmas.{AreSeatsOf-cleared}
 use Rattle.unit_step.proofs.SeatingLemmas.{seat_of, members_there, reads_there, IsMachine-vacated}
+use Rattle.unit_step.proofs.LastingEdits.{AreLasting-same, AreLasting-vacated}
 use Rattle.unit_step.proofs.machine.Machine.vacate.Goals as goal
 
 pub disown-requires : goal.disown-requires
@@ -46,6 +48,15 @@ unlist-requires c =
 
 pub invariant_of-self : goal.invariant_of-self
 invariant_of-self c =
+    let i = c.self.inside in (
+      c.self.invariant.0,
+      c.self.invariant.1,
+      AreLasting-same i.parts.items i.uses.numbers (length i.state.items) (length i.uses.known) i.lasting c.self.invariant.2 i.uses.numbers
+          c.note.new.self (λ k. refl) (ap (λ (list : Vec (Option ℕ) Global). list.items) c.note.ensures.numbers) c.in_err-note.ensures.err,
+    )
+
+pub invariant_of-self-2 : goal.invariant_of-self-2
+invariant_of-self-2 c =
     let i = c.self.inside in
     let k = c.args.k in
     let gone = c.replace-gone.result in
@@ -72,15 +83,21 @@ invariant_of-self c =
     let cleared = AreSeatsOf-cleared i.parts.items k e i.dense.nodes.items i.dense.seats.items c.clear.new.self.seats.items vacant.code
     c.clear.ensures.inside c.clear.ensures.seats c.self.invariant.1 in
     let dense : AreDense (slice_set i.parts.items k e) c.clear.new.self =
-    subst (λ (nodes : Vec ℕ Global). AreSeatsOf (slice_set i.parts.items k e) nodes.items c.clear.new.self.seats.items) (sym c.clear.ensures.nodes) cleared in (
+    subst (λ (nodes : Vec ℕ Global). AreSeatsOf (slice_set i.parts.items k e) nodes.items c.clear.new.self.seats.items) (sym c.clear.ensures.nodes) cleared in
+    let noted : c.note.new.self.changed.items ≡ i.lasting.changed.items ++ starts_of gone =
+    c.in_ok-note.ensures.ok ∙ ap (λ part. i.lasting.changed.items ++ starts_of part)
+    (c.index.ensures ∙ get_or_default i.parts.items k c.index.result.now gone inside ∙ sym read) in
+    let lasting = AreLasting-vacated i.parts.items i.uses.numbers (length i.state.items) (length i.uses.known) i.lasting c.self.invariant.2 k
+    gone stands seat.below e vacant c.note.new.self c.note.ensures.numbers noted in (
       rw (owners, c.release.ensures.marks, c.release.ensures.waiting, c.free.ensures.numbers)
           (IsMachine-vacated i.parts.items i.agenda.marks i.agenda.waiting (length i.state.items) i.readers i.owners.items i.uses.numbers i.held i.most
           (rooms i.desk) c.self.invariant.0 k gone stands e vacant c.unlist.new.self c.disown.new.owners disowns unlists _ _ held most),
       dense,
+      rw (c.free.ensures.numbers, c.free.ensures.known) lasting,
     )
 
-pub returns : goal.returns
-returns c =
+pub returns-clause-ok : goal.returns-clause-ok
+returns-clause-ok c =
     let i = c.self.inside in
     let e = c.replace-gone.new.dest in
     let vacant : IsVacant e = subst IsVacant (sym c.replace-gone.ensures.after) c.no_part.ensures in
@@ -92,6 +109,9 @@ returns c =
       marks = c.release.ensures.marks;
       groups = refl;
       state = refl;
+      last =
+          ap (λ known. texts_lasting known c.note.new.self) c.free.ensures.known
+          ∙ ap (λ (list : Vec (Option ℕ) Global). texts_numbered i.uses.known list.items) c.note.ensures.numbers;
       moves = refl;
       placed = refl;
       spare = refl;

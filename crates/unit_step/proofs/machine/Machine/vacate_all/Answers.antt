@@ -14,4 +14,5 @@ loop-node-preserved c =
     let i = c.loop-node.node-index in
     let more : take (i + 1) nodes ≡ take i nodes ++ get_or nodes i 0 ∷ [] = take_more nodes i 0 c.loop-node-test.true in
     subst (λ list. Clears list c.args.self.now c.vacate_owner.new.self) (sym more)
-    (Clears-more (take i nodes) (get_or nodes i 0) c.args.self.now c.loop-node.self c.vacate_owner.new.self c.loop-node.invariant c.vacate_owner.ensures)
+    (Clears-more (take i nodes) (get_or nodes i 0) c.args.self.now c.loop-node.self c.vacate_owner.new.self
+    c.loop-node.invariant c.in_ok-vacate_owner.ensures.ok)

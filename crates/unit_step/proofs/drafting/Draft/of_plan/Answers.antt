@@ -1,6 +1,5 @@
--- The parts are those of the graph's groups, all marked, so the machine fits the graph.
-use Rattle.std.proofs.Common.{◌≡◌, ℕ, Some, length, map, refl, sym, ap, subst, ◌∙◌, arith}
-use Rattle.std.specs.Prelude.{zip}
+-- The parts are those of the graph's groups, all marked, so the machine that starts fits the graph.
+use Rattle.std.proofs.Common.{Some, length, map, refl, sym, ap, ◌∙◌}
 use Rattle.std.proofs.lemmas.List.{length-map}
 use Rattle.std.proofs.lemmas.Slice.Zip.{AllZip-long}
 use Rattle.path_meaning.specs.Graphs.{nodes}
@@ -8,14 +7,11 @@ use Rattle.group_text.specs.Texts.{text_of_group, local_nodes}
 use Rattle.circuit_texts.specs.Parts.{IsPartOf}
 use Rattle.circuit_texts.specs.Reading.{AreReads}
 use Rattle.circuit_texts.proofs.MemberLemmas.{AreMembers-from_groups}
-use Rattle.kept_parts.specs.Uses.{texts_used}
 use Rattle.kept_parts.proofs.GroupParts.{parts_of_groups, parts_fit}
-use Rattle.unit_step.specs.Making.{held, started}
-use Rattle.unit_step.specs.Machines.{MachineData}
-use Rattle.unit_step.specs.Fitting.{FitsGraph}
-use Rattle.unit_step.proofs.MakingLemmas.{formed_parts, apart_parts, reads_inside, held_few}
-use Rattle.unit_step.proofs.BuildLemmas.{fresh_parts, lists_inside, FitsGraph-started, if_ok, numbers_counted, all_numbered}
-use Rattle.unit_step.proofs.machine.Machine.of_plan.Goals as goal
+use Rattle.unit_step.proofs.MakingLemmas.{formed_parts, apart_parts, reads_inside, held_count}
+use Rattle.unit_step.proofs.BuildLemmas.{lists_inside, numbers_counted, all_numbered}
+use Rattle.unit_step.proofs.DraftLemmas.{FitsGraph-planned, FitsGraph-drafted, HasLast-drafted}
+use Rattle.unit_step.proofs.drafting.Draft.of_plan.Goals as goal
 
 pub parts_by_number-requires-clause-maps : goal.parts_by_number-requires-clause-maps
 parts_by_number-requires-clause-maps c =
@@ -40,8 +36,8 @@ held_parts-requires c =
     AllZip-long (λ group list. AreReads g group list.items) groups c.args.plan.reads.items plan.reads
     ∙ sym (AllZip-long (IsPartOf g) groups parts of)
 
-pub assemble-requires : goal.assemble-requires
-assemble-requires c =
+pub of_parts-requires : goal.of_parts-requires
+of_parts-requires c =
     let g = c.args.graph.now in
     let groups = c.args.plan.groups.groups in
     let texts = map (text_of_group g) groups in
@@ -51,11 +47,12 @@ assemble-requires c =
     let wired = c.graphs_are_wired.ensures in
     let of = parts_of_groups g groups texts _ parts refl plan.maps (c.in_ok-parts.ensures texts plan.texts) in
     let numbers = numbers_counted g c.args.plan.state.items c.args.plan plan in
+    let lists = AllZip-long (λ group list. AreReads g group list.items) groups reads plan.reads ∙ sym (AllZip-long (IsPartOf g) groups parts of) in
     rw (c.in_ok-held.ensures, c.requires.counted) (record {
       formed = formed_parts (nodes g) parts reads (parts_fit g wired groups plan.are.are parts of);
       apart = apart_parts parts reads (AreMembers-from_groups g groups plan.are.are parts of).once;
       reads = reads_inside (nodes g) parts reads (lists_inside g wired groups reads plan.reads);
-      numbered = omega (arith, numbers, held_few parts reads, sym (AllZip-long (IsPartOf g) groups parts of));
+      numbered = numbers ∙ sym (AllZip-long (IsPartOf g) groups parts of) ∙ sym (held_count parts reads lists);
     })
 
 pub returns-clause-fits : goal.returns-clause-fits
@@ -64,17 +61,22 @@ returns-clause-fits c =
     let groups = c.args.plan.groups.groups in
     let texts = map (text_of_group g) groups in
     let parts = c.in_ok-parts.parts.items in
-    let reads = c.args.plan.reads.items in
-    let state = c.args.plan.state.items in
-    let all = map held (zip parts reads) in
     let plan = c.requires.plan in
-    let uses = texts_used c.args.plan.uses in
     let of = parts_of_groups g groups texts _ parts refl plan.maps (c.in_ok-parts.ensures texts plan.texts) in
-    let fresh = fresh_parts g groups plan.are.are.each parts reads of plan.reads in
-    let apart = apart_parts parts reads (AreMembers-from_groups g groups plan.are.are parts of).once in
-    let fits = λ (spare : ℕ). FitsGraph-started g groups all fresh c.args.plan.groups refl plan.are plan.fit apart state c.requires.counted
-    c.requires.railed c.requires.sound uses plan.texts spare in
-    let same : c.in_ok-held.held.items ≡ all = c.in_ok-held.ensures in
-    if_ok (λ (machine : MachineData). machine ≡ started (Some c.args.plan.groups) c.in_ok-held.held.items state uses machine.spare) (FitsGraph g)
-    (λ machine is. subst (FitsGraph g) (sym (is ∙ ap (λ list. started (Some c.args.plan.groups) list state uses machine.spare) same)) (fits machine.spare))
-    c.assemble.result c.assemble.ensures
+    let fits = FitsGraph-planned g c.args.plan plan c.requires.counted c.requires.railed c.requires.sound parts of
+    c.in_ok-held.held.items c.in_ok-held.ensures in
+    FitsGraph-drafted g (Some c.args.plan.groups) c.in_ok-held.held c.args.plan.state c.args.plan.uses fits c.of_parts.result c.of_parts.ensures.groups
+    c.of_parts.ensures.parts c.of_parts.ensures.state c.of_parts.ensures.uses
+
+pub returns-clause-last : goal.returns-clause-last
+returns-clause-last c =
+    let g = c.args.graph.now in
+    let groups = c.args.plan.groups.groups in
+    let texts = map (text_of_group g) groups in
+    let parts = c.in_ok-parts.parts.items in
+    let plan = c.requires.plan in
+    let of = parts_of_groups g groups texts _ parts refl plan.maps (c.in_ok-parts.ensures texts plan.texts) in
+    let fits = FitsGraph-planned g c.args.plan plan c.requires.counted c.requires.railed c.requires.sound parts of
+    c.in_ok-held.held.items c.in_ok-held.ensures in
+    HasLast-drafted g (Some c.args.plan.groups) c.in_ok-held.held c.args.plan.state c.args.plan.uses fits c.of_parts.result c.of_parts.ensures.uses
+    c.of_parts.ensures.order

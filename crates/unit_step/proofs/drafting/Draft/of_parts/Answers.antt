@@ -1,5 +1,5 @@
 -- All that was made is of these parts, so the machine can run.
-use Rattle.std.proofs.Common.{◌≡◌, ℕ, true, false, length, ap, sym, subst, ◌∙◌, arith}
+use Rattle.std.proofs.Common.{◌≡◌, ℕ, true, false, length, ap, refl, sym, subst, ◌∙◌, arith}
 use Rattle.std.specs.Prelude.{Contains, replicate, count_by}
 use Rattle.unit_step.specs.Parts.{ReadsAt, AreApart, has_members}
 use Rattle.unit_step.specs.Evaluating.{rooms}
@@ -7,14 +7,19 @@ use Rattle.unit_step.specs.Running.{AreOwners}
 use Rattle.unit_step.specs.Readers.{readers_of}
 use Rattle.unit_step.specs.Making.{HasRoomFor}
 use Rattle.unit_step.specs.Dense.{AreDense}
+use Rattle.unit_step.specs.Lasting.{AreLasting}
+use Rattle.unit_step.proofs.LastingOrder.{AreInOrder-lasting}
 use Rattle.unit_step.proofs.MakingLemmas.{IsMachine-started}
-use Rattle.unit_step.proofs.machine.Machine.assemble.Goals as goal
+use Rattle.unit_step.proofs.drafting.Draft.of_parts.Goals as goal
 
 pub all_owners-requires-clause-apart : goal.all_owners-requires-clause-apart
 all_owners-requires-clause-apart c = subst AreApart (sym c.deref-3.ensures.value) c.requires.apart
 
-pub invariant_of-result : goal.invariant_of-result
-invariant_of-result c =
+pub of_parts-requires-3-clause-apart : goal.of_parts-requires-3-clause-apart
+of_parts-requires-3-clause-apart c = subst AreApart (sym c.deref-6.ensures.value) c.requires.apart
+
+pub returns-clause-starts : goal.returns-clause-starts
+returns-clause-starts c =
     let parts = c.args.parts.items in
     let nodes = length c.args.state.items in
     let lists = c.in_ok-readers.readers in
@@ -32,9 +37,22 @@ invariant_of-result c =
     let number = c.count_held-held.ensures ∙ ap (count_by has_members) c.deref.ensures.value in
     let fits = subst (λ list. HasRoomFor list room) c.deref-4.ensures.value c.in_ok-desk.ensures in
     let waits : c.in_ok-agenda.agenda.waiting ≡ replicate (length parts) false = c.in_ok-agenda.ensures.waiting ∙ ap (λ n. replicate n false) count in
-    let dense = subst (λ list. AreDense list c.in_ok-dense.dense) c.deref-5.ensures.value c.in_ok-dense.ensures in (
-      rw (marks, waits)
-          (IsMachine-started parts nodes lists owners c.args.uses.numbers c.count_held-held.result c.capacity-most.result room c.requires.formed c.requires.apart
-          (c.in_ok-readers.ensures.count ∙ nodes_are) readers reads own c.requires.numbered number c.capacity-most.ensures fits),
-      dense,
-    )
+    let dense = subst (λ list. AreDense list c.in_ok-dense.dense) c.deref-5.ensures.value c.in_ok-dense.ensures in
+    record {
+      marked = marks;
+      runs = rw (marks, waits)
+          (IsMachine-started parts nodes lists owners c.args.uses.numbers c.count_held-held.result room.changes room c.requires.formed c.requires.apart
+          (c.in_ok-readers.ensures.count ∙ nodes_are) readers reads own (omega (arith, c.requires.numbered)) number refl fits);
+      dense = dense;
+      lasting = subst (λ list. AreLasting list c.args.uses.numbers nodes (length c.args.uses.known) c.in_ok-lasting.lasting) c.deref-6.ensures.value
+          (subst (λ n. AreLasting c.deref-6.result.now c.args.uses.numbers n (length c.args.uses.known) c.in_ok-lasting.lasting) nodes_are
+          c.in_ok-lasting.ensures.lasting);
+    }
+
+pub returns-clause-order : goal.returns-clause-order
+returns-clause-order c =
+    let uses = c.args.uses in
+    AreInOrder-lasting c.args.parts.items uses c.len-nodes.result c.in_ok-lasting.lasting
+    (subst (λ list. AreLasting list uses.numbers c.len-nodes.result (length uses.known) c.in_ok-lasting.lasting) c.deref-6.ensures.value
+    c.in_ok-lasting.ensures.lasting)
+    c.in_ok-lasting.ensures.none

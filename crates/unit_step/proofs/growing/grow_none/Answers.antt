@@ -1,13 +1,13 @@
 -- One node more is there.
 use Rattle.std.proofs.Common.{◌≡◌, None, [], ◌∷◌, ◌++◌, rules, arith}
 use Rattle.unit_step.proofs.EditingLemmas.{replicated-more}
-use Rattle.unit_step.proofs.growing.grow_owners.Goals as goal
+use Rattle.unit_step.proofs.growing.grow_none.Goals as goal
 
 pub loop-node-preserved : goal.loop-node-preserved
 loop-node-preserved c =
-    let pushed : c.push_reserved.new.self.items ≡ c.loop-node.owners.items ++ None ∷ [] = search rules in
+    let pushed : c.push_reserved.new.self.items ≡ c.loop-node.all.items ++ None ∷ [] = search rules in
     record {
-      items = replicated-more None c.args.owners.now.items c.loop-node.owners.items c.push_reserved.new.self.items c.loop-node._node c.loop-node.invariant.low
+      items = replicated-more None c.args.all.now.items c.loop-node.all.items c.push_reserved.new.self.items c.loop-node._node c.loop-node.invariant.low
           c.loop-node.invariant.items pushed;
       low = omega arith;
       high = omega arith;

@@ -1,0 +1,82 @@
+-- A draft of a plan's parts: the machine that starts so fits the graph, and the texts of the graph's groups are those of its last build.
+use Rattle.std.proofs.Common.{◌≡◌, ℕ, zero, suc, List, [], ◌∷◌, length, map, Some, None, Result, Ok, Err, IfOk, Vec, Global, refl, sym, subst, ◌∙◌}
+use Rattle.std.specs.Prelude.{Option, zip, replicate, slice_index_or}
+use Rattle.std.specs.List.{AllZip}
+use Rattle.ternary.specs.declared.memory.NoMemory.{NoMemory}
+use Rattle.ternary.specs.declared.tern.Tern.{Tern}
+use Rattle.path_meaning.specs.Graphs.{GraphData, nodes}
+use Rattle.path_meaning.specs.Rails.{IsRailed, IsSound}
+use Rattle.channel_groups.specs.Grouping.{GroupsData}
+use Rattle.group_text.specs.Texts.{GroupTextData}
+use Rattle.straight_code.specs.declared.part.Part.{Part}
+use Rattle.circuit_texts.specs.Parts as made
+use Rattle.circuit_texts.proofs.MemberLemmas.{AreMembers-from_groups}
+use Rattle.circuit_texts.proofs.PairedLists.{partner_first}
+use Rattle.kept_parts.specs.Uses.{UsesData, texts_used}
+use Rattle.unit_step.specs.declared.part.HeldPart.{HeldPart}
+use Rattle.unit_step.specs.declared.planning.Plan.{Plan}
+use Rattle.unit_step.specs.declared.drafting.Draft.{Draft}
+use Rattle.unit_step.specs.Making.{held, started}
+use Rattle.unit_step.specs.Planning.{IsPlan}
+use Rattle.unit_step.specs.Drafting.{drafted}
+use Rattle.unit_step.specs.Fitting.{FitsGraph}
+use Rattle.unit_step.specs.Lasting.{Begins, AreInOrder, HasLast, texts_lasting}
+use Rattle.unit_step.proofs.MakingLemmas.{apart_parts}
+use Rattle.unit_step.proofs.BuildLemmas.{fresh_parts, FitsGraph-started}
+use Rattle.unit_step.proofs.LastingGroups.{HasLast-order}
+
+-- a machine that starts with the parts of a plan fits the graph, whatever its last texts were
+pub FitsGraph-planned : (g : GraphData) (plan : Plan) → IsPlan g plan.state.items plan → length plan.state.items ≡ nodes g → IsRailed g →
+    IsSound plan.state.items → (parts : List Part) → AllZip (made.IsPartOf g) plan.groups.groups parts → (all : List HeldPart) →
+    all ≡ map held (zip parts plan.reads.items) → (last : List GroupTextData) (spare : ℕ) →
+    FitsGraph g (started (Some plan.groups) all plan.state.items (texts_used plan.uses) last spare)
+FitsGraph-planned g plan is_plan counted railed sound parts of all all_are last spare =
+    let groups = plan.groups.groups in
+    let reads = plan.reads.items in
+    let fresh = fresh_parts g groups is_plan.are.are.each parts reads of is_plan.reads in
+    let apart = apart_parts parts reads (AreMembers-from_groups g groups is_plan.are.are parts of).once in
+    rw all_are
+    (FitsGraph-started g groups (map held (zip parts reads)) fresh plan.groups refl is_plan.are is_plan.fit apart plan.state.items counted railed sound
+    (texts_used plan.uses) is_plan.texts last spare)
+
+-- the machine that starts with a draft of these parts, in this state and with these texts
+pub drafted-of : (groups : Option GroupsData) (parts : Vec HeldPart Global) (state : Vec Tern Global) (uses : UsesData) (draft : Draft) →
+    draft.groups ≡ groups → draft.parts ≡ parts → draft.state ≡ state → draft.uses ≡ uses → (spare : ℕ) →
+    drafted draft spare ≡ started groups parts.items state.items (texts_used uses) (texts_lasting uses.known draft.lasting) spare
+drafted-of groups parts state uses draft groups_are parts_are state_is uses_are spare = λ i.
+    started (groups_are i) (parts_are i).items (state_is i).items (texts_used (uses_are i)) (texts_lasting (uses_are i).known draft.lasting) spare
+
+-- where the same stands everywhere, it stands at each place
+same_at : {X : Type 0} (x : X) (n k : ℕ) → slice_index_or (replicate n x) k x ≡ x
+same_at x zero k = refl
+same_at x (suc n) zero = refl
+same_at x (suc n) (suc k) = same_at x n k
+
+-- parts without texts have no last ones
+pub none_last : (parts : List HeldPart) (count : ℕ) (last : List GroupTextData) → AreInOrder parts (replicate count None) last → last ≡ []
+none_last parts count [] order = refl
+none_last parts count (text ∷ last) order =
+    let (place, at, begins) = partner_first (Begins parts (replicate count None)) order.places (text ∷ last) 0 text order.each refl in
+    let both : None ≡ Some text = sym (same_at None count begins.k) ∙ begins.has in
+    absurd cc
+
+module _ (g : GraphData) (groups : Option GroupsData) (parts : Vec HeldPart Global) (state : Vec Tern Global) (uses : UsesData)
+    (fits : (last : List GroupTextData) (spare : ℕ) → FitsGraph g (started groups parts.items state.items (texts_used uses) last spare)) where
+  -- so it does with a draft of them
+  pub FitsGraph-drafted : (result : Result Draft NoMemory) → IfOk result (λ draft. draft.groups ≡ groups) → IfOk result (λ draft. draft.parts ≡ parts) →
+      IfOk result (λ draft. draft.state ≡ state) → IfOk result (λ draft. draft.uses ≡ uses) →
+      IfOk result (λ draft. (spare : ℕ) → FitsGraph g (drafted draft spare))
+  FitsGraph-drafted (Ok draft) groups_are parts_are state_is uses_are = λ spare.
+      subst (FitsGraph g) (sym (drafted-of groups parts state uses draft groups_are parts_are state_is uses_are spare))
+      (fits (texts_lasting uses.known draft.lasting) spare)
+  FitsGraph-drafted (Err fault) groups_are parts_are state_is uses_are = tt
+
+  -- and the last texts are those of the groups
+  pub HasLast-drafted : (result : Result Draft NoMemory) → IfOk result (λ draft. draft.uses ≡ uses) →
+      IfOk result (λ draft. AreInOrder parts.items (texts_used uses) (texts_lasting uses.known draft.lasting)) →
+      IfOk result (λ draft. HasLast g (texts_lasting draft.uses.known draft.lasting))
+  HasLast-drafted (Ok draft) uses_are order =
+      let last = texts_lasting uses.known draft.lasting in
+      subst (λ (one : UsesData). HasLast g (texts_lasting one.known draft.lasting)) (sym uses_are)
+      (HasLast-order g (started groups parts.items state.items (texts_used uses) last 0) (fits last 0) last order)
+  HasLast-drafted (Err fault) uses_are order = tt

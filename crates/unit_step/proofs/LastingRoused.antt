@@ -1,0 +1,131 @@
+-- The texts of the last build are known while stale parts get their codes: where these parts begin is noted, and they begin where they did.
+use Rattle.std.proofs.Common.{◌≡◌, ◌≢◌, ℕ, ◌<◌, ◌≤◌, inl, inr, ◌⊎◌, List, length, get_or, All, Option, Some, None, Vec, Global, refl, sym, ap, subst, ◌∙◌, arith, length-append}
+use Rattle.std.specs.Prelude.{Contains, slice_index_or}
+use Rattle.std.specs.List.{AllZip}
+use Rattle.std.proofs.lemmas.List.Elements.{All-contains, Contains-get_or}
+use Rattle.path_meaning.specs.Graphs.{GraphData}
+use Rattle.group_meaning.specs.Groups.{Group, id_of}
+use Rattle.group_text.specs.Texts.{GroupTextData}
+use Rattle.kept_parts.specs.Uses.{UsesData, IsNumbered, some_texts, count_distinct}
+use Rattle.kept_parts.proofs.NumberLemmas.{used_known_more}
+use Rattle.unit_step.specs.declared.part.HeldPart.{HeldPart}
+use Rattle.unit_step.specs.declared.lasting.Lasting.{Lasting}
+use Rattle.unit_step.specs.Parts.{IsMemberAt}
+use Rattle.unit_step.specs.Machines.{MachineData}
+use Rattle.unit_step.specs.Evaluating.{Rooms, IsSeated}
+use Rattle.unit_step.specs.Fitting.{Covers}
+use Rattle.unit_step.specs.Finishing.{IsFresh, AreWaiting, Puts}
+use Rattle.unit_step.specs.Lasting.{BeginsAt, Begins, AreLasting, texts_lasting, texts_numbered}
+use Rattle.unit_step.proofs.PartLemmas.{member_from_part}
+use Rattle.unit_step.proofs.FinishingRoused.{Stands-at, at-Stands, stays_or_comes, read_same}
+use Rattle.unit_step.proofs.LastingGroups.{first_member}
+
+-- the same is known where further texts get numbers
+pub AreLasting-numbered : (parts : List HeldPart) (old new : UsesData) (count : ℕ) (lasting : Lasting) → IsNumbered old new →
+    AreLasting parts old.numbers count (length old.known) lasting → AreLasting parts new.numbers count (length new.known) lasting
+AreLasting-numbered parts old new count lasting numbered are =
+    let longer : length old.known ≤ length new.known = omega (arith, ap length numbered.known, length-append old.known numbered.more) in
+    subst (λ numbers. AreLasting parts numbers count (length new.known) lasting) (sym numbered.numbers) (record {
+      counted = are.counted;
+      inside = λ node number is. omega (arith, are.inside node number is, longer);
+      begins = are.begins;
+      lasts = are.lasts;
+      within = are.within;
+      beyond = are.beyond;
+    })
+
+-- the texts of the last build stay where further texts get numbers
+pub texts_lasting-numbered : (old new : UsesData) (now : List GroupTextData) (lasting noted : Lasting) → IsNumbered old new → now ≡ new.known →
+    noted.numbers ≡ lasting.numbers → ((node number : ℕ) → slice_index_or lasting.numbers.items node None ≡ Some number → number < length old.known) →
+    texts_lasting now noted ≡ texts_lasting old.known lasting
+texts_lasting-numbered old new now lasting noted numbered now_is numbers_are inside =
+    let before : UsesData = record { known = old.known; numbers = lasting.numbers.items } in
+    let after : UsesData = record { known = new.known; numbers = lasting.numbers.items } in
+    let more : IsNumbered before after = record { more = numbered.more; known = numbered.known; numbers = refl } in
+    ap (λ known. texts_lasting known noted) now_is
+    ∙ (ap (λ (list : Vec (Option ℕ) Global). texts_numbered new.known list.items) numbers_are
+    ∙ ap some_texts (used_known_more before after inside more))
+
+-- a machine in which as many texts are used, and were at the last build
+pub same_texts_left : (m : MachineData) (uses : List (Option GroupTextData)) (last : List GroupTextData) → uses ≡ m.uses → last ≡ m.last →
+    record m { uses = uses; texts = count_distinct uses; last = last } ≡ record m { texts = count_distinct m.uses }
+same_texts_left m uses last uses_are last_is = λ i. record m { uses = uses_are i; texts = count_distinct (uses_are i); last = last_is i }
+
+module _ (parts : List HeldPart) (numbers : List (Option ℕ)) (count known : ℕ) where
+  -- a part begins at a node that is there
+  begins_inside : (room : Rooms) → All (IsSeated count room) parts → (k node : ℕ) → BeginsAt parts k node → node < count
+  begins_inside room seated k node begins =
+      let seat = subst (IsSeated count room) begins.stands.here (seated k begins.part begins.stands.inside) in
+      subst (λ n. n < count) begins.first.here (seat.below 0 0 begins.first.within)
+
+  -- some nodes more are noted at which parts begin
+  pub AreLasting-noted : (room : Rooms) → All (IsSeated count room) parts → (slots : List ℕ) (lasting noted : Lasting) →
+      noted.numbers ≡ lasting.numbers → ((node : ℕ) → Contains lasting.changed.items node → Contains noted.changed.items node) →
+      ((node : ℕ) → Contains noted.changed.items node → Contains lasting.changed.items node ⊎ ((k : ℕ) × Contains slots k × BeginsAt parts k node)) →
+      AreLasting parts numbers count known lasting → AreLasting parts numbers count known noted
+  AreLasting-noted room seated slots lasting noted numbers_are stays only are = record {
+    counted = ap (λ (list : Vec (Option ℕ) Global). length list.items) numbers_are ∙ are.counted;
+    inside = λ node number is. are.inside node number (sym (still node) ∙ is);
+    begins = λ node number is none. are.begins node number (sym (still node) ∙ is) (λ there. none (stays node there));
+    lasts = λ node number begins none. still node ∙ are.lasts node number begins (λ there. none (stays node there));
+    within = λ i d inside.
+        let node = get_or noted.changed.items i d in
+        elim (only node (Contains-get_or noted.changed.items i d inside)) [
+          | inl was ↦ All-contains (λ n. n < count) lasting.changed.items node are.within was
+          | inr (k, slot, begins) ↦ begins_inside room seated k node begins
+        ];
+    beyond = are.beyond;
+  }
+    where
+      still : (node : ℕ) → slice_index_or noted.numbers.items node None ≡ slice_index_or lasting.numbers.items node None
+      still node = ap (λ (list : Vec (Option ℕ) Global). slice_index_or list.items node None) numbers_are
+
+module _ (g : GraphData) (m : MachineData) (covers : Covers g m) (groups some : List Group) (slots : List ℕ) (waiting : AreWaiting g m.parts groups some slots)
+    (fresh : List HeldPart) (fresh_are : AllZip (IsFresh g) some fresh) (new : List HeldPart) (puts : Puts slots fresh m.parts new) where
+  -- a part begins where it did
+  BeginsAt-was : (k node : ℕ) → BeginsAt new k node → BeginsAt m.parts k node
+  BeginsAt-was k node begins =
+      elim (stays_or_comes g m covers groups some slots waiting fresh fresh_are new puts k begins.part begins.stands) [
+        | inl stays ↦ record { part = begins.part; stands = stays.stands; first = begins.first }
+        | inr comes ↦
+            let here = member_from_part g comes.group begins.part comes.is.is_part 0 node begins.first in
+            record {
+              part = comes.was.part;
+              stands = comes.was.stands;
+              first = subst (IsMemberAt comes.was.part 0) here (first_member g comes.group comes.was.part comes.was.is_part);
+            }
+      ]
+
+  -- and one that waited for no code stays
+  BeginsAt-stays : (k node : ℕ) → ¬ Contains slots k → BeginsAt m.parts k node → BeginsAt new k node
+  BeginsAt-stays k node no_slot begins = record {
+    part = begins.part;
+    stands = Stands-at new k begins.part (puts.stays k no_slot ∙ at-Stands m.parts k begins.part begins.stands);
+    first = begins.first;
+  }
+
+  module _ (old_numbers new_numbers : List (Option ℕ)) (items : List (Option ℕ)) (text_puts : Puts slots items old_numbers new_numbers) (count known : ℕ)
+      (lasting : Lasting) (are : AreLasting m.parts old_numbers count known lasting)
+      (noted : (k node : ℕ) → Contains slots k → BeginsAt m.parts k node → Contains lasting.changed.items node)
+      (inside : All (λ k. k < length m.parts) slots) where
+    number_stays : (k : ℕ) → ¬ Contains slots k → slice_index_or new_numbers k None ≡ slice_index_or old_numbers k None
+    number_stays k no_slot = read_same new_numbers old_numbers k (text_puts.stays k no_slot)
+
+    -- where the parts begin that got their codes is noted
+    pub AreLasting-roused : AreLasting new new_numbers count known lasting
+    AreLasting-roused = record {
+      counted = are.counted;
+      inside = are.inside;
+      begins = λ node number is none.
+          let begins = are.begins node number is none in
+          let no_slot : ¬ Contains slots begins.k = λ there. none (noted begins.k node there begins.at) in
+          record { k = begins.k; at = BeginsAt-stays begins.k node no_slot begins.at; has = number_stays begins.k no_slot ∙ begins.has };
+      lasts = λ node number begins none.
+          let at = BeginsAt-was begins.k node begins.at in
+          let no_slot : ¬ Contains slots begins.k = λ there. none (noted begins.k node there at) in
+          are.lasts node number (record { k = begins.k; at = at; has = sym (number_stays begins.k no_slot) ∙ begins.has }) none;
+      within = are.within;
+      beyond = λ k past.
+          let no_slot : ¬ Contains slots k = λ there. absurd (omega (arith, past, puts.count, All-contains (λ one. one < length m.parts) slots k inside there)) in
+          number_stays k no_slot ∙ are.beyond k (omega (arith, past, puts.count));
+    }

@@ -1,0 +1,91 @@
+-- The texts that are gone were used, what is past the bound was cut, and the present texts are those of the last build from now on.
+use Rattle.std.proofs.Common.{◌≡◌, ℕ, ◌≤◌, Bool, true, List, [], Option, None, All, length, sym, ap, subst, ◌∙◌}
+use Rattle.std.specs.Prelude.{slice_index_or}
+use Rattle.smallvec.specs.SmallVec.{SmallVec}
+use Rattle.group_text.specs.Texts.{GroupTextData}
+use Rattle.group_text.specs.FirstTexts.{is_among}
+use Rattle.analysis_cache.specs.Keeping.{texts_of}
+use Rattle.kept_parts.specs.Uses.{AreSame, UsesData, some_texts, texts_used}
+use Rattle.unit_step.specs.declared.part.HeldPart.{HeldPart}
+use Rattle.unit_step.specs.declared.lasting.Lasting.{Lasting}
+use Rattle.unit_step.specs.Parts.{Stands, AreApart}
+use Rattle.unit_step.specs.Machines.{MachineData}
+use Rattle.unit_step.specs.Evaluating.{Rooms, rooms}
+use Rattle.unit_step.specs.Running.{IsMachine}
+use Rattle.unit_step.specs.Lasting.{AreInOrder, AreLasting, IsLeft, texts_lasting}
+use Rattle.unit_step.proofs.SeatingLemmas.{seat_of}
+use Rattle.unit_step.proofs.LastingOrder.{AreInOrder-lasting, text_at, text_of_part}
+use Rattle.unit_step.proofs.LeavingOrder.{AreSame-order, IsLeft-settled, in_use-kept, present-kept}
+use Rattle.unit_step.proofs.machine.Machine.settle_last.Goals as goal
+
+pub use_leavers-requires-clause-kept : goal.use_leavers-requires-clause-kept
+use_leavers-requires-clause-kept g c =
+    subst (λ (m : MachineData). All (λ text. is_among (texts_of c.args.kept.now) text ≡ true) m.last) (sym c.self.view_is) c.requires.last
+
+pub cut_past_bound-requires : goal.cut_past_bound-requires
+cut_past_bound-requires g c =
+    let kept = texts_of c.args.kept.now in
+    let all : All (λ text. is_among kept text ≡ true) (some_texts (texts_used c.self.inside.uses)) =
+    subst (λ (m : MachineData). All (λ text. is_among kept text ≡ true) (some_texts m.uses)) (sym c.self.view_is) c.requires.used in
+    let leaves = c.use_leavers.ensures.uses in
+    in_use-kept c.self.inside.uses leaves.leavers kept (texts_of c.use_leavers.new.kept) all leaves.used
+
+pub renew-requires-clause-apart : goal.renew-requires-clause-apart
+renew-requires-clause-apart g c = subst AreApart (sym c.deref-2.ensures.value) c.self.invariant.0.runs.apart
+
+-- the texts are in order once no node is noted
+in_order : (parts read : List HeldPart) (uses : UsesData) (count : ℕ) (lasting : Lasting) → read ≡ parts →
+    AreLasting read uses.numbers count (length uses.known) lasting → lasting.changed.items ≡ [] →
+    AreInOrder parts (texts_used uses) (texts_lasting uses.known lasting)
+in_order parts read uses count lasting is are none =
+    AreInOrder-lasting parts uses count lasting (subst (λ list. AreLasting list uses.numbers count (length uses.known) lasting) is are) none
+
+pub returns-clause-order : goal.returns-clause-order
+returns-clause-order g c =
+    let i = c.self.inside in
+    in_order i.parts.items c.deref-2.result.now i.uses (length c.deref-3.result.now) c.renew.new.self c.deref-2.ensures.value c.renew.ensures.lasting
+    c.renew.ensures.none
+
+-- and they are those that the parts have
+present_same : (parts : List HeldPart) (uses : UsesData) (marks waiting : List Bool) (count : ℕ) (lists : List (SmallVec ℕ)) (owners : List (Option ℕ))
+    (held most : ℕ) (room : Rooms) (machine : MachineData) (present : List GroupTextData) → IsMachine parts marks waiting count lists owners uses.numbers held most room →
+    ((k : ℕ) → length parts ≤ k → slice_index_or uses.numbers k None ≡ None) → machine.parts ≡ parts → machine.uses ≡ texts_used uses →
+    ((k : ℕ) (part : HeldPart) → Stands machine.parts k part → part.members ≡ 0 → slice_index_or machine.uses k None ≡ None) →
+    AreInOrder parts (texts_used uses) present → AreSame present (some_texts (texts_used uses))
+present_same parts uses marks waiting count lists owners held most room machine present is past_none parts_are uses_are textless order =
+    AreSame-order parts (texts_used uses) present order is.runs.apart
+    (λ k part stands. (seat_of parts marks waiting count lists owners uses.numbers held most room is k part stands).members)
+    (λ k part stands none.
+    ap (λ texts. slice_index_or texts k None) (sym uses_are) ∙ textless k part (subst (λ list. Stands list k part) (sym parts_are) stands) none)
+    (λ k past. text_of_part uses.known uses.numbers k ∙ ap (text_at uses.known) (past_none k past))
+
+pub returns-clause-left : goal.returns-clause-left
+returns-clause-left g c =
+    let i = c.self.inside in
+    let parts = i.parts.items in
+    let present = texts_lasting i.uses.known c.renew.new.self in
+    let order : AreInOrder parts (texts_used i.uses) present =
+    in_order parts c.deref-2.result.now i.uses (length c.deref-3.result.now) c.renew.new.self c.deref-2.ensures.value c.renew.ensures.lasting
+    c.renew.ensures.none in
+    let same = present_same parts i.uses i.agenda.marks i.agenda.waiting (length i.state.items) i.readers i.owners.items i.held i.most (rooms i.desk)
+    c.args.self.now present c.self.invariant.0 c.self.invariant.2.beyond (ap (λ (m : MachineData). m.parts) (sym c.self.view_is))
+    (ap (λ (m : MachineData). m.uses) (sym c.self.view_is)) c.requires.textless order in
+    let left : IsLeft c.args.kept.now.bound (texts_lasting i.uses.known i.lasting) (texts_of c.args.kept.now) present (texts_of c.cut_past_bound.new.kept) =
+    IsLeft-settled parts i.uses (length i.state.items) i.lasting c.self.invariant.2 present same c.args.kept.now c.use_leavers.new.kept
+    c.cut_past_bound.new.kept c.use_leavers.ensures.uses c.use_leavers.ensures.bound c.cut_past_bound.ensures.cuts in
+    subst (λ (m : MachineData). IsLeft c.args.kept.now.bound m.last (texts_of c.args.kept.now) present (texts_of c.cut_past_bound.new.kept))
+    c.self.view_is left
+
+pub returns-clause-there : goal.returns-clause-there
+returns-clause-there g c =
+    let i = c.self.inside in
+    let parts = i.parts.items in
+    let present = texts_lasting i.uses.known c.renew.new.self in
+    let order : AreInOrder parts (texts_used i.uses) present =
+    in_order parts c.deref-2.result.now i.uses (length c.deref-3.result.now) c.renew.new.self c.deref-2.ensures.value c.renew.ensures.lasting
+    c.renew.ensures.none in
+    let same = present_same parts i.uses i.agenda.marks i.agenda.waiting (length i.state.items) i.readers i.owners.items i.held i.most (rooms i.desk)
+    c.args.self.now present c.self.invariant.0 c.self.invariant.2.beyond (ap (λ (m : MachineData). m.parts) (sym c.self.view_is))
+    (ap (λ (m : MachineData). m.uses) (sym c.self.view_is)) c.requires.textless order in
+    present-kept parts i.uses (length i.state.items) i.lasting c.self.invariant.2 present same c.args.kept.now c.use_leavers.new.kept
+    c.cut_past_bound.new.kept c.use_leavers.ensures.uses c.use_leavers.ensures.bound c.cut_past_bound.ensures.cuts
