@@ -6,7 +6,7 @@ use Rattle.ternary.specs.declared.tern.Tern.{Tern}
 use Rattle.netlist.specs.Circuits.{CircuitData}
 use Rattle.line_words.specs.Visible.{IsVisibleName}
 use Rattle.script_lang.specs.declared.command.Command.{Command}
-use Rattle.script_lang.specs.declared.command.Command.TheVariants.{Input, Store, Set, Charge, Watch, Limit, Step, Phase, Clock, Cycle, Expect, Add, Del, Strength, Kind, Wire, Report}
+use Rattle.script_lang.specs.declared.command.Command.TheVariants.{Input, Store, Set, Charge, Watch, Limit, Step, Phase, Clock, Cycle, Expect, Add, Del, Strength, Kind, Wire, Report, Keep}
 use Rattle.script_lang.specs.declared.command.ScriptFault.{ScriptFault}
 use Rattle.script_lang.specs.Forms.{IsFormed}
 use Rattle.script_lang.specs.Commands.{reading_of}
@@ -92,6 +92,7 @@ masked_of-formed c stuck (Strength number strength) formed = tt
 masked_of-formed c stuck (Kind number kind) formed = tt
 masked_of-formed c stuck (Wire number gate source drain) formed = formed
 masked_of-formed c stuck Report formed = tt
+masked_of-formed c stuck (Keep number) formed = formed
 
 -- the same of what was made, where there was memory for it
 pub masked_of-made : {E : Type 0} (c : CircuitData) (stuck : Option (ℕ × Tern)) (command : Command) (made : Result (Option Command) E) →

@@ -5,7 +5,7 @@ use Rattle.ternary.specs.declared.tern.Tern.{Tern}
 use Rattle.netlist.specs.Circuits.{CircuitData}
 use Rattle.netlist.specs.Names.{node_of}
 use Rattle.script_lang.specs.declared.command.Command.{Command}
-use Rattle.script_lang.specs.declared.command.Command.TheVariants.{Input, Store, Set, Charge, Watch, Limit, Step, Phase, Clock, Cycle, Expect, Add, Del, Strength, Kind, Wire, Report}
+use Rattle.script_lang.specs.declared.command.Command.TheVariants.{Input, Store, Set, Charge, Watch, Limit, Step, Phase, Clock, Cycle, Expect, Add, Del, Strength, Kind, Wire, Report, Keep}
 use Rattle.script_lang.specs.declared.command.ScriptFault.{ScriptFault}
 use Rattle.script_lang.specs.Commands.{reading_of}
 
@@ -44,6 +44,7 @@ masked_of c stuck (Strength number strength) = Some (Strength number strength)
 masked_of c stuck (Kind number kind) = Some (Kind number kind)
 masked_of c stuck (Wire number gate source drain) = Some (Wire number gate source drain)
 masked_of c stuck Report = Some Report
+masked_of c stuck (Keep number) = Some (Keep number)
 
 -- what a line asks for, masked; a line that is no command is refused as it is
 abbrev pub masked_reading_by : CircuitData → Option (ℕ × Tern) → Result (Option Command) ScriptFault → Result (Option Command) ScriptFault

@@ -94,6 +94,7 @@ fn masked_by_kind(
             }))
         }
         Command::Report => Ok(Some(Command::Report)),
+        Command::Keep(number) => Ok(Some(Command::Keep(*number))),
     }
 }
 

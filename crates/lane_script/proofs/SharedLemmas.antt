@@ -44,6 +44,7 @@ shared_words word words made other is = by made (first_word word words made is)
     by (plain.Charge list) is = not_itself (codes "charge") (ap (λ (text : List ℕ). bytes_eq text (codes "charge")) (sym is) ∙ other.charge)
     by (plain.Expect list) is = left_out word (codes "expect") is refl other.out
     by plain.Report is = left_out word (codes "report") is refl other.out
+    by (plain.Keep number) is = left_out word (codes "keep") is refl other.out
     by (plain.Input names) is = tt
     by (plain.Store name size) is = tt
     by (plain.Watch names) is = tt

@@ -39,6 +39,7 @@ IsShared (plain.Set list) = ⊥
 IsShared (plain.Charge list) = ⊥
 IsShared (plain.Expect list) = ⊥
 IsShared plain.Report = ⊥
+IsShared (plain.Keep number) = ⊥
 IsShared (plain.Input names) = Unit {0}
 IsShared (plain.Store name size) = Unit {0}
 IsShared (plain.Watch names) = Unit {0}

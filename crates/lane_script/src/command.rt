@@ -100,8 +100,10 @@ pub(crate) fn shared(command: Command) -> LaneCommand
             source,
             drain,
         },
-        Command::Set(_) | Command::Charge(_) | Command::Expect(_) | Command::Report => {
-            unreachable!()
-        }
+        Command::Set(_)
+        | Command::Charge(_)
+        | Command::Expect(_)
+        | Command::Report
+        | Command::Keep(_) => unreachable!(),
     }
 }

@@ -17,7 +17,7 @@ use Rattle.script_lang.specs.declared.TheConstants.{MOST_TIMES}
 use Rattle.script_lang.specs.declared.verb.Verb.{Verb}
 use Rattle.script_lang.specs.declared.verb.Verb.TheVariants as verb
 use Rattle.script_lang.specs.declared.command.Command.{Command}
-use Rattle.script_lang.specs.declared.command.Command.TheVariants.{Input, Store, Set, Charge, Watch, Limit, Step, Phase, Clock, Cycle, Expect, Add, Del, Strength, Kind, Wire, Report}
+use Rattle.script_lang.specs.declared.command.Command.TheVariants.{Input, Store, Set, Charge, Watch, Limit, Step, Phase, Clock, Cycle, Expect, Add, Del, Strength, Kind, Wire, Report, Keep}
 use Rattle.script_lang.specs.declared.command.ScriptFault.{ScriptFault}
 use Rattle.script_lang.specs.declared.command.ScriptFault.TheVariants.{BadValue, BadNumber}
 use Rattle.script_lang.specs.Parts.{all_of, assignment_of, beats_of, is_equals, parts_of, state_of, states_of, times_of, times_within}
@@ -237,6 +237,7 @@ formed_by (Some verb.Strength) words made are is = formed_strength words made is
 formed_by (Some verb.Kind) words made are is = formed_kind words made is
 formed_by (Some verb.Wire) words made are is = formed_wire words made are is
 formed_by (Some verb.Report) words made are is = formed_alone Report words made tt is
+formed_by (Some verb.Keep) words made are is = formed_of Keep (times_given words) made (formed_times words) is
 
 -- what the words of a line ask for is well formed, where they are names
 formed_line : (words : List (List ℕ)) (found : Option Command) → All IsVisibleName words → reading_of_words words ≡ Ok found → IfSome found IsFormed

@@ -10,7 +10,7 @@ use Rattle.line_words.specs.Decimals.{decimal_of}
 use Rattle.script_lang.specs.declared.verb.Verb.{Verb}
 use Rattle.script_lang.specs.declared.verb.Verb.TheVariants as verb
 use Rattle.script_lang.specs.declared.command.Command.{Command}
-use Rattle.script_lang.specs.declared.command.Command.TheVariants.{Input, Store, Set, Charge, Watch, Limit, Step, Phase, Clock, Cycle, Expect, Add, Del, Strength, Kind, Wire, Report}
+use Rattle.script_lang.specs.declared.command.Command.TheVariants.{Input, Store, Set, Charge, Watch, Limit, Step, Phase, Clock, Cycle, Expect, Add, Del, Strength, Kind, Wire, Report, Keep}
 use Rattle.script_lang.specs.declared.command.ScriptFault.{ScriptFault}
 use Rattle.script_lang.specs.declared.command.ScriptFault.TheVariants.{NoMemory, BadValue, BadNumber}
 use Rattle.script_lang.specs.Parts.{all_of, assignment_of, beats_of, kind_of, times_of}
@@ -125,6 +125,7 @@ command-named (Some verb.Strength) words same = strength-named words same
 command-named (Some verb.Kind) words same = type-named words same
 command-named (Some verb.Wire) words same = wire-named words same
 command-named (Some verb.Report) words same = alone-named Report words same
+command-named (Some verb.Keep) words same = commanded-named Keep (times_given words) (times-named words) same
 
 some-named : (answer : Result Command ScriptFault) → answer ≢ Err NoMemory → some_command answer ≢ Err NoMemory
 some-named (Ok command) named same = cc

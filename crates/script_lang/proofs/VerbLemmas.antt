@@ -7,7 +7,7 @@ use Rattle.line_words.specs.Decimals.{decimal_of}
 use Rattle.script_lang.specs.declared.verb.Verb.{Verb}
 use Rattle.script_lang.specs.declared.verb.Verb.TheVariants as verb
 use Rattle.script_lang.specs.declared.command.Command.{Command}
-use Rattle.script_lang.specs.declared.command.Command.TheVariants.{Input, Store, Set, Charge, Watch, Limit, Step, Phase, Clock, Cycle, Expect, Add, Del, Strength, Kind, Wire, Report}
+use Rattle.script_lang.specs.declared.command.Command.TheVariants.{Input, Store, Set, Charge, Watch, Limit, Step, Phase, Clock, Cycle, Expect, Add, Del, Strength, Kind, Wire, Report, Keep}
 use Rattle.script_lang.specs.declared.command.ScriptFault.{ScriptFault}
 use Rattle.script_lang.specs.declared.command.ScriptFault.TheVariants.{BadNumber}
 use Rattle.script_lang.specs.Commands.{add_by, alone, assignments_given, clocks_given, command_by, commanded, commanded_by, del_by, kind_by, kind_given, names_given, number_given, reading_of_words, some_command, store_by, strength_by, times_given, verb_of, wire_by, word_of}
@@ -31,6 +31,7 @@ text_of verb.Strength = codes "strength"
 text_of verb.Kind = codes "type"
 text_of verb.Wire = codes "wire"
 text_of verb.Report = codes "report"
+text_of verb.Keep = codes "keep"
 
 -- the word is that of the verb, if there is one
 abbrev IsWordOf : List ℕ → Option Verb → Type 0
@@ -63,7 +64,8 @@ verb_word word =
     (found_by word verb.Strength _
     (found_by word verb.Kind _
     (found_by word verb.Wire _
-    (found_by word verb.Report None tt))))))))))))))))
+    (found_by word verb.Report _
+    (found_by word verb.Keep None tt)))))))))))))))))
 
 -- ---- the word of what was made
 
@@ -150,6 +152,7 @@ command_word verb.Strength words made is = strength_word words made is
 command_word verb.Kind words made is = kind_word words made is
 command_word verb.Wire words made is = wire_word words made is
 command_word verb.Report words made is = by_none made (codes "report") Report words refl is
+command_word verb.Keep words made is = by_one made (codes "keep") Keep (times_given words) (λ _. refl) is
 
 -- a line that asks for a command begins with the command's word
 pub first_word : (word : List ℕ) (words : List (List ℕ)) (made : Command) → reading_of_words (word ∷ words) ≡ Ok (Some made) → word ≡ word_of made

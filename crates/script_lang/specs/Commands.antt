@@ -12,7 +12,7 @@ use Rattle.line_words.specs.Words.{words_of}
 use Rattle.script_lang.specs.declared.verb.Verb.{Verb}
 use Rattle.script_lang.specs.declared.verb.Verb.TheVariants as verb
 use Rattle.script_lang.specs.declared.command.Command.{Command}
-use Rattle.script_lang.specs.declared.command.Command.TheVariants.{Input, Store, Set, Charge, Watch, Limit, Step, Phase, Clock, Cycle, Expect, Add, Del, Strength, Kind, Wire, Report}
+use Rattle.script_lang.specs.declared.command.Command.TheVariants.{Input, Store, Set, Charge, Watch, Limit, Step, Phase, Clock, Cycle, Expect, Add, Del, Strength, Kind, Wire, Report, Keep}
 use Rattle.script_lang.specs.declared.command.ScriptFault.{ScriptFault}
 use Rattle.script_lang.specs.declared.command.ScriptFault.TheVariants.{LineTooLong, BadByte, BadCommand, FewWords, ManyWords, BadValue, BadNumber}
 use Rattle.script_lang.specs.Parts.{all_of, assignment_of, beats_of, kind_of, times_of}
@@ -36,7 +36,8 @@ verb_of word =
     else (if bytes_eq word (codes "strength") then Some verb.Strength
     else (if bytes_eq word (codes "type") then Some verb.Kind
     else (if bytes_eq word (codes "wire") then Some verb.Wire
-    else (if bytes_eq word (codes "report") then Some verb.Report else None))))))))))))))))
+    else (if bytes_eq word (codes "report") then Some verb.Report
+    else (if bytes_eq word (codes "keep") then Some verb.Keep else None)))))))))))))))))
 
 -- one name or more
 abbrev pub names_given : List (List ℕ) → Result (List (List ℕ)) ScriptFault
@@ -150,6 +151,7 @@ command_by (Some verb.Strength) words = strength_by words
 command_by (Some verb.Kind) words = kind_by words
 command_by (Some verb.Wire) words = wire_by words
 command_by (Some verb.Report) words = alone Report words
+command_by (Some verb.Keep) words = commanded Keep (times_given words)
 
 -- a line's command, where it has words
 abbrev pub some_command : Result Command ScriptFault → Result (Option Command) ScriptFault
@@ -190,3 +192,4 @@ word_of (Strength number strength) = codes "strength"
 word_of (Kind number kind) = codes "type"
 word_of (Wire number gate source drain) = codes "wire"
 word_of Report = codes "report"
+word_of (Keep number) = codes "keep"

@@ -3,7 +3,7 @@ use Rattle.std.specs.Prelude.{ℕ, ◌<◌, ◌≤◌, List, length, All}
 use Rattle.ternary.specs.declared.tern.Tern.{Tern}
 use Rattle.script_lang.specs.declared.TheConstants.{MOST_TIMES}
 use Rattle.script_lang.specs.declared.command.Command.{Command}
-use Rattle.script_lang.specs.declared.command.Command.TheVariants.{Input, Store, Set, Charge, Watch, Limit, Step, Phase, Clock, Cycle, Expect, Add, Del, Strength, Kind, Wire, Report}
+use Rattle.script_lang.specs.declared.command.Command.TheVariants.{Input, Store, Set, Charge, Watch, Limit, Step, Phase, Clock, Cycle, Expect, Add, Del, Strength, Kind, Wire, Report, Keep}
 use Rattle.line_words.specs.Visible.{IsVisibleName}
 
 -- one name or more
@@ -45,3 +45,4 @@ IsFormed (Strength number strength) = Unit {0}
 IsFormed (Kind number kind) = Unit {0}
 IsFormed (Wire number gate source drain) = AreTerminalNames gate source drain
 IsFormed Report = Unit {0}
+IsFormed (Keep number) = IsTimes number

@@ -54,6 +54,8 @@ pub enum Command {
     /// `report`: a line with the numbers of groups, of distinct texts, and of texts analysed since
     /// the last one.
     Report,
+    /// `keep N`: sets the bound on the number of texts whose analyses are kept, from the next build on.
+    Keep(u64),
 }
 
 /// Why a line of a script is no command. Where several causes stand together, the first here wins;

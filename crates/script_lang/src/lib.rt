@@ -28,5 +28,5 @@ pub use lists::{AssignList, ClockList, ItemList, Name, NameList, StateList};
 pub use parts::beats;
 pub use reader::read_command;
 
-/// The greatest number of `limit` and of `cycle`.
+/// The greatest number of `limit`, of `cycle` and of `keep`.
 pub const MOST_TIMES: u64 = 1_000_000;

@@ -69,6 +69,7 @@ fn read_verb(
         Some(Verb::Kind) => Ok(read_kind(words)),
         Some(Verb::Wire) => read_wire(alloc, words),
         Some(Verb::Report) => Ok(read_alone(Command::Report, words)),
+        Some(Verb::Keep) => Ok(read_times(words).map(Command::Keep)),
         None => Ok(Err(ScriptFault::BadCommand)),
     }
 }

@@ -3,7 +3,7 @@ use std::test::Fail;
 
 #[test]
 fn lines_are_commands_or_refused(rt: HostRuntime) -> Result<(), Fail> {
-    const ROWS: [(&[u8], Result<&str, ScriptFault>); 61] = [
+    const ROWS: [(&[u8], Result<&str, ScriptFault>); 65] = [
         // Each command; the bytes of a name are printed as numbers: a is 97, b is 98.
         (b"input a b", Ok("Some(Input([[97], [98]]))")),
         (b"\tstore  a 2 ", Ok("Some(Store([97], 2))")),
@@ -43,6 +43,7 @@ fn lines_are_commands_or_refused(rt: HostRuntime) -> Result<(), Fail> {
             Ok("Some(Wire { number: 3, gate: [97], source: [98], drain: [97] })"),
         ),
         (b"report", Ok("Some(Report)")),
+        (b"keep 12", Ok("Some(Keep(12))")),
         // Nothing to do.
         (b"", Ok("None")),
         (b" \t ", Ok("None")),
@@ -92,6 +93,9 @@ fn lines_are_commands_or_refused(rt: HostRuntime) -> Result<(), Fail> {
         (b"type 1 np", Err(ScriptFault::BadValue)),
         (b"wire x a b c d", Err(ScriptFault::ManyWords)),
         (b"report 1", Err(ScriptFault::ManyWords)),
+        (b"keep", Err(ScriptFault::FewWords)),
+        (b"keep 0", Err(ScriptFault::BadNumber)),
+        (b"keep 1 1", Err(ScriptFault::ManyWords)),
     ];
     for (line, wanted) in ROWS {
         match read_command(rt.alloc(), line) {

@@ -21,6 +21,7 @@ pub(crate) enum Verb {
     Kind,
     Wire,
     Report,
+    Keep,
 }
 
 /// The verb that a word is, compared byte by byte.
@@ -45,6 +46,7 @@ pub(crate) fn verb_named(word: &[u8]) -> Option<Verb>
         b"type" => Some(Verb::Kind),
         b"wire" => Some(Verb::Wire),
         b"report" => Some(Verb::Report),
+        b"keep" => Some(Verb::Keep),
         _ => None,
     }
 }
