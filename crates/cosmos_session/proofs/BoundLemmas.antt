@@ -23,7 +23,7 @@ use Rattle.netlist.specs.declared.TheConstants.{MOST_NODES, MOST_SWITCHES}
 use Rattle.group_text.specs.Texts.{GroupTextData}
 use Rattle.script_lang.specs.declared.TheConstants.{MOST_TIMES}
 use Rattle.script_lang.specs.declared.command.Command.{Command}
-use Rattle.script_lang.specs.declared.command.Command.TheVariants.{Input, Store, Set, Charge, Watch, Limit, Step, Phase, Clock, Cycle, Expect, Add, Del, Strength, Kind, Wire, Report}
+use Rattle.script_lang.specs.declared.command.Command.TheVariants.{Input, Store, Set, Charge, Watch, Limit, Step, Phase, Clock, Cycle, Expect, Add, Del, Strength, Kind, Wire, Report, Keep}
 use Rattle.script_lang.specs.Forms.{IsFormed}
 use Rattle.cosmos_session.specs.Sessions.{SessionData, IsReady, places_of}
 use Rattle.cosmos_session.specs.Refusals.{refusal_of, making_refusal, edit_refusal, strength_for}
@@ -135,6 +135,7 @@ effect_readable session new lines (Kind number kind) bounded formed effect = non
 effect_readable session new lines (Wire number gate source drain) bounded formed effect = none_readable lines effect.1
 effect_readable session new lines Report bounded formed effect =
     subst (All IsReadable) (sym effect.wrote) (All-cons IsReadable _ [] tt (All-nil IsReadable))
+effect_readable session new lines (Keep number) bounded formed effect = none_readable lines effect.1
 
 -- ---- the data after all commands
 
@@ -197,14 +198,15 @@ effect_small session new lines (Kind number kind) bounded formed allowed effect 
 effect_small session new lines (Wire number gate source drain) bounded formed allowed effect =
     subst IsSmall (sym effect.0) (few_wired session.circuit number gate source drain allowed, bounded.limit)
 effect_small session new lines Report bounded formed allowed effect = subst IsSmall (sym effect.moved) (bounded.few, bounded.limit)
+effect_small session new lines (Keep number) bounded formed allowed effect = subst IsSmall (sym effect.0) (bounded.few, bounded.limit)
 
 -- ---- with the build before a command
 
 bounded-built : (building : Bool) (old mid : SessionData) (texts : List GroupTextData) → BuildsIf building old mid texts → IsBounded old → IsBounded mid
 bounded-built true old mid texts built bounded = record {
   ready = ready-build old mid texts built bounded.ready;
-  few = subst (λ (now : SessionData). nodes now.circuit.graph < 2 ^ 63) (sym built.grown) bounded.few;
-  limit = subst (λ (now : SessionData). now.limit ≤ MOST_TIMES) (sym built.grown) bounded.limit;
+  few = subst (λ (now : SessionData). nodes now.circuit.graph < 2 ^ 63) (sym built.used) bounded.few;
+  limit = subst (λ (now : SessionData). now.limit ≤ MOST_TIMES) (sym built.used) bounded.limit;
 }
 bounded-built false old mid texts (same, none) bounded = subst IsBounded (sym same) bounded
 

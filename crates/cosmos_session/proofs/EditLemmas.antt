@@ -94,6 +94,10 @@ same_states state count few =
     let none : count - length state ≡ 0 = omega (few, arith) in
     ap (λ (n : ℕ). state ++ replicate n Unk) none ∙ append-nil state
 
+-- the session with this circuit, and the state and the machine of this stage
+abbrev pub edited : HeldSession → CircuitData → StageData → HeldSession
+edited session c stage = record { core = record session.core { circuit = c; state = stage.state }; machine = stage.machine }
+
 -- an edit of the circuit, told to the machine
 module _ (session : HeldSession) (c : CircuitData) (change : Change) (undoes : Undoes c.graph session.core.circuit.graph change)
     (held : IsHeldSession session) where
@@ -108,7 +112,7 @@ module _ (session : HeldSession) (c : CircuitData) (change : Change) (undoes : U
 
   module _ (stage : StageData) (is_circuit : IsCircuit c) (more : nodes session.core.circuit.graph ≤ nodes c.graph)
       (grown : stage.state ≡ with_new_nodes session.core.state (nodes c.graph))
-      (edited : IfSome stage.machine (EditsFrom c.graph change session.machine)) where
+      (edits : IfSome stage.machine (EditsFrom c.graph change session.machine)) where
     -- a machine that is there serves
     serves-edited : (machine : MachineData) → EditsFrom c.graph change session.machine machine → Serves c.graph stage.state session.core.kept machine
     serves-edited machine from =
@@ -122,17 +126,17 @@ module _ (session : HeldSession) (c : CircuitData) (change : Change) (undoes : U
         }
 
     -- a session is one after it
-    pub held-edited : IsHeldSession (record { core = record session.core { circuit = c; state = stage.state }; machine = stage.machine })
+    pub held-edited : IsHeldSession (edited session c stage)
     held-edited = record {
       core = subst (λ (state : List Tern). IsSession (record session.core { circuit = c; state = state })) (sym grown)
           (IsSession-grown session.core c is_circuit more held.core);
-      machine = IfSome-weaker stage.machine serves-edited edited;
+      machine = IfSome-weaker stage.machine serves-edited edits;
     }
 
     -- and the machine, where there is one, was there before
     pub survives-edited : IfSome stage.machine (Survives session.machine)
     survives-edited = IfSome-weaker stage.machine
-        (λ machine from. record { before = from.before; was = from.was; moves = from.edits.moves; placed = from.edits.placed }) edited
+        (λ machine from. record { before = from.before; was = from.was; moves = from.edits.moves; placed = from.edits.placed }) edits
 
 -- what no command did to the machine, no edit did
 pub survives-same : (found : Option MachineData) → IfSome found (Survives found)

@@ -26,13 +26,13 @@ use Rattle.circuit_texts.specs.Sizes.{TellsTooLarge}
 use Rattle.circuit_texts.specs.Building.{HasTexts}
 use Rattle.group_text.specs.FirstTexts.{new_texts}
 use Rattle.script_lang.specs.declared.command.Command.{Command}
-use Rattle.script_lang.specs.declared.command.Command.TheVariants.{Input, Store, Set, Charge, Watch, Limit, Step, Phase, Clock, Cycle, Expect, Add, Del, Strength, Kind, Wire, Report}
+use Rattle.script_lang.specs.declared.command.Command.TheVariants.{Input, Store, Set, Charge, Watch, Limit, Step, Phase, Clock, Cycle, Expect, Add, Del, Strength, Kind, Wire, Report, Keep}
 use Rattle.script_lang.specs.Forms.{IsFormed}
 use Rattle.cosmos_session.specs.declared.fault.Refusal.{Refusal}
 use Rattle.cosmos_session.specs.declared.fault.Refusal.TheVariants.{Rail, BadSize}
 use Rattle.cosmos_session.specs.Sessions.{SessionData, ClockData, IsReady, start_of, places_of}
 use Rattle.cosmos_session.specs.Refusals.{refusal_of, first_refusal, rail_refusal, store_refusal, length_refusal, strength_for}
-use Rattle.cosmos_session.specs.Preparing.{builds, with_texts, IsBuild, BuildsIf}
+use Rattle.cosmos_session.specs.Preparing.{builds, with_present, IsBuild, BuildsIf}
 use Rattle.cosmos_session.specs.Lines.{Line, Reported, text_of}
 use Rattle.cosmos_session.specs.Effects.{Effect, IsPhase, AreBeats, with_inputs, assigned, clock_of, with_beat, moved_to, wave_by, unmet_lines, has_lines, places_in, with_circuit}
 use Rattle.cosmos_session.specs.Outcomes.{Does, Performs}
@@ -161,11 +161,12 @@ effect_exists session ready Report has =
       Reported (length found.0) (length (first_texts found.0)) session.fresh ∷ [],
       record { texts = found.0; has = found.1; moved = refl; wrote = refl },
     )
+effect_exists session ready (Keep number) has = (record session { bound = Some number }, [], (refl, refl))
 
 -- a build keeps the data ready
 pub ready-build : (old mid : SessionData) (texts : List GroupTextData) → IsBuild old mid texts → IsReady old → IsReady mid
 ready-build old mid texts build ready =
-    rw build.grown (record { netlist = ready.netlist; states = ready.states; sound = ready.sound; free = ready.free })
+    rw build.used (record { netlist = ready.netlist; states = ready.states; sound = ready.sound; free = ready.free })
 
 -- how a formed command ends: it is refused by the data, or for the size of a group, or it is done
 pub data Ends (session : SessionData) (command : Command) : Type 0 where
@@ -187,8 +188,8 @@ built_ends : (session : SessionData) (command : Command) (texts : List GroupText
     refusal_of session command ≡ None → HasTexts session.circuit.graph texts → Ends session command
 built_ends session command texts ready building allowed has =
     let fresh : List GroupTextData = new_texts session.kept texts in
-    let mid : SessionData = with_texts session fresh in
-    let build : IsBuild session mid fresh = record { news = record { texts = texts; has = has; fresh_are = refl }; grown = refl } in
+    let mid : SessionData = with_present session texts in
+    let build : IsBuild session mid fresh = record { present = texts; has = has; news = refl; used = refl } in
     let outcome = effect_exists mid (ready-build session mid fresh build ready) command (λ builds. (texts, has)) in
     performed outcome.0 (text_of outcome.1) fresh
     (built_performs session mid outcome.0 command (text_of outcome.1) fresh building build
@@ -283,6 +284,7 @@ ready-effect old new (Wire number gate source drain) lines allowed effect ready 
     (IsCircuit-with_wires old.circuit number gate source drain ready.netlist) (nodes-with_wires old.circuit number gate source drain) ready)
 ready-effect old new Report lines allowed effect ready =
     rw effect.moved (record { netlist = ready.netlist; states = ready.states; sound = ready.sound; free = ready.free })
+ready-effect old new (Keep number) lines allowed effect ready = rw (effect.0) (record { netlist = ready.netlist; states = ready.states; sound = ready.sound; free = ready.free })
 
 -- what a command does keeps the data ready
 pub ready-does : (session new : SessionData) (command : Command) (text : List ℕ) → IsReady session → Does session command new text → IsReady new

@@ -11,8 +11,10 @@ pub mod RestLemmas
 pub mod GrownLemmas
 pub mod RoomLemmas
 pub mod MachineLemmas
+pub mod StayingLemmas
 pub mod TickLemmas
 pub mod UndoLemmas
+pub mod LastLemmas
 pub mod BuildLemmas
 pub mod MoveLemmas
 pub mod ReportLemmas

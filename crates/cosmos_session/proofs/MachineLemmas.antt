@@ -104,6 +104,7 @@ assigns-none : (c : CircuitData) (names : List (List ℕ)) (machine : MachineDat
 assigns-none c names machine = record {
   covers = λ covers. covers;
   known = λ kept known. known;
+  last = refl;
   parts = refl;
   moves = refl;
   marks = λ k marked. inl marked;
@@ -120,6 +121,7 @@ assigns-more : (c : CircuitData) (names : List (List ℕ)) (name : List ℕ) (va
 assigns-more c names name value old mid new named so_far puts = record {
   covers = λ covers. puts.covers (so_far.covers covers);
   known = λ kept known. placing_keeps_texts c.graph kept (node_named c name) value mid new puts.places (so_far.known kept known);
+  last = puts.places.last ∙ so_far.last;
   parts = puts.places.parts ∙ so_far.parts;
   moves = puts.places.moves ∙ so_far.moves;
   marks = λ k marked. marked_by k (puts.places.only k marked);
@@ -151,6 +153,7 @@ ticks-none : (g : GraphData) (clocks : List ClockData) (machine : MachineData) �
 ticks-none g clocks machine = record {
   fits = λ fits. fits;
   known = λ kept known. known;
+  last = refl;
   moves = refl;
   unplaced = λ fits inputs. refl;
 }
@@ -166,6 +169,7 @@ ticks-more : (g : GraphData) (clocks : List ClockData) (clock : ClockData) (valu
 ticks-more g clocks clock value old mid new input_of so_far puts = record {
   fits = λ fits. puts.fits (so_far.fits fits);
   known = λ kept known. placing_keeps_texts g kept clock.node value mid new puts.places (so_far.known kept known);
+  last = puts.places.last ∙ so_far.last;
   moves = puts.places.moves ∙ so_far.moves;
   unplaced = λ fits inputs. puts.unplaced (no_member g mid (so_far.fits fits).covers clock.node (input_of inputs)) ∙ so_far.unplaced fits inputs;
 }
@@ -197,11 +201,15 @@ serves-assigned c names kept before states None new serves none same =
 serves-assigned c names kept before states (Some machine) new serves (next, there, assigns) same =
     serves_there c.graph kept states new next there same (assigns.covers serves.covers) (assigns.known kept serves.known)
 
+-- the session with the state and the machine of this stage
+abbrev pub placed_on : HeldSession → StageData → HeldSession
+placed_on session stage = record { core = record session.core { state = stage.state }; machine = stage.machine }
+
 -- a session is one after named nodes past the rails were placed
 pub held-assigned : (session : HeldSession) (list : List (List ℕ × Tern)) (stage : StageData) → All (λ item. RAILS ≤ node_named session.core.circuit item.0) list →
     stage.state ≡ assigned session.core.circuit session.core.state list →
     AssignsIn session.core.circuit (map (λ item. item.0) list) session.machine stage.machine → IfSome stage.machine (λ machine. machine.state ≡ stage.state) →
-    IsHeldSession session → IsHeldSession (record { core = record session.core { state = stage.state }; machine = stage.machine })
+    IsHeldSession session → IsHeldSession (placed_on session stage)
 held-assigned session list stage past moved placed same held =
     let circuit = session.core.circuit in
     let ready = held.core.ready in

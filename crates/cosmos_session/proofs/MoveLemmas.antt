@@ -189,12 +189,12 @@ module _ (old mid new : HeldSession) (asked told : List GroupTextData) (ready : 
   -- and keeps all data but what is kept
   built_same : mid.core ≡ record old.core { kept = mid.core.kept; fresh = mid.core.fresh }
   built_same =
-      subst (λ (s : SessionData). s ≡ record old.core { kept = s.kept; fresh = s.fresh }) (sym ready.build.grown) refl
+      subst (λ (s : SessionData). s ≡ record old.core { kept = s.kept; fresh = s.fresh }) (sym ready.build.used) refl
 
   -- a step after it
   pub step-readied : StepsMachine mid new → StepsMachine old new
   step-readied steps =
-      let state : mid.core.state ≡ old.core.state = ap (λ (s : SessionData). s.state) ready.build.grown in
+      let state : mid.core.state ≡ old.core.state = ap (λ (s : SessionData). s.state) ready.build.used in
       record {
         machine = steps.machine;
         there = steps.there;
@@ -214,7 +214,7 @@ module _ (old mid new : HeldSession) (asked told : List GroupTextData) (ready : 
     effect = phase.phase;
     built = built;
     moves = moves-from mid.core.limit old.core.limit old.machine mid.machine new.machine phase.lines
-        (ap (λ (s : SessionData). s.limit) ready.build.grown) counts_moves counts_placed phase.moves;
+        (ap (λ (s : SessionData). s.limit) ready.build.used) counts_moves counts_placed phase.moves;
   }
 
   -- cycles after it
@@ -227,5 +227,5 @@ module _ (old mid new : HeldSession) (asked told : List GroupTextData) (ready : 
     effect = beats.beats;
     built = built;
     moves = moves-from mid.core.limit old.core.limit old.machine mid.machine new.machine beats.lines
-        (ap (λ (s : SessionData). s.limit) ready.build.grown) counts_moves counts_placed beats.moves;
+        (ap (λ (s : SessionData). s.limit) ready.build.used) counts_moves counts_placed beats.moves;
   }

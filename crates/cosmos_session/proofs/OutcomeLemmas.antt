@@ -7,12 +7,12 @@ use Rattle.path_meaning.specs.Graphs.{nodes}
 use Rattle.circuit_texts.specs.declared.texts.BuildFault.TheVariants as build
 use Rattle.group_text.specs.Texts.{GroupTextData}
 use Rattle.script_lang.specs.declared.command.Command.{Command}
-use Rattle.script_lang.specs.declared.command.Command.TheVariants.{Input, Store, Set, Charge, Watch, Limit, Step, Phase, Clock, Cycle, Expect, Add, Del, Strength, Kind, Wire, Report}
+use Rattle.script_lang.specs.declared.command.Command.TheVariants.{Input, Store, Set, Charge, Watch, Limit, Step, Phase, Clock, Cycle, Expect, Add, Del, Strength, Kind, Wire, Report, Keep}
 use Rattle.cosmos_session.specs.declared.fault.ApplyFault.{ApplyFault}
 use Rattle.cosmos_session.specs.declared.fault.ApplyFault.TheVariants.{Refused, GroupNodes, GroupSwitches, WriteFault, NoMemory}
 use Rattle.cosmos_session.specs.Sessions.{SessionData, HeldSession, places_of}
 use Rattle.cosmos_session.specs.Refusals.{refusal_of}
-use Rattle.cosmos_session.specs.Preparing.{builds, with_texts, IsBuild, BuildsIf, Prepares, NamesNode}
+use Rattle.cosmos_session.specs.Preparing.{builds, with_present, IsBuild, BuildsIf, Prepares, NamesNode}
 use Rattle.cosmos_session.specs.Lines.{Line, line_text, text_of}
 use Rattle.cosmos_session.specs.Effects.{Effect, places_in}
 use Rattle.cosmos_session.specs.Sinks.{IsSinkFault, refusals_sent}
@@ -49,31 +49,32 @@ does_effect old new command lines allowed effect = record { allowed = allowed; l
 -- ---- builds
 
 -- no refusal asks what is kept
-refusal_of-with_texts : (session : SessionData) (command : Command) (texts : List GroupTextData) →
-    refusal_of (with_texts session texts) command ≡ refusal_of session command
-refusal_of-with_texts session (Input names) texts = refl
-refusal_of-with_texts session (Store name size) texts = refl
-refusal_of-with_texts session (Set list) texts = refl
-refusal_of-with_texts session (Charge list) texts = refl
-refusal_of-with_texts session (Watch names) texts = refl
-refusal_of-with_texts session (Limit number) texts = refl
-refusal_of-with_texts session Step texts = refl
-refusal_of-with_texts session Phase texts = refl
-refusal_of-with_texts session (Clock list) texts = refl
-refusal_of-with_texts session (Cycle times) texts = refl
-refusal_of-with_texts session (Expect list) texts = refl
-refusal_of-with_texts session (Add kind gate source drain strength) texts = refl
-refusal_of-with_texts session (Del number) texts = refl
-refusal_of-with_texts session (Strength number strength) texts = refl
-refusal_of-with_texts session (Kind number kind) texts = refl
-refusal_of-with_texts session (Wire number gate source drain) texts = refl
-refusal_of-with_texts session Report texts = refl
+refusal_of-with_present : (session : SessionData) (command : Command) (present : List GroupTextData) →
+    refusal_of (with_present session present) command ≡ refusal_of session command
+refusal_of-with_present session (Input names) present = refl
+refusal_of-with_present session (Store name size) present = refl
+refusal_of-with_present session (Set list) present = refl
+refusal_of-with_present session (Charge list) present = refl
+refusal_of-with_present session (Watch names) present = refl
+refusal_of-with_present session (Limit number) present = refl
+refusal_of-with_present session Step present = refl
+refusal_of-with_present session Phase present = refl
+refusal_of-with_present session (Clock list) present = refl
+refusal_of-with_present session (Cycle times) present = refl
+refusal_of-with_present session (Expect list) present = refl
+refusal_of-with_present session (Add kind gate source drain strength) present = refl
+refusal_of-with_present session (Del number) present = refl
+refusal_of-with_present session (Strength number strength) present = refl
+refusal_of-with_present session (Kind number kind) present = refl
+refusal_of-with_present session (Wire number gate source drain) present = refl
+refusal_of-with_present session Report present = refl
+refusal_of-with_present session (Keep number) present = refl
 
 -- so a build changes no refusal
 pub refusal_of-built : (old mid : SessionData) (command : Command) (texts : List GroupTextData) → IsBuild old mid texts →
     refusal_of mid command ≡ refusal_of old command
 refusal_of-built old mid command texts build =
-    ap (λ (session : SessionData). refusal_of session command) build.grown ∙ refusal_of-with_texts old command texts
+    ap (λ (session : SessionData). refusal_of session command) build.used ∙ refusal_of-with_present old command build.present
 
 -- a command that builds is prepared by a build
 prepared : (old mid : SessionData) (command : Command) (texts : List GroupTextData) → builds command ≡ true → IsBuild old mid texts →

@@ -11,7 +11,7 @@ use Rattle.cosmos_session.specs.Machines.{Serves, FitsIn, IsHeldSession, moves_o
 use Rattle.cosmos_session.specs.Stages.{StageData, TicksIn}
 use Rattle.cosmos_session.proofs.StateLemmas.{length-states_with, sound-states_with}
 use Rattle.cosmos_session.proofs.ClockLemmas.{IsSession-state}
-use Rattle.cosmos_session.proofs.MachineLemmas.{StaysPut, fits_there, serves_there}
+use Rattle.cosmos_session.proofs.MachineLemmas.{StaysPut, placed_on, fits_there, serves_there}
 
 -- clocks' nodes that are input nodes were placed in a machine that fits
 module _ (g : GraphData) (clocks : List ClockData) (old new : Option MachineData) (inputs : All (λ clock. level_of g clock.node ≡ INPUT_LEVEL) clocks) where
@@ -48,7 +48,7 @@ pub held-ticked : (session : HeldSession) (place : ℕ) (stage : StageData) →
     All (λ clock. level_of session.core.circuit.graph clock.node ≡ INPUT_LEVEL) session.core.clocks → FitsIn session.core.circuit.graph session.machine →
     stage.state ≡ states_with session.core.clocks place session.core.state →
     TicksIn session.core.circuit.graph session.core.clocks session.machine stage.machine → IfSome stage.machine (λ machine. machine.state ≡ stage.state) →
-    IsHeldSession session → IsHeldSession (record { core = record session.core { state = stage.state }; machine = stage.machine })
+    IsHeldSession session → IsHeldSession (placed_on session stage)
 held-ticked session place stage inputs built moved ticks same held =
     let g = session.core.circuit.graph in
     let clocks = session.core.clocks in

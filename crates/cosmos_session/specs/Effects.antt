@@ -15,7 +15,7 @@ use Rattle.group_text.specs.FirstTexts.{first_texts}
 use Rattle.group_text.specs.Texts.{GroupTextData}
 use Rattle.circuit_texts.specs.Building.{HasTexts}
 use Rattle.script_lang.specs.declared.command.Command.{Command}
-use Rattle.script_lang.specs.declared.command.Command.TheVariants.{Input, Store, Set, Charge, Watch, Limit, Step, Phase, Clock, Cycle, Expect, Add, Del, Strength, Kind, Wire, Report}
+use Rattle.script_lang.specs.declared.command.Command.TheVariants.{Input, Store, Set, Charge, Watch, Limit, Step, Phase, Clock, Cycle, Expect, Add, Del, Strength, Kind, Wire, Report, Keep}
 use Rattle.cosmos_session.specs.Sessions.{SessionData, ClockData, places_of}
 use Rattle.cosmos_session.specs.Refusals.{strength_for}
 use Rattle.cosmos_session.specs.Lines.{Line, Wave, Unmet, Reported}
@@ -147,3 +147,4 @@ Effect old (Kind number kind) new lines = (new ≡ record old { circuit = with_k
 Effect old (Wire number gate source drain) new lines =
     (new ≡ with_circuit old (with_wires old.circuit number gate source drain)) × (lines ≡ [])
 Effect old Report new lines = IsReported old new lines
+Effect old (Keep number) new lines = (new ≡ record old { bound = Some number }) × (lines ≡ [])

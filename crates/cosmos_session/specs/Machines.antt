@@ -1,10 +1,12 @@
 -- The machine of a session: what it is at any moment, and what a command does to it.
 -- After Bryant, Beatty, Brace, Cho and Sheffler, "COSMOS: A Compiled Simulator for MOS Circuits", 1987.
-use Rattle.std.specs.Prelude.{◌≡◌, ◌≢◌, ℕ, ◌+◌, ◌<◌, ◌⊎◌, Bool, true, false, List, [], ◌∷◌, ◌++◌, map, Contains, Option, None, Some, IfSome, is_some}
+use Rattle.std.specs.Prelude.{◌≡◌, ◌≢◌, ℕ, ◌+◌, ◌<◌, ◌⊎◌, Bool, true, false, List, [], ◌∷◌, ◌++◌, map, All, Contains, IsTrue, Option, None, Some, IfSome, is_some}
 use Rattle.ternary.specs.declared.tern.Tern.{Tern}
 use Rattle.ternary.specs.Counts.{raised}
 use Rattle.path_meaning.specs.Graphs.{GraphData}
 use Rattle.group_text.specs.Texts.{GroupTextData}
+use Rattle.group_text.specs.FirstTexts.{is_among}
+use Rattle.group_analysis.specs.Using.{used_texts}
 use Rattle.unit_step.specs.declared.part.HeldPart.{HeldPart}
 use Rattle.unit_step.specs.Machines.{MachineData, IsMarked}
 use Rattle.unit_step.specs.Stepping.{Concerns, ReadsChange}
@@ -12,7 +14,7 @@ use Rattle.unit_step.specs.Fitting.{Covers, FitsGraph, IsKeptBy}
 use Rattle.netlist.specs.Circuits.{CircuitData}
 use Rattle.netlist.specs.Edits.{node_named}
 use Rattle.script_lang.specs.declared.command.Command.{Command}
-use Rattle.script_lang.specs.declared.command.Command.TheVariants.{Input, Store, Set, Charge, Watch, Limit, Step, Phase, Clock, Cycle, Expect, Add, Del, Strength, Kind, Wire, Report}
+use Rattle.script_lang.specs.declared.command.Command.TheVariants.{Input, Store, Set, Charge, Watch, Limit, Step, Phase, Clock, Cycle, Expect, Add, Del, Strength, Kind, Wire, Report, Keep}
 use Rattle.cosmos_session.specs.Sessions.{SessionData, HeldSession, IsSession}
 use Rattle.cosmos_session.specs.Lines.{Line, Wave, Unmet, Reported}
 use Rattle.cosmos_session.specs.Effects.{Effect}
@@ -20,6 +22,19 @@ use Rattle.cosmos_session.specs.Effects.{Effect}
 -- a machine as contracts of a session see it: how much room it has for new nodes isn't told
 abbrev pub without_room : MachineData → MachineData
 without_room machine = record machine { spare = 0 }
+
+-- the texts that the groups had at the last build, in order; where there is no machine, none
+abbrev pub last_in : Option MachineData → List GroupTextData
+last_in None = []
+last_in (Some machine) = machine.last
+
+-- what is kept, as a table has it, with the texts of the last build in front
+abbrev pub kept_in : Option MachineData → List GroupTextData → List GroupTextData
+kept_in machine kept = used_texts (last_in machine) kept
+
+-- all of these texts are among those
+abbrev pub AreAmong : List GroupTextData → List GroupTextData → Type 0
+AreAmong texts kept = All (λ text. IsTrue (is_among kept text)) texts
 
 -- the machine serves these: it covers the graph, its state is this, and each text whose code a part has is kept
 pub record Serves (g : GraphData) (states : List Tern) (kept : List GroupTextData) (machine : MachineData) : Type 0 where
@@ -159,6 +174,7 @@ IsMachineAfter old (Strength number strength) new = EditsMachine old new
 IsMachineAfter old (Kind number kind) new = EditsMachine old new
 IsMachineAfter old (Wire number gate source drain) new = EditsMachine old new
 IsMachineAfter old Report new = BuildsMachine old new
+IsMachineAfter old (Keep number) new = new.machine ≡ old.machine
 
 -- the command edits the circuit
 abbrev pub edits : Command → Bool
@@ -179,6 +195,7 @@ edits (Strength number strength) = true
 edits (Kind number kind) = true
 edits (Wire number gate source drain) = true
 edits Report = false
+edits (Keep number) = false
 
 -- where an accepted command found a machine and leaves none, it edited the circuit
 abbrev pub OnlyEditsLoseMachines : Type 0

@@ -1,11 +1,13 @@
--- What is built before a command: the texts of the circuit's groups that aren't kept are analysed.
+-- What is built before a command: the texts of the circuit's groups that aren't kept are analysed, and all of them are used.
 -- After Beatty and Bryant, "Fast Incremental Circuit Analysis Using Extracted Hierarchy", 1988.
-use Rattle.std.specs.Prelude.{◌≡◌, ◌<◌, Bool, true, false, List, [], ◌++◌, length}
+use Rattle.std.specs.Prelude.{◌≡◌, ◌<◌, Bool, true, false, List, [], length}
 use Rattle.ternary.specs.Counts.{raised}
 use Rattle.group_text.specs.Texts.{GroupTextData}
-use Rattle.circuit_texts.specs.Building.{BuildsFresh}
+use Rattle.group_text.specs.FirstTexts.{new_texts}
+use Rattle.group_analysis.specs.Using.{kept_after}
+use Rattle.circuit_texts.specs.Building.{HasTexts}
 use Rattle.script_lang.specs.declared.command.Command.{Command}
-use Rattle.script_lang.specs.declared.command.Command.TheVariants.{Input, Store, Set, Charge, Watch, Limit, Step, Phase, Clock, Cycle, Expect, Add, Del, Strength, Kind, Wire, Report}
+use Rattle.script_lang.specs.declared.command.Command.TheVariants.{Input, Store, Set, Charge, Watch, Limit, Step, Phase, Clock, Cycle, Expect, Add, Del, Strength, Kind, Wire, Report, Keep}
 use Rattle.circuit_texts.specs.declared.texts.BuildFault.{BuildFault}
 use Rattle.circuit_texts.specs.declared.texts.BuildFault.TheVariants as build
 use Rattle.path_meaning.specs.Graphs.{GraphData, nodes}
@@ -35,15 +37,20 @@ builds (Strength number strength) = false
 builds (Kind number kind) = false
 builds (Wire number gate source drain) = false
 builds Report = true
+builds (Keep number) = false
 
--- the data after these texts were analysed: they are kept behind what was kept, and counted
-abbrev pub with_texts : SessionData → List GroupTextData → SessionData
-with_texts old texts = record old { kept = old.kept ++ texts; fresh = raised old.fresh (length texts) }
+-- the data after a build with these present texts: they are in front of what is kept, what is past the bound is cut, and the new ones are
+-- counted
+abbrev pub with_present : SessionData → List GroupTextData → SessionData
+with_present old present =
+    record old { kept = kept_after old.bound present old.kept; fresh = raised old.fresh (length (new_texts old.kept present)) }
 
--- the present circuit was built: what isn't kept of its groups' texts was analysed
+-- the present circuit was built: what isn't kept of its groups' texts was analysed, and all of them were used
 pub record IsBuild (old mid : SessionData) (texts : List GroupTextData) : Type 0 where
-  pub news : BuildsFresh old.circuit.graph old.kept texts
-  pub grown : mid ≡ with_texts old texts
+  pub present : List GroupTextData
+  pub has : HasTexts old.circuit.graph present
+  pub news : texts ≡ new_texts old.kept present
+  pub used : mid ≡ with_present old present
 
 -- the present circuit was built, or not: then nothing was analysed
 abbrev pub BuildsIf : Bool → SessionData → SessionData → List GroupTextData → Type 0

@@ -12,7 +12,7 @@ use Rattle.netlist.specs.Faults.{MakingFault}
 use Rattle.netlist.specs.declared.fault.EditFault.{EditFault}
 use Rattle.netlist.specs.declared.fault.EditFault.TheVariants as edit
 use Rattle.script_lang.specs.declared.command.Command.{Command}
-use Rattle.script_lang.specs.declared.command.Command.TheVariants.{Input, Store, Set, Charge, Watch, Limit, Step, Phase, Clock, Cycle, Expect, Add, Del, Strength, Kind, Wire, Report}
+use Rattle.script_lang.specs.declared.command.Command.TheVariants.{Input, Store, Set, Charge, Watch, Limit, Step, Phase, Clock, Cycle, Expect, Add, Del, Strength, Kind, Wire, Report, Keep}
 use Rattle.cosmos_session.specs.declared.TheConstants.{MOST_WATCHED}
 use Rattle.cosmos_session.specs.declared.fault.Refusal.{Refusal}
 use Rattle.cosmos_session.specs.declared.fault.Refusal.TheVariants.{UnknownNode, NoSuchSwitch, Rail, BadStrength, BadSize, TooManyNodes, TooManySwitches, NotInput, NotStore, ClockLength, NoClock, TooManyWatched}
@@ -132,3 +132,4 @@ refusal_of session (Strength number strength) = edit_refusal (strength_fault ses
 refusal_of session (Kind number kind) = edit_refusal (number_fault session.circuit number)
 refusal_of session (Wire number gate source drain) = edit_refusal (wire_fault session.circuit number gate source drain)
 refusal_of session Report = None
+refusal_of session (Keep number) = None

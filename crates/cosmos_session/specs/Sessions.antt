@@ -1,5 +1,5 @@
 -- The data of a session: what commands read and change.
-use Rattle.std.specs.Prelude.{◌≡◌, ◌≢◌, ℕ, Bool, true, false, ◌-◌, ◌<◌, ◌≤◌, ◌==◌, List, [], ◌∷◌, length, replicate, All, Option}
+use Rattle.std.specs.Prelude.{◌≡◌, ◌≢◌, ℕ, Bool, true, false, ◌-◌, ◌<◌, ◌≤◌, ◌==◌, List, [], ◌∷◌, length, replicate, All, Option, None}
 use Rattle.std.specs.List.{list_all}
 use Rattle.ternary.specs.declared.tern.Tern.{Tern}
 use Rattle.ternary.specs.declared.tern.Tern.TheVariants.{Zero, One, Unk}
@@ -18,7 +18,8 @@ pub record ClockData : Type 0 where
   pub states : List Tern
 
 -- the circuit, the state of its nodes, the nodes that are watched, the clocks, the limit of a phase, how many waveform lines there
--- were, whether some `expect` was not met, the texts of groups whose analyses are kept, and how many were analysed since the last report
+-- were, whether some `expect` was not met, the bound on the number of texts that are kept, where there is one, the texts of groups whose
+-- analyses are kept, the most recently used first, and how many were analysed since the last report
 pub record SessionData : Type 0 where
   pub circuit : CircuitData
   pub state : List Tern
@@ -27,6 +28,7 @@ pub record SessionData : Type 0 where
   pub limit : ℕ
   pub count : ℕ
   pub missed : Bool
+  pub bound : Option ℕ
   pub kept : List GroupTextData
   pub fresh : ℕ
 
@@ -35,7 +37,8 @@ pub record HeldSession : Type 0 where
   pub core : SessionData
   pub machine : Option MachineData
 
--- at the start Gnd is 0, Vdd is 1 and every other node X; nothing is watched, there are no clocks, nothing was missed, and nothing is kept
+-- at the start Gnd is 0, Vdd is 1 and every other node X; nothing is watched, there are no clocks, nothing was missed, nothing is kept, and
+-- there is no bound
 abbrev pub start_of : CircuitData → SessionData
 start_of circuit = record {
   circuit = circuit;
@@ -45,6 +48,7 @@ start_of circuit = record {
   limit = FIRST_LIMIT;
   count = 0;
   missed = false;
+  bound = None;
   kept = [];
   fresh = 0;
 }

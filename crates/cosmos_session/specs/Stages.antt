@@ -88,11 +88,12 @@ abbrev pub PutsIn : GraphData → ℕ → Tern → Option MachineData → Option
 PutsIn g node value None new = new ≡ None
 PutsIn g node value (Some machine) new = (next : MachineData) × (new ≡ Some next) × PutsNode g node value machine next
 
--- named nodes were placed in a machine: it covers a graph that it covered, its texts are kept that were, it didn't move, those parts alone
--- are marked more that the nodes concern, and where all are input nodes no member was placed
+-- named nodes were placed in a machine: it covers a graph that it covered, its texts are kept that were, those of the last build are the
+-- same, it didn't move, those parts alone are marked more that the nodes concern, and where all are input nodes no member was placed
 pub record Assigns (c : CircuitData) (names : List (List ℕ)) (old new : MachineData) : Type 0 where
   pub covers : Covers c.graph old → Covers c.graph new
   pub known : (kept : List GroupTextData) → IsKeptBy c.graph kept old → IsKeptBy c.graph kept new
+  pub last : new.last ≡ old.last
   pub parts : new.parts ≡ old.parts
   pub moves : new.moves ≡ old.moves
   pub marks : (k : ℕ) → IsMarked new.marks k → IsMarked old.marks k ⊎ ConcernsNamed c names old.parts k
@@ -103,11 +104,12 @@ abbrev pub AssignsIn : CircuitData → List (List ℕ) → Option MachineData �
 AssignsIn c names None new = new ≡ None
 AssignsIn c names (Some machine) new = (next : MachineData) × (new ≡ Some next) × Assigns c names machine next
 
--- clocks' nodes were placed in a machine: it fits a graph that it fitted, its texts are kept that were, it didn't move, and where all are
--- input nodes no member was placed
+-- clocks' nodes were placed in a machine: it fits a graph that it fitted, its texts are kept that were, those of the last build are the
+-- same, it didn't move, and where all are input nodes no member was placed
 pub record Ticks (g : GraphData) (clocks : List ClockData) (old new : MachineData) : Type 0 where
   pub fits : FitsGraph g old → FitsGraph g new
   pub known : (kept : List GroupTextData) → IsKeptBy g kept old → IsKeptBy g kept new
+  pub last : new.last ≡ old.last
   pub moves : new.moves ≡ old.moves
   pub unplaced : FitsGraph g old → All (λ clock. level_of g clock.node ≡ INPUT_LEVEL) clocks → new.placed ≡ old.placed
 
@@ -116,22 +118,25 @@ abbrev pub TicksIn : GraphData → List ClockData → Option MachineData → Opt
 TicksIn g clocks None new = new ≡ None
 TicksIn g clocks (Some machine) new = (next : MachineData) × (new ≡ Some next) × Ticks g clocks machine next
 
--- a machine took a unit step of the graph: it moved once where something changed, and those parts alone are marked that read a node
--- which did
+-- a machine took a unit step of the graph: it moved once where something changed, those parts alone are marked that read a node which
+-- did, and the texts of the last build are the same
 pub record TakesStep (g : GraphData) (old new : MachineData) : Type 0 where
   pub step : IsStep g old.state new.state
   pub fits : FitsGraph g new
   pub moved : new.state ≢ old.state → new.moves ≡ raised old.moves 1
   pub rested : new.state ≡ old.state → new.moves ≡ old.moves
   pub placed : new.placed ≡ old.placed
+  pub last : new.last ≡ old.last
   pub marks : (k : ℕ) → IsMarked new.marks k → ReadsChange new.parts old.state new.state k
 
--- a machine settled: it made each step that changed something, and where it came to rest in time no part is marked
+-- a machine settled: it made each step that changed something, where it came to rest in time no part is marked, and the texts of the last
+-- build are the same
 pub record TakesPhase (g : GraphData) (limit : ℕ) (old new : MachineData) (steps : ℕ) (joined : Bool) : Type 0 where
   pub settles : Settles g old.state limit new.state steps joined
   pub fits : FitsGraph g new
   pub moves : new.moves ≡ raised old.moves steps
   pub placed : new.placed ≡ old.placed
+  pub last : new.last ≡ old.last
   pub rests : joined ≡ false → steps < limit → (k : ℕ) → ¬ IsMarked new.marks k
 
 -- there was a machine and there is one, whose states are these, and this leads from the one to the other

@@ -31,7 +31,8 @@ impl Session {
         let (gate, source, drain) = (gate.items(), source.items(), drain.items());
         match self.circuit.add_switch(kind, strength, gate, source, drain) {
             Ok(_) => {
-                self.stage.edit(self.alloc, self.circuit.graph(), &change);
+                self.stage
+                    .edit(self.alloc, self.circuit.graph(), &change, &mut self.kept);
                 Ok(())
             }
             Err(fault) => Err(ApplyFault::of_edit(fault)),
@@ -46,7 +47,8 @@ impl Session {
         let change = change_of(self.circuit.graph(), number);
         match self.circuit.del(number) {
             Ok(()) => {
-                self.stage.edit(self.alloc, self.circuit.graph(), &change);
+                self.stage
+                    .edit(self.alloc, self.circuit.graph(), &change, &mut self.kept);
                 Ok(())
             }
             Err(fault) => Err(ApplyFault::of_edit(fault)),
@@ -61,7 +63,8 @@ impl Session {
         let change = change_of(self.circuit.graph(), number);
         match self.circuit.set_strength(number, strength) {
             Ok(()) => {
-                self.stage.edit(self.alloc, self.circuit.graph(), &change);
+                self.stage
+                    .edit(self.alloc, self.circuit.graph(), &change, &mut self.kept);
                 Ok(())
             }
             Err(fault) => Err(ApplyFault::of_edit(fault)),
@@ -76,7 +79,8 @@ impl Session {
         let change = change_of(self.circuit.graph(), number);
         match self.circuit.set_kind(number, kind) {
             Ok(()) => {
-                self.stage.edit(self.alloc, self.circuit.graph(), &change);
+                self.stage
+                    .edit(self.alloc, self.circuit.graph(), &change, &mut self.kept);
                 Ok(())
             }
             Err(fault) => Err(ApplyFault::of_edit(fault)),
@@ -100,7 +104,8 @@ impl Session {
         let (gate, source, drain) = (gate.items(), source.items(), drain.items());
         match self.circuit.rewire(number, gate, source, drain) {
             Ok(()) => {
-                self.stage.edit(self.alloc, self.circuit.graph(), &change);
+                self.stage
+                    .edit(self.alloc, self.circuit.graph(), &change, &mut self.kept);
                 Ok(())
             }
             Err(fault) => Err(ApplyFault::of_edit(fault)),

@@ -89,6 +89,7 @@ fn settle_uncounted<L: Ledger>(
     ensures fits { FitsGraph graph.now machine.new }
     ensures moves { machine.new.moves ≡ raised machine.old.moves result.steps }
     ensures placed { machine.new.placed ≡ machine.old.placed }
+    ensures last { machine.new.last ≡ machine.old.last }
 {
     settle(machine, graph, limit, &mut Steps::<L>::new(blank))
 }
@@ -104,6 +105,7 @@ fn rest_uncounted<L: Ledger>(machine: &mut Machine, graph: &Graph, blank: Blank)
     ensures fits { FitsGraph graph.now machine.new }
     ensures moves { machine.new.moves ≡ machine.old.moves }
     ensures placed { machine.new.placed ≡ machine.old.placed }
+    ensures last { machine.new.last ≡ machine.old.last }
     ensures rests { (k : ℕ) → ¬ IsMarked machine.new.marks k }
 {
     step_uncounted::<L>(machine, graph, blank);

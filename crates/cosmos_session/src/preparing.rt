@@ -8,17 +8,16 @@ use analysis_cache::Analyst;
 
 impl Session {
     /// Gets the session a machine that fits its circuit: the parts that edits made stale get their codes, or
-    /// the machine is built where there is none. The texts that aren't kept are analysed, kept and counted.
+    /// the machine is built where there is none. The texts that aren't kept are analysed, kept and counted, and
+    /// what is past the bound is cut.
     ///
     /// It is the last call of a command that can lack memory.
     pub(crate) fn prepare<A: Analyst>(&mut self, analyst: &mut A) -> Result<(), ApplyFault>
         ensures { Readies self.old self.new (A.analysed analyst.old) (A.analysed analyst.new) result }
     {
-        let before = self.kept.size();
         let graph = self.circuit.graph();
         match self.stage.build(self.alloc, graph, &mut self.kept, analyst) {
-            Ok(()) => {
-                let fresh = (self.kept.size() - before) as u64;
+            Ok(fresh) => {
                 self.fresh = self.fresh.saturating_add(fresh);
                 Ok(())
             }

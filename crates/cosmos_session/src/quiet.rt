@@ -58,7 +58,8 @@ impl Session {
         let node = self.circuit.find(name).unwrap();
         let change = change_of_level(self.circuit.graph(), node);
         let _made = self.circuit.make_input(node);
-        self.stage.edit(self.alloc, self.circuit.graph(), &change);
+        self.stage
+            .edit(self.alloc, self.circuit.graph(), &change, &mut self.kept);
     }
 
     /// `store`: makes the named node a storage node of this size.
@@ -72,7 +73,8 @@ impl Session {
         let change = change_of_level(self.circuit.graph(), node);
         match self.circuit.make_store(node, size) {
             Ok(()) => {
-                self.stage.edit(self.alloc, self.circuit.graph(), &change);
+                self.stage
+                    .edit(self.alloc, self.circuit.graph(), &change, &mut self.kept);
                 Ok(())
             }
             Err(_) if node < RAILS => Err(ApplyFault::Refused(Refusal::Rail)),
@@ -127,6 +129,15 @@ impl Session {
         ensures machine { self.new.machine ≡ self.old.machine }
     {
         self.limit = limit;
+        Ok(())
+    }
+
+    /// `keep`: sets the bound on the number of texts that are kept. The next build cuts what is past it.
+    pub(crate) fn set_bound(&mut self, number: u64) -> Result<(), ApplyFault>
+        ensures quiet { Quietly self.old (asked.Keep number) self.new result }
+        ensures machine { self.new.machine ≡ self.old.machine }
+    {
+        self.kept.set_bound(Some(number));
         Ok(())
     }
 

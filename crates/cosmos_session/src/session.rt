@@ -23,7 +23,8 @@ use unit_step::Machine;
 
 /// A simulation session: a circuit, the state of its nodes, the nodes that are watched, the clocks,
 /// the limit of a phase, how many waveform lines there were, whether some expectation was not met,
-/// the texts whose analyses are kept, and how many were analysed since the last report.
+/// the texts whose analyses are kept, the most recently used first, perhaps a bound on their number, and how
+/// many were analysed since the last report.
 ///
 /// Beside these data contracts see the machine that moves the state, where there is one: it is built
 /// at the first command that wants it, and lives through edits of the circuit.
@@ -44,18 +45,19 @@ pub struct Session {
 impl Model for Session {
     ghost use Rattle.analysis_cache.specs.Keeping.{texts_of};
     ghost use Rattle.cosmos_session.specs.Sessions.{HeldSession};
-    ghost use Rattle.cosmos_session.specs.Machines.{IsHeldSession};
+    ghost use Rattle.cosmos_session.specs.Machines.{IsHeldSession, AreAmong, kept_in, last_in};
 
     ghost Value = { HeldSession };
 
-    ghost view = { λ session. record { core = record { circuit = session.circuit; state = session.stage.state; watched = session.watched.items; clocks = session.clocks.items; limit = session.limit; count = session.count; missed = session.missed; kept = texts_of session.kept; fresh = session.fresh }; machine = session.stage.machine } };
+    ghost view = { λ session. record { core = record { circuit = session.circuit; state = session.stage.state; watched = session.watched.items; clocks = session.clocks.items; limit = session.limit; count = session.count; missed = session.missed; bound = session.kept.bound; kept = kept_in session.stage.machine (texts_of session.kept); fresh = session.fresh }; machine = session.stage.machine } };
 
-    ghost invariant = { λ session. IsHeldSession (record { core = record { circuit = session.circuit; state = session.stage.state; watched = session.watched.items; clocks = session.clocks.items; limit = session.limit; count = session.count; missed = session.missed; kept = texts_of session.kept; fresh = session.fresh }; machine = session.stage.machine }) };
+    ghost invariant = { λ session. IsHeldSession (record { core = record { circuit = session.circuit; state = session.stage.state; watched = session.watched.items; clocks = session.clocks.items; limit = session.limit; count = session.count; missed = session.missed; bound = session.kept.bound; kept = kept_in session.stage.machine (texts_of session.kept); fresh = session.fresh }; machine = session.stage.machine })
+        × AreAmong (last_in session.stage.machine) (texts_of session.kept) };
 }
 
 impl Session {
     /// A session at its start: Gnd is 0, Vdd is 1 and every other node X; nothing is watched, there
-    /// are no clocks, a phase has the limit 100, and nothing is kept. At want of memory the circuit is
+    /// are no clocks, a phase has the limit 100, nothing is kept, and there is no bound. At want of memory the circuit is
     /// dropped.
     pub fn new(alloc: Global, circuit: Circuit) -> Result<Session, NoMemory>
         ensures { IfOk result (λ session. session ≡ record { core = start_of circuit; machine = None }) }
@@ -78,13 +80,20 @@ impl Session {
         })
     }
 
-    /// A session at its start over another circuit, in which what this one keeps is kept still. At want of
-    /// memory both are dropped.
+    /// A session at its start over another circuit, in which what this one keeps is kept still, without a bound.
+    /// At want of memory both are dropped.
     pub fn restart(self, circuit: Circuit) -> Result<Session, NoMemory>
         ensures { IfOk result (λ session. session
             ≡ record { core = record (start_of circuit) { kept = self.core.kept }; machine = None }) }
     {
-        let Session { alloc, kept, .. } = self;
+        let Session {
+            alloc,
+            stage,
+            mut kept,
+            ..
+        } = self;
+        stage.use_last(&mut kept);
+        kept.set_bound(None);
         let mut session = Session::new(alloc, circuit)?;
         session.kept = kept;
         Ok(session)
@@ -134,7 +143,8 @@ impl Session {
     /// A refusal comes exactly where the command has one, the first of its causes, and changes nothing; a
     /// command that needs the circuit built is refused last where a group is too large, and the first such
     /// group is told. Before `step`, `phase`, `cycle` and `report` the circuit is built where it isn't: the
-    /// analyst is given each text of its groups that isn't kept, once, and its code is kept.
+    /// analyst is given each text of its groups that isn't kept, once, and its code is kept. The texts of its
+    /// groups are the most recently used ones then, and what is past the bound is cut, but none of these.
     ///
     /// The machine then stays. An edit makes the parts of the groups that it touches stale, and no others;
     /// these get their codes at the next build. Only an edit can end with no machine where there was one: it
@@ -214,6 +224,7 @@ impl Session {
                 drain,
             } => self.rewire(*number, gate, source, drain),
             Command::Report => self.report(analyst, out),
+            Command::Keep(number) => self.set_bound(*number),
         }
     }
 }

@@ -1,6 +1,6 @@
 //! The state of a session's nodes, and the machine that moves it, where there is one.
 
-ghost use Rattle.std.specs.Prelude.{◌≡◌, ◌+◌, ◌<◌, ◌≤◌, ◌⊎◌, true, None, Some, Err, is_some, length, count_by, option_map, slice_set, IfSome, IfErr, OnOk, OnErr};
+ghost use Rattle.std.specs.Prelude.{◌≡◌, ◌+◌, ◌<◌, ◌≤◌, ◌⊎◌, true, None, Some, Err, is_some, length, count_by, option_map, slice_set, IfSome, IfOk, IfErr, OnOk, OnErr};
 ghost use Rattle.path_meaning.specs.declared.TheConstants.{RAILS};
 ghost use Rattle.path_meaning.specs.Graphs.{nodes, IsWired};
 ghost use Rattle.path_meaning.specs.Rails.{IsRailed, IsSound};
@@ -12,7 +12,7 @@ ghost use Rattle.unit_step.specs.declared.editing.TheConstants.{NEW_NODES};
 ghost use Rattle.unit_step.specs.Parts.{has_members};
 ghost use Rattle.unit_step.specs.Fitting.{Covers};
 ghost use Rattle.unit_step.specs.Editing.{with_new_nodes};
-ghost use Rattle.cosmos_session.specs.Machines.{Serves, FitsIn, without_room};
+ghost use Rattle.cosmos_session.specs.Machines.{Serves, FitsIn, AreAmong, kept_in, last_in, without_room};
 ghost use Rattle.cosmos_session.specs.Stages.{PutsIn, MovesBy, TakesStep, TakesPhase, EditsFrom, BuiltFrom};
 
 use crate::moving::{place, settle_to_rest, take_step};
@@ -106,49 +106,73 @@ impl Stage {
     }
 
     /// Goes on after an edit of the graph: each new node is X, in room that is there, and the machine, if
-    /// there is one, is made stale round the edit. Where that lacks memory, the machine alone is let go.
-    pub(crate) fn edit(&mut self, alloc: Global, graph: &Graph, change: &Change)
+    /// there is one, is made stale round the edit. Where that lacks memory, the machine alone is let go; then
+    /// the texts of its last build are moved to the front of what is kept, where they count as standing anyhow.
+    pub(crate) fn edit(&mut self, alloc: Global, graph: &Graph, change: &Change, kept: &mut Kept)
         requires covers { IfSome self.old.machine (Covers (undo graph.now change.now)) }
         requires wired { IsWired (undo graph.now change.now) }
         requires room { nodes graph.now ≤ length self.old.state + self.old.spare }
+        requires last { AreAmong (last_in self.old.machine) (texts_of kept.old) }
         ensures state { self.new.state ≡ with_new_nodes self.old.state (nodes graph.now) }
         ensures machine { IfSome self.new.machine (EditsFrom graph.now change.now self.old.machine) }
+        ensures kept { kept_in self.new.machine (texts_of kept.new) ≡ kept_in self.old.machine (texts_of kept.old) }
+        ensures last { AreAmong (last_in self.new.machine) (texts_of kept.new) }
+        ensures bound { kept.new.bound ≡ kept.old.bound }
     {
         let held = mem::replace(&mut self.held, Held::Still(Vec::new(alloc)));
-        self.held = regrouped(held, graph, change);
+        self.held = regrouped(held, graph, change, kept);
+    }
+
+    /// Moves the texts of the machine's last build, where there is a machine, to the front of what is kept.
+    #[tactic(auto, using(crate::proofs::LastLemmas::kept_alone))]
+    pub(crate) fn use_last(&self, kept: &mut Kept)
+        requires { AreAmong (last_in self.now.machine) (texts_of kept.old) }
+        ensures kept { texts_of kept.new ≡ kept_in self.now.machine (texts_of kept.old) }
+        ensures bound { kept.new.bound ≡ kept.old.bound }
+    {
+        match &self.held {
+            Held::Still(_) => {}
+            Held::Built(machine) => machine.use_last(kept),
+        }
     }
 
     /// Gets a machine that fits the graph: the stale parts of the one that is there get their codes, and
     /// where there is none one is built.
     ///
-    /// Texts that aren't kept are analysed first, each once, and kept. The refusals are those of a build;
+    /// Texts that aren't kept are analysed first, each once, and kept; the answer is how many these are. What is
+    /// kept, with the texts of this build in front, is what a build leaves. The refusals are those of a build;
     /// after them the state and the machine are as before.
-    #[tactic(auto, using(crate::proofs::RoomLemmas::built_finished, crate::proofs::RoomLemmas::built_anew))]
+    #[tactic(auto, using(crate::proofs::RoomLemmas::built_finished, crate::proofs::RoomLemmas::built_anew, crate::proofs::LastLemmas::builds_anew, crate::proofs::LastLemmas::last_kept, crate::proofs::LastLemmas::cut_off_alone))]
     pub(crate) fn build<A: Analyst>(
         &mut self,
         alloc: Global,
         graph: &Graph,
         kept: &mut Kept,
         analyst: &mut A,
-    ) -> Result<(), BuildFault>
+    ) -> Result<u64, BuildFault>
         requires counted { length self.old.state ≡ nodes graph.now }
         requires railed { IsRailed graph.now }
         requires sound { IsSound self.old.state }
         requires serves { IfSome self.old.machine (Serves graph.now self.old.state (texts_of kept.old)) }
+        requires last { AreAmong (last_in self.old.machine) (texts_of kept.old) }
         ensures built { OnOk result (BuiltFrom graph.now self.old self.new) }
-        ensures builds { OnOk result (Builds graph.now (texts_of kept.old) (texts_of kept.new) (A.analysed analyst.old) (A.analysed analyst.new)) }
-        ensures cut_off { result ≡ Err BuildFault.NoMemory → IsCutOff graph.now (texts_of kept.old) (texts_of kept.new) (A.analysed analyst.old) (A.analysed analyst.new) }
+        ensures builds { IfOk result (Builds graph.now kept.old.bound (kept_in self.old.machine (texts_of kept.old)) (kept_in self.new.machine (texts_of kept.new))
+            (A.analysed analyst.old) (A.analysed analyst.new)) }
+        ensures last { OnOk result (AreAmong (last_in self.new.machine) (texts_of kept.new)) }
+        ensures bound { kept.new.bound ≡ kept.old.bound }
+        ensures cut_off { result ≡ Err BuildFault.NoMemory → IsCutOff graph.now (kept_in self.old.machine (texts_of kept.old)) (kept_in self.old.machine (texts_of kept.new))
+            (A.analysed analyst.old) (A.analysed analyst.new) }
         ensures refused { IfErr result (λ fault. (fault ≡ BuildFault.NoMemory)
             ⊎ (TellsTooLarge graph.now fault × (kept.new ≡ kept.old) × (A.analysed analyst.new ≡ A.analysed analyst.old))) }
         ensures err { OnErr result (self.new ≡ self.old) }
-        ensures grown { IsGrown kept.old kept.new }
+        ensures grown { OnErr result (IsGrown kept.old kept.new) }
     {
         match &mut self.held {
             Held::Built(machine) => machine.finish(graph, kept, analyst),
             Held::Still(state) => {
-                let machine = Machine::build(alloc, graph, state, kept, analyst)?;
+                let (machine, fresh) = Machine::build(alloc, graph, state, kept, analyst)?;
                 self.held = Held::Built(machine);
-                Ok(())
+                Ok(fresh)
             }
         }
     }

@@ -6,20 +6,20 @@ use Rattle.circuit_texts.specs.Sizes.{TellsTooLarge}
 use Rattle.script_lang.specs.declared.command.Command.{Command}
 use Rattle.cosmos_session.specs.Sessions.{SessionData}
 use Rattle.cosmos_session.specs.Refusals.{refusal_of}
-use Rattle.cosmos_session.specs.Preparing.{builds, with_texts, IsBuild, BuildsIf}
+use Rattle.cosmos_session.specs.Preparing.{builds, with_present, IsBuild, BuildsIf}
 use Rattle.cosmos_session.specs.Outcomes.{Performs}
 use Rattle.script_run.proofs.SizeLemmas.{not_both}
 
 -- what is kept and counted is read by no refusal
-refusal-with_texts : (session : SessionData) (texts : List GroupTextData) (command : Command) →
-    refusal_of (with_texts session texts) command ≡ refusal_of session command
-refusal-with_texts session texts _ = refl
+refusal-with_present : (session : SessionData) (present : List GroupTextData) (command : Command) →
+    refusal_of (with_present session present) command ≡ refusal_of session command
+refusal-with_present session present _ = refl
 
 -- so a build changes no refusal
 refusal-built : (building : Bool) (old mid : SessionData) (texts : List GroupTextData) (command : Command) → BuildsIf building old mid texts →
     refusal_of mid command ≡ refusal_of old command
 refusal-built true old mid texts command built =
-    subst (λ (session : SessionData). refusal_of session command ≡ refusal_of old command) (sym built.grown) (refusal-with_texts old texts command)
+    subst (λ (session : SessionData). refusal_of session command ≡ refusal_of old command) (sym built.used) (refusal-with_present old built.present command)
 refusal-built false old mid texts command (same, none) =
     subst (λ (session : SessionData). refusal_of session command ≡ refusal_of old command) (sym same) refl
 
@@ -34,4 +34,4 @@ pub performs-fits : (old new : SessionData) (command : Command) (text : List ℕ
     Performs old command new text texts → builds command ≡ true → ¬ TellsTooLarge old.circuit.graph fault
 performs-fits old new command text texts fault performs is told =
     let built : IsBuild old performs.mid texts = subst (λ building. BuildsIf building old performs.mid texts) is performs.prepares in
-    not_both old.circuit.graph fault built.news.texts told built.news.has
+    not_both old.circuit.graph fault built.present told built.has

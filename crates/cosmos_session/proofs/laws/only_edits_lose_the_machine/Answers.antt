@@ -3,7 +3,7 @@ use Rattle.std.proofs.Common.{◌≡◌, ℕ, List, true, Option, None, Some, is
 use Rattle.unit_step.specs.Machines.{MachineData}
 use Rattle.netlist.specs.Circuits.{CircuitData}
 use Rattle.script_lang.specs.declared.command.Command.{Command}
-use Rattle.script_lang.specs.declared.command.Command.TheVariants.{Input, Store, Set, Charge, Watch, Limit, Step, Phase, Clock, Cycle, Expect, Add, Del, Strength, Kind, Wire, Report}
+use Rattle.script_lang.specs.declared.command.Command.TheVariants.{Input, Store, Set, Charge, Watch, Limit, Step, Phase, Clock, Cycle, Expect, Add, Del, Strength, Kind, Wire, Report, Keep}
 use Rattle.cosmos_session.specs.Sessions.{HeldSession}
 use Rattle.cosmos_session.specs.Machines.{PlacesIn, IsMachineAfter, edits}
 use Rattle.cosmos_session.proofs.laws.only_edits_lose_the_machine.Goals as goal
@@ -43,6 +43,7 @@ by_command old new (Strength number strength) after some none = refl
 by_command old new (Kind number kind) after some none = refl
 by_command old new (Wire number gate source drain) after some none = refl
 by_command old new Report after some none = absurd (none_there new.machine after.machine after.there none)
+by_command old new (Keep number) after some none = absurd (lost old.machine new.machine after some none)
 
 pub returns : goal.returns
 returns c = by_command

@@ -13,7 +13,7 @@ run_cycles-requires-clause-inputs g c =
     sym (rw (c.in_default.is, c.deref.ensures.value) at c.cycle_refusal.ensures) in
     let allowed = subst (λ (s : HeldSession). cycle_refusal s.core.circuit s.core.clocks ≡ None) c.self.view_is none in
     let ready = c.in_ok-prepare.ensures in
-    rw ready.build.grown (cycle_inputs c.args.self.now.core.circuit c.args.self.now.core.clocks allowed)
+    rw ready.build.used (cycle_inputs c.args.self.now.core.circuit c.args.self.now.core.clocks allowed)
 
 pub returns-clause-obeys : goal.returns-clause-obeys
 returns-clause-obeys g c =

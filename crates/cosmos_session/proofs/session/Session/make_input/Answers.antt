@@ -2,13 +2,16 @@ use Rattle.std.proofs.Common.{◌≡◌, sym, ap, subst, ◌∙◌, Some, None}
 use Rattle.path_meaning.specs.Graphs.{GraphData}
 use Rattle.netlist.specs.Names.{node_of}
 use Rattle.netlist.specs.Circuits.{CircuitData}
+use Rattle.analysis_cache.specs.Keeping.{texts_of}
 use Rattle.netlist.specs.Edits.{with_input}
 use Rattle.cosmos_session.specs.Sessions.{HeldSession}
 use Rattle.cosmos_session.specs.Refusals.{rail_refusal}
+use Rattle.cosmos_session.specs.Machines.{IsHeldSession, kept_in}
 use Rattle.cosmos_session.specs.Stages.{before_level}
 use Rattle.cosmos_session.specs.contracts.session.Session.{the_view}
+use Rattle.cosmos_session.proofs.StayingLemmas.{keeps_bound}
 use Rattle.cosmos_session.proofs.UndoLemmas.{Undoes, undoes-by, undoes-with_level, nodes-with_level}
-use Rattle.cosmos_session.proofs.EditLemmas.{covers-before, held-edited, input_made}
+use Rattle.cosmos_session.proofs.EditLemmas.{edited, covers-before, held-edited, input_made}
 use Rattle.cosmos_session.proofs.session.Session.make_input.Goals as goal
 
 pub edit-requires-clause-covers : goal.edit-requires-clause-covers
@@ -25,8 +28,8 @@ edit-requires-clause-covers c =
     let undoes : Undoes circuit.graph session.core.circuit.graph change =
     undoes-by session.core.circuit circuit change made
     (c.change_of_level-change.ensures ∙ ap (λ (g : GraphData). before_level g c.unwrap-node.result) c.graph.ensures.value)
-    (undoes-with_level session.core.circuit c.unwrap-node.result _ c.self.invariant.core.ready.netlist) in
-    rw c.graph-2.ensures.value (covers-before session circuit change undoes c.self.invariant)
+    (undoes-with_level session.core.circuit c.unwrap-node.result _ c.self.invariant.0.core.ready.netlist) in
+    rw c.graph-2.ensures.value (covers-before session circuit change undoes c.self.invariant.0)
 
 pub edit-requires-clause-wired : goal.edit-requires-clause-wired
 edit-requires-clause-wired c =
@@ -42,7 +45,7 @@ edit-requires-clause-wired c =
     let undoes : Undoes circuit.graph session.core.circuit.graph change =
     undoes-by session.core.circuit circuit change made
     (c.change_of_level-change.ensures ∙ ap (λ (g : GraphData). before_level g c.unwrap-node.result) c.graph.ensures.value)
-    (undoes-with_level session.core.circuit c.unwrap-node.result _ c.self.invariant.core.ready.netlist) in
+    (undoes-with_level session.core.circuit c.unwrap-node.result _ c.self.invariant.0.core.ready.netlist) in
     rw c.graph-2.ensures.value undoes.wired
 
 pub invariant_of-self : goal.invariant_of-self
@@ -59,7 +62,11 @@ invariant_of-self c =
     let undoes : Undoes circuit.graph session.core.circuit.graph change =
     undoes-by session.core.circuit circuit change made
     (c.change_of_level-change.ensures ∙ ap (λ (g : GraphData). before_level g c.unwrap-node.result) c.graph.ensures.value)
-    (undoes-with_level session.core.circuit c.unwrap-node.result _ c.self.invariant.core.ready.netlist) in
-    held-edited session circuit change undoes c.self.invariant c.edit.new.self c.graph-2.ensures.netlist
-    (rw made (nodes-with_level session.core.circuit node _)) (rw c.graph-2.ensures.value at c.edit.ensures.state)
-    (rw c.graph-2.ensures.value at c.edit.ensures.machine)
+    (undoes-with_level session.core.circuit c.unwrap-node.result _ c.self.invariant.0.core.ready.netlist) in (
+      keeps_bound IsHeldSession (edited session circuit c.edit.new.self) c.edit.new.kept.bound
+          (kept_in c.edit.new.self.machine (texts_of c.edit.new.kept)) c.edit.ensures.bound c.edit.ensures.kept
+          (held-edited session circuit change undoes c.self.invariant.0 c.edit.new.self c.graph-2.ensures.netlist
+          (rw made (nodes-with_level session.core.circuit node _)) (rw c.graph-2.ensures.value at c.edit.ensures.state)
+          (rw c.graph-2.ensures.value at c.edit.ensures.machine)),
+      c.edit.ensures.last,
+    )

@@ -9,9 +9,8 @@ use Rattle.cosmos_session.proofs.session.Session.report.Goals as goal
 
 pub put_report-requires-clause-texts : goal.put_report-requires-clause-texts
 put_report-requires-clause-texts g c =
-    let news = c.in_ok-prepare.ensures.build.news in
-    subst (λ (s : SessionData). (list : List GroupTextData) × HasTexts s.circuit.graph list) (sym c.in_ok-prepare.ensures.build.grown)
-    (news.texts, news.has)
+    let build = c.in_ok-prepare.ensures.build in
+    subst (λ (s : SessionData). (list : List GroupTextData) × HasTexts s.circuit.graph list) (sym build.used) (build.present, build.has)
 
 pub returns-clause-obeys : goal.returns-clause-obeys
 returns-clause-obeys g c =

@@ -35,7 +35,7 @@ returns-in_err-settle_and_send-clause-beats g c =
     rw stopped.1 (beat_stopped start now c.settle_and_send.new.self.core beat.state (range_with_len 0 count)
     (range_with_len 0 place) _ place (g.S.Sink.written c.args.out.now) (g.S.Sink.written c.loop-place.out)
     (g.S.Sink.written c.settle_and_send.new.out) c.in_err-settle_and_send.field-0.0
-    (subst (λ (s : HeldSession). IsReady s.core) c.self.view_is c.self.invariant.core.ready) (places-split place count (omega (arith, c.loop-place.invariant.end)))
+    (subst (λ (s : HeldSession). IsReady s.core) c.self.view_is c.self.invariant.0.core.ready) (places-split place count (omega (arith, c.loop-place.invariant.end)))
     c.loop-place.invariant.done refl
     (rw c.put_clocks.ensures.beat at c.in_err-settle_and_send.ensures.phase))
 

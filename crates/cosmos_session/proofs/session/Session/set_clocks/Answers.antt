@@ -15,9 +15,11 @@ named_clocks-requires c =
 pub invariant_of-self : goal.invariant_of-self
 invariant_of-self c =
     let session = the_view c.self.inside in
-    let allowed = or_else-none _ _ (sym (rw (c.in_default.is, c.items.ensures) at c.clocks_refusal.ensures)) in
-    record {
-      core = IsSession-clocks session.core c.args.list.now _ c.requires allowed.0 allowed.1
-          (rw c.items-2.ensures at c.in_ok-self-inside.ensures.items) c.in_ok-self-inside.ensures.within c.self.invariant.core;
-      machine = c.self.invariant.machine;
-    }
+    let allowed = or_else-none _ _ (sym (rw (c.in_default.is, c.items.ensures) at c.clocks_refusal.ensures)) in (
+      record {
+        core = IsSession-clocks session.core c.args.list.now _ c.requires allowed.0 allowed.1
+            (rw c.items-2.ensures at c.in_ok-self-inside.ensures.items) c.in_ok-self-inside.ensures.within c.self.invariant.0.core;
+        machine = c.self.invariant.0.machine;
+      },
+      c.self.invariant.1,
+    )

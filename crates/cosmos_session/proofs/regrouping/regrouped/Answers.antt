@@ -1,0 +1,23 @@
+-- An edit leaves the texts of the last build, and so does one that lacks memory.
+use Rattle.std.proofs.Common.{◌≡◌, ap, ◌∙◌, sym}
+use Rattle.analysis_cache.specs.Keeping.{texts_of}
+use Rattle.cosmos_session.specs.Machines.{last_in}
+use Rattle.cosmos_session.specs.declared.stage.Held.{Held}
+use Rattle.cosmos_session.specs.Stages.{machine_held}
+use Rattle.cosmos_session.proofs.LastLemmas.{same_among}
+use Rattle.cosmos_session.proofs.regrouping.regrouped.Goals as goal
+
+pub let_go-requires-clause-last : goal.let_go-requires-clause-last
+let_go-requires-clause-last c =
+    let was : last_in (machine_held c.args.held) ≡ c.in-Built.machine.last = ap (λ (held : Held). last_in (machine_held held)) c.in-Built.is in
+    same_among _ _ (texts_of c.args.kept.now) (c.in-Ok.ensures.edits.last ∙ sym was) c.requires.last
+
+pub let_go-requires-in-Err-clause-last : goal.let_go-requires-in-Err-clause-last
+let_go-requires-in-Err-clause-last c =
+    let was : last_in (machine_held c.args.held) ≡ c.in-Built.machine.last = ap (λ (held : Held). last_in (machine_held held)) c.in-Built.is in
+    same_among _ _ (texts_of c.args.kept.now) (c.in-Err.ensures.last ∙ sym was) c.requires.last
+
+pub returns-else-is_sparse-clause-last : goal.returns-else-is_sparse-clause-last
+returns-else-is_sparse-clause-last c =
+    let was : last_in (machine_held c.args.held) ≡ c.in-Built.machine.last = ap (λ (held : Held). last_in (machine_held held)) c.in-Built.is in
+    same_among _ _ (texts_of c.args.kept.now) (c.in-Ok.ensures.edits.last ∙ sym was) c.requires.last
