@@ -1,5 +1,5 @@
 -- Each column is a machine that fits the graph: at first, after a step, and after words were placed.
-use Rattle.std.proofs.Common.{◌≡◌, ℕ, ◌<◌, ◌≤◌, Bool, true, false, ◌||◌, inl, inr, List, [], ◌++◌, length, refl, sym, ap, ap₂, subst, ◌∙◌, append-nil, Result, Ok, Err, arith}
+use Rattle.std.proofs.Common.{◌≡◌, ℕ, ◌<◌, ◌≤◌, Bool, true, false, ◌||◌, inl, inr, List, length, refl, sym, ap, ap₂, subst, ◌∙◌, Result, Ok, Err, arith}
 use Rattle.std.specs.Prelude.{slice_set, slice_index, replicate, IfOk}
 use Rattle.std.proofs.lemmas.Bool.{cases_eq}
 use Rattle.std.proofs.lemmas.List.{ext_get_or, get_or-set_same, get_or-set_other, length-set, get_or-replicate}
@@ -10,8 +10,6 @@ use Rattle.path_meaning.specs.Switching.{state_at}
 use Rattle.path_meaning.specs.Graphs.{GraphData, IsWired}
 use Rattle.path_meaning.specs.Step.{IsStep}
 use Rattle.oscillation_x.specs.Settling.{IsJoinStep}
-use Rattle.group_text.specs.Texts.{GroupTextData}
-use Rattle.circuit_texts.specs.Building.{Builds, IsCutOff}
 use Rattle.batch_words.specs.Lanes.{is_in_lane, HasLane}
 use Rattle.batch_words.proofs.RunLemmas.{high_at_node, low_at_node}
 use Rattle.unit_step.specs.declared.part.HeldPart.{HeldPart}
@@ -39,7 +37,7 @@ module _ (g : GraphData) (wired : IsWired g) (parts : List HeldPart) (marks new_
   advances : (joining : Bool) → StepsTo joining parts marks new_marks state next bit →
       AdvancesInColumn joining (record fit.machine { parts = parts; marks = marks; state = state })
       (record fit.machine { parts = parts; marks = new_marks; state = next })
-  advances joining steps = record { moves = steps.moves; marks = steps.keeps; groups = refl; parts = refl; uses = refl; texts = refl; spare = refl }
+  advances joining steps = record { moves = steps.moves; marks = steps.keeps; groups = refl; parts = refl; uses = refl; texts = refl; last = refl; spare = refl }
 
   -- so it is the unit step, or the joining step
   pub plain_step : StepsTo false parts marks new_marks state next bit → IsStep g state next
@@ -112,20 +110,6 @@ AreColumns-sound g lanes hi lo even sound = record {
       let has = sound lane inside in
       subst (HasLane lane hi lo) (sym (column-has lane hi lo even has.state has.has)) has.has;
 }
-
--- a build that was done is one of which no more was wanted
-pub IsCutOff-done : (g : GraphData) (old new before after : List GroupTextData) → Builds g old new before after → IsCutOff g old new before after
-IsCutOff-done g old new before after builds = inr (record {
-  fresh = builds.fresh;
-  more = builds.fresh;
-  further = [];
-  rest = [];
-  news = builds.news;
-  front = sym (append-nil builds.fresh);
-  kept = builds.kept;
-  analysed = builds.analysed ∙ ap (λ list. before ++ list) (sym (append-nil builds.fresh));
-  one = inl refl;
-})
 
 -- ---- placed words
 
@@ -200,6 +184,7 @@ FitsInLanes-placed g wired node high low old new even inside no_rail places fits
       parts = refl;
       uses = refl;
       texts = refl;
+      last = refl;
       moves = refl;
       spare = refl;
     } in

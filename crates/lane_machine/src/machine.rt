@@ -7,9 +7,9 @@ ghost use Rattle.path_meaning.specs.Step.{IsStep};
 ghost use Rattle.oscillation_x.specs.declared.settling.TheConstants.{MOST_LIMIT};
 ghost use Rattle.oscillation_x.specs.declared.settling.Settled.{Settled};
 ghost use Rattle.oscillation_x.specs.Settling.{IsJoinStep, StaysOrBecomesX, Settles};
-ghost use Rattle.analysis_cache.specs.Keeping.{texts_of, IsGrown};
+ghost use Rattle.analysis_cache.specs.Keeping.{texts_of};
 ghost use Rattle.circuit_texts.specs.Sizes.{TellsTooLarge};
-ghost use Rattle.circuit_texts.specs.Building.{Builds, IsCutOff};
+ghost use Rattle.lane_machine.specs.Building.{HasBuilt, IsCutInColumns};
 ghost use Rattle.batch_words.specs.Lanes.{is_in_lane};
 ghost use Rattle.unit_step.specs.Columns.{AreSeated};
 ghost use Rattle.unit_step.specs.Parts.{ReadsAt, IsStale, AreApart};
@@ -72,7 +72,8 @@ impl LaneMachine {
     /// There are 1 to 64 columns; the bits from the last one on may be anything. Code comes from what is kept;
     /// texts that aren't kept are analysed first, each once, in the order of the groups, and kept. Every part is
     /// marked. Where some group is too large, the first such group is told and nothing is analysed. At want of
-    /// memory nothing was analysed, or a front of what is new.
+    /// memory nothing was analysed, or a front of what is new; or all of it, where there was none for the columns
+    /// alone.
     pub fn build<A: Analyst>(
         alloc: Global,
         graph: &Graph,
@@ -90,14 +91,14 @@ impl LaneMachine {
         requires sound { (lane : ℕ) → lane < lanes → HasSoundLane graph.now hi.now lo.now lane }
         ensures fits { IfOk result (λ machine. FitsInLanes graph.now machine) }
         ensures fresh { IfOk result (λ machine. (machine.lanes ≡ lanes) × (machine.hi ≡ hi.now) × (machine.lo ≡ lo.now)) }
-        ensures builds { OnOk result (Builds graph.now (texts_of kept.old) (texts_of kept.new) (A.analysed analyst.old) (A.analysed analyst.new)) }
-        ensures cut_off { result ≡ Err BuildFault.NoMemory → IsCutOff graph.now (texts_of kept.old) (texts_of kept.new) (A.analysed analyst.old) (A.analysed analyst.new) }
+        ensures builds { OnOk result (HasBuilt graph.now kept.old.bound (texts_of kept.old) (texts_of kept.new) (A.analysed analyst.old) (A.analysed analyst.new)) }
+        ensures bound { kept.new.bound ≡ kept.old.bound }
+        ensures cut_off { result ≡ Err BuildFault.NoMemory → IsCutInColumns graph.now kept.old.bound (texts_of kept.old) (texts_of kept.new) (A.analysed analyst.old) (A.analysed analyst.new) }
         ensures refused { IfErr result (λ fault. (fault ≡ BuildFault.NoMemory)
             ⊎ (TellsTooLarge graph.now fault × (kept.new ≡ kept.old) × (A.analysed analyst.new ≡ A.analysed analyst.old))) }
-        ensures grown { IsGrown kept.old kept.new }
     {
         let state = some_state(alloc, graph.nodes())?;
-        let machine = Machine::build(alloc, graph, &state, kept, analyst)?;
+        let (machine, _fresh) = Machine::build(alloc, graph, &state, kept, analyst)?;
         Ok(LaneMachine::of_machine(alloc, graph, lanes, machine, hi, lo)?)
     }
 

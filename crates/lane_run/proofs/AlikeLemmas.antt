@@ -1,13 +1,18 @@
 -- Columns that are alike: they differ in their states alone. Commands keep them alike, and tell equally many lines in each.
-use Rattle.std.proofs.Common.{◌≡◌, ℕ, Bool, true, false, List, [], ◌∷◌, ◌++◌, length, map, sym, ap, ◌∙◌}
-use Rattle.group_text.specs.Texts.{GroupTextData}
+use Rattle.std.proofs.Common.{◌≡◌, ℕ, Bool, true, false, List, [], ◌∷◌, ◌++◌, length, map, sym, ap, subst, ◌∙◌}
+use Rattle.path_meaning.specs.Graphs.{GraphData}
+use Rattle.netlist.specs.Circuits.{CircuitData}
+use Rattle.group_meaning.specs.Groups.{Group}
+use Rattle.group_meaning.proofs.UniqueGroups.{unique}
+use Rattle.group_text.specs.Texts.{GroupTextData, text_of_group}
+use Rattle.circuit_texts.specs.Building.{HasTexts}
 use Rattle.netlist.specs.Edits.{node_named, with_store, with_transistor, without_switch, with_strength, with_kind, with_wires}
 use Rattle.lane_script.specs.declared.command.LaneCommand.{LaneCommand}
 use Rattle.lane_script.specs.declared.command.LaneCommand.TheVariants.{Input, Store, Set, Charge, Watch, Limit, Step, Phase, Clock, Cycle, Add, Del, Strength, Kind, Wire}
 use Rattle.lane_script.specs.Commands.{in_column}
 use Rattle.cosmos_session.specs.Sessions.{SessionData, places_of}
 use Rattle.cosmos_session.specs.Refusals.{refusal_of, strength_for}
-use Rattle.cosmos_session.specs.Preparing.{with_texts, BuildsIf}
+use Rattle.cosmos_session.specs.Preparing.{with_present, BuildsIf}
 use Rattle.cosmos_session.specs.Lines.{Line}
 use Rattle.cosmos_session.specs.Effects.{Effect, AreBeats, one_more, places_in, with_inputs, clock_of}
 use Rattle.lane_session.proofs.RefusalLemmas.{refused_alike}
@@ -81,13 +86,21 @@ alike-effect (Kind number kind) lane other one two after later lines more alike 
 alike-effect (Wire number gate source drain) lane other one two after later lines more alike first second =
     kept_alike (λ s. record s { circuit = with_wires s.circuit number gate source drain }) one two after later alike (ap less_states first.0) (ap less_states second.0)
 
--- so do builds of the same texts
-pub alike-built : (building : Bool) (one two mid then : SessionData) (texts others : List GroupTextData) → texts ≡ others → AreAlike one two →
+-- the texts of a graph are the same however its groups are listed
+pub HasTexts-unique : (g : GraphData) (texts others : List GroupTextData) → HasTexts g texts → HasTexts g others → texts ≡ others
+HasTexts-unique g texts others one two =
+    one.texts_are ∙ ap (λ (groups : List Group). map (text_of_group g) groups) (unique g one.groups two.groups one.are two.are) ∙ sym two.texts_are
+
+-- so do builds, since the texts of one circuit are present
+pub alike-built : (building : Bool) (one two mid then : SessionData) (texts others : List GroupTextData) → AreAlike one two →
     BuildsIf building one mid texts → BuildsIf building two then others → AreAlike mid then
-alike-built true one two mid then texts others same alike first second =
-    kept_alike (λ s. with_texts s texts) one two mid then alike (ap less_states first.grown)
-    (ap less_states (second.grown ∙ ap (with_texts two) (sym same)))
-alike-built false one two mid then texts others same alike first second =
+alike-built true one two mid then texts others alike first second =
+    let circuit : two.circuit ≡ one.circuit = ap (λ (s : SessionData). s.circuit) (beside one two alike) in
+    let present : second.present ≡ first.present = HasTexts-unique one.circuit.graph second.present first.present
+    (subst (λ (c : CircuitData). HasTexts c.graph second.present) circuit second.has) first.has in
+    kept_alike (λ s. with_present s first.present) one two mid then alike (ap less_states first.used)
+    (ap less_states (second.used ∙ ap (with_present two) present))
+alike-built false one two mid then texts others alike first second =
     kept_alike (λ s. s) one two mid then alike (ap less_states (first.0)) (ap less_states (second.0))
 
 -- sessions that are alike refuse what columns are given alike
@@ -95,7 +108,7 @@ pub alike-refused : (one two : SessionData) (command : LaneCommand) (lane other 
     refusal_of two (in_column other command) ≡ refusal_of one (in_column lane command)
 alike-refused one two command lane other alike =
     ap (λ (s : SessionData). refusal_of s (in_column other command)) (beside one two alike)
-    ∙ refused_alike one two.state one.limit one.count one.missed one.kept one.fresh command other lane
+    ∙ refused_alike one two.state one.limit one.count one.missed one.bound one.kept one.fresh command other lane
 
 -- how many lines a command tells, by the number of places of the clocks
 abbrev pub lines_told : LaneCommand → ℕ → ℕ

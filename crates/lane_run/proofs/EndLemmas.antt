@@ -1,10 +1,7 @@
 -- How a command ends in columns that are alike: it is refused in each, or a group is too large for it in each, or it is performed in each,
 -- with the same texts analysed and equally many lines.
-use Rattle.std.proofs.Common.{◌≡◌, ℕ, ◌<◌, ◌⊎◌, inl, inr, Bool, true, false, List, [], length, map, Option, None, Some, refl, sym, ap, ap₂, subst, ◌∙◌}
-use Rattle.path_meaning.specs.Graphs.{GraphData}
-use Rattle.group_meaning.specs.Groups.{Group}
-use Rattle.group_meaning.proofs.UniqueGroups.{unique}
-use Rattle.group_text.specs.Texts.{GroupTextData, text_of_group}
+use Rattle.std.proofs.Common.{◌≡◌, ℕ, ◌<◌, ◌⊎◌, inl, inr, Bool, true, false, List, [], length, Option, None, Some, refl, sym, ap, ap₂, subst, ◌∙◌}
+use Rattle.group_text.specs.Texts.{GroupTextData}
 use Rattle.group_text.specs.FirstTexts.{new_texts}
 use Rattle.circuit_texts.specs.declared.texts.BuildFault.{BuildFault}
 use Rattle.circuit_texts.specs.Sizes.{TellsTooLarge}
@@ -26,12 +23,7 @@ use Rattle.lane_session.specs.Outcomes.{Tells, PerformsTogether}
 use Rattle.lane_session.proofs.RowLemmas.{rows_exist, choose}
 use Rattle.lane_session.proofs.RefusalLemmas.{builds_alike}
 use Rattle.lane_session.proofs.FormLemmas.{formed_in}
-use Rattle.lane_run.proofs.AlikeLemmas.{AreAlike, beside, alike-effect, alike-built, alike-refused, lines_told, length-effect}
-
--- the texts of a graph are the same however its groups are listed
-HasTexts-unique : (g : GraphData) (texts others : List GroupTextData) → HasTexts g texts → HasTexts g others → texts ≡ others
-HasTexts-unique g texts others one two =
-    one.texts_are ∙ ap (λ (groups : List Group). map (text_of_group g) groups) (unique g one.groups two.groups one.are two.are) ∙ sym two.texts_are
+use Rattle.lane_run.proofs.AlikeLemmas.{AreAlike, beside, alike-effect, HasTexts-unique, alike-built, alike-refused, lines_told, length-effect}
 
 -- columns that are alike and ready
 pub record AreReady (lanes : ℕ) (columns : ℕ → SessionData) : Type 0 where
@@ -63,7 +55,7 @@ module _ (lanes : ℕ) (columns : ℕ → SessionData) (are : AreReady lanes col
 
   -- what stands before an effect keeps the clocks
   same_clocks : (building : Bool) (old mid : SessionData) (texts : List GroupTextData) → BuildsIf building old mid texts → mid.clocks ≡ old.clocks
-  same_clocks true old mid texts build = ap (λ (s : SessionData). s.clocks) build.grown
+  same_clocks true old mid texts build = ap (λ (s : SessionData). s.clocks) build.used
   same_clocks false old mid texts still = ap (λ (s : SessionData). s.clocks) (still.0)
 
   -- a command that is performed in a column
@@ -130,9 +122,9 @@ module _ (lanes : ℕ) (columns : ℕ → SessionData) (are : AreReady lanes col
 
       same_fresh : (lane : ℕ) → lane < lanes → (mid : SessionData) (others : List GroupTextData) → IsBuild (columns lane) mid others → others ≡ new_texts (columns 0).kept texts
       same_fresh lane inside mid others build =
-          build.news.fresh_are
+          build.news
           ∙ ap₂ new_texts (ap (λ (s : SessionData). s.kept) (beside (columns 0) (columns lane) (are.alike lane inside)))
-          (HasTexts-unique (columns lane).circuit.graph build.news.texts texts build.news.has (has_in lane inside))
+          (HasTexts-unique (columns lane).circuit.graph build.present texts build.has (has_in lane inside))
 
       each : (lane : ℕ) → lane < lanes → (end : SessionData × List Line) × Told (new_texts (columns 0).kept texts) lane end
       each lane inside =
@@ -167,7 +159,7 @@ ready_together lanes columns new command text texts are performs = record {
       let first = (performs.each 0 are.some).performs in
       let other = (performs.each lane inside).performs in
       alike-effect command 0 lane first.mid other.mid (new 0) (new lane) first.does.lines other.does.lines
-      (alike-built (builds (in_column 0 command)) (columns 0) (columns lane) first.mid other.mid texts texts refl (are.alike lane inside) first.prepares
+      (alike-built (builds (in_column 0 command)) (columns 0) (columns lane) first.mid other.mid texts texts (are.alike lane inside) first.prepares
       (subst (λ (does : Bool). BuildsIf does (columns lane) other.mid texts) (builds_alike command lane 0) other.prepares))
       first.does.effect other.does.effect;
   ready = λ lane inside.

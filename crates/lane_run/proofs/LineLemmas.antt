@@ -55,6 +55,7 @@ shares lanes (plain.Set list) is formed = absurd is
 shares lanes (plain.Charge list) is formed = absurd is
 shares lanes (plain.Expect list) is formed = absurd is
 shares lanes plain.Report is formed = absurd is
+shares lanes (plain.Keep number) is formed = absurd is
 
 -- values that aren't given have a cause
 given-named : (lanes : ℕ) (words : List (List ℕ)) (what : ScriptFault) → values_given lanes words ≡ Err what → what ≢ fault.NoMemory

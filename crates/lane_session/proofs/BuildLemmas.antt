@@ -1,44 +1,83 @@
--- Builds: once one was done, no text of the graph is new, and a build of what is kept analyses nothing.
-use Rattle.std.proofs.Common.{◌≡◌, Bool, true, false, ◌||◌, List, [], ◌∷◌, ◌++◌, map, filter, refl, sym, ap, ◌∙◌, append-nil}
-use Rattle.std.proofs.lemmas.List.{map-id}
-use Rattle.std.proofs.lemmas.List.Elements.{All-contains}
+-- Builds: once one was done, the texts of the graph stand in front of what is kept, and a further build leaves it; and a build keeps so many
+-- texts more as were new.
+use Rattle.std.proofs.Common.{◌≡◌, ℕ, ◌+◌, Bool, true, false, not, cond, ◌&&◌, List, [], ◌∷◌, ◌++◌, filter, length, Option, None, refl, sym, ap, ◌∙◌, append-nil, length-append, arith}
+use Rattle.std.specs.List.{IsDistinct, AllByRecursion}
+use Rattle.std.proofs.Math.Bool.{and_comm}
+use Rattle.std.proofs.lemmas.List.Filters.{length-filter_both}
+use Rattle.std.proofs.lemmas.Map.Made.{length-from_same_keys}
 use Rattle.path_meaning.specs.Graphs.{GraphData}
 use Rattle.group_text.specs.Texts.{GroupTextData}
-use Rattle.group_text.specs.FirstTexts.{is_among, new_texts}
-use Rattle.circuit_texts.specs.Building.{Builds, BuildsFresh}
-use Rattle.analysis_cache.proofs.NewTextLemmas.{is_among-kept, is_among-themselves}
-use Rattle.unit_step.proofs.FinishingTexts.{new_texts-waiting}
+use Rattle.group_text.specs.Compared.{same_text, same_text_equivalence}
+use Rattle.group_text.specs.FirstTexts.{is_among, first_texts, new_texts}
+use Rattle.group_analysis.specs.Using.{used_texts}
+use Rattle.analysis_cache.proofs.NewTextLemmas.{list_any-filter, alike_text, is_among-first}
+use Rattle.analysis_cache.proofs.OrderLemmas.{without, IsDistinct-first}
+use Rattle.analysis_cache.proofs.SettleLemmas.{none_is_new_again, used_texts-again}
+use Rattle.lane_machine.specs.Building.{HasBuilt}
+use Rattle.lane_session.specs.Stages.{StandFirst}
 
--- nothing passes a test that nothing passes
-filter-none : (texts : List GroupTextData) → filter (λ text. false) texts ≡ []
-filter-none [] = refl
-filter-none (text ∷ texts) = filter-none texts
-
--- a fact or the truth is true
-or_true : (b : Bool) → (b || true) ≡ true
-or_true true = refl
-or_true false = refl
-
--- once the new ones of some texts are kept, none of them is new
-new_texts-done : (kept texts : List GroupTextData) → new_texts (kept ++ new_texts kept texts) texts ≡ []
-new_texts-done kept texts =
-    let more : List GroupTextData = kept ++ new_texts kept texts in
-    ap (new_texts more) (sym (map-id texts))
-    ∙ new_texts-waiting (λ (text : GroupTextData). text) (λ text. false) more texts
-    (λ text there waits.
-    is_among-kept kept texts text ∙ ap (λ b. is_among kept text || b) (All-contains (λ one. is_among texts one ≡ true) texts text (is_among-themselves texts) there)
-    ∙ or_true (is_among kept text))
-    ∙ ap (λ (waiting : List GroupTextData). new_texts more (map (λ (text : GroupTextData). text) waiting)) (filter-none texts)
-
--- once a build was done, each text of the graph is kept
-pub built_is_kept : (g : GraphData) (old new asked told : List GroupTextData) → Builds g old new asked told → BuildsFresh g new []
-built_is_kept g old new asked told builds = record {
-  texts = builds.news.texts;
-  has = builds.news.has;
-  fresh_are = sym (ap (λ (kept : List GroupTextData). new_texts kept builds.news.texts)
-      (builds.kept ∙ ap (λ (fresh : List GroupTextData). old ++ fresh) builds.news.fresh_are) ∙ new_texts-done old builds.news.texts);
+-- once a build was done, the texts of the graph stand in front of what is kept
+pub built_stands_first : (g : GraphData) (bound : Option ℕ) (old new asked told : List GroupTextData) → HasBuilt g bound old new asked told → StandFirst g new
+built_stands_first g bound old new asked told (count, builds) = record {
+  present = builds.present;
+  has = builds.has;
+  none = ap (λ (kept : List GroupTextData). new_texts kept builds.present) builds.kept ∙ none_is_new_again bound builds.present old;
+  first = ap (used_texts builds.present) builds.kept ∙ used_texts-again bound builds.present old ∙ sym builds.kept;
 }
 
--- where each text of the graph is kept, a build analyses nothing
-pub kept_builds : (g : GraphData) (kept asked : List GroupTextData) → BuildsFresh g kept [] → Builds g kept kept asked asked
-kept_builds g kept asked known = record { fresh = []; news = known; kept = sym (append-nil kept); analysed = sym (append-nil asked) }
+-- where they stand there, a build analyses nothing, and leaves what is kept
+pub first_builds : (g : GraphData) (kept asked : List GroupTextData) → StandFirst g kept → HasBuilt g None kept kept asked asked
+first_builds g kept asked first = (
+  0,
+  record {
+    present = first.present;
+    has = first.has;
+    kept = sym first.first;
+    analysed = sym (append-nil asked) ∙ ap (λ (texts : List GroupTextData). asked ++ texts) (sym first.none);
+    number = ap length (sym first.none);
+  },
+)
+
+-- what a test leaves of distinct texts is distinct
+IsDistinct-filter : (test : GroupTextData → Bool) (texts : List GroupTextData) → IsDistinct same_text texts → IsDistinct same_text (filter test texts)
+unfolding IsDistinct
+IsDistinct-filter test [] apart = tt
+IsDistinct-filter test (text ∷ texts) apart = by (test text) (IsDistinct-filter test texts apart.1)
+  where
+    left : (others : List GroupTextData) → AllByRecursion (λ other. same_text text other ≡ false) others →
+        AllByRecursion (λ other. same_text text other ≡ false) (filter test others)
+    left [] each = tt
+    left (other ∷ others) each = some (test other) (left others each.1)
+      where
+        some : (b : Bool) → AllByRecursion (λ one. same_text text one ≡ false) (filter test others) →
+            AllByRecursion (λ one. same_text text one ≡ false) (cond b (other ∷ filter test others) (filter test others))
+        some true rest = (each.0, rest)
+        some false rest = rest
+
+    by : (b : Bool) → IsDistinct same_text (filter test texts) → IsDistinct same_text (cond b (text ∷ filter test texts) (filter test texts))
+    by true rest = (left texts apart.0, rest)
+    by false rest = rest
+
+-- of those texts that are present and kept there are as many among the distinct present ones as among the kept ones
+length-both : (present kept : List GroupTextData) → IsDistinct same_text kept →
+    length (filter (is_among kept) (first_texts present)) ≡ length (filter (is_among present) kept)
+length-both present kept apart =
+    length-from_same_keys same_text_equivalence (filter (is_among kept) (first_texts present)) (filter (is_among present) kept)
+    (IsDistinct-filter (is_among kept) (first_texts present) (IsDistinct-first present)) (IsDistinct-filter (is_among present) kept apart)
+    (λ text.
+    list_any-filter (same_text text) (is_among kept) (is_among kept text) (alike_text (is_among kept) text) (first_texts present)
+    ∙ ap (λ (b : Bool). is_among kept text && b) (is_among-first present text)
+    ∙ and_comm (is_among kept text) (is_among present text)
+    ∙ sym (list_any-filter (same_text text) (is_among present) (is_among present text) (alike_text (is_among present) text) kept))
+
+-- once texts were used, so many more are kept as were new
+pub length-used_more : (present kept : List GroupTextData) → IsDistinct same_text kept →
+    length (used_texts present kept) ≡ length kept + length (new_texts kept present)
+length-used_more present kept apart =
+    omega (
+      arith,
+      length-both present kept apart,
+      length-append (first_texts present) (without present kept),
+      length-filter_both (is_among kept) (λ text. not (is_among kept text)) (λ text. refl) (first_texts present),
+      length-filter_both (is_among present) (λ text. not (is_among present text)) (λ text. refl) kept,
+    )

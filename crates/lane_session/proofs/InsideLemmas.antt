@@ -1,5 +1,6 @@
 -- The parts of a session of columns: each column is a session, and stays one through the commands that the plain session does for all.
 use Rattle.std.proofs.Common.{◌≡◌, ℕ, ◌-◌, ◌<◌, ◌≤◌, true, List, [], ◌++◌, length, map, replicate, All, Option, None, Some, Ok, Err, IfSome, refl, sym, ap, ap₂, subst, ◌∙◌, inl, inr}
+use Rattle.std.specs.List.{IsDistinct}
 use Rattle.std.specs.Prelude.{◌⊎◌, ◌≢◌, slice_index_or, Result, IfErr, OnOk, OnErr}
 use Rattle.std.proofs.lemmas.List.Elements.{All-weaker}
 use Rattle.ternary.specs.declared.tern.Tern.{Tern}
@@ -13,12 +14,14 @@ use Rattle.analysis_cache.specs.Keeping.{KeptData, texts_of}
 use Rattle.circuit_texts.specs.declared.texts.BuildFault.{BuildFault}
 use Rattle.circuit_texts.specs.declared.texts.BuildFault.TheVariants as build
 use Rattle.circuit_texts.specs.Sizes.{TellsTooLarge}
-use Rattle.circuit_texts.specs.Building.{Builds, BuildsFresh, IsCutOff}
 use Rattle.batch_lanes.specs.Settling.{none_yet}
 use Rattle.netlist.specs.Circuits.{CircuitData}
 use Rattle.group_text.specs.Texts.{GroupTextData}
+use Rattle.group_text.specs.Compared.{same_text}
+use Rattle.group_text.specs.FirstTexts.{new_texts}
 use Rattle.unit_step.specs.Editing.{with_new_nodes}
 use Rattle.lane_machine.specs.Columns.{LaneData, FitsInLanes}
+use Rattle.lane_machine.specs.Building.{HasBuilt, IsCutInColumns}
 use Rattle.script_lang.specs.declared.command.Command.{Command}
 use Rattle.lane_script.specs.declared.command.LaneCommand.{LaneCommand}
 use Rattle.lane_script.specs.declared.command.LaneCommand.TheVariants.{Input, Store, Set, Charge, Watch, Limit, Step, Phase, Clock, Cycle, Add, Del, Strength, Kind, Wire}
@@ -32,7 +35,8 @@ use Rattle.cosmos_session.specs.Effects.{Effect, assigned, states_with, one_more
 use Rattle.cosmos_session.proofs.EffectLemmas.{ready-does}
 use Rattle.cosmos_session.proofs.StateLemmas.{length-states_with, length-settles, sound-states_with, sound-step, sound-settles}
 use Rattle.lane_session.specs.LaneSessions.{LaneSessionData, session_in, IsLaneSession, Stands}
-use Rattle.lane_session.specs.Stages.{HeldLanes, StageData, states_in, SameStates, IsSoundState, AreSound, Serves, FitsIn, MovesTogether, KeepsFit, ReadiedTogether, ReadiesTogether, TooLargeTogether, StepTaken, AreSettled, BeatPut, with_columns, one_column, AreInside, Shares, QuietlyTogether, is_edit}
+use Rattle.lane_session.specs.Stages.{HeldLanes, StageData, states_in, SameStates, IsSoundState, AreSound, StandFirst, Serves, FitsIn, MovesTogether, KeepsFit, ReadiedTogether, ReadiesTogether, TooLargeTogether, StepTaken, AreSettled, BeatPut, with_columns, one_column, AreInside, Shares, QuietlyTogether, is_edit}
+use Rattle.lane_session.proofs.BuildLemmas.{length-used_more}
 use Rattle.lane_session.proofs.ColumnLemmas.{within_high, within_low}
 use Rattle.lane_session.proofs.SharedLemmas.{effect-edit, effect-set, effect-charge, refusal-shared, does-shared}
 
@@ -266,12 +270,12 @@ unshared_inside plain after stage new clocks limit kept command fault inside sam
 
 -- ---- builds
 
--- a built session has all texts of its circuit kept
-known_of : (g : GraphData) (kept : List GroupTextData) (found : Option LaneData) → FitsIn g found → IfSome found (Serves g kept) → BuildsFresh g kept []
+-- a built session has the texts of its circuit in front of what is kept
+known_of : (g : GraphData) (kept : List GroupTextData) (found : Option LaneData) → FitsIn g found → IfSome found (Serves g kept) → StandFirst g kept
 known_of g kept found fits serves = (subst (λ (f : Option LaneData). IfSome f (Serves g kept)) fits.there serves).known
 
 -- the machine that fits serves
-serves_of : (g : GraphData) (kept : List GroupTextData) (found : Option LaneData) → FitsIn g found → BuildsFresh g kept [] → IfSome found (Serves g kept)
+serves_of : (g : GraphData) (kept : List GroupTextData) (found : Option LaneData) → FitsIn g found → StandFirst g kept → IfSome found (Serves g kept)
 serves_of g kept found fits known = subst (λ (f : Option LaneData). IfSome f (Serves g kept)) (sym fits.there) (record { fits = fits.fits; known = known })
 
 -- the parts fit after a build, and after one that was refused
@@ -303,12 +307,15 @@ kept_stands plain stage new count kept more same = record {
 }
 
 -- what a build that was done comes to
-pub built_readied : (plain : SessionData) (stage new : StageData) (count : ℕ) (kept more asked told : List GroupTextData) → SameStates stage new → FitsIn plain.circuit.graph new.machine →
-    Builds plain.circuit.graph kept more asked told →
+pub built_readied : (plain : SessionData) (stage new : StageData) (count : ℕ) (kept more asked told : List GroupTextData) → IsDistinct same_text kept →
+    SameStates stage new → FitsIn plain.circuit.graph new.machine → HasBuilt plain.circuit.graph None kept more asked told →
     ReadiedTogether (record { core = data_of plain stage count kept; machine = stage.machine }) (record { core = data_of plain new count more; machine = new.machine }) asked told
-built_readied plain stage new count kept more asked told same fits builds = record {
-  texts = builds.fresh;
-  news = builds.news;
+built_readied plain stage new count kept more asked told apart same fits (number, builds) = record {
+  present = builds.present;
+  has = builds.has;
+  texts = new_texts kept builds.present;
+  news = refl;
+  grown = length-used_more builds.present kept apart;
   stands = subst (Stands (data_of plain stage count kept) (data_of plain new count more)) builds.kept (kept_stands plain stage new count kept more same);
   analysed = builds.analysed;
   built = fits;
@@ -320,7 +327,8 @@ answer_of (Ok done) = Ok tt
 answer_of (Err fault) = Err (fault_of_build fault)
 
 -- what any build comes to
-module _ (plain : SessionData) (stage new : StageData) (count : ℕ) (kept more : KeptData) (asked told : List GroupTextData) (same : SameStates stage new) where
+module _ (plain : SessionData) (stage new : StageData) (count : ℕ) (kept more : KeptData) (asked told : List GroupTextData) (apart : IsDistinct same_text (texts_of kept))
+    (same : SameStates stage new) where
   -- the session before it, and after it
   abbrev before : HeldLanes
   before = record { core = data_of plain stage count (texts_of kept); machine = stage.machine }
@@ -339,11 +347,11 @@ module _ (plain : SessionData) (stage new : StageData) (count : ℕ) (kept more 
   }
 
   pub build_readies : (result : Result (Unit {0}) BuildFault) → OnOk result (FitsIn plain.circuit.graph new.machine) →
-      OnOk result (Builds plain.circuit.graph (texts_of kept) (texts_of more) asked told) →
-      (result ≡ Err build.NoMemory → IsCutOff plain.circuit.graph (texts_of kept) (texts_of more) asked told) →
+      OnOk result (HasBuilt plain.circuit.graph None (texts_of kept) (texts_of more) asked told) →
+      (result ≡ Err build.NoMemory → IsCutInColumns plain.circuit.graph None (texts_of kept) (texts_of more) asked told) →
       IfErr result (λ fault. (fault ≡ build.NoMemory) ⊎ (TellsTooLarge plain.circuit.graph fault × (more ≡ kept) × (told ≡ asked))) →
       ReadiesTogether before after asked told (answer_of result)
-  build_readies (Ok done) fits builds cut refused = built_readied plain stage new count (texts_of kept) (texts_of more) asked told same fits builds
+  build_readies (Ok done) fits builds cut refused = built_readied plain stage new count (texts_of kept) (texts_of more) asked told apart same fits builds
   build_readies (Err (build.GroupNodes node many)) fits builds cut refused = too_large (build.GroupNodes node many) (λ memory. cc) refused
   build_readies (Err (build.GroupSwitches node many)) fits builds cut refused = too_large (build.GroupSwitches node many) (λ memory. cc) refused
   build_readies (Err build.NoMemory) fits builds cut refused =

@@ -1,11 +1,12 @@
 -- Outcomes in columns: a command whose effect was done in each of them, and whose rows were sent or a part of them, is obeyed.
-use Rattle.std.proofs.Common.{◌≡◌, ℕ, ◌<◌, Bool, true, false, List, [], ◌∷◌, ◌++◌, replicate, Option, None, Some, Ok, Err, refl, sym, ap, subst, ◌∙◌, inl, inr, append-nil}
+use Rattle.std.proofs.Common.{◌≡◌, ℕ, ◌<◌, Bool, true, false, List, [], ◌∷◌, replicate, Option, None, Some, Ok, Err, refl, sym, ap, subst, ◌∙◌, inl, inr, append-nil}
 use Rattle.std.specs.Prelude.{Result, IfErr}
 use Rattle.port_edge.proofs.SendingLemmas.{append_known-nil}
 use Rattle.path_meaning.specs.Graphs.{nodes}
 use Rattle.circuit_texts.specs.declared.texts.BuildFault.TheVariants as build
 use Rattle.netlist.specs.Circuits.{CircuitData}
 use Rattle.group_text.specs.Texts.{GroupTextData}
+use Rattle.group_analysis.specs.Using.{used_texts}
 use Rattle.script_lang.specs.declared.command.Command.{Command}
 use Rattle.script_lang.specs.declared.command.Command.TheVariants as plain
 use Rattle.lane_script.specs.declared.command.LaneCommand.{LaneCommand}
@@ -80,7 +81,7 @@ quietly_obeys old new command known asked refusals (Err NoMemory) still stands =
     inl (
       record {
         stands = subst (Stands old new) (sym kept) stands;
-        cut_off = inl (kept, refl);
+        cut_off = inl (inl (kept, refl));
         unwritten = refl;
       },
       refl,
@@ -128,7 +129,7 @@ unready_obeys old mid command known asked told refusals NoMemory building allowe
 -- there are as many columns after a build, whatever it came to
 pub readies_lanes : (old mid : HeldLanes) (asked told : List GroupTextData) (result : Result (Unit {0}) ApplyFault) → ReadiesTogether old mid asked told result →
     mid.core.lanes ≡ old.core.lanes
-readies_lanes old mid asked told (Ok done) ready = lanes_stand old.core mid.core (old.core.kept ++ ready.texts) ready.stands
+readies_lanes old mid asked told (Ok done) ready = lanes_stand old.core mid.core (used_texts ready.present old.core.kept) ready.stands
 readies_lanes old mid asked told (Err (Refused refusal)) none = absurd none
 readies_lanes old mid asked told (Err (GroupNodes node count)) large = lanes_stand old.core mid.core old.core.kept large.stands
 readies_lanes old mid asked told (Err (GroupSwitches node count)) large = lanes_stand old.core mid.core old.core.kept large.stands
@@ -271,7 +272,7 @@ pub step_obeys : (old mid : HeldLanes) (counts : List Settled) (asked told : Lis
     StepTaken mid.core new → SentText before after (row_text (wave_in new counts) new.lanes) result → IfErr result IsSinkFault → now ≡ refusals_sent refusals result →
     ObeysTogether old.core Step new before after asked told refusals now result
 step_obeys old mid counts asked told new before after refusals now result counted ready taken sent cause same =
-    let lanes : mid.core.lanes ≡ old.core.lanes = lanes_stand old.core mid.core (old.core.kept ++ ready.texts) ready.stands in
+    let lanes : mid.core.lanes ≡ old.core.lanes = lanes_stand old.core mid.core (used_texts ready.present old.core.kept) ready.stands in
     let all : new.lanes ≡ old.core.lanes = ap (λ (s : LaneSessionData). s.lanes) taken.rest ∙ lanes in
     let effect : (lane : ℕ) → lane < old.core.lanes → Effect (session_in mid.core lane) plain.Step (session_in new lane) (wave_in new counts lane ∷ []) = λ lane inside.
     subst (λ (one : Settled). IsUnitStep (session_in mid.core lane) (session_in new lane) (wave_by (session_in new lane) one.steps one.joined ∷ []))
@@ -288,7 +289,7 @@ pub phase_obeys : (old mid : HeldLanes) (asked told : List GroupTextData) (new :
     (result : Result (Unit {0}) ApplyFault) → ReadiedTogether old mid asked told → PhasesSent mid.core new before after result → IfErr result IsSinkFault →
     now ≡ refusals_sent refusals result → ObeysTogether old.core Phase new before after asked told refusals now result
 phase_obeys old mid asked told new before after refusals now result ready phases cause same =
-    let lanes : mid.core.lanes ≡ old.core.lanes = lanes_stand old.core mid.core (old.core.kept ++ ready.texts) ready.stands in
+    let lanes : mid.core.lanes ≡ old.core.lanes = lanes_stand old.core mid.core (used_texts ready.present old.core.kept) ready.stands in
     let wave : ℕ → Line = wave_in new phases.counts in
     let effect : (lane : ℕ) → lane < old.core.lanes → Effect (session_in mid.core lane) plain.Phase (session_in new lane) (wave lane ∷ []) = λ lane inside.
     column_phase mid.core new phases.counts phases.settled lane (subst (λ (n : ℕ). lane < n) (sym lanes) inside) in
@@ -314,7 +315,7 @@ refused_obeys session command refusal known asked refusals cause =
 pub memory_obeys : (session : LaneSessionData) (command : LaneCommand) (known : Option (List ℕ)) (asked : List GroupTextData) (refusals : ℕ) →
     ObeysTogether session command session known known asked asked refusals refusals (Err NoMemory)
 memory_obeys session command known asked refusals =
-    inl (record { stands = stands_itself session; cut_off = inl (refl, refl); unwritten = refl }, refl)
+    inl (record { stands = stands_itself session; cut_off = inl (inl (refl, refl)); unwritten = refl }, refl)
 
 -- ---- faults
 

@@ -19,9 +19,9 @@ first_refusal-map g f [] = refl
 first_refusal-map g f (item ∷ items) = ap (or_else (f (g item))) (first_refusal-map g f items)
 
 -- two sessions with the same circuit, watch list and clocks refuse what two columns are given of a command alike
-module _ (session : SessionData) (state : List Tern) (limit count : ℕ) (missed : Bool) (kept : List GroupTextData) (fresh : ℕ) where
+module _ (session : SessionData) (state : List Tern) (limit count : ℕ) (missed : Bool) (bound : Option ℕ) (kept : List GroupTextData) (fresh : ℕ) where
   abbrev pub beside : SessionData
-  beside = record session { state = state; limit = limit; count = count; missed = missed; kept = kept; fresh = fresh }
+  beside = record session { state = state; limit = limit; count = count; missed = missed; bound = bound; kept = kept; fresh = fresh }
 
   pub refused_alike : (command : LaneCommand) (lane other : ℕ) → refusal_of beside (in_column lane command) ≡ refusal_of session (in_column other command)
   refused_alike (Input names) lane other = refl
@@ -48,7 +48,7 @@ module _ (session : SessionData) (state : List Tern) (limit count : ℕ) (missed
 pub columns_refuse : ColumnsRefuseAlike
 columns_refuse session command lane other =
     let column = session_in session lane in
-    refused_alike (session_in session other) column.state column.limit column.count column.missed column.kept column.fresh command lane other
+    refused_alike (session_in session other) column.state column.limit column.count column.missed column.bound column.kept column.fresh command lane other
 
 -- whether a command builds doesn't depend on the column
 pub builds_alike : (command : LaneCommand) (lane other : ℕ) → builds (in_column lane command) ≡ builds (in_column other command)

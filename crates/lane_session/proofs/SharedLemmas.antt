@@ -83,7 +83,7 @@ module _ (plain after : SessionData) (state : List Tern) (count : ℕ) (kept : L
 
   -- the column's command is refused as the first column's is
   pub refusal-shared : (command : LaneCommand) → refusal_of old (in_column lane command) ≡ refusal_of plain (in_column 0 command)
-  refusal-shared command = refused_alike plain state plain.limit count false kept (raised 0 (length kept)) command lane 0
+  refusal-shared command = refused_alike plain state plain.limit count false None kept (raised 0 (length kept)) command lane 0
 
   -- so the column does what its command says
   pub does-shared : (command : LaneCommand) (new : SessionData) → refusal_of plain (in_column 0 command) ≡ None →

@@ -1,5 +1,5 @@
 -- Steps and phases of all columns: in each column they are those of a plain session, with one waveform line.
-use Rattle.std.proofs.Common.{◌≡◌, ℕ, ◌<◌, false, List, [], ◌∷◌, ◌++◌, length, replicate, All, refl, sym, ap, subst, ◌∙◌, length-append}
+use Rattle.std.proofs.Common.{◌≡◌, ℕ, ◌<◌, false, List, [], ◌∷◌, length, replicate, All, refl, sym, ap, subst, ◌∙◌}
 use Rattle.std.proofs.lemmas.List.{get_or-replicate, length-replicate}
 use Rattle.ternary.specs.declared.tern.Tern.{Tern}
 use Rattle.ternary.specs.Counts.{raised}
@@ -8,6 +8,7 @@ use Rattle.strength_order.specs.declared.TheConstants.{INPUT_LEVEL}
 use Rattle.path_meaning.specs.Graphs.{level_of}
 use Rattle.oscillation_x.specs.declared.settling.Settled.{Settled}
 use Rattle.group_text.specs.Texts.{GroupTextData}
+use Rattle.group_analysis.specs.Using.{used_texts}
 use Rattle.batch_lanes.specs.Settling.{none_yet}
 use Rattle.cosmos_session.specs.Sessions.{SessionData, IsReady}
 use Rattle.cosmos_session.specs.Preparing.{IsBuild}
@@ -35,17 +36,21 @@ lanes_stand old new kept stands = ap (λ (s : LaneSessionData). s.lanes) stands.
 pub column_built : (old mid : HeldLanes) (asked told : List GroupTextData) → (ready : ReadiedTogether old mid asked told) → (lane : ℕ) → lane < old.core.lanes →
     IsBuild (session_in old.core lane) (session_in mid.core lane) ready.texts
 column_built old mid asked told ready lane inside = record {
+  present = ready.present;
+  has = ready.has;
   news = ready.news;
-  grown = column_stands old.core mid.core (old.core.kept ++ ready.texts) ready.stands lane inside
-      ∙ ap (λ (fresh : ℕ). record (session_in (record old.core { kept = old.core.kept ++ ready.texts }) lane) { fresh = fresh })
-      (ap (raised 0) (length-append old.core.kept ready.texts) ∙ sym (raised-more 0 (length old.core.kept) (length ready.texts)));
+  used = column_stands old.core mid.core (used_texts ready.present old.core.kept) ready.stands lane inside
+      ∙ ap (λ (fresh : ℕ). record (session_in (record old.core { kept = used_texts ready.present old.core.kept }) lane) { fresh = fresh })
+      (ap (raised 0) ready.grown
+      ∙ sym (raised-more 0 (length old.core.kept) (length ready.texts))
+      ∙ ap (λ (texts : List GroupTextData). raised (raised 0 (length old.core.kept)) (length texts)) ready.news);
 }
 
 -- columns that are ready are so after a build
 pub columns_readied : (old mid : HeldLanes) (asked told : List GroupTextData) → ReadiedTogether old mid asked told →
     ((lane : ℕ) → lane < old.core.lanes → IsReady (session_in old.core lane)) → (lane : ℕ) → lane < mid.core.lanes → IsReady (session_in mid.core lane)
 columns_readied old mid asked told ready is lane inside =
-    let kept : List GroupTextData = old.core.kept ++ ready.texts in
+    let kept : List GroupTextData = used_texts ready.present old.core.kept in
     let within : lane < old.core.lanes = subst (λ (n : ℕ). lane < n) (lanes_stand old.core mid.core kept ready.stands) inside in
     let here = is lane within in
     subst IsReady (sym (column_stands old.core mid.core kept ready.stands lane within))
@@ -67,7 +72,7 @@ room_readied old mid asked told room ready enough =
 pub counts_readied : (old mid : HeldLanes) (asked told : List GroupTextData) (counts : List Settled) → ReadiedTogether old mid asked told →
     counts ≡ replicate old.core.lanes (record { steps = 1; joined = false }) → length counts ≡ mid.core.lanes
 counts_readied old mid asked told counts ready is =
-    ap length is ∙ length-replicate old.core.lanes (record { steps = 1; joined = false }) ∙ sym (lanes_stand old.core mid.core (old.core.kept ++ ready.texts) ready.stands)
+    ap length is ∙ length-replicate old.core.lanes (record { steps = 1; joined = false }) ∙ sym (lanes_stand old.core mid.core (used_texts ready.present old.core.kept) ready.stands)
 
 -- a unit step of a column
 pub column_step : (mid new : LaneSessionData) → StepTaken mid new → (lane : ℕ) → lane < mid.lanes →

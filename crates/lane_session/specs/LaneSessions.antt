@@ -1,5 +1,5 @@
 -- The data of a session of columns: each column is the session of a plain script.
-use Rattle.std.specs.Prelude.{◌≡◌, ℕ, ◌<◌, ◌≤◌, false, List, length}
+use Rattle.std.specs.Prelude.{◌≡◌, ℕ, ◌<◌, ◌≤◌, false, List, length, None}
 use Rattle.ternary.specs.declared.tern.Tern.{Tern}
 use Rattle.ternary.specs.Counts.{raised}
 use Rattle.group_text.specs.Texts.{GroupTextData}
@@ -9,7 +9,7 @@ use Rattle.cosmos_session.specs.Sessions.{SessionData, ClockData, IsSession, sta
 
 -- how many columns there are, what all of them share, and the states of each: the circuit, both rails of each node's states, bit i for column
 -- i, the nodes that are watched, the clocks, the limit of a phase, how many waveform lines each column has, and the texts of groups whose
--- analyses are kept
+-- analyses are kept, the most recently used first
 pub record LaneSessionData : Type 0 where
   pub lanes : ℕ
   pub circuit : CircuitData
@@ -25,8 +25,8 @@ pub record LaneSessionData : Type 0 where
 abbrev pub states_of : LaneSessionData → ℕ → List Tern
 states_of session lane = column lane session.hi session.lo
 
--- a column, as the session of a plain script: no expectation was missed, and all that is kept was analysed since the last report, since a
--- script for columns has neither
+-- a column, as the session of a plain script: no expectation was missed, there is no bound on what is kept, and all of that was analysed
+-- since the last report, since a script for columns has none of the three
 abbrev pub session_in : LaneSessionData → ℕ → SessionData
 session_in session lane = record {
   circuit = session.circuit;
@@ -36,6 +36,7 @@ session_in session lane = record {
   limit = session.limit;
   count = session.count;
   missed = false;
+  bound = None;
   kept = session.kept;
   fresh = raised 0 (length session.kept);
 }

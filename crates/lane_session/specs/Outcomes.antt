@@ -7,7 +7,7 @@ use Rattle.group_text.specs.Texts.{GroupTextData}
 use Rattle.circuit_texts.specs.declared.texts.BuildFault.{BuildFault}
 use Rattle.circuit_texts.specs.declared.texts.BuildFault.TheVariants as build
 use Rattle.circuit_texts.specs.Sizes.{TellsTooLarge}
-use Rattle.circuit_texts.specs.Building.{IsCutOff}
+use Rattle.lane_machine.specs.Building.{IsCutInColumns}
 use Rattle.script_lang.specs.declared.command.Command.{Command}
 use Rattle.lane_script.specs.declared.command.LaneCommand.{LaneCommand}
 use Rattle.lane_script.specs.Commands.{in_column}
@@ -63,10 +63,10 @@ pub record RefusesSizeTogether (old : LaneSessionData) (command : LaneCommand) (
   pub first : TellsTooLarge old.circuit.graph fault
   pub keeps : KeepsTogether old new before after asked told
 
--- all is as before, but that a front of the texts that a build analyses may be kept
+-- all is as before, but that a front of the texts that a build analyses may be kept, or all of them, as a build keeps them
 pub record StaysTogether (old new : LaneSessionData) (before after : Option (List ℕ)) (asked told : List GroupTextData) : Type 0 where
   pub stands : Stands old new new.kept
-  pub cut_off : IsCutOff old.circuit.graph old.kept new.kept asked told
+  pub cut_off : IsCutInColumns old.circuit.graph None old.kept new.kept asked told
   pub unwritten : after ≡ before
 
 -- the command isn't refused; of the columns' lines a part was written, from the start, and a whole part of it was done in each column

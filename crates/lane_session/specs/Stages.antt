@@ -11,10 +11,13 @@ use Rattle.path_meaning.specs.Switching.{state_at}
 use Rattle.oscillation_x.specs.declared.settling.Settled.{Settled}
 use Rattle.oscillation_x.specs.Settling.{Settles}
 use Rattle.group_text.specs.Texts.{GroupTextData}
+use Rattle.group_text.specs.FirstTexts.{new_texts}
+use Rattle.group_analysis.specs.Using.{used_texts}
 use Rattle.circuit_texts.specs.declared.texts.BuildFault.{BuildFault}
 use Rattle.circuit_texts.specs.declared.texts.BuildFault.TheVariants as build
 use Rattle.circuit_texts.specs.Sizes.{TellsTooLarge}
-use Rattle.circuit_texts.specs.Building.{BuildsFresh, IsCutOff}
+use Rattle.circuit_texts.specs.Building.{HasTexts}
+use Rattle.lane_machine.specs.Building.{IsCutInColumns}
 use Rattle.batch_words.specs.Lanes.{is_in_lane}
 use Rattle.lane_machine.specs.Columns.{LaneData, column, FitsInLanes}
 use Rattle.lane_machine.specs.Running.{AreColumns}
@@ -110,10 +113,17 @@ pub record IsSoundState (g : GraphData) (state : List Tern) : Type 0 where
 abbrev pub AreSound : GraphData → StageData → Type 0
 AreSound g stage = (lane : ℕ) → lane < stage.lanes → IsSoundState g (states_in stage lane)
 
--- the machine serves these: in each column it fits the graph, each of whose texts is kept
+-- the texts of the graph's groups are kept in front of all others, in order of first appearance: a build finds none new, and moves none
+pub record StandFirst (g : GraphData) (kept : List GroupTextData) : Type 0 where
+  pub present : List GroupTextData
+  pub has : HasTexts g present
+  pub none : new_texts kept present ≡ []
+  pub first : used_texts present kept ≡ kept
+
+-- the machine serves these: in each column it fits the graph, whose texts are kept in front of all others
 pub record Serves (g : GraphData) (kept : List GroupTextData) (machine : LaneData) : Type 0 where
   pub fits : FitsInLanes g machine
-  pub known : BuildsFresh g kept []
+  pub known : StandFirst g kept
 
 -- there is a machine, which in each column fits the graph
 pub record FitsIn (g : GraphData) (found : Option LaneData) : Type 0 where
@@ -170,6 +180,7 @@ one_column plain state count kept = record {
   limit = plain.limit;
   count = count;
   missed = false;
+  bound = None;
   kept = kept;
   fresh = raised 0 (length kept);
 }
@@ -233,11 +244,14 @@ QuietlyTogether old command new (Err WriteFault) = ⊥
 abbrev pub IsBuilt : HeldLanes → Type 0
 IsBuilt session = FitsIn session.core.circuit.graph session.machine
 
--- the circuit was built: what was not kept was analysed, and there is a machine
+-- the circuit was built: what was not kept was analysed, all texts of the circuit's groups were used, and there is a machine
 pub record ReadiedTogether (old new : HeldLanes) (asked told : List GroupTextData) : Type 0 where
+  pub present : List GroupTextData
+  pub has : HasTexts old.core.circuit.graph present
   pub texts : List GroupTextData
-  pub news : BuildsFresh old.core.circuit.graph old.core.kept texts
-  pub stands : Stands old.core new.core (old.core.kept ++ texts)
+  pub news : texts ≡ new_texts old.core.kept present
+  pub grown : length (used_texts present old.core.kept) ≡ length old.core.kept + length texts
+  pub stands : Stands old.core new.core (used_texts present old.core.kept)
   pub analysed : told ≡ asked ++ texts
   pub built : IsBuilt new
 
@@ -247,10 +261,11 @@ pub record TooLargeTogether (old new : LaneSessionData) (asked told : List Group
   pub stands : Stands old new old.kept
   pub unasked : told ≡ asked
 
--- a build found want of memory: all is as before, but that a front of the texts that it analyses may be kept
+-- a build found want of memory: all is as before, but that a front of the texts that it analyses may be kept, or all of them, as a build
+-- keeps them
 pub record CutOffTogether (old new : LaneSessionData) (asked told : List GroupTextData) : Type 0 where
   pub stands : Stands old new new.kept
-  pub cut_off : IsCutOff old.circuit.graph old.kept new.kept asked told
+  pub cut_off : IsCutInColumns old.circuit.graph None old.kept new.kept asked told
 
 -- what making a session ready for unit steps comes to
 abbrev pub ReadiesTogether : HeldLanes → HeldLanes → List GroupTextData → List GroupTextData → Result (Unit {0}) ApplyFault → Type 0

@@ -36,6 +36,7 @@ pub struct LaneSession {
 }
 
 impl Model for LaneSession {
+    ghost use Rattle.std.specs.Prelude.{◌≡◌, None};
     ghost use Rattle.analysis_cache.specs.Keeping.{texts_of};
     ghost use Rattle.lane_session.specs.Stages.{HeldLanes, with_columns, AreInside};
 
@@ -43,7 +44,7 @@ impl Model for LaneSession {
 
     ghost view = { λ session. record { core = with_columns session.plain.core session.stage session.count (texts_of session.kept); machine = session.stage.machine } };
 
-    ghost invariant = { λ session. AreInside session.plain.core session.stage session.clocks.items session.limit (texts_of session.kept) };
+    ghost invariant = { λ session. AreInside session.plain.core session.stage session.clocks.items session.limit (texts_of session.kept) × (session.kept.bound ≡ None) };
 }
 
 impl LaneSession {
@@ -92,7 +93,7 @@ impl LaneSession {
     /// command is refused, and why, doesn't depend on the column. A waveform line of the command is written for
     /// all columns, in order, before the next one of any. Before `step`, `phase` and `cycle` the circuit is built
     /// once for all columns: the analyst is given each text of its groups that isn't kept, once, and its code is
-    /// kept.
+    /// kept. The texts of its groups are the most recently used ones then; nothing is cut.
     ///
     /// A fault of the sink ends the command: then a front of the lines was written, and each column is as after a
     /// whole part of the command. Want of memory of the sink is alike. Want of memory of any other kind changes

@@ -9,11 +9,11 @@ ghost use Rattle.path_meaning.specs.Step.{IsStep};
 ghost use Rattle.oscillation_x.specs.declared.settling.Settled.{Settled};
 ghost use Rattle.oscillation_x.specs.Settling.{Settles};
 ghost use Rattle.unit_step.specs.declared.editing.TheConstants.{NEW_NODES};
-ghost use Rattle.analysis_cache.specs.Keeping.{texts_of, IsGrown};
+ghost use Rattle.analysis_cache.specs.Keeping.{texts_of};
 ghost use Rattle.circuit_texts.specs.Sizes.{TellsTooLarge};
-ghost use Rattle.circuit_texts.specs.Building.{Builds, IsCutOff};
 ghost use Rattle.batch_words.specs.Lanes.{HasLane};
 ghost use Rattle.lane_machine.specs.Columns.{column, HasStates};
+ghost use Rattle.lane_machine.specs.Building.{HasBuilt, IsCutInColumns};
 ghost use Rattle.lane_session.specs.Stages.{AreSound, HasRoom, KeepsFit, MovesTogether, SameStates, FitsIn, Serves, states_in};
 
 use crate::words::{UNKNOWN, Words, railed};
@@ -145,8 +145,8 @@ impl LaneStage {
 
     /// Gets a machine that serves the graph: the one that is there does, and where there is none one is built.
     ///
-    /// Texts that aren't kept are analysed first, each once, and kept. The refusals are those of a build; after
-    /// them the states are as before.
+    /// Texts that aren't kept are analysed first, each once, and kept; all texts of the graph's groups are in front
+    /// of what is kept then. The refusals are those of a build; after them the states are as before.
     pub(crate) fn build<A: Analyst>(
         &mut self,
         alloc: Global,
@@ -157,15 +157,16 @@ impl LaneStage {
         requires railed { IsRailed graph.now }
         requires sound { AreSound graph.now self.old }
         requires serves { IfSome self.old.machine (Serves graph.now (texts_of kept.old)) }
+        requires unbounded { kept.old.bound ≡ None }
         ensures built { OnOk result (FitsIn graph.now self.new.machine) }
         ensures serves { OnOk result (IfSome self.new.machine (Serves graph.now (texts_of kept.new))) }
         ensures same { SameStates self.old self.new }
-        ensures builds { OnOk result (Builds graph.now (texts_of kept.old) (texts_of kept.new) (A.analysed analyst.old) (A.analysed analyst.new)) }
-        ensures cut_off { result ≡ Err BuildFault.NoMemory → IsCutOff graph.now (texts_of kept.old) (texts_of kept.new) (A.analysed analyst.old) (A.analysed analyst.new) }
+        ensures builds { OnOk result (HasBuilt graph.now None (texts_of kept.old) (texts_of kept.new) (A.analysed analyst.old) (A.analysed analyst.new)) }
+        ensures unbounded { kept.new.bound ≡ None }
+        ensures cut_off { result ≡ Err BuildFault.NoMemory → IsCutInColumns graph.now None (texts_of kept.old) (texts_of kept.new) (A.analysed analyst.old) (A.analysed analyst.new) }
         ensures refused { IfErr result (λ fault. (fault ≡ BuildFault.NoMemory)
             ⊎ (TellsTooLarge graph.now fault × (kept.new ≡ kept.old) × (A.analysed analyst.new ≡ A.analysed analyst.old))) }
         ensures err { OnErr result (self.new.machine ≡ None) }
-        ensures grown { IsGrown kept.old kept.new }
     {
         match &self.held {
             Held::Built(_) => Ok(()),

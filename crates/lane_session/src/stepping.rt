@@ -113,6 +113,8 @@ impl LaneSession {
     fn prepare<A: Analyst>(&mut self, analyst: &mut A) -> Result<(), ApplyFault>
         ensures { ReadiesTogether self.old self.new (A.analysed analyst.old) (A.analysed analyst.new) result }
     {
+        // a call for the proof alone: no text is kept twice
+        let _size = self.kept.size();
         let graph = self.plain.circuit().graph();
         match self.stage.build(self.alloc, graph, &mut self.kept, analyst) {
             Ok(()) => Ok(()),

@@ -22,7 +22,7 @@ assign_all-requires-clause-sound c =
       c.circuit.ensures.value,
       values_circuit i.plain.core c.share.new.plain.core i.stage.lanes c.args.command.now c.args.list.now c.requires.values
           c.in_ok-share.ensures.shares.1,
-    ) c.self.invariant.sound
+    ) c.self.invariant.0.sound
 
 pub assign_all-requires-clause-fit : goal.assign_all-requires-clause-fit
 assign_all-requires-clause-fit c =
@@ -51,16 +51,20 @@ assign_all-requires-clause-past c =
 
 pub invariant_of-self : goal.invariant_of-self
 invariant_of-self c =
-    let i = c.self.inside in
-    unmoved_inside i.plain.core c.share.new.plain.core c.share.ensures.before i.stage i.clocks.items i.limit (texts_of i.kept) i.count c.self.invariant c.args.command.now
-    c.in_err-share.field-0.0 c.in_err-share.ensures.shares
+    let i = c.self.inside in (
+      unmoved_inside i.plain.core c.share.new.plain.core c.share.ensures.before i.stage i.clocks.items i.limit (texts_of i.kept) i.count c.self.invariant.0 c.args.command.now
+          c.in_err-share.field-0.0 c.in_err-share.ensures.shares,
+      c.self.invariant.1,
+    )
 
 pub invariant_of-self-2 : goal.invariant_of-self-2
 invariant_of-self-2 c =
-    let i = c.self.inside in
-    given_inside i.plain.core c.share.new.plain.core c.share.ensures.before i.stage c.assign_all.new.stage i.clocks.items i.limit (texts_of i.kept) i.count c.self.invariant
-    c.args.command.now c.args.list.now c.requires.values c.in_ok-share.ensures.shares c.assign_all.ensures.lanes
-    (rw (c.circuit.ensures.value, c.items.ensures) at c.assign_all.ensures.states) (rw c.circuit.ensures.value at c.assign_all.ensures.machine)
+    let i = c.self.inside in (
+      given_inside i.plain.core c.share.new.plain.core c.share.ensures.before i.stage c.assign_all.new.stage i.clocks.items i.limit (texts_of i.kept) i.count c.self.invariant.0
+          c.args.command.now c.args.list.now c.requires.values c.in_ok-share.ensures.shares c.assign_all.ensures.lanes
+          (rw (c.circuit.ensures.value, c.items.ensures) at c.assign_all.ensures.states) (rw c.circuit.ensures.value at c.assign_all.ensures.machine),
+      c.self.invariant.1,
+    )
 
 pub returns-in_err-share : goal.returns-in_err-share
 returns-in_err-share c =
@@ -76,6 +80,6 @@ pub returns : goal.returns
 returns c =
     let i = c.self.inside in
     rw (← c.self.view_is)
-    (given_quietly i.plain.core c.share.new.plain.core c.share.ensures.before i.stage c.assign_all.new.stage i.clocks.items i.limit (texts_of i.kept) i.count c.self.invariant
+    (given_quietly i.plain.core c.share.new.plain.core c.share.ensures.before i.stage c.assign_all.new.stage i.clocks.items i.limit (texts_of i.kept) i.count c.self.invariant.0
     c.args.command.now c.args.list.now c.requires.values c.in_ok-share.ensures.shares c.assign_all.ensures.lanes
     (rw (c.circuit.ensures.value, c.items.ensures) at c.assign_all.ensures.states))

@@ -15,11 +15,11 @@ use Rattle.lane_session.proofs.OutcomeLemmas.{cycle_obeys, refused_obeys, unread
 use Rattle.lane_session.proofs.session.LaneSession.cycle.Goals as goal
 
 pub cycle_refusal-requires : goal.cycle_refusal-requires
-cycle_refusal-requires g c = rw (c.deref.ensures.value, c.circuit.ensures.value, c.self.invariant.clocks_are) c.circuit.ensures.session.core.clocks
+cycle_refusal-requires g c = rw (c.deref.ensures.value, c.circuit.ensures.value, c.self.invariant.0.clocks_are) c.circuit.ensures.session.core.clocks
 
 pub returns-in-Some-clause-obeys : goal.returns-in-Some-clause-obeys
 returns-in-Some-clause-obeys g c =
-    let here = rw (c.circuit.ensures.value, c.deref.ensures.value, c.self.invariant.clocks_are) at c.in-Some.ensures in
+    let here = rw (c.circuit.ensures.value, c.deref.ensures.value, c.self.invariant.0.clocks_are) at c.in-Some.ensures in
     let told = subst (λ (s : HeldLanes). Some c.in-Some.refusal ≡ cycle_refusal s.core.circuit s.core.clocks) c.self.view_is here in
     refused_obeys c.args.self.now.core (asked.Cycle c.args.times) c.in-Some.refusal _ _ _ (λ lane inside. sym told)
 
@@ -38,7 +38,7 @@ run_cycles-requires-clause-built g c = c.in_ok-prepare.ensures.built
 
 pub run_cycles-requires-clause-inputs : goal.run_cycles-requires-clause-inputs
 run_cycles-requires-clause-inputs g c =
-    let here = rw (c.in_default.is, c.circuit.ensures.value, c.deref.ensures.value, c.self.invariant.clocks_are) at c.cycle_refusal.ensures in
+    let here = rw (c.in_default.is, c.circuit.ensures.value, c.deref.ensures.value, c.self.invariant.0.clocks_are) at c.cycle_refusal.ensures in
     let none = subst (λ (s : HeldLanes). None ≡ cycle_refusal s.core.circuit s.core.clocks) c.self.view_is here in
     inputs_readied c.args.self.now c.prepare.new.self _ _ c.in_ok-prepare.ensures (cycle_inputs c.args.self.now.core.circuit c.args.self.now.core.clocks (sym none))
 
@@ -47,7 +47,7 @@ run_cycles-requires-clause-ready g c =
     let i = c.self.inside in
     columns_readied c.args.self.now c.prepare.new.self _ _ c.in_ok-prepare.ensures
     (subst (λ (s : HeldLanes). (lane : ℕ) → lane < s.core.lanes → IsReady (session_in s.core lane)) c.self.view_is
-    (column_ready i.plain.core c.circuit.ensures.session.core i.stage i.clocks.items i.limit (texts_of i.kept) i.count c.self.invariant))
+    (column_ready i.plain.core c.circuit.ensures.session.core i.stage i.clocks.items i.limit (texts_of i.kept) i.count c.self.invariant.0))
 
 pub run_cycles-requires-clause-counts : goal.run_cycles-requires-clause-counts
 run_cycles-requires-clause-counts g c =
@@ -61,7 +61,7 @@ run_cycles-requires-clause-room g c =
 pub returns-in_err-prepare-clause-obeys : goal.returns-in_err-prepare-clause-obeys
 returns-in_err-prepare-clause-obeys g c =
     let stopped = err_from_is_err_and c.from_residual-in_err-prepare.result c.from_residual-in_err-prepare.ensures.1 in
-    let here = rw (c.in_default.is, c.circuit.ensures.value, c.deref.ensures.value, c.self.invariant.clocks_are) at c.cycle_refusal.ensures in
+    let here = rw (c.in_default.is, c.circuit.ensures.value, c.deref.ensures.value, c.self.invariant.0.clocks_are) at c.cycle_refusal.ensures in
     let none = subst (λ (s : HeldLanes). None ≡ cycle_refusal s.core.circuit s.core.clocks) c.self.view_is here in
     rw (stopped.1, stopped.2)
     (unready_obeys c.args.self.now c.prepare.new.self (asked.Cycle c.args.times) _ _ _ _ c.in_err-prepare.field-0.0 refl (λ lane inside. sym none) c.in_err-prepare.ensures)
@@ -80,7 +80,7 @@ pub returns-clause-obeys : goal.returns-clause-obeys
 returns-clause-obeys g c =
     let old = c.args.self.now in
     let mid = c.prepare.new.self in
-    let here = rw (c.in_default.is, c.circuit.ensures.value, c.deref.ensures.value, c.self.invariant.clocks_are) at c.cycle_refusal.ensures in
+    let here = rw (c.in_default.is, c.circuit.ensures.value, c.deref.ensures.value, c.self.invariant.0.clocks_are) at c.cycle_refusal.ensures in
     let none = subst (λ (s : HeldLanes). None ≡ cycle_refusal s.core.circuit s.core.clocks) c.self.view_is here in
     let lanes = readies_lanes old mid (g.A.Analyst.analysed c.args.analyst.now) (g.A.Analyst.analysed c.prepare.new.analyst) (Ok tt) c.in_ok-prepare.ensures in
     let beats = subst

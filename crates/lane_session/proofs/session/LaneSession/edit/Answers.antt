@@ -26,7 +26,7 @@ grow-requires-clause-room c =
     let loose = c.loosen.new.self in
     let some : 1 ≤ i.stage.lanes = omega (arith, c.lanes-some.ensures.value, c.lanes-some.ensures.some) in
     let same : states_in loose 0 ≡ states_in i.stage 0 = c.loosen.ensures.same.each 0 some in
-    let counted : length (states_in i.stage 0) ≡ nodes i.plain.core.circuit.graph = (c.self.invariant.sound 0 some).counted in
+    let counted : length (states_in i.stage 0) ≡ nodes i.plain.core.circuit.graph = (c.self.invariant.0.sound 0 some).counted in
     let words : nodes i.plain.core.circuit.graph ≤ length loose.hi = omega (arith, counted, ap length same, length-column-min 0 loose.hi loose.lo) in
     rw (c.nodes.ensures, c.graph.ensures.value, c.circuit.ensures.value)
     (room_for_edit i.plain.core c.share.new.plain.core c.args.command.now (length loose.hi) loose.spare c.requires.edit c.in_ok-share.ensures.shares.1 words
@@ -34,23 +34,29 @@ grow-requires-clause-room c =
 
 pub invariant_of-self : goal.invariant_of-self
 invariant_of-self c =
-    let i = c.self.inside in
-    built_inside i.plain.core i.stage c.loosen.new.self i.clocks.items i.limit (texts_of i.kept) (texts_of i.kept) c.self.invariant c.loosen.ensures.same
-    (rw c.in_err-loosen.ensures.err c.self.invariant.machine)
+    let i = c.self.inside in (
+      built_inside i.plain.core i.stage c.loosen.new.self i.clocks.items i.limit (texts_of i.kept) (texts_of i.kept) c.self.invariant.0 c.loosen.ensures.same
+          (rw c.in_err-loosen.ensures.err c.self.invariant.0.machine),
+      c.self.invariant.1,
+    )
 
 pub invariant_of-self-in_err-share : goal.invariant_of-self-in_err-share
 invariant_of-self-in_err-share c =
-    let i = c.self.inside in
-    unshared_inside i.plain.core c.share.new.plain.core i.stage c.loosen.new.self i.clocks.items i.limit (texts_of i.kept) (in_column 0 c.args.command.now)
-    c.in_err-share.field-0.0 c.self.invariant c.loosen.ensures.same c.in_err-share.ensures.shares
-    (λ serves. none_serves i.plain.core.circuit.graph (texts_of i.kept) c.loosen.new.self.machine c.in_ok-loosen.ensures.loose)
+    let i = c.self.inside in (
+      unshared_inside i.plain.core c.share.new.plain.core i.stage c.loosen.new.self i.clocks.items i.limit (texts_of i.kept) (in_column 0 c.args.command.now)
+          c.in_err-share.field-0.0 c.self.invariant.0 c.loosen.ensures.same c.in_err-share.ensures.shares
+          (λ serves. none_serves i.plain.core.circuit.graph (texts_of i.kept) c.loosen.new.self.machine c.in_ok-loosen.ensures.loose),
+      c.self.invariant.1,
+    )
 
 pub invariant_of-self-2 : goal.invariant_of-self-2
 invariant_of-self-2 c =
-    let i = c.self.inside in
-    edit_inside i.plain.core c.share.new.plain.core c.share.ensures.before i.stage c.loosen.new.self c.grow.new.self i.clocks.items i.limit (texts_of i.kept) i.count
-    c.self.invariant c.args.command.now c.requires.edit c.in_ok-share.ensures.shares c.loosen.ensures.same c.grow.ensures.lanes
-    (rw (c.nodes.ensures, c.graph.ensures.value, c.circuit.ensures.value) at c.grow.ensures.states) c.grow.ensures.machine
+    let i = c.self.inside in (
+      edit_inside i.plain.core c.share.new.plain.core c.share.ensures.before i.stage c.loosen.new.self c.grow.new.self i.clocks.items i.limit (texts_of i.kept) i.count
+          c.self.invariant.0 c.args.command.now c.requires.edit c.in_ok-share.ensures.shares c.loosen.ensures.same c.grow.ensures.lanes
+          (rw (c.nodes.ensures, c.graph.ensures.value, c.circuit.ensures.value) at c.grow.ensures.states) c.grow.ensures.machine,
+      c.self.invariant.1,
+    )
 
 pub returns-in_err-loosen : goal.returns-in_err-loosen
 returns-in_err-loosen c =
@@ -75,5 +81,5 @@ returns c =
     let i = c.self.inside in
     rw (← c.self.view_is)
     (edit_quietly i.plain.core c.share.new.plain.core c.share.ensures.before i.stage c.loosen.new.self c.grow.new.self i.clocks.items i.limit (texts_of i.kept) i.count
-    c.self.invariant c.args.command.now c.requires.edit c.in_ok-share.ensures.shares c.loosen.ensures.same c.grow.ensures.lanes
+    c.self.invariant.0 c.args.command.now c.requires.edit c.in_ok-share.ensures.shares c.loosen.ensures.same c.grow.ensures.lanes
     (rw (c.nodes.ensures, c.graph.ensures.value, c.circuit.ensures.value) at c.grow.ensures.states))

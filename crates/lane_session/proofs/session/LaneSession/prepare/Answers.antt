@@ -8,18 +8,20 @@ use Rattle.lane_session.proofs.session.LaneSession.prepare.Goals as goal
 use Rattle.lane_session.proofs.session.LaneSession.prepare.Goals.{in-Ok, in-Err-GroupNodes, in-Err-GroupSwitches, in-Err-NoMemory}
 
 pub build-requires-clause-sound : goal.build-requires-clause-sound
-build-requires-clause-sound g c = rw (c.graph-graph.ensures.value, c.circuit.ensures.value) c.self.invariant.sound
+build-requires-clause-sound g c = rw (c.graph-graph.ensures.value, c.circuit.ensures.value) c.self.invariant.0.sound
 
 pub build-requires-clause-serves : goal.build-requires-clause-serves
-build-requires-clause-serves g c = rw (c.graph-graph.ensures.value, c.circuit.ensures.value) c.self.invariant.machine
+build-requires-clause-serves g c = rw (c.graph-graph.ensures.value, c.circuit.ensures.value) c.self.invariant.0.machine
 
 pub invariant_of-self : goal.invariant_of-self
 invariant_of-self g c =
     let i = c.self.inside in
-    let texts = texts_of c.build.new.kept in
-    built_inside i.plain.core i.stage c.build.new.self i.clocks.items i.limit (texts_of i.kept) texts c.self.invariant c.build.ensures.same
-    (serves_either i.plain.core.circuit.graph texts c.build.new.self.machine c.build.result
-    (rw (c.graph-graph.ensures.value, c.circuit.ensures.value) at c.build.ensures.serves) c.build.ensures.err)
+    let texts = texts_of c.build.new.kept in (
+      built_inside i.plain.core i.stage c.build.new.self i.clocks.items i.limit (texts_of i.kept) texts c.self.invariant.0 c.build.ensures.same
+          (serves_either i.plain.core.circuit.graph texts c.build.new.self.machine c.build.result
+          (rw (c.graph-graph.ensures.value, c.circuit.ensures.value) at c.build.ensures.serves) c.build.ensures.err),
+      c.build.ensures.unbounded,
+    )
 
 pub returns : goal.returns
 returns g c =
@@ -34,7 +36,7 @@ returns g c =
       | in-Err-GroupSwitches w ↦ ap answer_of w.in-Err-GroupSwitches.is ∙ ap (λ (fault : BuildFault). answer_of (Err fault)) w.in-Err-GroupSwitches.field-0-is ∙ sym w.result-is
       | in-Err-NoMemory w ↦ ap answer_of w.in-Err-NoMemory.is ∙ ap (λ (fault : BuildFault). answer_of (Err fault)) w.in-Err-NoMemory.field-0-is ∙ sym w.result-is
     ] in
-    let readies = build_readies plain i.stage c.build.new.self i.count i.kept c.build.new.kept asked told c.build.ensures.same c.build.result
+    let readies = build_readies plain i.stage c.build.new.self i.count i.kept c.build.new.kept asked told c.size-size.ensures.kept.apart c.build.ensures.same c.build.result
     (rw (c.graph-graph.ensures.value, c.circuit.ensures.value) at c.build.ensures.built) (rw (c.graph-graph.ensures.value, c.circuit.ensures.value) at c.build.ensures.builds)
     (rw (c.graph-graph.ensures.value, c.circuit.ensures.value) at c.build.ensures.cut_off)
     (rw (c.graph-graph.ensures.value, c.circuit.ensures.value) at c.build.ensures.refused) in

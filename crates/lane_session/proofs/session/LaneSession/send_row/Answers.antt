@@ -24,13 +24,13 @@ send-requires-clause-few g c = rw c.watched.ensures c.circuit-circuit.ensures.se
 pub send-requires-clause-high : goal.send-requires-clause-high
 send-requires-clause-high g c =
     rw (c.watched.ensures, c.hi-hi.ensures)
-    (watched_high c.self.inside.plain.core c.circuit-circuit.ensures.session.core c.self.inside.stage c.self.invariant.sound
+    (watched_high c.self.inside.plain.core c.circuit-circuit.ensures.session.core c.self.inside.stage c.self.invariant.0.sound
     (omega (arith, c.lanes-few.ensures.value, c.lanes-few.ensures.some)))
 
 pub send-requires-clause-low : goal.send-requires-clause-low
 send-requires-clause-low g c =
     rw (c.watched.ensures, c.lo-lo.ensures)
-    (watched_low c.self.inside.plain.core c.circuit-circuit.ensures.session.core c.self.inside.stage c.self.invariant.sound
+    (watched_low c.self.inside.plain.core c.circuit-circuit.ensures.session.core c.self.inside.stage c.self.invariant.0.sound
     (omega (arith, c.lanes-few.ensures.value, c.lanes-few.ensures.some)))
 
 pub returns-clause-sent : goal.returns-clause-sent

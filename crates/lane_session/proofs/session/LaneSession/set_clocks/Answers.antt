@@ -18,15 +18,19 @@ share-requires-clause-still c = ap (λ (command : LaneCommand). builds (in_colum
 
 pub invariant_of-self : goal.invariant_of-self
 invariant_of-self c =
-    let i = c.self.inside in
-    unmoved_inside i.plain.core c.share.new.plain.core c.share.ensures.before i.stage i.clocks.items i.limit (texts_of i.kept) i.count c.self.invariant c.args.command.now
-    c.in_err-share.field-0.0 c.in_err-share.ensures.shares
+    let i = c.self.inside in (
+      unmoved_inside i.plain.core c.share.new.plain.core c.share.ensures.before i.stage i.clocks.items i.limit (texts_of i.kept) i.count c.self.invariant.0 c.args.command.now
+          c.in_err-share.field-0.0 c.in_err-share.ensures.shares,
+      c.self.invariant.1,
+    )
 
 pub invariant_of-self-2 : goal.invariant_of-self-2
 invariant_of-self-2 c =
-    let i = c.self.inside in
-    clock_inside i.plain.core c.share.new.plain.core c.share.ensures.before i.stage i.clocks.items i.limit (texts_of i.kept) i.count c.self.invariant c.args.command.now
-    c.args.list.now _ c.requires.clocks (rw (c.circuit.ensures.value, c.items.ensures) at c.in_ok-clocks.ensures.items) c.in_ok-share.ensures.shares.1
+    let i = c.self.inside in (
+      clock_inside i.plain.core c.share.new.plain.core c.share.ensures.before i.stage i.clocks.items i.limit (texts_of i.kept) i.count c.self.invariant.0 c.args.command.now
+          c.args.list.now _ c.requires.clocks (rw (c.circuit.ensures.value, c.items.ensures) at c.in_ok-clocks.ensures.items) c.in_ok-share.ensures.shares.1,
+      c.self.invariant.1,
+    )
 
 pub returns-in_err-share : goal.returns-in_err-share
 returns-in_err-share c =
@@ -35,12 +39,12 @@ returns-in_err-share c =
     rw (stopped.1, stopped.2)
     (subst (λ (s : HeldLanes). QuietlyTogether s.core c.args.command.now (data_of c.share.new.plain.core i.stage i.count (texts_of i.kept)) (Err c.in_err-share.field-0.0))
     c.self.view_is
-    (clock_quietly i.plain.core c.share.new.plain.core c.share.ensures.before i.stage i.clocks.items i.limit (texts_of i.kept) i.count c.self.invariant c.args.command.now
+    (clock_quietly i.plain.core c.share.new.plain.core c.share.ensures.before i.stage i.clocks.items i.limit (texts_of i.kept) i.count c.self.invariant.0 c.args.command.now
     c.args.list.now c.requires.clocks (Err c.in_err-share.field-0.0) c.in_err-share.ensures.shares))
 
 pub returns : goal.returns
 returns c =
     let i = c.self.inside in
     rw (← c.self.view_is)
-    (clock_quietly i.plain.core c.share.new.plain.core c.share.ensures.before i.stage i.clocks.items i.limit (texts_of i.kept) i.count c.self.invariant c.args.command.now
+    (clock_quietly i.plain.core c.share.new.plain.core c.share.ensures.before i.stage i.clocks.items i.limit (texts_of i.kept) i.count c.self.invariant.0 c.args.command.now
     c.args.list.now c.requires.clocks (Ok tt) c.in_ok-share.ensures.shares)

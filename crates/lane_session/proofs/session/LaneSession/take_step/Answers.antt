@@ -14,9 +14,11 @@ step-requires c =
 pub invariant_of-self : goal.invariant_of-self
 invariant_of-self c =
     let i = c.self.inside in
-    let built : FitsIn i.plain.core.circuit.graph i.stage.machine = subst IsBuilt (sym c.self.view_is) c.requires in
-    stepped_inside i.plain.core c.circuit.ensures.session.core i.stage c.step.new.self i.clocks.items i.limit (texts_of i.kept) c.self.invariant built
-    (rw (c.graph.ensures.value, c.circuit.ensures.value) at c.step.ensures)
+    let built : FitsIn i.plain.core.circuit.graph i.stage.machine = subst IsBuilt (sym c.self.view_is) c.requires in (
+      stepped_inside i.plain.core c.circuit.ensures.session.core i.stage c.step.new.self i.clocks.items i.limit (texts_of i.kept) c.self.invariant.0 built
+          (rw (c.graph.ensures.value, c.circuit.ensures.value) at c.step.ensures),
+      c.self.invariant.1,
+    )
 
 pub returns : goal.returns
 returns c =
@@ -24,5 +26,5 @@ returns c =
     let built : FitsIn i.plain.core.circuit.graph i.stage.machine = subst IsBuilt (sym c.self.view_is) c.requires in
     let counted : c.saturating_add-self-inside.result ≡ one_more i.count = search rules in
     rw (← c.self.view_is)
-    (step_taken i.plain.core c.circuit.ensures.session.core i.stage c.step.new.self i.clocks.items i.limit (texts_of i.kept) c.self.invariant built
+    (step_taken i.plain.core c.circuit.ensures.session.core i.stage c.step.new.self i.clocks.items i.limit (texts_of i.kept) c.self.invariant.0 built
     i.count c.saturating_add-self-inside.result counted (rw (c.graph.ensures.value, c.circuit.ensures.value) at c.step.ensures))

@@ -17,13 +17,15 @@ share-requires-clause-still c = ap (λ (command : LaneCommand). builds (in_colum
 
 pub invariant_of-self : goal.invariant_of-self
 invariant_of-self c =
-    let i = c.self.inside in
-    watch_inside i.plain.core c.share.new.plain.core c.share.ensures.before i.stage i.clocks.items i.limit (texts_of i.kept) i.count c.self.invariant c.args.command.now
-    c.args.names.now c.requires.names c.share.result c.share.ensures.shares
+    let i = c.self.inside in (
+      watch_inside i.plain.core c.share.new.plain.core c.share.ensures.before i.stage i.clocks.items i.limit (texts_of i.kept) i.count c.self.invariant.0 c.args.command.now
+          c.args.names.now c.requires.names c.share.result c.share.ensures.shares,
+      c.self.invariant.1,
+    )
 
 pub returns : goal.returns
 returns c =
     let i = c.self.inside in
     subst (λ (s : HeldLanes). QuietlyTogether s.core c.args.command.now (data_of c.share.new.plain.core i.stage i.count (texts_of i.kept)) c.share.result) c.self.view_is
-    (watch_quietly i.plain.core c.share.new.plain.core c.share.ensures.before i.stage i.clocks.items i.limit (texts_of i.kept) i.count c.self.invariant c.args.command.now
+    (watch_quietly i.plain.core c.share.new.plain.core c.share.ensures.before i.stage i.clocks.items i.limit (texts_of i.kept) i.count c.self.invariant.0 c.args.command.now
     c.args.names.now c.requires.names c.share.result c.share.ensures.shares)

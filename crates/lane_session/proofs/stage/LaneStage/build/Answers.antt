@@ -2,7 +2,7 @@ use Rattle.std.proofs.Common.{◌<◌, sym, subst}
 use Rattle.lane_machine.specs.Columns.{column}
 use Rattle.lane_machine.specs.Running.{AreColumns}
 use Rattle.lane_session.specs.Stages.{StageData, IsSoundState, states_in}
-use Rattle.lane_session.proofs.BuildLemmas.{built_is_kept}
+use Rattle.lane_session.proofs.BuildLemmas.{built_stands_first}
 use Rattle.lane_session.proofs.stage.LaneStage.build.Goals as goal
 
 pub build-requires-clause-sound : goal.build-requires-clause-sound
@@ -23,5 +23,5 @@ build-requires-clause-sound g c = λ lane inside.
 pub returns-in_ok-machine-in-Still-clause-serves : goal.returns-in_ok-machine-in-Still-clause-serves
 returns-in_ok-machine-in-Still-clause-serves g c = record {
   fits = c.in_ok-machine-in-Still.ensures.fits;
-  known = built_is_kept c.args.graph.now _ _ _ _ c.in_ok-machine-in-Still.ensures.builds;
+  known = built_stands_first c.args.graph.now _ _ _ _ _ c.in_ok-machine-in-Still.ensures.builds;
 }

@@ -1,0 +1,13 @@
+-- A build of a machine of columns.
+use Rattle.std.specs.Prelude.{ℕ, ◌⊎◌, List, Option}
+use Rattle.path_meaning.specs.Graphs.{GraphData}
+use Rattle.group_text.specs.Texts.{GroupTextData}
+use Rattle.circuit_texts.specs.Building.{Builds, IsCutOff}
+
+-- a build was done, whatever the number of texts is that were new
+abbrev pub HasBuilt : GraphData → Option ℕ → List GroupTextData → List GroupTextData → List GroupTextData → List GroupTextData → Type 0
+HasBuilt g bound old new before after = (count : ℕ) × Builds g bound old new before after count
+
+-- a build found want of memory: nothing was analysed, or a front of what is new; or all of it was done, and there was none for the columns
+abbrev pub IsCutInColumns : GraphData → Option ℕ → List GroupTextData → List GroupTextData → List GroupTextData → List GroupTextData → Type 0
+IsCutInColumns g bound old new before after = IsCutOff g old new before after ⊎ HasBuilt g bound old new before after
