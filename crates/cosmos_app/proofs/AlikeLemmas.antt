@@ -12,7 +12,7 @@ use Rattle.netlist.specs.Edits.{node_named}
 use Rattle.group_text.specs.Texts.{GroupTextData}
 use Rattle.script_lang.specs.declared.TheConstants.{MOST_TIMES}
 use Rattle.script_lang.specs.declared.command.Command.{Command}
-use Rattle.script_lang.specs.declared.command.Command.TheVariants.{Input, Store, Set, Charge, Watch, Limit, Step, Phase, Clock, Cycle, Expect, Add, Del, Strength, Kind, Wire, Report}
+use Rattle.script_lang.specs.declared.command.Command.TheVariants.{Input, Store, Set, Charge, Watch, Limit, Step, Phase, Clock, Cycle, Expect, Add, Del, Strength, Kind, Wire, Report, Keep}
 use Rattle.cosmos_session.specs.Sessions.{SessionData, places_of}
 use Rattle.cosmos_session.specs.Lines.{Line}
 use Rattle.cosmos_session.specs.Effects.{Effect, IsPhase, AreBeats, with_beat, is_state, unmet_lines, places_in, one_more}
@@ -114,12 +114,13 @@ effect_alike session new lines (Kind number kind) bounded effect = none_alike li
 effect_alike session new lines (Wire number gate source drain) bounded effect = none_alike lines effect.1
 effect_alike session new lines Report bounded effect =
     inr (subst (All IsOther) (sym effect.wrote) (All-cons IsOther _ [] tt (All-nil IsOther)))
+effect_alike session new lines (Keep number) bounded effect = none_alike lines effect.1
 
 bounded-built : (building : Bool) (old mid : SessionData) (texts : List GroupTextData) → BuildsIf building old mid texts → IsBounded old → IsBounded mid
 bounded-built true old mid texts built bounded = record {
   ready = ready-build old mid texts built bounded.ready;
-  few = subst (λ (now : SessionData). nodes now.circuit.graph < 2 ^ 63) (sym built.grown) bounded.few;
-  limit = subst (λ (now : SessionData). now.limit ≤ MOST_TIMES) (sym built.grown) bounded.limit;
+  few = subst (λ (now : SessionData). nodes now.circuit.graph < 2 ^ 63) (sym built.used) bounded.few;
+  limit = subst (λ (now : SessionData). now.limit ≤ MOST_TIMES) (sym built.used) bounded.limit;
 }
 bounded-built false old mid texts (same, none) bounded = subst IsBounded (sym same) bounded
 

@@ -10,7 +10,7 @@ use Rattle.netlist.specs.Circuits.{CircuitData, called}
 use Rattle.netlist.specs.Edits.{node_named}
 use Rattle.group_text.specs.Texts.{GroupTextData}
 use Rattle.script_lang.specs.declared.command.Command.{Command}
-use Rattle.script_lang.specs.declared.command.Command.TheVariants.{Input, Store, Set, Charge, Watch, Limit, Step, Phase, Clock, Cycle, Expect, Add, Del, Strength, Kind, Wire, Report}
+use Rattle.script_lang.specs.declared.command.Command.TheVariants.{Input, Store, Set, Charge, Watch, Limit, Step, Phase, Clock, Cycle, Expect, Add, Del, Strength, Kind, Wire, Report, Keep}
 use Rattle.cosmos_session.specs.Sessions.{SessionData, places_of}
 use Rattle.cosmos_session.specs.Preparing.{BuildsIf, builds}
 use Rattle.cosmos_session.specs.Lines.{Line, Wave, Unmet, Reported}
@@ -139,9 +139,10 @@ effect_fitting old new Report lines effect =
       fit = subst (All (FitsIn (length new.watched))) (sym effect.wrote)
           (All-cons (FitsIn (length new.watched)) _ [] tt (All-nil (FitsIn (length new.watched))));
     }
+effect_fitting old new (Keep number) lines effect = still_fitting old new lines (ap (λ (session : SessionData). session.watched) effect.0) effect.1
 
 built_watched : (does : Bool) (old mid : SessionData) (texts : List GroupTextData) → BuildsIf does old mid texts → mid.watched ≡ old.watched
-built_watched true old mid texts build = ap (λ (session : SessionData). session.watched) build.grown
+built_watched true old mid texts build = ap (λ (session : SessionData). session.watched) build.used
 built_watched false old mid texts still = ap (λ (session : SessionData). session.watched) still.0
 
 performs_fitting : (old new : SessionData) (command : Command) (text : List ℕ) (texts : List GroupTextData) →

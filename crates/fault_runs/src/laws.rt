@@ -2,7 +2,8 @@
 
 ghost use Rattle.fault_runs.specs.Laws.{EntriesAreNamed, TextsAreAnalysedOnce};
 
-/// A law: over the good run and the runs under all faults of a list each text of a group is analysed once.
+/// A law: over the good run and the runs under all faults of a list each text of a group is analysed once, where no
+/// line of the script is `keep`.
 pub fn each_text_is_analysed_once()
     ensures { TextsAreAnalysedOnce }
 {}
