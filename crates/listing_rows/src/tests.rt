@@ -1,9 +1,10 @@
 ghost use Rattle.std.specs.Prelude.{◌≡◌, length, IfOk};
 ghost use Rattle.path_meaning.specs.Graphs.{nodes};
 ghost use Rattle.path_meaning.specs.Rails.{IsRailed, IsSound};
+ghost use Rattle.netlist.specs.Circuits.{HasVisibleNames};
 
 use crate::{read_back, step_by_text};
-use circuit_listing::list_circuit;
+use circuit_listing::{BuildFault, list_circuit};
 use linear_code::{Listing, read_listing};
 use netlist::Circuit;
 use node_elimination::SymbolicAnalyst;
@@ -115,9 +116,7 @@ fn a_written_listing_is_read_back_and_steps_as_the_circuit_does(
 ) -> Result<(), Fail> {
     for row in &ROWS {
         let circuit = read_netlist(rt.alloc(), TableKeys::fixed(), row.net)?;
-        let mut analyst = SymbolicAnalyst::new(rt.alloc());
-        let listing = list_circuit(rt.alloc(), TableKeys::fixed(), &circuit, &mut analyst);
-        let Ok(listing) = listing else {
+        let Ok(listing) = listing_of(rt.alloc(), &circuit) else {
             panic!(rt; "no listing");
         };
         let mut text = Vec::new(rt.alloc());
@@ -137,14 +136,30 @@ fn whoever_has_the_text_makes_the_steps(rt: HostRuntime) -> Result<(), Fail> {
         let circuit = read_netlist(rt.alloc(), TableKeys::fixed(), worked.net)?;
         for (before, after) in &worked.steps {
             let state = state_of(rt.alloc(), circuit.graph(), before)?;
-            let mut analyst = SymbolicAnalyst::new(rt.alloc());
-            let keys = TableKeys::fixed();
-            let next = step_by_text(rt.alloc(), keys, &circuit, &state, &mut analyst)?;
+            let next = stepped(rt.alloc(), &circuit, &state)?;
             let want = state_of(rt.alloc(), circuit.graph(), after)?;
             assert_eq!(rt; next.as_slice(), want.as_slice(), "{}", worked.name);
         }
     }
     Ok(())
+}
+
+// The listing of a circuit.
+fn listing_of(alloc: Global, circuit: &Circuit) -> Result<Listing, BuildFault>
+    requires { HasVisibleNames circuit.now }
+{
+    let mut analyst = SymbolicAnalyst::new(alloc);
+    list_circuit(alloc, TableKeys::fixed(), circuit, &mut analyst)
+}
+
+// The states after a unit step, by the text of a listing.
+fn stepped(alloc: Global, circuit: &Circuit, state: &[Tern]) -> Result<Vec<Tern>, BuildFault>
+    requires visible { HasVisibleNames circuit.now }
+    requires states { length state.now ≡ nodes circuit.now.graph }
+    requires sound { IsSound state.now }
+{
+    let mut analyst = SymbolicAnalyst::new(alloc);
+    step_by_text(alloc, TableKeys::fixed(), circuit, state, &mut analyst)
 }
 
 // So many states as the graph has nodes: the rails' own, and behind them these.

@@ -11,6 +11,7 @@ use path_meaning::{GND, Graph, VDD};
 use sim_read::read_netlist;
 use std::alloc::Global;
 use std::marker::Brand;
+use std::process::Abort;
 use std::sync::ledger::{Blank, Ledger};
 use std::test::Fail;
 use table_keys::TableKeys;
@@ -85,12 +86,18 @@ fn all_groups_move_at_once(rt: HostRuntime) -> Result<(), Fail> {
 
 #[test]
 fn kept_texts_are_not_analysed_again(rt: HostRuntime) -> Result<(), Fail> {
-    let circuit = read_netlist(rt.alloc(), TableKeys::fixed(), PAIR)?;
-    let mut kept = Kept::new(rt.alloc());
     let mut analyst = SymbolicAnalyst::new(rt.alloc());
-    let state = state_of(rt.alloc(), circuit.graph(), b"01010")?;
-    for _ in 0..2 {
-        let machine = Machine::build(rt.alloc(), circuit.graph(), &state, &mut kept, &mut analyst)?;
+    build_twice(&rt, rt.alloc(), &mut analyst)
+}
+
+// Builds the pair twice: its one text is new at first alone.
+fn build_twice(rt: &impl Abort, alloc: Global, analyst: &mut SymbolicAnalyst) -> Result<(), Fail> {
+    let circuit = read_netlist(alloc, TableKeys::fixed(), PAIR)?;
+    let mut kept = Kept::new(alloc);
+    let state = state_of(alloc, circuit.graph(), b"01010")?;
+    for new in [1, 0] {
+        let (machine, fresh) = Machine::build(alloc, circuit.graph(), &state, &mut kept, analyst)?;
+        assert_eq!(rt; fresh, new);
         assert_eq!(rt;
             (
                 machine.groups(),
@@ -106,10 +113,21 @@ fn kept_texts_are_not_analysed_again(rt: HostRuntime) -> Result<(), Fail> {
 
 // The machine of a circuit in these states.
 fn machine_of(alloc: Global, circuit: &Circuit, before: &[u8]) -> Result<Machine, Fail> {
-    let mut kept = Kept::new(alloc);
     let mut analyst = SymbolicAnalyst::new(alloc);
+    machine_by(alloc, circuit, before, &mut analyst)
+}
+
+// The same, by an analyst.
+fn machine_by(
+    alloc: Global,
+    circuit: &Circuit,
+    before: &[u8],
+    analyst: &mut SymbolicAnalyst,
+) -> Result<Machine, Fail> {
+    let mut kept = Kept::new(alloc);
     let state = state_of(alloc, circuit.graph(), before)?;
-    Ok(Machine::build(alloc, circuit.graph(), &state, &mut kept, &mut analyst)?)
+    let (machine, _) = Machine::build(alloc, circuit.graph(), &state, &mut kept, analyst)?;
+    Ok(machine)
 }
 
 // So many states as the graph has nodes: these, and at the rails their own.

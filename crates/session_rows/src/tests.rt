@@ -11,7 +11,7 @@ use table_keys::TableKeys;
 // A netlist, and the lines of a script in turn, with what each writes.
 type Row = (&'static [u8], &'static [(&'static [u8], &'static [u8])]);
 
-const ROWS: [Row; 3] = [
+const ROWS: [Row; 5] = [
     // `out` is the inverse of `a`, and `r` that of itself
     (
         b"n a Gnd out\np a Vdd out\nn r Gnd r\np r Vdd r\n",
@@ -46,6 +46,42 @@ const ROWS: [Row; 3] = [
             (b"report", b"groups 2 texts 2 new 1\n"),
             (b"del 5", b""),
             (b"report", b"groups 2 texts 1 new 0\n"),
+        ],
+    ),
+    // with the bound 1 the transistor's text is cut when it is gone, and is new when it comes again
+    (
+        b"p a Vdd out1\nn a Gnd out1\np b Vdd out2\nn b Gnd out2\n",
+        &[
+            (b"input a b", b""),
+            (b"keep 1", b""),
+            (b"report", b"groups 2 texts 1 new 1\n"),
+            (b"add n en Gnd out1", b""),
+            (b"input en", b""),
+            (b"report", b"groups 2 texts 2 new 1\n"),
+            (b"del 5", b""),
+            (b"report", b"groups 2 texts 1 new 0\n"),
+            (b"add n en Gnd out1", b""),
+            (b"report", b"groups 2 texts 2 new 1\n"),
+        ],
+    ),
+    // with the bound 3 the text that left first is cut, and the one that left last is kept
+    (
+        b"p a Vdd out1\nn a Gnd out1\np b Vdd out2\nn b Gnd out2\n",
+        &[
+            (b"input a b", b""),
+            (b"report", b"groups 2 texts 1 new 1\n"),
+            (b"strength 1 1", b""),
+            (b"report", b"groups 2 texts 2 new 1\n"),
+            (b"type 1 d", b""),
+            (b"report", b"groups 2 texts 2 new 1\n"),
+            (b"strength 2 1", b""),
+            (b"report", b"groups 2 texts 2 new 1\n"),
+            (b"keep 3", b""),
+            (b"report", b"groups 2 texts 2 new 0\n"),
+            (b"strength 2 2", b""),
+            (b"report", b"groups 2 texts 2 new 0\n"),
+            (b"type 1 p", b""),
+            (b"report", b"groups 2 texts 2 new 1\n"),
         ],
     ),
     // strengths, kinds and wires make other texts, and back again none is new
@@ -106,6 +142,39 @@ fn sent_for(
     let mut out = HonestSink::new(alloc);
     session.apply(&command, analyst, &mut out)?;
     Ok(out)
+}
+
+// Commands up to a build after which a bound of 1 is passed, and those up to the build that cuts.
+const GROWING: [&[u8]; 6] = [
+    b"input a b",
+    b"keep 1",
+    b"report",
+    b"add n en Gnd c",
+    b"input en",
+    b"report",
+];
+
+const CUTTING: [&[u8]; 2] = [b"del 5", b"report"];
+
+#[test]
+fn a_cut_gives_gates_back(rt: HostRuntime) -> Result<(), Fail> {
+    let mut analyst = SymbolicAnalyst::new(rt.alloc());
+    let (before, after) = pool_sizes(rt.alloc(), &mut analyst)?;
+    assert!(rt; after < before);
+    Ok(())
+}
+
+// How many gates the analyst's pool has before a build that cuts, and after it.
+fn pool_sizes(alloc: Global, analyst: &mut SymbolicAnalyst) -> Result<(usize, usize), Fail> {
+    let mut session = session_of(alloc, PAIR)?;
+    for line in GROWING {
+        sent_for(alloc, &mut session, line, analyst)?;
+    }
+    let before = analyst.pool_size();
+    for line in CUTTING {
+        sent_for(alloc, &mut session, line, analyst)?;
+    }
+    Ok((before, analyst.pool_size()))
 }
 
 // two inverters in a row, a -> b -> c
