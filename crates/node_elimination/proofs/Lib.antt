@@ -13,3 +13,4 @@ pub mod AnalysisLemmas
 pub mod MeaningLemmas
 pub mod HoldingLemmas
 pub mod HeldTableLemmas
+pub mod GivenWalks

@@ -4,6 +4,7 @@ ghost use Rattle.group_analysis.specs.Meaning.{MeansText};
 ghost use Rattle.node_elimination.specs.Holding.{AreFormulasOf, IsCompacted};
 
 use crate::analysis::analyse;
+use crate::given::GivenTexts;
 use crate::held::{Formulas, all_formulas, ids_of_pairs, put_formulas, split_formulas};
 use bool_pool::{Id, Pool};
 use group_analysis::Analyst;
@@ -17,25 +18,28 @@ use ternary::{NoMemory, Steps};
 
 /// An analyst that eliminates: its code is that of the formulas which [`analyse`] makes of a text.
 ///
-/// It owns the pool of all formulas, so that groups share what is alike in them, holds the formulas of
-/// each text until it is released, and stores the texts that it was given.
+/// It owns the pool of all formulas, so that groups share what is alike in them, and holds the formulas of
+/// each text until it is released. It counts the texts that it was given; their list is seen by contracts
+/// alone and takes no memory.
 #[derive(Drop)]
 pub struct SymbolicAnalyst {
     alloc: Global,
     pool: Pool,
-    texts: Vec<GroupText>,
+    analysed: usize,
+    given: GivenTexts,
     held: Formulas,
 }
 
 impl Model for SymbolicAnalyst {
+    ghost use Rattle.std.specs.Prelude.{◌≡◌, length};
     ghost use Rattle.node_elimination.specs.Holding.{AnalystData, IsHolding};
     ghost use Rattle.node_elimination.specs.HeldTable.{shown};
 
     ghost Value = { AnalystData };
 
-    ghost view = { λ analyst. record { texts = analyst.texts.items; gates = analyst.pool; held = shown analyst.held.entries } };
+    ghost view = { λ analyst. record { texts = analyst.given.texts; gates = analyst.pool; held = shown analyst.held.entries } };
 
-    ghost invariant = { λ analyst. IsHolding analyst.pool (shown analyst.held.entries) };
+    ghost invariant = { λ analyst. (analyst.analysed ≡ length analyst.given.texts) × IsHolding analyst.pool (shown analyst.held.entries) };
 }
 
 impl SymbolicAnalyst {
@@ -54,7 +58,8 @@ impl SymbolicAnalyst {
         SymbolicAnalyst {
             alloc,
             pool: Pool::with_keys(alloc, keys),
-            texts: Vec::new(alloc),
+            analysed: 0,
+            given: GivenTexts::new(),
             held: Formulas::with_hasher(alloc, keys),
         }
     }
@@ -63,7 +68,7 @@ impl SymbolicAnalyst {
     pub fn analysed(&self) -> usize
         ensures { result ≡ length self.now.texts }
     {
-        self.texts.len()
+        self.analysed
     }
 
     /// How many gates its pool has.
@@ -83,12 +88,14 @@ impl Analyst for SymbolicAnalyst {
     ghost held = { λ analyst. set_of (keys_of analyst.held) };
 
     fn analyse(&mut self, alloc: Global, text: &GroupText) -> Result<Code, NoMemory> {
-        let kept = text.copy(alloc)?;
+        let Some(analysed) = self.analysed.checked_add(1) else {
+            return Err(NoMemory);
+        };
         let key = text.copy(alloc)?;
-        self.texts.reserve(1)?;
         let made = make::<Brand>(alloc, &mut self.pool, text, Blank::new(1))?;
         self.held.insert(key, made.formulas).map_err(|_| NoMemory)?;
-        self.texts.push_reserved(kept);
+        self.given = self.given.with(text);
+        self.analysed = analysed;
         Ok(made.code)
     }
 

@@ -20,6 +20,7 @@
 mod analysis;
 mod analyst;
 mod descent;
+mod given;
 mod held;
 mod inputs;
 mod laws;

@@ -18,7 +18,7 @@ pub compact-requires : goal.compact-requires
 compact-requires c =
     let gates = c.self.inside.pool in
     subst (All (λ (id : Id). id.place < length gates)) (sym (c.deref.ensures.value ∙ c.in_ok-roots.ensures))
-    (roots_inside gates (shown c.self.inside.held.entries) c.self.invariant)
+    (roots_inside gates (shown c.self.inside.held.entries) c.self.invariant.1)
 
 pub split_formulas-requires : goal.split_formulas-requires
 split_formulas-requires c =
@@ -31,7 +31,7 @@ put_formulas-requires c =
     let rows = c.self.inside.held.entries in
     let split = c.in_ok-split.split.items in
     sym (length-map split ids_in)
-    ∙ length-split c.self.inside.texts.items c.self.inside.pool (shown rows) c.deref.result.now c.in_ok-pool.pool c.in_ok-pool.found.items
+    ∙ length-split c.self.inside.given.texts c.self.inside.pool (shown rows) c.deref.result.now c.in_ok-pool.pool c.in_ok-pool.found.items
     (c.deref.ensures.value ∙ c.in_ok-roots.ensures) c.in_ok-pool.ensures.compacted (map ids_in split)
     (λ moved are. c.in_ok-split.ensures moved (c.deref-2.ensures.value ∙ are))
     ∙ length-map rows (λ (row : GroupTextData × Vec Id). (row.0, row.1.items))
@@ -40,11 +40,13 @@ pub invariant_of-self : goal.invariant_of-self
 invariant_of-self c =
     let rows = c.self.inside.held.entries in
     let put = c.put_formulas.new.held.entries in
-    let split = c.in_ok-split.split.items in
-    IsHolding-split c.self.inside.texts.items c.self.inside.pool (shown rows) c.deref.result.now c.in_ok-pool.pool c.in_ok-pool.found.items
-    (c.deref.ensures.value ∙ c.in_ok-roots.ensures) c.in_ok-pool.ensures.compacted (map ids_in split)
-    (λ moved are. c.in_ok-split.ensures moved (c.deref-2.ensures.value ∙ are))
-    (shown put) (keys-shown put ∙ c.put_formulas.ensures.texts ∙ sym (keys-shown rows)) c.put_formulas.ensures.formulas c.self.invariant
+    let split = c.in_ok-split.split.items in (
+      c.self.invariant.0,
+      IsHolding-split c.self.inside.given.texts c.self.inside.pool (shown rows) c.deref.result.now c.in_ok-pool.pool c.in_ok-pool.found.items
+          (c.deref.ensures.value ∙ c.in_ok-roots.ensures) c.in_ok-pool.ensures.compacted (map ids_in split)
+          (λ moved are. c.in_ok-split.ensures moved (c.deref-2.ensures.value ∙ are))
+          (shown put) (keys-shown put ∙ c.put_formulas.ensures.texts ∙ sym (keys-shown rows)) c.put_formulas.ensures.formulas c.self.invariant.1,
+    )
 
 pub returns-clause-holds : goal.returns-clause-holds
 returns-clause-holds c =
@@ -58,9 +60,9 @@ returns-clause-compacted c =
     let rows = c.self.inside.held.entries in
     let put = c.put_formulas.new.held.entries in
     let split = c.in_ok-split.split.items in
-    let texts = c.self.inside.texts.items in
+    let texts = c.self.inside.given.texts in
     subst (λ (analyst : AnalystData). IsCompacted analyst (record { texts = texts; gates = c.in_ok-pool.pool; held = shown put })) c.self.view_is
     (IsCompacted-split texts c.self.inside.pool (shown rows) c.deref.result.now c.in_ok-pool.pool c.in_ok-pool.found.items
     (c.deref.ensures.value ∙ c.in_ok-roots.ensures) c.in_ok-pool.ensures.compacted (map ids_in split)
     (λ moved are. c.in_ok-split.ensures moved (c.deref-2.ensures.value ∙ are))
-    (shown put) (keys-shown put ∙ c.put_formulas.ensures.texts ∙ sym (keys-shown rows)) c.put_formulas.ensures.formulas c.self.invariant)
+    (shown put) (keys-shown put ∙ c.put_formulas.ensures.texts ∙ sym (keys-shown rows)) c.put_formulas.ensures.formulas c.self.invariant.1)

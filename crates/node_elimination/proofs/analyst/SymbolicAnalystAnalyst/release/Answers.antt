@@ -7,9 +7,11 @@ use Rattle.node_elimination.proofs.HoldingLemmas.{each_updated, set-taken}
 use Rattle.node_elimination.proofs.analyst.SymbolicAnalystAnalyst.release.Goals as goal
 
 pub invariant_of-self : goal.invariant_of-self
-invariant_of-self c =
-    each_updated (λ entry. AreFormulasOf c.self.inside.pool entry.0 entry.1) c.self.inside.held c.swap_remove.new.self
-    c.args.text.now None c.swap_remove.ensures.unique c.swap_remove.ensures.updates.0 c.self.invariant (λ ids put. cc)
+invariant_of-self c = (
+  c.self.invariant.0,
+  each_updated (λ entry. AreFormulasOf c.self.inside.pool entry.0 entry.1) c.self.inside.held c.swap_remove.new.self
+      c.args.text.now None c.swap_remove.ensures.unique c.swap_remove.ensures.updates.0 c.self.invariant.1 (λ ids put. cc),
+)
 
 pub returns-clause-holds : goal.returns-clause-holds
 returns-clause-holds c =
