@@ -1,17 +1,19 @@
 -- A run in a column: the array's bits of the column are the array of the machine's run on the column's states.
 use Rattle.std.proofs.Common.{◌≡◌, ℕ, zero, suc, ◌+◌, ◌*◌, ◌<◌, ◌≤◌, Bool, true, false, List, [], ◌∷◌, ◌++◌, length, map, take, get_or, set, refl, sym, ap, ap₂, ◌∙◌, arith}
-use Rattle.std.proofs.lemmas.List.{map-append, get_or-map, map_more, take_more_set, length-map}
+use Rattle.std.proofs.lemmas.List.{get_or-map, get_or-take, map_more, take_more_set, length-map}
 use Rattle.ternary.specs.declared.tern.Tern.{Tern}
 use Rattle.ternary.specs.declared.tern.Tern.TheVariants.{Zero}
 use Rattle.ternary.specs.Tern.{may_one, may_zero}
 use Rattle.path_meaning.specs.Switching.{state_at}
 use Rattle.straight_code.specs.declared.flat.FlatStep.{FlatStep}
 use Rattle.straight_code.specs.declared.flat.FlatOutput.{FlatOutput}
-use Rattle.straight_code.specs.Code.{settled}
-use Rattle.straight_code.specs.Flat.{flat_values, pair_value, step_value, kind_value}
+use Rattle.straight_code.specs.Code.{CodeData, IsCode, settled, results, output_state, code_value}
+use Rattle.straight_code.specs.Flat.{IsFlat, flat_values, pair_value, step_value, kind_value, step_of}
+use Rattle.straight_code.specs.declared.flat.FlatCode.{FlatCode}
 use Rattle.straight_code.proofs.FlatLemmas.{constants_written, rails_written}
+use Rattle.straight_code.proofs.RunMappedLemmas.{no_step, no_output, IsWithin, reads_within, result_written, hi_within, lo_within, pair_state}
 use Rattle.batch_words.specs.Lanes.{is_in_lane, lane_of, HasLane}
-use Rattle.batch_words.proofs.LaneLemmas.{lane-all, lane-none, lane_of-at, lane_of-set, length-lane_of}
+use Rattle.batch_words.proofs.LaneLemmas.{lane-all, lane-none, lane_of-at, lane_of-set, lane_of-take, length-lane_of}
 
 -- the rails of a node in a column are those of its state
 module _ (lane : ℕ) (hi lo : List ℕ) (state : List Tern) (has : HasLane lane hi lo state) where
@@ -57,17 +59,86 @@ pub pair_in_lane : (lane : ℕ) (values : List ℕ) (pair : FlatOutput) → pair
 pair_in_lane lane values pair hi lo = ap₂ settled (sym (lane_of-at lane values pair.hi hi)) (sym (lane_of-at lane values pair.lo lo))
 
 -- one rail of an output more
-pub rail_written : {Y : Type 0} (lane : ℕ) (rail : Tern → Bool) (f : Y → Tern) (outputs : List Y) (out : List ℕ) (k word : ℕ) (past : Y) →
-    k < length outputs → k < length out → is_in_lane lane word ≡ rail (f (get_or outputs k past)) →
-    take k (lane_of lane out) ≡ map rail (map f (take k outputs)) →
-    take (k + 1) (lane_of lane (set out k word)) ≡ map rail (map f (take (k + 1) outputs))
-rail_written lane rail f outputs out k word past inside room is so_far =
+pub rail_written : (lane : ℕ) (rail : Tern → Bool) (states : List Tern) (out : List ℕ) (k word : ℕ) → k < length states → k < length out →
+    is_in_lane lane word ≡ rail (state_at states k) → take k (lane_of lane out) ≡ map rail (take k states) →
+    take (k + 1) (lane_of lane (set out k word)) ≡ map rail (take (k + 1) states)
+rail_written lane rail states out k word inside room is so_far =
     ap (take (k + 1)) (lane_of-set lane out k word)
     ∙ take_more_set (lane_of lane out) k (is_in_lane lane word) (omega (arith, length-lane_of lane out))
     ∙ ap₂ (λ (front : List Bool) (last : Bool). front ++ last ∷ []) so_far is
-    ∙ sym (ap (map rail) (map_more f outputs k past inside) ∙ map-append rail (map f (take k outputs)) (f (get_or outputs k past) ∷ []))
+    ∙ sym (map_more rail states k Zero inside)
 
 -- there are states for any number of inputs
 pub some_input : (count : ℕ) → (input : List Tern) × (length input ≡ count)
 some_input zero = ([], refl)
 some_input (suc count) = let rest = some_input count in (Zero ∷ rest.0, ap suc rest.1)
+
+module _ (code : CodeData) (steps : List FlatStep) (flat : steps ≡ map (step_of code.inputs) code.instructions) (is_code : IsCode code) where
+  -- there is an instruction over the places for each
+  pub length-steps : length steps ≡ length code.instructions
+  length-steps = ap length flat ∙ length-map code.instructions (step_of code.inputs)
+
+  -- an instruction reads what stands before its result
+  pub step_reads : (k : ℕ) → k < length code.instructions → IsWithin (get_or steps k no_step) (2 + 2 * code.inputs + k)
+  step_reads k inside =
+      let some = some_input code.inputs in
+      let many = some.1 in
+      let within = reads_within some.0 code.instructions steps (rw many flat) (rw many is_code.reads) k inside no_step in
+      record { a = omega (arith, within.a, many); b = omega (arith, within.b, many) }
+
+  -- once its result is written, the array has the results up to it in a column
+  pub step_written : (k : ℕ) → k < length code.instructions → (lane : ℕ) (input : List Tern) (values : List ℕ) (word : ℕ) → length input ≡ code.inputs →
+      2 + 2 * code.inputs + k < length values →
+      is_in_lane lane word ≡ step_value (lane_of lane (take (2 + 2 * code.inputs + k) values)) (get_or steps k no_step) →
+      take (2 + 2 * code.inputs + k) (lane_of lane values) ≡ flat_values input (results input (take k code.instructions)) →
+      take (2 + 2 * code.inputs + (k + 1)) (lane_of lane (set values (2 + 2 * code.inputs + k) word))
+      ≡ flat_values input (results input (take (k + 1) code.instructions))
+  step_written k inside lane input values word many room is so_far =
+      let place = 2 + 2 * length input + k in
+      let same : 2 + 2 * code.inputs + k ≡ place = omega (arith, many) in
+      let next : 2 + 2 * code.inputs + (k + 1) ≡ 2 + 2 * length input + (k + 1) = omega (arith, many) in
+      let front : lane_of lane (take (2 + 2 * code.inputs + k) values) ≡ take place (lane_of lane values) =
+      sym (lane_of-take lane (2 + 2 * code.inputs + k) values) ∙ ap (λ count. take count (lane_of lane values)) same in
+      let own : is_in_lane lane word ≡ step_value (take place (lane_of lane values)) (get_or steps k no_step) =
+      is ∙ ap (λ bits. step_value bits (get_or steps k no_step)) front in
+      let before : take place (lane_of lane values) ≡ flat_values input (results input (take k code.instructions)) =
+      ap (λ count. take count (lane_of lane values)) (sym same) ∙ so_far in
+      ap (take (2 + 2 * code.inputs + (k + 1))) (lane_of-set lane values (2 + 2 * code.inputs + k) word)
+      ∙ ap₂ (λ count at. take count (set (lane_of lane values) at (is_in_lane lane word))) next same
+      ∙ result_written input code.instructions steps (rw many flat) (rw many is_code.reads) k inside no_step
+      (lane_of lane values) (is_in_lane lane word) (omega (arith, room, many, length-lane_of lane values)) before own
+
+module _ (code : CodeData) (flat : FlatCode) (is_flat : IsFlat code.inputs code.instructions code.outputs flat) (is_code : IsCode code)
+    (k : ℕ) (inside : k < length code.outputs) (pair : FlatOutput) (is_pair : pair ≡ get_or flat.outputs.items k pair) where
+  -- the rails of an output stand in the array
+  pub hi_reads : pair.hi < 2 + 2 * code.inputs + length code.instructions
+  hi_reads =
+      let some = some_input code.inputs in
+      let many = some.1 in
+      let within : (get_or flat.outputs.items k pair).hi < 2 + 2 * length some.0 + length code.instructions =
+      hi_within some.0 code.instructions code.outputs flat.outputs.items (rw many is_flat.pairs) (rw many is_code.outputs) k inside pair no_output in
+      omega (arith, within, many, ap (λ (p : FlatOutput). p.hi) is_pair)
+
+  pub lo_reads : pair.lo < 2 + 2 * code.inputs + length code.instructions
+  lo_reads =
+      let some = some_input code.inputs in
+      let many = some.1 in
+      let within : (get_or flat.outputs.items k pair).lo < 2 + 2 * length some.0 + length code.instructions =
+      lo_within some.0 code.instructions code.outputs flat.outputs.items (rw many is_flat.pairs) (rw many is_code.outputs) k inside pair no_output in
+      omega (arith, within, many, ap (λ (p : FlatOutput). p.lo) is_pair)
+
+  -- and over the array in which the code ran they are those of its state
+  pub output_in_lane : (lane : ℕ) (input : List Tern) (values : List ℕ) → length input ≡ code.inputs →
+      2 + 2 * code.inputs + length code.instructions ≤ length values →
+      take (2 + 2 * code.inputs + length code.instructions) (lane_of lane values) ≡ flat_values input (results input code.instructions) →
+      settled (is_in_lane lane (get_or values pair.hi 0)) (is_in_lane lane (get_or values pair.lo 0)) ≡ state_at (code_value code input) k
+  output_in_lane lane input values many room whole =
+      let end = 2 + 2 * code.inputs + length code.instructions in
+      let state = pair_state input code.instructions code.outputs flat.outputs.items (rw many is_flat.pairs) (rw many is_code.outputs) k inside
+      pair no_output (take end (lane_of lane values)) whole in
+      let own : pair_value (take end (lane_of lane values)) pair ≡ output_state input (results input code.instructions) (get_or code.outputs k no_output) =
+      ap (pair_value (take end (lane_of lane values))) is_pair ∙ state in
+      pair_in_lane lane values pair (omega (arith, hi_reads, room)) (omega (arith, lo_reads, room))
+      ∙ ap₂ settled (sym (get_or-take end (lane_of lane values) pair.hi false hi_reads)) (sym (get_or-take end (lane_of lane values) pair.lo false lo_reads))
+      ∙ own
+      ∙ sym (get_or-map (output_state input (results input code.instructions)) code.outputs k no_output Zero inside)

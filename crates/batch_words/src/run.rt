@@ -1,13 +1,16 @@
 //! A run on words.
 ghost use Rattle.std.specs.Prelude.{◌≡◌, ℕ, ◌+◌, ◌*◌, ◌<◌, ◌≤◌, List, [], length, map, take, All};
 ghost use Rattle.ternary.specs.declared.tern.Tern.{Tern};
+ghost use Rattle.ternary.specs.Tern.{may_one, may_zero};
 ghost use Rattle.path_meaning.specs.Switching.{state_at};
-ghost use Rattle.straight_code.specs.Code.{code_value};
+ghost use Rattle.straight_code.specs.Code.{code_value, results};
 ghost use Rattle.straight_code.specs.Flat.{flat_values};
-ghost use Rattle.batch_words.specs.Lanes.{lane_of, HasLane};
+ghost use Rattle.batch_words.specs.Lanes.{is_in_lane, lane_of, HasLane};
 
 use crate::word::{high_word, low_word, step_words};
+use std::sync::ledger::Ledger;
 use straight_code::Code;
+use ternary::Steps;
 
 /// Runs code in all columns, where input j has the states of node j of these: in each column it gives what
 /// [`Code::run_mapped`] would on the column's states.
@@ -62,15 +65,63 @@ fn run_filled(code: &Code, values: &mut [u64], out_hi: &mut [u64], out_lo: &mut 
         → take (2 + 2 * code.now.inputs) (lane_of lane values.old) ≡ flat_values input []
         → HasLane lane out_hi.new out_lo.new (code_value code.now input) }
 {
-    let dense = code.dense();
+    run_uncounted(code, values);
+    for k in 0..code.outputs() {
+        let (hi, lo) = output_words(code, values, k);
+        out_hi[k] = hi;
+        out_lo[k] = lo;
+    }
+}
+
+// Runs the instructions of code whose inputs stand in the array, and counts no step.
+fn run_uncounted(code: &Code, values: &mut [u64])
+    requires values { 2 + 2 * code.now.inputs + length code.now.instructions ≤ length values.old }
+    ensures count { length values.new ≡ length values.old }
+    ensures ran { (lane : ℕ) (input : List Tern) → lane < 64 → length input ≡ code.now.inputs
+        → take (2 + 2 * code.now.inputs) (lane_of lane values.old) ≡ flat_values input []
+        → take (2 + 2 * code.now.inputs + length code.now.instructions) (lane_of lane values.new)
+        ≡ flat_values input (results input code.now.instructions) }
+{
     let first = 2 + 2 * code.inputs();
-    for (k, step) in dense.steps.iter().enumerate() {
+    for (k, step) in code.dense().steps.iter().enumerate() {
         values[first + k] = step_words(*step, &values[..first + k]);
     }
-    let all = &values[..first + code.len()];
-    for (k, pair) in dense.outputs.iter().enumerate() {
-        let (one, zero) = (all[pair.hi as usize], all[pair.lo as usize]);
-        out_hi[k] = high_word(one, zero);
-        out_lo[k] = low_word(one, zero);
+}
+
+/// Runs the instructions of code in all columns, where the constants and the rails of the inputs stand in the array,
+/// as [`Code::run_mapped`] would: behind them stand the results then. It takes one step for each instruction, and no
+/// memory.
+pub fn run_steps<L: Ledger>(code: &Code, values: &mut [u64], steps: &mut Steps<L>)
+    requires values { 2 + 2 * code.now.inputs + length code.now.instructions ≤ length values.old }
+    ensures count { length values.new ≡ length values.old }
+    ensures steps { steps.new ≡ steps.old + length code.now.instructions }
+    ensures ran { (lane : ℕ) (input : List Tern) → lane < 64 → length input ≡ code.now.inputs
+        → take (2 + 2 * code.now.inputs) (lane_of lane values.old) ≡ flat_values input []
+        → take (2 + 2 * code.now.inputs + length code.now.instructions) (lane_of lane values.new)
+        ≡ flat_values input (results input code.now.instructions) }
+{
+    let first = 2 + 2 * code.inputs();
+    for (done, step) in code.dense().steps.iter().enumerate() {
+        values[first + done] = step_words(*step, &values[..first + done]);
+        steps.tick();
     }
+}
+
+/// Both rails of an output of code that ran in the array, "may be 1" first, in all columns. An output with neither
+/// rail is X.
+pub fn output_words(code: &Code, values: &[u64], k: usize) -> (u64, u64)
+    requires inside { k < length code.now.outputs }
+    requires values { 2 + 2 * code.now.inputs + length code.now.instructions ≤ length values.now }
+    ensures hi { (lane : ℕ) (input : List Tern) → lane < 64 → length input ≡ code.now.inputs
+        → take (2 + 2 * code.now.inputs + length code.now.instructions) (lane_of lane values.now)
+        ≡ flat_values input (results input code.now.instructions)
+        → is_in_lane lane result.0 ≡ may_one (state_at (code_value code.now input) k) }
+    ensures lo { (lane : ℕ) (input : List Tern) → lane < 64 → length input ≡ code.now.inputs
+        → take (2 + 2 * code.now.inputs + length code.now.instructions) (lane_of lane values.now)
+        ≡ flat_values input (results input code.now.instructions)
+        → is_in_lane lane result.1 ≡ may_zero (state_at (code_value code.now input) k) }
+{
+    let pair = code.dense().outputs[k];
+    let (one, zero) = (values[pair.hi as usize], values[pair.lo as usize]);
+    (high_word(one, zero), low_word(one, zero))
 }
