@@ -5,7 +5,7 @@ use Rattle.std.specs.Option.{option_and_then, IfSome}
 use Rattle.std.specs.List.{IsDistinct}
 use Rattle.std.proofs.lemmas.Bool.{cases_eq, false_from_ne_true, lt-ltb}
 use Rattle.std.proofs.lemmas.Bool.Decides.{Decides-eqb}
-use Rattle.std.proofs.lemmas.List.{ext_get_or, get_or-set_same, get_or-set_other, length-set, length_push, map-append, map-set}
+use Rattle.std.proofs.lemmas.List.{ext_get_or, get_or-set_same, get_or-set_other, length-set, length_push, length-map, map-append, map-set}
 use Rattle.std.proofs.lemmas.List.Elements.{All-nil, All-cons, All-head, All-tail}
 use Rattle.std.proofs.lemmas.List.Quantifiers.{position-Some}
 use Rattle.std.proofs.lemmas.List.Sums.{sum_by_push, sum_by-cons, sum_by-set, count_by-le-length}
@@ -423,3 +423,19 @@ pub texts_added : (old new : UsesData) → new.known ≡ old.known → new.numbe
 texts_added old new known numbers =
     ap₂ (λ texts list. map (option_and_then (slice_get texts)) list) known numbers
     ∙ map-append (option_and_then (slice_get old.known)) old.numbers (None ∷ [])
+
+-- where each part has a text it has a number
+pub some_numbers : (text : ℕ → Option GroupTextData) (numbers : List (Option ℕ)) (texts : List GroupTextData) →
+    map (option_and_then text) numbers ≡ map Some texts → All (λ number. number ≢ None) numbers
+some_numbers text [] texts are = All-nil (λ (number : Option ℕ). number ≢ None)
+some_numbers text (number ∷ numbers) [] are = absurd cc
+some_numbers text (None ∷ numbers) (first ∷ texts) are = absurd cc
+some_numbers text (Some number ∷ numbers) (first ∷ texts) are =
+    All-cons (λ (one : Option ℕ). one ≢ None) (Some number) numbers (λ none. absurd cc) (some_numbers text numbers texts (cc))
+
+-- and there are as many numbers as there are texts
+pub numbers_counted : {X : Type 0} (uses : UsesData) (xs : List X) (text : X → GroupTextData) → texts_used uses ≡ map Some (map text xs) →
+    length uses.numbers ≡ length xs
+numbers_counted uses xs text are =
+    sym (length-map uses.numbers (option_and_then (slice_get uses.known)))
+    ∙ (ap length are ∙ (length-map (map text xs) Some ∙ length-map xs text))

@@ -6,6 +6,7 @@ ghost use Rattle.group_text.specs.Texts.{GroupTextData};
 ghost use Rattle.group_analysis.specs.Meaning.{MeansText};
 ghost use Rattle.analysis_cache.specs.Keeping.{texts_of};
 ghost use Rattle.circuit_texts.specs.Parts.{IsMadeOf};
+ghost use Rattle.kept_parts.specs.Coded.{AreCoded};
 ghost use Rattle.kept_parts.specs.Uses.{texts_used};
 
 use crate::uses::TextUses;
@@ -46,8 +47,9 @@ pub fn parts_by_number(
     requires maps { length maps.items ≡ length uses.now.numbers }
     requires numbered { All (λ number. number ≢ None) uses.now.numbers }
     requires kept { All (λ text. IsTrue (is_among (texts_of kept.now) text)) uses.now.known }
-    ensures { IfOk result (λ parts. (texts : List GroupTextData) → texts_used uses.now ≡ map Some texts →
+    ensures made { IfOk result (λ parts. (texts : List GroupTextData) → texts_used uses.now ≡ map Some texts →
         AllZip (λ made part. IsMadeOf made.0 made.1 part) (zip texts (map (λ nodes. nodes.items) maps.items)) parts.items) }
+    ensures coded { IfOk result (λ parts. AreCoded uses.now.numbers parts.items) }
 {
     let known = uses.known();
     let codes = codes_of(alloc, kept, known)?;
@@ -91,7 +93,8 @@ fn part_of(kept: &Kept, text: &GroupText, map: Vec<usize>) -> Result<Part, Alloc
 // The part of a text with this code, which means the text, over these nodes.
 fn part_with(text: &GroupText, code: &Rc<Code>, map: Vec<usize>) -> Result<Part, AllocError>
     requires { MeansText text.now code.now.value }
-    ensures { IfOk result (IsMadeOf text.now map.items) }
+    ensures made { IfOk result (IsMadeOf text.now map.items) }
+    ensures code { IfOk result (λ part. part.code.value ≡ code.now.value) }
 {
     Ok(Part {
         code: code.clone()?,

@@ -13,7 +13,8 @@ use Rattle.batch_words.proofs.RunLemmas.{high_at_node, low_at_node}
 use Rattle.unit_step.specs.declared.part.HeldPart.{HeldPart}
 use Rattle.unit_step.specs.Parts.{Stands, IsMemberAt}
 use Rattle.unit_step.specs.Machines.{IsMarked}
-use Rattle.unit_step.specs.Stepping.{Gives, after}
+use Rattle.unit_step.specs.Stepping.{Gives}
+use Rattle.part_words.specs.Noting.{after}
 use Rattle.unit_step.proofs.PartLemmas.{same_part}
 use Rattle.unit_step.proofs.MarkLemmas.{marked-cleared_was, marked-cleared_cases}
 use Rattle.lane_machine.specs.declared.evaluation.WordChange.{WordChange}

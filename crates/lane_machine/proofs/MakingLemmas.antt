@@ -8,11 +8,10 @@ use Rattle.unit_step.specs.declared.part.HeldPart.{HeldPart}
 use Rattle.unit_step.specs.Parts.{Stands, ReadsAt, IsStale, AreApart}
 use Rattle.unit_step.specs.Marking.{MarksAll}
 use Rattle.unit_step.specs.Stepping.{Concerns}
-use Rattle.unit_step.specs.Evaluating.{Rooms, IsSeated}
-use Rattle.unit_step.specs.Making.{HasRoomFor}
 use Rattle.unit_step.specs.Columns.{AreSeated}
 use Rattle.unit_step.proofs.PartLemmas.{same_part}
 use Rattle.unit_step.proofs.MakingLemmas.{member_at_front, front_of_member}
+use Rattle.lane_machine.specs.Evaluating.{Rooms, IsSeated, HasRoomFor}
 use Rattle.lane_machine.specs.Columns.{column, HasColumn}
 use Rattle.lane_machine.specs.Running.{listed_at, nodes_of, IsAmong, AreLists, IsRunnable, AreUsed, AreColumns, IsLaneMachine, StepsInAll}
 use Rattle.lane_machine.specs.Stepping.{StepsLanes}

@@ -8,7 +8,7 @@ use Rattle.ternary.specs.Tern.{may_one, may_zero}
 use Rattle.ternary.proofs.TernLemmas.{may_one-join, may_zero-join}
 use Rattle.batch_words.specs.Lanes.{is_in_lane}
 use Rattle.batch_words.proofs.LaneLemmas.{lane-or, turn}
-use Rattle.unit_step.specs.Stepping.{after}
+use Rattle.part_words.specs.Noting.{after}
 use Rattle.lane_machine.specs.declared.evaluation.WordChange.{WordChange}
 use Rattle.lane_machine.specs.Noting.{after_word, differ, differs_in, HasChange, IsNextOf, IsNoted, IsIdle, Notes}
 

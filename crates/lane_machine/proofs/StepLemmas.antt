@@ -17,15 +17,15 @@ use Rattle.batch_words.proofs.RunLemmas.{high_counted, high_at_node, low_at_node
 use Rattle.unit_step.specs.declared.part.HeldPart.{HeldPart}
 use Rattle.unit_step.specs.Parts.{IsMemberAt}
 use Rattle.unit_step.specs.Machines.{IsMarked}
-use Rattle.unit_step.specs.Stepping.{Gives, IsGiven, Moves, after, StaysMarked}
+use Rattle.unit_step.specs.Stepping.{Gives, IsGiven, Moves, StaysMarked}
+use Rattle.part_words.specs.Noting.{after}
 use Rattle.unit_step.specs.Columns.{KeepsMarks}
 use Rattle.unit_step.specs.Marking.{MarksAll}
-use Rattle.unit_step.specs.Evaluating.{Rooms, IsSeated}
 use Rattle.unit_step.proofs.PartLemmas.{same_part, HasMember-from_Gives}
 use Rattle.lane_machine.specs.declared.evaluation.WordChange.{WordChange}
 use Rattle.lane_machine.specs.Columns.{column, HasColumn}
 use Rattle.lane_machine.specs.Noting.{HasChange}
-use Rattle.lane_machine.specs.Evaluating.{Evaluated}
+use Rattle.lane_machine.specs.Evaluating.{Evaluated, Rooms, IsSeated}
 use Rattle.lane_machine.specs.Running.{listed_at, IsAmong, IsRunnable, IsLeftAt, AreWritten, ReadsAny, StepsTo}
 use Rattle.lane_machine.proofs.ColumnLemmas.{length-column, column-value, HasLane-each}
 use Rattle.lane_machine.proofs.NotingLemmas.{no_difference, no_change}

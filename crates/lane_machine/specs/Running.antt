@@ -10,7 +10,7 @@ use Rattle.unit_step.specs.Parts.{Stands, IsStale, AreApart}
 use Rattle.unit_step.specs.Machines.{members_of}
 use Rattle.unit_step.specs.Stepping.{Moves}
 use Rattle.unit_step.specs.Columns.{KeepsMarks}
-use Rattle.unit_step.specs.Evaluating.{Rooms, IsSeated}
+use Rattle.lane_machine.specs.Evaluating.{Rooms, IsSeated}
 use Rattle.lane_machine.specs.declared.evaluation.WordChange.{WordChange}
 use Rattle.lane_machine.specs.Columns.{column, HasColumn}
 

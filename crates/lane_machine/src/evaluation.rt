@@ -7,9 +7,8 @@ ghost use Rattle.batch_words.specs.Lanes.{is_in_lane, HasLane};
 ghost use Rattle.unit_step.specs.declared.part.HeldPart.{HeldPart};
 ghost use Rattle.unit_step.specs.Parts.{Stands};
 ghost use Rattle.unit_step.specs.Machines.{IsMarked, count_marked, marked_sum, members_of};
-ghost use Rattle.unit_step.specs.Evaluating.{IsSeated};
 ghost use Rattle.lane_machine.specs.Noting.{after_word, differs_in, IsNextOf, Notes};
-ghost use Rattle.lane_machine.specs.Evaluating.{rooms, IsEven, Reports, Evaluated};
+ghost use Rattle.lane_machine.specs.Evaluating.{rooms, IsEven, Reports, Evaluated, IsSeated};
 
 use crate::agenda::Agenda;
 use batch_words::run_words;

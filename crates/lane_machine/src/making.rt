@@ -4,8 +4,8 @@ ghost use Rattle.std.specs.List.{sum_by};
 ghost use Rattle.ternary.specs.declared.tern.Tern.TheVariants.{Zero, One};
 ghost use Rattle.path_meaning.specs.Rails.{IsSound};
 ghost use Rattle.unit_step.specs.Machines.{members_of};
-ghost use Rattle.unit_step.specs.Making.{HasRoomFor, IsCodeRoom};
-ghost use Rattle.lane_machine.specs.Evaluating.{rooms, IsEven};
+ghost use Rattle.unit_step.specs.Making.{IsCodeRoom};
+ghost use Rattle.lane_machine.specs.Evaluating.{rooms, IsEven, HasRoomFor};
 ghost use Rattle.lane_machine.specs.Running.{nodes_of, listed_at, AreLists, AreUsed};
 ghost use Rattle.lane_machine.specs.Making.{Lists};
 

@@ -11,11 +11,12 @@ use Rattle.path_meaning.specs.Switching.{state_at}
 use Rattle.straight_code.specs.Code.{CodeData, code_value}
 use Rattle.oscillation_x.specs.Settling.{StaysOrBecomesX}
 use Rattle.unit_step.specs.declared.part.HeldPart.{HeldPart}
-use Rattle.unit_step.specs.declared.evaluation.Change.{Change}
+use Rattle.part_words.specs.declared.change.Change.{Change}
 use Rattle.unit_step.specs.declared.evaluation.Desk.{Desk}
 use Rattle.unit_step.specs.Parts.{IsMemberAt, IsStale}
 use Rattle.unit_step.specs.Machines.{IsMarked}
-use Rattle.unit_step.specs.Stepping.{Gives, IsGiven, Moves, after, StaysMarked, Remarks}
+use Rattle.unit_step.specs.Stepping.{Gives, IsGiven, Moves, StaysMarked, Remarks}
+use Rattle.part_words.specs.Noting.{after}
 use Rattle.unit_step.specs.Marking.{MarksAll}
 use Rattle.unit_step.specs.Evaluating.{Rooms, rooms, IsSeated, IsChange, Evaluated}
 use Rattle.unit_step.specs.Running.{IsRunnable, AreAgreed, IsTaken, ReadsAny}
@@ -28,7 +29,6 @@ pub cleared_rooms : (desk : Desk) (changes : Vec Change Global) (done : Vec ℕ 
     vec_capacity done ≡ vec_capacity desk.done → rooms (record desk { changes = changes; done = done }) ≡ rooms desk
 cleared_rooms desk changes done changes_same done_same = λ i. record {
   values = length desk.values.items;
-  outs = length desk.out.items;
   changes = changes_same i;
   parts = done_same i;
 }

@@ -2,7 +2,6 @@
 use Rattle.std.proofs.Common.{◌≡◌, ◌≢◌, ℕ, zero, suc, ◌<◌, true, false, inl, inr, List, [], ◌∷◌, length, map, take, All, Some, None, Result, Ok, Err, IfOk, Vec, Global, refl, sym, ap, subst, ◌∙◌, arith}
 use Rattle.std.specs.Prelude.{cond, Contains, Option, slice_get, slice_index_or, zip, count_by}
 use Rattle.std.specs.List.{AllZip}
-use Rattle.std.specs.Option.{option_and_then}
 use Rattle.std.specs.declared.rc.Rc.{Rc}
 use Rattle.std.proofs.lemmas.Bool.{lt-ltb}
 use Rattle.std.proofs.lemmas.List.{length-map, get_or-replicate, take-append-le, take_all}
@@ -26,6 +25,7 @@ use Rattle.channel_groups.specs.Grouping.{GroupsData, AreOf}
 use Rattle.circuit_texts.specs.Sizes.{fault_in}
 use Rattle.circuit_texts.specs.Building.{HasTexts, BuildsFresh}
 use Rattle.kept_parts.specs.Uses.{some_texts, count_distinct}
+use Rattle.kept_parts.proofs.NumberLemmas as numbers
 use Rattle.circuit_texts.specs.Reading.{AreReads}
 use Rattle.circuit_texts.proofs.PairedLists.{partner_first, partner_second}
 use Rattle.circuit_texts.proofs.ReadLemmas.{read_inside}
@@ -186,15 +186,6 @@ module _ (g : GraphData) where
           ∙ ap (λ list. length (first_texts (map (text_of_group g) list))) (unique g groups others (subst (AreGroups g) same are.are) others_are);
     }
 
--- where each part has a text it has a number
-some_numbers : (text : ℕ → Option GroupTextData) (numbers : List (Option ℕ)) (texts : List GroupTextData) →
-    map (option_and_then text) numbers ≡ map Some texts → All (λ number. number ≢ None) numbers
-some_numbers text [] texts are = All-nil (λ (number : Option ℕ). number ≢ None)
-some_numbers text (number ∷ numbers) [] are = absurd cc
-some_numbers text (None ∷ numbers) (first ∷ texts) are = absurd cc
-some_numbers text (Some number ∷ numbers) (first ∷ texts) are =
-    All-cons (λ (one : Option ℕ). one ≢ None) (Some number) numbers (λ none. absurd cc) (some_numbers text numbers texts (cc))
-
 module _ (g : GraphData) (state : List Tern) (plan : Plan) (is_plan : IsPlan g state plan) where
   -- the texts of the groups are the graph's
   pub HasTexts-planned : HasTexts g (map (text_of_group g) plan.groups.groups)
@@ -212,10 +203,7 @@ module _ (g : GraphData) (state : List Tern) (plan : Plan) (is_plan : IsPlan g s
 
   -- each group has a number
   pub numbers_counted : length plan.uses.numbers ≡ length plan.groups.groups
-  numbers_counted =
-      let texts = map (text_of_group g) plan.groups.groups in
-      sym (length-map plan.uses.numbers (option_and_then (slice_get plan.uses.known)))
-      ∙ (ap length is_plan.texts ∙ (length-map texts Some ∙ length-map plan.groups.groups (text_of_group g)))
+  numbers_counted = numbers.numbers_counted plan.uses plan.groups.groups (text_of_group g) is_plan.texts
 
   pub all_numbered : All (λ number. number ≢ None) plan.uses.numbers
-  all_numbered = some_numbers (slice_get plan.uses.known) plan.uses.numbers (map (text_of_group g) plan.groups.groups) is_plan.texts
+  all_numbered = numbers.some_numbers (slice_get plan.uses.known) plan.uses.numbers (map (text_of_group g) plan.groups.groups) is_plan.texts

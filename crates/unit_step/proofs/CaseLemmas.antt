@@ -6,7 +6,7 @@ use Rattle.ternary.specs.declared.tern.Tern.TheVariants.{Zero, One, Unk}
 use Rattle.ternary.specs.Tern.{join}
 use Rattle.ternary.specs.contracts.tern.TernPartialEq.TheImpl as eq
 use Rattle.ternary.proofs.TernLemmas.{tern_eq-Decides}
-use Rattle.unit_step.specs.Stepping.{after}
+use Rattle.part_words.specs.Noting.{after}
 
 -- two states are one or not
 pub same_or_not : (s t : Tern) → (s ≡ t) ⊎ (s ≢ t)

@@ -1,250 +1,467 @@
--- What is noted of changes: place by place of one part, and part by part of a step.
-use Rattle.std.proofs.Common.{◌≡◌, ◌≢◌, ℕ, ◌+◌, ◌<◌, ◌≤◌, Bool, inl, inr, ◌⊎◌, List, [], ◌∷◌, ◌++◌, length, map, take, get_or, false, Some, None, refl, sym, ap, subst, ◌∙◌, arith, Global}
-use Rattle.std.specs.Prelude.{Contains, slice_index, slice_set}
+-- What is noted of the marked parts, part by part: a part is taken in or has no code, some that wait are run, and at the end none waits.
+use Rattle.std.proofs.Common.{◌≡◌, ℕ, ◌+◌, ◌*◌, ◌<◌, ◌≤◌, Bool, inl, inr, ◌⊎◌, List, [], ◌∷◌, ◌++◌, length, map, get_or, All, false, Option, Some, None, refl, sym, ap, subst, ◌∙◌, arith, Vec, Global}
+use Rattle.std.specs.Prelude.{◌↔◌, zero, suc, Contains, option_map, unwrap_or, slice_get, slice_index, slice_set, vec_capacity}
 use Rattle.std.specs.declared.rc.Rc.{Rc}
-use Rattle.std.proofs.lemmas.Bool.{cases_lt}
-use Rattle.std.proofs.lemmas.List.{get_or_push, get_or_append_left, length_push, length-map, take_more, length-take-le}
-use Rattle.std.proofs.lemmas.List.Elements.{Contains-push, Contains-push_cases, Contains-append_left}
+use Rattle.std.proofs.lemmas.List.{length-map}
+use Rattle.std.proofs.lemmas.List.Elements.{Contains-push, Contains-push_cases, Contains-append_left, Contains-get_or}
+use Rattle.std.proofs.lemmas.Option.{same_Some, slice_get_within, get_or_from_slice_get}
 use Rattle.ternary.specs.declared.tern.Tern.{Tern}
-use Rattle.ternary.specs.declared.tern.Tern.TheVariants.{Zero}
 use Rattle.path_meaning.specs.Switching.{state_at}
 use Rattle.straight_code.specs.Code.{CodeData, code_value, output_state, results}
+use Rattle.part_words.specs.declared.change.Change.{Change}
+use Rattle.part_words.specs.Noting.{after, map_at, states_at, IsNotedAt, NotesAll}
 use Rattle.unit_step.specs.declared.part.HeldPart.{HeldPart}
-use Rattle.unit_step.specs.declared.evaluation.Change.{Change}
+use Rattle.unit_step.specs.declared.dense.Seat.{Seat}
+use Rattle.unit_step.specs.declared.evaluation.Desk.{Desk}
 use Rattle.unit_step.specs.Parts.{Stands, IsMemberAt}
-use Rattle.unit_step.specs.Machines.{IsMarked}
-use Rattle.unit_step.specs.Stepping.{after}
-use Rattle.unit_step.specs.Evaluating.{IsNoted, Notes, IsChange, Reports, Evaluated}
+use Rattle.unit_step.specs.Machines.{IsMarked, members_of, instructions_of}
+use Rattle.unit_step.specs.Evaluating.{Rooms, rooms, IsSeated, IsChange, Evaluated}
+use Rattle.unit_step.specs.Dense.{IsPlace, AreSeatsOf}
+use Rattle.unit_step.specs.Waiting.{Slot, slot_for, Waits, IsEmptyFrom, HasRoom, starts_in, code_in, with_seat, cleared_at}
+use Rattle.unit_step.specs.Together.{CanRun, IsNotedBy, RunsSome, TakesIn, EvaluatedBut, outputs_at, instructions_at}
 use Rattle.unit_step.proofs.PartLemmas.{same_part}
 use Rattle.unit_step.proofs.MarkLemmas.{marked-cleared_was, marked-cleared_cases}
+use Rattle.unit_step.proofs.WaitingLemmas.{Waits-in, Waits-seat, Waits-before, Waits-cases, Waits-cleared, Waits-cleared_cases, none_waits}
 
-module _ (joining : Bool) (nodes : List ℕ) (state : List Tern) where
-  -- what is noted by some values is noted by more
-  noted_before : (values : List Tern) (value : Tern) (change : Change) → IsNoted joining nodes state values change →
-      IsNoted joining nodes state (values ++ value ∷ []) change
-  noted_before values value change noted = record {
-    place = noted.place;
-    inside = omega (arith, noted.inside, length_push values value);
-    node = noted.node;
-    value = noted.value ∙ ap (after joining (state_at state change.node)) (sym (get_or_append_left values (value ∷ []) Zero noted.place noted.inside));
-    differs = noted.differs;
-  }
+-- how long a code is that is there
+pub outputs_there : (codes : List (Rc CodeData Global)) (place : ℕ) (code : Rc CodeData Global) → slice_get codes place ≡ Some code →
+    outputs_at codes place ≡ length code.value.outputs
+outputs_there codes place code there =
+    ap (λ (found : Option (Rc CodeData Global)). unwrap_or (option_map (λ (one : Rc CodeData Global). length one.value.outputs) found) 0) there
 
-  -- what is noted with one value more was noted before, or by the last value
-  noted_cases : (values : List Tern) (value : Tern) (change : Change) → IsNoted joining nodes state (values ++ value ∷ []) change →
-      IsNoted joining nodes state values change
-      ⊎ ((slice_index nodes (length values) ≡ change.node) × (change.value ≡ after joining (state_at state change.node) value))
-  noted_cases values value change noted =
-      elim (cases_lt noted.place (length values)) [
-        | inl inside ↦ inl (record {
-          place = noted.place;
-          inside = inside;
-          node = noted.node;
-          value = noted.value ∙ ap (after joining (state_at state change.node)) (get_or_append_left values (value ∷ []) Zero noted.place inside);
-          differs = noted.differs;
-        })
-        | inr past ↦
-            let last : length values ≡ noted.place = omega (arith, noted.inside, length_push values value) in
-            inr (
-              ap (slice_index nodes) last ∙ noted.node,
-              noted.value ∙ ap (after joining (state_at state change.node)) (get_or_push values value Zero noted.place last),
-            )
-      ]
+pub instructions_there : (codes : List (Rc CodeData Global)) (place : ℕ) (code : Rc CodeData Global) → slice_get codes place ≡ Some code →
+    instructions_at codes place ≡ length code.value.instructions
+instructions_there codes place code there =
+    ap (λ (found : Option (Rc CodeData Global)). unwrap_or (option_map (λ (one : Rc CodeData Global). length one.value.instructions) found) 0) there
 
-  -- a place at which nothing changes
-  Notes-same : (values : List Tern) (value : Tern) (node : ℕ) (old mid : List Change) → slice_index nodes (length values) ≡ node →
-      after joining (state_at state node) value ≡ state_at state node → Notes joining nodes state values old mid →
-      Notes joining nodes state (values ++ value ∷ []) old mid
-  Notes-same values value node old mid here same notes = record {
-    kept = notes.kept;
-    noted = λ change noted.
-        elim (noted_cases values value change noted) [
-          | inl before ↦ notes.noted change before
-          | inr (at, is) ↦
-              let there : node ≡ change.node = sym here ∙ at in
-              let stays : after joining (state_at state change.node) value ≡ state_at state change.node =
-              subst (λ n. after joining (state_at state n) value ≡ state_at state n) there same in
-              absurd (noted.differs (is ∙ stays))
-        ];
-    only = λ change there.
-        elim (notes.only change there) [
-          | inl was ↦ inl was
-          | inr noted ↦ inr (noted_before values value change noted)
-        ];
-  }
+-- a code as it is read from its place
+pub code_read : (codes : List (Rc CodeData Global)) (place read : ℕ) (code found : Rc CodeData Global) (own : CodeData) → read ≡ place →
+    slice_get codes place ≡ Some code → found ≡ get_or codes read found → own ≡ found.value → own ≡ code.value
+code_read codes place read code found own at there is value =
+    let here : slice_get codes read ≡ Some code = ap (slice_get codes) at ∙ there in
+    value ∙ ap (λ (one : Rc CodeData Global). one.value) (is ∙ get_or_from_slice_get codes read code found here)
 
-  -- a place at which the node changes
-  Notes-more : (values : List Tern) (value : Tern) (change : Change) (old mid : List Change) → slice_index nodes (length values) ≡ change.node →
-      change.value ≡ after joining (state_at state change.node) value → change.value ≢ state_at state change.node →
-      Notes joining nodes state values old mid → Notes joining nodes state (values ++ value ∷ []) old (mid ++ change ∷ [])
-  Notes-more values value change old mid here is differs notes =
-      let last : IsNoted joining nodes state (values ++ value ∷ []) change = record {
-        place = length values;
-        inside = omega (arith, length_push values value);
-        node = here;
-        value = is ∙ ap (after joining (state_at state change.node)) (sym (get_or_push values value Zero (length values) refl));
-        differs = differs;
-      } in
-      record {
-        kept = λ other there. Contains-append_left mid (change ∷ []) other (notes.kept other there);
-        noted = λ other noted.
-            elim (noted_cases values value other noted) [
-              | inl before ↦ Contains-append_left mid (change ∷ []) other (notes.noted other before)
-              | inr (at, gives) ↦
-                  let node : change.node ≡ other.node = sym here ∙ at in
-                  let next : change.value ≡ other.value =
-                  is ∙ (ap (λ n. after joining (state_at state n) value) node ∙ sym gives) in
-                  let same : change ≡ other = λ i. record { node = node i; value = next i } in
-                  subst (Contains (mid ++ change ∷ [])) same (Contains-push mid change)
-            ];
-        only = λ other there.
-            elim (Contains-push_cases mid change other there) [
-              | inl before ↦
-                  elim (notes.only other before) [
-                    | inl was ↦ inl was
-                    | inr noted ↦ inr (noted_before values value other noted)
-                  ]
-              | inr same ↦ inr (subst (IsNoted joining nodes state (values ++ value ∷ [])) same last)
-            ];
-      }
+-- what each of some costs is at most what all cost
+pub one_of_some : (count cost : ℕ) → 0 < count → cost ≤ count * cost
+one_of_some zero cost some = absurd (omega (arith, some))
+one_of_some (suc count) cost some = omega arith
 
-  -- the next of the values, at whose place nothing changes
-  pub Notes-at_same : (values : List Tern) (place : ℕ) → place < length values → (old mid : List Change) →
-      let node = slice_index nodes place in
-      after joining (state_at state node) (get_or values place Zero) ≡ state_at state node →
-      Notes joining nodes state (take place values) old mid → Notes joining nodes state (take (place + 1) values) old mid
-  Notes-at_same values place inside old mid same notes =
-      let counted : length (take place values) ≡ place = length-take-le place values (omega arith) in
-      subst (λ front. Notes joining nodes state front old mid) (sym (take_more values place Zero inside))
-      (Notes-same (take place values) (get_or values place Zero) (slice_index nodes place) old mid (ap (slice_index nodes) counted) same notes)
-
-  -- and at whose place the node changes
-  pub Notes-at_more : (values : List Tern) (place : ℕ) → place < length values → (change : Change) (old mid : List Change) →
-      slice_index nodes place ≡ change.node → change.value ≡ after joining (state_at state change.node) (get_or values place Zero) →
-      change.value ≢ state_at state change.node → Notes joining nodes state (take place values) old mid →
-      Notes joining nodes state (take (place + 1) values) old (mid ++ change ∷ [])
-  Notes-at_more values place inside change old mid here is differs notes =
-      let counted : length (take place values) ≡ place = length-take-le place values (omega arith) in
-      subst (λ front. Notes joining nodes state front old (mid ++ change ∷ [])) (sym (take_more values place Zero inside))
-      (Notes-more (take place values) (get_or values place Zero) change old mid (ap (slice_index nodes) counted ∙ here) is differs notes)
-
--- no values note no change
-pub Notes-none : (joining : Bool) (nodes : List ℕ) (state : List Tern) (old : List Change) → Notes joining nodes state [] old old
-Notes-none joining nodes state old = record {
-  kept = λ change there. there;
-  noted = λ change noted. absurd (omega (arith, noted.inside));
-  only = λ change there. inl there;
+-- one part more in the list of those that are done is no other room
+pub pushed_rooms : (desk : Desk) (done : Vec ℕ Global) → vec_capacity done ≡ vec_capacity desk.done → rooms (record desk { done = done }) ≡ rooms desk
+pushed_rooms desk done same = λ i. record {
+  values = length desk.values.items;
+  changes = vec_capacity desk.changes;
+  parts = same i;
 }
 
--- the changes that are noted by what the code of a part gives are those that the part makes
-pub Reports-from_Notes : (joining : Bool) (parts : List HeldPart) (state : List Tern) (k : ℕ) (part : HeldPart) (code : Rc CodeData Global) →
-    Stands parts k part → part.code ≡ Some code → part.members ≤ length part.map.items → length code.value.outputs ≡ part.members →
-    (values : List Tern) → values ≡ code_value code.value (map (state_at state) part.map.items) → (old new : List Change) →
-    Notes joining part.map.items state values old new → Reports joining parts state k old new
-Reports-from_Notes joining parts state k part code stands has front outputs values are old new notes =
-    let input = map (state_at state) part.map.items in
-    let counted : length values ≡ part.members =
-    ap length are ∙ (length-map code.value.outputs (output_state input (results input code.value.instructions)) ∙ outputs) in
+-- the code of a slot is there, and each part that waits in the slot can be run with it
+pub record RunsTogether (count : ℕ) (room : Rooms) (codes : List (Rc CodeData Global)) (nodes : List ℕ) (place : ℕ) (starts : List ℕ) : Type 0 where
+  pub code : Rc CodeData Global
+  pub there : slice_get codes place ≡ Some code
+  pub inside : All (λ at. at + code.value.inputs ≤ length nodes) starts
+  pub below : All (λ at. All (λ node. node < count) (map_at nodes code.value.inputs at)) starts
+  pub front : length code.value.outputs ≤ code.value.inputs
+  pub value_room : 2 + 2 * code.value.inputs + length code.value.instructions ≤ room.values
+
+-- where each part that waits can be run, those of a slot can be run together
+pub RunsTogether-from_all : (count : ℕ) (room : Rooms) (codes : List (Rc CodeData Global)) (nodes : List ℕ) (slots : List Slot) (place : ℕ) →
+    place < length slots → ((one : Seat) → Waits slots one → CanRun count room codes nodes one) → 0 < length (starts_in slots place) →
+    RunsTogether count room codes nodes (code_in slots place) (starts_in slots place)
+RunsTogether-from_all count room codes nodes slots place inside all some =
+    let starts = starts_in slots place in
+    let seat : ℕ → Seat = λ at. record { code = code_in slots place; at = at } in
+    let runs : (at : ℕ) → Contains starts at → CanRun count room codes nodes (seat at) = λ at start. all (seat at) (Waits-in slots place at inside start) in
+    let first = runs (get_or starts 0 0) (Contains-get_or starts 0 0 some) in
+    let code = first.code in
+    let same : (at : ℕ) (start : Contains starts at) → (runs at start).code ≡ code =
+    λ at start. same_Some (runs at start).code code (sym (runs at start).there ∙ first.there) in
     record {
-      kept = notes.kept;
-      noted = λ change is.
-          let gives = is.gives in
-          let same = same_part parts k gives.part part gives.stands stands in
-          let codes : gives.code ≡ code = cc (ap (λ p. p.code) same) in
-          let member = subst (λ p. IsMemberAt p gives.place change.node) same gives.member in
-          let value : is.given ≡ state_at values gives.place =
-          gives.value_is
-          ∙ (ap (λ p. state_at (code_value gives.code.value (map (state_at state) p.map.items)) gives.place) same
-          ∙ (ap (λ shared. state_at (code_value shared.value input) gives.place) codes ∙ ap (λ xs. state_at xs gives.place) (sym are))) in
-          notes.noted change (record {
-            place = gives.place;
-            inside = omega (arith, counted, member.inside);
-            node = member.here;
-            value = is.value ∙ ap (after joining (state_at state change.node)) value;
-            differs = is.differs;
-          });
+      code = code;
+      there = first.there;
+      inside = λ k d within.
+          let at = get_or starts k d in
+          let start = Contains-get_or starts k d within in
+          subst (λ (one : Rc CodeData Global). at + one.value.inputs ≤ length nodes) (same at start) (runs at start).inside;
+      below = λ k d within.
+          let at = get_or starts k d in
+          let start = Contains-get_or starts k d within in
+          subst (λ (one : Rc CodeData Global). All (λ node. node < count) (map_at nodes one.value.inputs at)) (same at start) (runs at start).below;
+      front = first.front;
+      value_room = first.value_room;
+    }
+
+module _ (joining : Bool) (codes : List (Rc CodeData Global)) (nodes : List ℕ) (state : List Tern) where
+  -- none was run
+  pub RunsSome-none : (slots : List Slot) (changes : List Change) → RunsSome joining codes nodes state slots slots changes changes
+  RunsSome-none slots changes = record {
+    kept = λ change there. there;
+    left = λ seat waits. inl waits;
+    stays = λ seat waits. waits;
+    only = λ change there. inl there;
+  }
+
+  -- some were run, and then some more
+  pub RunsSome-then : (first second third : List Slot) (old mid new : List Change) → RunsSome joining codes nodes state first second old mid →
+      RunsSome joining codes nodes state second third mid new → RunsSome joining codes nodes state first third old new
+  RunsSome-then first second third old mid new before now = record {
+    kept = λ change there. now.kept change (before.kept change there);
+    left = λ seat waits.
+        elim (before.left seat waits) [
+          | inl still ↦ now.left seat still
+          | inr noted ↦ inr (λ change is. now.kept change (noted change is))
+        ];
+    stays = λ seat waits. before.stays seat (now.stays seat waits);
+    only = λ change there.
+        elim (now.only change there) [
+          | inl earlier ↦ before.only change earlier
+          | inr (seat, waits, is) ↦ inr (seat, before.stays seat waits, is)
+        ];
+  }
+
+  -- those of a slot were run
+  pub RunsSome-slot : (slots : List Slot) (place : ℕ) (code : Rc CodeData Global) (old new : List Change) → place < length slots →
+      slice_get codes (code_in slots place) ≡ Some code → NotesAll joining code.value nodes (starts_in slots place) state old new →
+      RunsSome joining codes nodes state slots (cleared_at slots place) old new
+  RunsSome-slot slots place code old new inside there notes = record {
+    kept = notes.kept;
+    left = λ seat waits.
+        elim (Waits-cleared_cases slots place inside seat waits) [
+          | inl still ↦ inl still
+          | inr (same, start) ↦ inr (λ change is.
+              let own : is.code ≡ code = same_Some is.code code (sym is.there ∙ (ap (slice_get codes) (sym same) ∙ there)) in
+              notes.noted seat.at change start
+              (subst (λ (one : Rc CodeData Global). IsNotedAt joining one.value nodes state seat.at change) own is.noted))
+        ];
+    stays = λ seat waits. Waits-cleared slots place inside seat waits;
+    only = λ change later.
+        elim (notes.only change later) [
+          | inl earlier ↦ inl earlier
+          | inr (at, start, noted) ↦
+              inr (
+                record { code = code_in slots place; at = at },
+                Waits-in slots place at inside start,
+                record { code = code; there = there; noted = noted },
+              )
+        ];
+  }
+
+  -- in a slot in which none waits none is run
+  pub RunsSome-free : (slots : List Slot) (place : ℕ) (changes : List Change) → place < length slots → length (starts_in slots place) ≡ 0 →
+      RunsSome joining codes nodes state slots (cleared_at slots place) changes changes
+  RunsSome-free slots place changes inside free = record {
+    kept = λ change there. there;
+    left = λ seat waits.
+        elim (Waits-cleared_cases slots place inside seat waits) [
+          | inl still ↦ inl still
+          | inr (same, (k, within, here)) ↦ absurd (omega (arith, within, free))
+        ];
+    stays = λ seat waits. Waits-cleared slots place inside seat waits;
+    only = λ change there. inl there;
+  }
+
+  -- after some were run, a part comes to wait
+  pub TakesIn-from_RunsSome : (seat : Seat) (waited between : List Slot) (old new : List Change) → slot_for seat.code < length between →
+      HasRoom between seat.code → RunsSome joining codes nodes state waited between old new →
+      TakesIn joining codes nodes state seat waited (with_seat between seat) old new
+  TakesIn-from_RunsSome seat waited between old new inside room runs = record {
+    between = between;
+    runs = runs;
+    waits = Waits-seat between seat inside;
+    others = Waits-before between seat inside room;
+    only = Waits-cases between seat inside room;
+  }
+
+-- something stands at each place of a list
+item_there : {X : Type 0} (xs : List X) (k : ℕ) → k < length xs → (x : X) × (slice_get xs k ≡ Some x)
+item_there [] k inside = absurd (omega (arith, inside))
+item_there (x ∷ xs) zero inside = (x, refl)
+item_there (x ∷ xs) (suc k) inside = item_there xs k (omega (arith, inside))
+
+-- the part that stands at a number
+pub part_there : (parts : List HeldPart) (k : ℕ) (part : HeldPart) → slice_get parts k ≡ Some part → Stands parts k part
+part_there parts k part there = record {
+  inside = slice_get_within parts k part there;
+  here = get_or_from_slice_get parts k part part there;
+}
+
+-- a part without code makes no change
+pub no_change_of : (joining : Bool) (parts : List HeldPart) (state : List Tern) (k : ℕ) (part : HeldPart) → Stands parts k part → part.code ≡ None →
+    (change : Change) → ¬ IsChange joining parts state k change
+no_change_of joining parts state k part stands none change is =
+    let gives = is.gives in
+    let same = same_part parts k gives.part part gives.stands stands in
+    absurd (cc (ap (λ (p : HeldPart). p.code) same, gives.has))
+
+module _ (joining : Bool) (parts : List HeldPart) (state : List Tern) (room : Rooms) (codes : List (Rc CodeData Global)) (nodes : List ℕ)
+    (k : ℕ) (part : HeldPart) (seat : Seat) (stands : Stands parts k part) (of : IsPlace part codes nodes seat)
+    (seated : IsSeated (length state) room part) where
+  -- a part can be run by its seat
+  pub CanRun-seated : CanRun (length state) room codes nodes seat
+  CanRun-seated =
+      let own = seated.coded of.own of.has in
+      record {
+        code = of.code;
+        there = of.there;
+        inside = of.inside;
+        below = subst (All (λ node. node < length state)) (sym of.map) seated.below;
+        front = subst (λ (code : CodeData). length code.outputs ≤ code.inputs) (sym of.same) (omega (arith, own.outputs, own.inputs, seated.members));
+        value_room = subst (λ (code : CodeData). 2 + 2 * code.inputs + length code.instructions ≤ room.values) (sym of.same) own.value_room;
+      }
+
+  -- its code has an output for each member
+  pub outputs_seated : outputs_at codes seat.code ≡ members_of part
+  outputs_seated =
+      outputs_there codes seat.code of.code of.there
+      ∙ (ap (λ (code : CodeData). length code.outputs) of.same ∙ (seated.coded of.own of.has).outputs)
+
+  -- and as many instructions as its own
+  pub instructions_seated : instructions_at codes seat.code ≡ instructions_of part
+  instructions_seated =
+      instructions_there codes seat.code of.code of.there
+      ∙ (ap (λ (code : CodeData). length code.instructions) of.same
+      ∙ sym (ap (λ (code : Option (Rc CodeData Global)). unwrap_or (option_map (λ (one : Rc CodeData Global). length one.value.instructions) code) 0) of.has))
+
+  input : List Tern
+  input = map (state_at state) part.map.items
+
+  values_are : code_value of.code.value (states_at state nodes of.code.value.inputs seat.at) ≡ code_value of.own.value input
+  unfolding input
+  values_are =
+      ap (λ (xs : List ℕ). code_value of.code.value (map (state_at state) xs)) of.map
+      ∙ ap (λ (code : CodeData). code_value code (map (state_at state) part.map.items)) of.same
+
+  counted : length (code_value of.own.value input) ≡ part.members
+  counted =
+      length-map of.own.value.outputs (output_state input (results input of.own.value.instructions)) ∙ (seated.coded of.own of.has).outputs
+
+  -- what its seat notes is what it changes
+  pub noted_seated : (change : Change) → IsChange joining parts state k change → IsNotedBy joining codes nodes state seat change
+  unfolding input
+  noted_seated change is =
+      let gives = is.gives in
+      let same = same_part parts k gives.part part gives.stands stands in
+      let has : gives.code ≡ of.own = same_Some gives.code of.own (sym gives.has ∙ (ap (λ (p : HeldPart). p.code) same ∙ of.has)) in
+      let member = subst (λ p. IsMemberAt p gives.place change.node) same gives.member in
+      let values = code_value of.code.value (states_at state nodes of.code.value.inputs seat.at) in
+      let given : is.given ≡ state_at values gives.place =
+      gives.value_is
+      ∙ (ap (λ (p : HeldPart). state_at (code_value gives.code.value (map (state_at state) p.map.items)) gives.place) same
+      ∙ (ap (λ (shared : Rc CodeData Global). state_at (code_value shared.value input) gives.place) has
+      ∙ ap (λ (xs : List Tern). state_at xs gives.place) (sym values_are))) in
+      record {
+        code = of.code;
+        there = of.there;
+        noted = record {
+          place = gives.place;
+          inside = omega (arith, ap (λ (xs : List Tern). length xs) values_are, counted, member.inside);
+          node = ap (λ (xs : List ℕ). slice_index xs gives.place) of.map ∙ member.here;
+          value = is.value ∙ ap (after joining (state_at state change.node)) given;
+          differs = is.differs;
+        };
+      }
+
+  pub seated_noted : (change : Change) → IsNotedBy joining codes nodes state seat change → IsChange joining parts state k change
+  unfolding input
+  seated_noted change is =
+      let shared : is.code ≡ of.code = same_Some is.code of.code (sym is.there ∙ of.there) in
+      let noted = subst (λ (one : Rc CodeData Global). IsNotedAt joining one.value nodes state seat.at change) shared is.noted in
+      let first : noted.place < part.members = omega (arith, ap (λ (xs : List Tern). length xs) values_are, counted, noted.inside) in
+      record {
+        given = state_at (code_value of.own.value input) noted.place;
+        gives = record {
+          part = part;
+          stands = stands;
+          code = of.own;
+          has = of.has;
+          place = noted.place;
+          member = record {
+            inside = first;
+            within = omega (arith, first, seated.members);
+            here = ap (λ (xs : List ℕ). slice_index xs noted.place) (sym of.map) ∙ noted.node;
+          };
+          value_is = refl;
+        };
+        value = noted.value
+            ∙ ap (λ (xs : List Tern). after joining (state_at state change.node) (state_at xs noted.place)) values_are;
+        differs = noted.differs;
+      }
+
+-- what the seat of a part notes is what the part changes
+abbrev pub NotesItsChanges : Bool → List HeldPart → List Tern → List (Rc CodeData Global) → List ℕ → ℕ → Seat → Type 0
+NotesItsChanges joining parts state codes nodes k seat =
+    (change : Change) → IsChange joining parts state k change ↔ IsNotedBy joining codes nodes state seat change
+
+abbrev pub NoteTheirChanges : Bool → List HeldPart → List Tern → List (Rc CodeData Global) → List ℕ → List (Option Seat) → Type 0
+NoteTheirChanges joining parts state codes nodes seats =
+    (k : ℕ) (seat : Seat) → slice_get seats k ≡ Some (Some seat) → NotesItsChanges joining parts state codes nodes k seat
+
+-- a part whose seat is there, and what the seat tells
+pub record IsFoundBy (parts : List HeldPart) (codes : List (Rc CodeData Global)) (nodes : List ℕ) (k : ℕ) (seat : Seat) : Type 0 where
+  pub part : HeldPart
+  pub stands : Stands parts k part
+  pub place : IsPlace part codes nodes seat
+
+pub found_by : (parts : List HeldPart) (codes : List (Rc CodeData Global)) (nodes : List ℕ) (seats : List (Option Seat)) (k : ℕ) (seat : Seat) →
+    AreSeatsOf parts codes nodes seats → slice_get seats k ≡ Some (Some seat) → IsFoundBy parts codes nodes k seat
+found_by parts codes nodes seats k seat are there =
+    let inside : k < length parts = omega (arith, slice_get_within seats k (Some seat) there, are.counted) in
+    let (part, at) = item_there parts k inside in
+    record {
+      part = part;
+      stands = part_there parts k part at;
+      place = (are.each k part (Some seat) at there).some seat refl;
+    }
+
+-- a part without a seat has no code
+pub codeless_by : (parts : List HeldPart) (codes : List (Rc CodeData Global)) (nodes : List ℕ) (seats : List (Option Seat)) (k : ℕ) →
+    AreSeatsOf parts codes nodes seats → slice_get seats k ≡ Some None → (part : HeldPart) × Stands parts k part × (part.code ≡ None)
+codeless_by parts codes nodes seats k are there =
+    let inside : k < length parts = omega (arith, slice_get_within seats k None there, are.counted) in
+    let (part, at) = item_there parts k inside in
+    (part, part_there parts k part at, (are.each k part None at there).none refl)
+
+-- what the seats of parts note is what the parts change
+pub NoteTheirChanges-from_AreSeatsOf : (joining : Bool) (parts : List HeldPart) (state : List Tern) (room : Rooms) (codes : List (Rc CodeData Global))
+    (nodes : List ℕ) (seats : List (Option Seat)) → AreSeatsOf parts codes nodes seats → All (IsSeated (length state) room) parts →
+    NoteTheirChanges joining parts state codes nodes seats
+NoteTheirChanges-from_AreSeatsOf joining parts state room codes nodes seats are seated k seat there change =
+    let found = found_by parts codes nodes seats k seat are there in
+    let seat_of = subst (IsSeated (length state) room) found.stands.here (seated k found.part found.stands.inside) in (
+      noted_seated joining parts state room codes nodes k found.part seat found.stands found.place seat_of change,
+      seated_noted joining parts state room codes nodes k found.part seat found.stands found.place seat_of change,
+    )
+
+module _ (joining : Bool) (parts : List HeldPart) (state : List Tern) (waiting before : List Bool) (seats : List (Option Seat)) where
+  -- nothing was evaluated yet
+  pub EvaluatedBut-none : (slots : List Slot) → IsEmptyFrom 0 slots →
+      EvaluatedBut joining parts state waiting before before seats slots [] []
+  EvaluatedBut-none slots empty = record {
+    fewer = λ k now. now;
+    marked = λ k (i, inside, here). absurd (omega (arith, inside));
+    ready = λ k (i, inside, here). absurd (omega (arith, inside));
+    popped = λ k was. inl was;
+    noted = λ k change (i, inside, here) is. absurd (omega (arith, inside));
+    only = λ change (i, inside, here). absurd (omega (arith, inside));
+    taken = λ seat waits. absurd (none_waits slots empty seat waits);
+  }
+
+  -- where none waits to be run, all is noted
+  pub Evaluated-from_EvaluatedBut : (marks : List Bool) (slots : List Slot) (changes : List Change) (done : List ℕ) → IsEmptyFrom 0 slots →
+      EvaluatedBut joining parts state waiting before marks seats slots changes done → Evaluated joining parts state waiting before marks changes done
+  Evaluated-from_EvaluatedBut marks slots changes done empty evaluated = record {
+    fewer = evaluated.fewer;
+    marked = evaluated.marked;
+    ready = evaluated.ready;
+    popped = evaluated.popped;
+    noted = λ k change there is.
+        elim (evaluated.noted k change there is) [
+          | inl noted ↦ noted
+          | inr (seat, at, waits) ↦ absurd (none_waits slots empty seat waits)
+        ];
+    only = evaluated.only;
+  }
+
+  module _ (codes : List (Rc CodeData Global)) (nodes : List ℕ) (notes : NoteTheirChanges joining parts state codes nodes seats)
+      (marks : List Bool) (done : List ℕ) where
+    -- some of those that wait were run
+    pub EvaluatedBut-run : (slots now : List Slot) (changes more : List Change) → RunsSome joining codes nodes state slots now changes more →
+        EvaluatedBut joining parts state waiting before marks seats slots changes done →
+        EvaluatedBut joining parts state waiting before marks seats now more done
+    EvaluatedBut-run slots now changes more runs evaluated = record {
+      fewer = evaluated.fewer;
+      marked = evaluated.marked;
+      ready = evaluated.ready;
+      popped = evaluated.popped;
+      noted = λ k change there is.
+          elim (evaluated.noted k change there is) [
+            | inl noted ↦ inl (runs.kept change noted)
+            | inr (seat, at, waits) ↦
+                elim (runs.left seat waits) [
+                  | inl still ↦ inr (seat, at, still)
+                  | inr noted ↦ inl (noted change ((notes k seat at change).0 is))
+                ]
+          ];
       only = λ change there.
-          elim (notes.only change there) [
-            | inl was ↦ inl was
-            | inr noted ↦
-                let first : noted.place < part.members = omega (arith, counted, noted.inside) in
-                inr (record {
-                  given = state_at values noted.place;
-                  gives = record {
-                    part = part;
-                    stands = stands;
-                    code = code;
-                    has = has;
-                    place = noted.place;
-                    member = record { inside = first; within = omega arith; here = noted.node };
-                    value_is = ap (λ xs. state_at xs noted.place) are;
-                  };
-                  value = noted.value;
-                  differs = noted.differs;
-                })
+          elim (runs.only change there) [
+            | inl earlier ↦ evaluated.only change earlier
+            | inr (seat, waits, is) ↦
+                let (k, contained, at) = evaluated.taken seat waits in
+                (k, contained, (notes k seat at change).1 is)
+          ];
+      taken = λ seat waits. evaluated.taken seat (runs.stays seat waits);
+    }
+
+  module _ (marks : List Bool) (done : List ℕ) (k : ℕ) (marked : IsMarked marks k) (ready : ¬ IsMarked waiting k) where
+    -- a marked part was taken off the marks: its changes are noted, or its seat waits
+    more_done : (slots now : List Slot) (changes : List Change) →
+        ((change : Change) → IsChange joining parts state k change →
+        Contains changes change ⊎ ((seat : Seat) × (slice_get seats k ≡ Some (Some seat)) × Waits now seat)) →
+        ((seat : Seat) → Waits slots seat → Waits now seat) →
+        ((seat : Seat) → Waits now seat → Waits slots seat ⊎ (slice_get seats k ≡ Some (Some seat))) →
+        EvaluatedBut joining parts state waiting before marks seats slots changes done →
+        EvaluatedBut joining parts state waiting before (slice_set marks k false) seats now changes (done ++ k ∷ [])
+    more_done slots now changes own others only evaluated = record {
+      fewer = λ l now. evaluated.fewer l (marked-cleared_was marks k l now);
+      marked = λ l there.
+          elim (Contains-push_cases done k l there) [
+            | inl earlier ↦ evaluated.marked l earlier
+            | inr same ↦ subst (IsMarked before) same (evaluated.fewer k marked)
+          ];
+      ready = λ l there.
+          elim (Contains-push_cases done k l there) [
+            | inl earlier ↦ evaluated.ready l earlier
+            | inr same ↦ λ waits. ready (subst (IsMarked waiting) (sym same) waits)
+          ];
+      popped = λ l was.
+          elim (evaluated.popped l was) [
+            | inl still ↦
+                elim (marked-cleared_cases marks k l still) [
+                  | inl left ↦ inl left
+                  | inr same ↦ inr (subst (Contains (done ++ k ∷ [])) (sym same) (Contains-push done k))
+                ]
+            | inr earlier ↦ inr (Contains-append_left done (k ∷ []) l earlier)
+          ];
+      noted = λ l change there is.
+          elim (Contains-push_cases done k l there) [
+            | inl earlier ↦
+                elim (evaluated.noted l change earlier is) [
+                  | inl noted ↦ inl noted
+                  | inr (seat, at, waits) ↦ inr (seat, at, others seat waits)
+                ]
+            | inr same ↦
+                subst (λ n. Contains changes change ⊎ ((seat : Seat) × (slice_get seats n ≡ Some (Some seat)) × Waits now seat)) same
+                (own change (subst (λ n. IsChange joining parts state n change) (sym same) is))
+          ];
+      only = λ change there.
+          let (l, contained, is) = evaluated.only change there in
+          (l, Contains-append_left done (k ∷ []) l contained, is);
+      taken = λ seat waits.
+          elim (only seat waits) [
+            | inl earlier ↦
+                let (l, contained, at) = evaluated.taken seat earlier in
+                (l, Contains-append_left done (k ∷ []) l contained, at)
+            | inr at ↦ (k, Contains-push done k, at)
           ];
     }
 
--- a part without code makes no change
-pub Reports-none : (joining : Bool) (parts : List HeldPart) (state : List Tern) (k : ℕ) (part : HeldPart) → Stands parts k part → part.code ≡ None →
-    (old : List Change) → Reports joining parts state k old old
-Reports-none joining parts state k part stands none old = record {
-  kept = λ change there. there;
-  noted = λ change is.
-      let gives = is.gives in
-      let same = same_part parts k gives.part part gives.stands stands in
-      absurd (cc (ap (λ p. p.code) same, gives.has));
-  only = λ change there. inl there;
-}
+    -- a part without code changes nothing
+    pub EvaluatedBut-codeless : (slots : List Slot) (changes : List Change) → ((change : Change) → ¬ IsChange joining parts state k change) →
+        EvaluatedBut joining parts state waiting before marks seats slots changes done →
+        EvaluatedBut joining parts state waiting before (slice_set marks k false) seats slots changes (done ++ k ∷ [])
+    EvaluatedBut-codeless slots changes none evaluated =
+        more_done slots slots changes (λ change is. absurd (none change is)) (λ seat waits. waits) (λ seat waits. inl waits) evaluated
 
--- one part more was evaluated
-pub Evaluated-more : (joining : Bool) (parts : List HeldPart) (state : List Tern) (waiting : List Bool) (before marks : List Bool)
-    (changes more : List Change) (done : List ℕ) (k : ℕ) → IsMarked marks k → ¬ IsMarked waiting k → Reports joining parts state k changes more →
-    Evaluated joining parts state waiting before marks changes done →
-    Evaluated joining parts state waiting before (slice_set marks k false) more (done ++ k ∷ [])
-Evaluated-more joining parts state waiting before marks changes more done k marked ready reports evaluated = record {
-  fewer = λ l now. evaluated.fewer l (marked-cleared_was marks k l now);
-  marked = λ l there.
-      elim (Contains-push_cases done k l there) [
-        | inl earlier ↦ evaluated.marked l earlier
-        | inr same ↦ subst (IsMarked before) same (evaluated.fewer k marked)
-      ];
-  ready = λ l there.
-      elim (Contains-push_cases done k l there) [
-        | inl earlier ↦ evaluated.ready l earlier
-        | inr same ↦ λ waits. ready (subst (IsMarked waiting) (sym same) waits)
-      ];
-  popped = λ l was.
-      elim (evaluated.popped l was) [
-        | inl still ↦
-            elim (marked-cleared_cases marks k l still) [
-              | inl now ↦ inl now
-              | inr same ↦ inr (subst (Contains (done ++ k ∷ [])) (sym same) (Contains-push done k))
-            ]
-        | inr earlier ↦ inr (Contains-append_left done (k ∷ []) l earlier)
-      ];
-  noted = λ l change there is.
-      elim (Contains-push_cases done k l there) [
-        | inl earlier ↦ reports.kept change (evaluated.noted l change earlier is)
-        | inr same ↦ reports.noted change (subst (λ n. IsChange joining parts state n change) (sym same) is)
-      ];
-  only = λ change there.
-      elim (reports.only change there) [
-        | inl earlier ↦
-            let (l, contained, is) = evaluated.only change earlier in
-            (l, Contains-append_left done (k ∷ []) l contained, is)
-        | inr is ↦ (k, Contains-push done k, is)
-      ];
-}
-
--- nothing was evaluated yet
-pub Evaluated-none : (joining : Bool) (parts : List HeldPart) (state : List Tern) (waiting : List Bool) (before : List Bool) →
-    Evaluated joining parts state waiting before before [] []
-Evaluated-none joining parts state waiting before = record {
-  fewer = λ k now. now;
-  marked = λ k (i, inside, here). absurd (omega (arith, inside));
-  ready = λ k (i, inside, here). absurd (omega (arith, inside));
-  popped = λ k was. inl was;
-  noted = λ k change (i, inside, here) is. absurd (omega (arith, inside));
-  only = λ change (i, inside, here). absurd (omega (arith, inside));
-}
+    -- a part with code is taken in
+    pub EvaluatedBut-taken : (codes : List (Rc CodeData Global)) (nodes : List ℕ) → NoteTheirChanges joining parts state codes nodes seats →
+        (seat : Seat) → slice_get seats k ≡ Some (Some seat) → (slots now : List Slot) (changes more : List Change) →
+        TakesIn joining codes nodes state seat slots now changes more →
+        EvaluatedBut joining parts state waiting before marks seats slots changes done →
+        EvaluatedBut joining parts state waiting before (slice_set marks k false) seats now more (done ++ k ∷ [])
+    EvaluatedBut-taken codes nodes notes seat at slots now changes more takes evaluated =
+        more_done takes.between now more (λ change is. inr (seat, at, takes.waits)) takes.others
+        (λ one waits.
+        elim (takes.only one waits) [
+          | inl earlier ↦ inl earlier
+          | inr same ↦ inr (subst (λ (s : Seat). slice_get seats k ≡ Some (Some s)) (sym same) at)
+        ])
+        (EvaluatedBut-run codes nodes notes marks done slots takes.between changes more takes.runs evaluated)

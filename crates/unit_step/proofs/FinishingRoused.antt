@@ -76,9 +76,9 @@ one_or_none xs k =
     ]
 
 -- a wider desk has room for a part too
-IsSeated-wider : (count : ℕ) (room wide : Rooms) (part : HeldPart) → room.values ≤ wide.values → room.outs ≤ wide.outs → IsSeated count room part →
+IsSeated-wider : (count : ℕ) (room wide : Rooms) (part : HeldPart) → room.values ≤ wide.values → IsSeated count room part →
     IsSeated count wide part
-IsSeated-wider count room wide part values outs seated = record {
+IsSeated-wider count room wide part values seated = record {
   below = seated.below;
   members = seated.members;
   apart = seated.apart;
@@ -88,19 +88,18 @@ IsSeated-wider count room wide part values outs seated = record {
         inputs = is.inputs;
         outputs = is.outputs;
         value_room = omega (arith, is.value_room, values);
-        out_room = omega (arith, is.out_room, outs);
       };
 }
 
 -- a machine with a wider desk, whose nodes have the same readers, can run
 pub IsMachine-wider : (parts : List HeldPart) (marks waiting : List Bool) (count : ℕ) (lists new_lists : List (SmallVec ℕ)) (owners numbers new_numbers : List (Option ℕ))
-    (held most : ℕ) (room wide : Rooms) → room.values ≤ wide.values → room.outs ≤ wide.outs → wide.changes ≡ room.changes → wide.parts ≡ room.parts →
+    (held most : ℕ) (room wide : Rooms) → room.values ≤ wide.values → wide.changes ≡ room.changes → wide.parts ≡ room.parts →
     new_numbers ≡ numbers → HaveSameReaders lists new_lists → IsMachine parts marks waiting count lists owners numbers held most room →
     IsMachine parts marks waiting count new_lists owners new_numbers held most wide
-IsMachine-wider parts marks waiting count lists new_lists owners numbers new_numbers held most room wide values outs changes parts_are numbers_are same machine = record {
+IsMachine-wider parts marks waiting count lists new_lists owners numbers new_numbers held most room wide values changes parts_are numbers_are same machine = record {
   runs = record {
     counted = machine.runs.counted;
-    seated = λ k d inside. IsSeated-wider count room wide (get_or parts k d) values outs (machine.runs.seated k d inside);
+    seated = λ k d inside. IsSeated-wider count room wide (get_or parts k d) values (machine.runs.seated k d inside);
     apart = machine.runs.apart;
     waits = machine.runs.waits;
     stale = machine.runs.stale;
@@ -285,17 +284,17 @@ module _ (g : GraphData) (m : MachineData) (covers : Covers g m) (groups some : 
               record { part = x; stands = Stands-at new k x put; reads = subst (λ (p : HeldPart). Contains p.reads.items node) same how.reads }
         ]
 
-    pub IsRunnable-new : All (IsFormed count) fresh → All (IsCodeRoom wide.values) fresh → All (λ part. part.members ≤ wide.outs) fresh →
-        room.values ≤ wide.values → room.outs ≤ wide.outs → wide.changes ≡ room.changes → wide.parts ≡ room.parts →
+    pub IsRunnable-new : All (IsFormed count) fresh → All (IsCodeRoom wide.values) fresh →
+        room.values ≤ wide.values → wide.changes ≡ room.changes → wide.parts ≡ room.parts →
         ((k : ℕ) → ¬ IsMarked new_flags k) → IsRunnable new marks new_flags count new_lists wide
-    IsRunnable-new formed values_room outs_room values outs changes parts_are none = record {
+    IsRunnable-new formed values_room values changes parts_are none = record {
       counted = runs.counted ∙ sym puts.count;
       seated = λ k d inside.
           let part = get_or new k d in
           let stands : Stands new k part = record { inside = inside; here = get_or_default new k part d inside } in
           elim (stays_or_comes k part stands) [
             | inl stays ↦
-                IsSeated-wider count room wide part values outs
+                IsSeated-wider count room wide part values
                 (subst (IsSeated count room) (stays.stands.here) (runs.seated k part stays.stands.inside))
             | inr comes ↦
                 let within = slice_get_within fresh comes.i part comes.there in
@@ -309,7 +308,6 @@ module _ (g : GraphData) (m : MachineData) (covers : Covers g m) (groups some : 
                     inputs = form.inputs code is;
                     outputs = form.outputs code is;
                     value_room = subst (IsCodeRoom wide.values) here (values_room comes.i part within) code is;
-                    out_room = subst (λ (one : HeldPart). one.members ≤ wide.outs) here (outs_room comes.i part within);
                   };
                 }
           ];
@@ -507,14 +505,14 @@ module _ (g : GraphData) (m : MachineData) (covers : Covers g m) (groups some : 
     (fresh new : List HeldPart) (count : ℕ) (are_made : AreMade g some slots m.parts fresh count) (puts : Puts slots fresh m.parts new) where
   -- the machine can run
   pub IsMachine-roused : (lists new_lists : List (SmallVec ℕ)) (marks flags new_flags : List Bool) (owners numbers new_numbers : List (Option ℕ)) (held most : ℕ)
-      (room wide : Rooms) → ListsAll slots fresh lists new_lists → All (IsCodeRoom wide.values) fresh → All (λ part. part.members ≤ wide.outs) fresh →
-      room.values ≤ wide.values → room.outs ≤ wide.outs → wide.changes ≡ room.changes → wide.parts ≡ room.parts → ((k : ℕ) → ¬ IsMarked new_flags k) →
+      (room wide : Rooms) → ListsAll slots fresh lists new_lists → All (IsCodeRoom wide.values) fresh →
+      room.values ≤ wide.values → wide.changes ≡ room.changes → wide.parts ≡ room.parts → ((k : ℕ) → ¬ IsMarked new_flags k) →
       length new_numbers ≡ length numbers → IsMachine m.parts marks flags count lists owners numbers held most room →
       IsMachine new marks new_flags count new_lists owners new_numbers held most wide
-  IsMachine-roused lists new_lists marks flags new_flags owners numbers new_numbers held most room wide listed values_room outs_room values outs changes parts none counted machine =
+  IsMachine-roused lists new_lists marks flags new_flags owners numbers new_numbers held most room wide listed values_room values changes parts none counted machine =
       record {
         runs = IsRunnable-new g m covers groups some slots waiting fresh are_made.fresh_are new puts lists new_lists listed count room wide marks flags new_flags
-            machine.runs are_made.formed values_room outs_room values outs changes parts none;
+            machine.runs are_made.formed values_room values changes parts none;
         own = AreOwners-new g m covers groups some slots waiting fresh are_made.fresh_are new puts count owners machine.own;
         numbered = omega (arith, machine.numbered, puts.count, counted);
         number = machine.number ∙ sym (members_count g m covers groups some slots waiting fresh are_made.fresh_are new puts);

@@ -4,6 +4,8 @@ pub mod ResponseLemmas
 pub mod FittingLemmas
 pub mod PlacingLemmas
 pub mod MarkLemmas
+pub mod WaitingLemmas
+pub mod BatchLemmas
 pub mod EvaluationLemmas
 pub mod TakingLemmas
 pub mod AdvanceLemmas

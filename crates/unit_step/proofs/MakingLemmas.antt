@@ -280,7 +280,6 @@ IsMachine-started parts count lists owners numbers number most room formed apart
             inputs = form.inputs code is;
             outputs = form.outputs code is;
             value_room = fits.values k d inside code is;
-            out_room = fits.outs k d inside;
           };
         };
     apart = apart;

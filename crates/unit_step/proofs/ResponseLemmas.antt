@@ -15,7 +15,8 @@ use Rattle.straight_code.specs.Code.{code_value}
 use Rattle.group_analysis.proofs.ResponseLemmas.{given_response}
 use Rattle.unit_step.specs.Parts.{HasMember}
 use Rattle.unit_step.specs.Machines.{MachineData, IsMarked}
-use Rattle.unit_step.specs.Stepping.{IsGiven, Moves, after}
+use Rattle.unit_step.specs.Stepping.{IsGiven, Moves}
+use Rattle.part_words.specs.Noting.{after}
 use Rattle.unit_step.specs.Fitting.{FitsGraph}
 use Rattle.unit_step.proofs.CaseLemmas.{true_or_not, something, after-same}
 use Rattle.unit_step.proofs.PartLemmas.{HasMember-from_Gives, member_from_part, place_in_group, member_in_group, member_of_part}

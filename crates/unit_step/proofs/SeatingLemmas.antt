@@ -149,9 +149,9 @@ module _ (parts : List HeldPart) (marks waiting : List Bool) (count : ℕ) (list
         }
 
   -- the machine has more room, and more places for texts
-  pub IsMachine-roomier : (numbers' : List (Option ℕ)) (room' : Rooms) → length numbers ≤ length numbers' → room'.values ≡ room.values → room'.outs ≡ room.outs →
+  pub IsMachine-roomier : (numbers' : List (Option ℕ)) (room' : Rooms) → length numbers ≤ length numbers' → room'.values ≡ room.values →
       room.changes ≤ room'.changes → room.parts ≤ room'.parts → IsMachine parts marks waiting count lists owners numbers' held most room'
-  IsMachine-roomier numbers' room' more values outs changes parts_more = record {
+  IsMachine-roomier numbers' room' more values changes parts_more = record {
     runs = record {
       counted = machine.runs.counted;
       seated = λ l d inside. roomier_seat (get_or parts l d) (machine.runs.seated l d inside);
@@ -182,7 +182,6 @@ module _ (parts : List HeldPart) (marks waiting : List Bool) (count : ℕ) (list
               inputs = coded.inputs;
               outputs = coded.outputs;
               value_room = omega (arith, coded.value_room, values);
-              out_room = omega (arith, coded.out_room, outs);
             };
       }
 

@@ -8,7 +8,7 @@ use Rattle.smallvec.specs.SmallVec.{SmallVec}
 use Rattle.ternary.specs.declared.tern.Tern.{Tern}
 use Rattle.ternary.specs.declared.tern.Tern.TheVariants.{Zero}
 use Rattle.path_meaning.specs.Switching.{state_at}
-use Rattle.unit_step.specs.declared.evaluation.Change.{Change}
+use Rattle.part_words.specs.declared.change.Change.{Change}
 use Rattle.unit_step.specs.Marking.{MarksAll}
 use Rattle.unit_step.specs.Running.{AreAgreed, IsTaken, ReadsAny}
 use Rattle.unit_step.specs.Readers.{readers_of}

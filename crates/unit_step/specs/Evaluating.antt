@@ -6,22 +6,21 @@ use Rattle.ternary.specs.declared.tern.Tern.{Tern}
 use Rattle.path_meaning.specs.Switching.{state_at}
 use Rattle.straight_code.specs.Code.{CodeData}
 use Rattle.unit_step.specs.declared.part.HeldPart.{HeldPart}
-use Rattle.unit_step.specs.declared.evaluation.Change.{Change}
+use Rattle.part_words.specs.declared.change.Change.{Change}
+use Rattle.part_words.specs.Noting.{after}
 use Rattle.unit_step.specs.declared.evaluation.Desk.{Desk}
 use Rattle.unit_step.specs.Machines.{IsMarked}
-use Rattle.unit_step.specs.Stepping.{Gives, after}
+use Rattle.unit_step.specs.Stepping.{Gives}
 
--- how much room a step has: for all that a code reads, for its outputs, for nodes that change, and for parts
+-- how much room a step has: for all that a code reads, for nodes that change, and for parts
 pub record Rooms : Type 0 where
   pub values : ℕ
-  pub outs : ℕ
   pub changes : ℕ
   pub parts : ℕ
 
 abbrev pub rooms : Desk → Rooms
 rooms desk = record {
   values = length desk.values.items;
-  outs = length desk.out.items;
   changes = vec_capacity desk.changes;
   parts = vec_capacity desk.done;
 }
@@ -31,7 +30,6 @@ pub record IsSeatedCode (room : Rooms) (part : HeldPart) (code : CodeData) : Typ
   pub inputs : length part.map.items ≡ code.inputs
   pub outputs : length code.outputs ≡ part.members
   pub value_room : 2 + 2 * code.inputs + length code.instructions ≤ room.values
-  pub out_room : part.members ≤ room.outs
 
 -- the part's nodes are there, no two places of its map have one node, and its code fits it
 pub record IsSeated (count : ℕ) (room : Rooms) (part : HeldPart) : Type 0 where
@@ -41,32 +39,12 @@ pub record IsSeated (count : ℕ) (room : Rooms) (part : HeldPart) : Type 0 wher
       slice_index part.map.items i ≡ slice_index part.map.items j → i ≡ j
   pub coded : (code : Rc CodeData Global) → part.code ≡ Some code → IsSeatedCode room part code.value
 
--- the value at some place makes the node at that place change so
-pub record IsNoted (joining : Bool) (nodes : List ℕ) (state values : List Tern) (change : Change) : Type 0 where
-  pub place : ℕ
-  pub inside : place < length values
-  pub node : slice_index nodes place ≡ change.node
-  pub value : change.value ≡ after joining (state_at state change.node) (state_at values place)
-  pub differs : change.value ≢ state_at state change.node
-
--- the changes at all places are noted behind what was noted, and no others
-pub record Notes (joining : Bool) (nodes : List ℕ) (state values : List Tern) (old new : List Change) : Type 0 where
-  pub kept : (change : Change) → Contains old change → Contains new change
-  pub noted : (change : Change) → IsNoted joining nodes state values change → Contains new change
-  pub only : (change : Change) → Contains new change → Contains old change ⊎ IsNoted joining nodes state values change
-
 -- what the code of the part with this number gives makes the node change so
 pub record IsChange (joining : Bool) (parts : List HeldPart) (state : List Tern) (k : ℕ) (change : Change) : Type 0 where
   pub given : Tern
   pub gives : Gives parts state k change.node given
   pub value : change.value ≡ after joining (state_at state change.node) given
   pub differs : change.value ≢ state_at state change.node
-
--- the changes that the part with this number makes are noted, and no others
-pub record Reports (joining : Bool) (parts : List HeldPart) (state : List Tern) (k : ℕ) (old new : List Change) : Type 0 where
-  pub kept : (change : Change) → Contains old change → Contains new change
-  pub noted : (change : Change) → IsChange joining parts state k change → Contains new change
-  pub only : (change : Change) → Contains new change → Contains old change ⊎ IsChange joining parts state k change
 
 -- some of the marked parts were evaluated, none of which waits: they aren't marked any more, and the changes that they make are noted
 pub record Evaluated (joining : Bool) (parts : List HeldPart) (state : List Tern) (waiting : List Bool) (before marks : List Bool)

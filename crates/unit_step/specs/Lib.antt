@@ -16,3 +16,5 @@ pub mod Lasting
 pub mod Dense
 pub mod Seating
 pub mod Drafting
+pub mod Waiting
+pub mod Together

@@ -63,7 +63,6 @@ IsCodeRoom count part =
 -- there is room for the steps of these parts
 pub record HasRoomFor (parts : List HeldPart) (room : Rooms) : Type 0 where
   pub values : All (IsCodeRoom room.values) parts
-  pub outs : All (λ part. part.members ≤ room.outs) parts
   pub changes : sum_by members_of parts ≤ room.changes
   pub parts_room : length parts ≤ room.parts
 

@@ -5,7 +5,7 @@ use Rattle.smallvec.specs.SmallVec.{SmallVec}
 use Rattle.ternary.specs.declared.tern.Tern.{Tern}
 use Rattle.path_meaning.specs.Switching.{state_at}
 use Rattle.unit_step.specs.declared.part.HeldPart.{HeldPart}
-use Rattle.unit_step.specs.declared.evaluation.Change.{Change}
+use Rattle.part_words.specs.declared.change.Change.{Change}
 use Rattle.unit_step.specs.Parts.{HasMember, ReadsAt, IsStale, AreApart, has_members}
 use Rattle.unit_step.specs.Readers.{readers_of}
 use Rattle.unit_step.specs.Machines.{IsMarked, members_of}

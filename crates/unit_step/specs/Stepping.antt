@@ -4,7 +4,7 @@ use Rattle.std.specs.Prelude.{◌≡◌, ◌≢◌, ℕ, ◌⊎◌, Bool, true, 
 use Rattle.std.specs.declared.rc.Rc.{Rc}
 use Rattle.std.proofs.Common.{Global}
 use Rattle.ternary.specs.declared.tern.Tern.{Tern}
-use Rattle.ternary.specs.Tern.{join}
+use Rattle.part_words.specs.Noting.{after}
 use Rattle.path_meaning.specs.Switching.{state_at}
 use Rattle.straight_code.specs.Code.{CodeData, code_value}
 use Rattle.unit_step.specs.declared.part.HeldPart.{HeldPart}
@@ -26,11 +26,6 @@ pub record IsGiven (parts : List HeldPart) (marks : List Bool) (state : List Ter
   pub k : ℕ
   pub marked : IsMarked marks k
   pub gives : Gives parts state k node value
-
--- the state of a node that is given a value: a joining step joins it with the old state
-abbrev pub after : Bool → Tern → Tern → Tern
-after true state value = join state value
-after false state value = value
 
 -- each node that is given a value takes it, and every other node stays
 pub record Moves (joining : Bool) (parts : List HeldPart) (marks : List Bool) (old new : List Tern) : Type 0 where

@@ -2,7 +2,7 @@
 ghost use Rattle.std.specs.Prelude.{◌≡◌, ◌≢◌, ℕ, ◌+◌, ◌<◌, ◌≤◌, true, length, Contains};
 ghost use Rattle.std.specs.Bool.{OnTrue, OnFalse};
 ghost use Rattle.oscillation_x.specs.Settling.{StaysOrBecomesX};
-ghost use Rattle.unit_step.specs.declared.evaluation.Change.{Change};
+ghost use Rattle.part_words.specs.declared.change.Change.{Change};
 ghost use Rattle.unit_step.specs.Machines.{marked_sum, instructions_of};
 ghost use Rattle.unit_step.specs.Stepping.{Moves, Remarks};
 ghost use Rattle.unit_step.specs.Marking.{MarksAll};
@@ -13,9 +13,10 @@ ghost use Rattle.unit_step.specs.Readers.{readers_of};
 
 use crate::agenda::{Agenda, mark_all};
 use crate::dense::DenseParts;
-use crate::evaluation::{Change, Desk, evaluate_all};
+use crate::evaluation::{Desk, evaluate_all};
 use crate::part::HeldPart;
 use crate::readers::ReaderLists;
+use part_words::Change;
 use std::sync::ledger::Ledger;
 use ternary::{Steps, Tern};
 

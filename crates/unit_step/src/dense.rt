@@ -1,60 +1,169 @@
 //! What a step reads of the parts, in a dense form.
-ghost use Rattle.std.specs.Prelude.{◌≡◌, ◌<◌, ◌+◌, ◌++◌, ◌∷◌, [], None, length, map, take, drop, slice_set, vec_len, vec_capacity, All, IfOk, OnOk};
+ghost use Rattle.std.specs.Prelude.{◌≡◌, List, ◌<◌, ◌++◌, ◌∷◌, [], None, Some, length, slice_get, slice_set, vec_len, vec_capacity, All, IfOk, IfSome, OnOk};
+ghost use Rattle.straight_code.specs.Code.{CodeData};
+ghost use Rattle.unit_step.specs.declared.part.HeldPart.{HeldPart};
 ghost use Rattle.unit_step.specs.Finishing.{Puts};
-ghost use Rattle.unit_step.specs.Dense.{AreDense, AreSeatsOf, IsSeatOf, IsInside, BeginsWith, seat_code};
+ghost use Rattle.unit_step.specs.Marking.{AreOnce};
+ghost use Rattle.unit_step.specs.Dense.{AreDense, AreSeatsOf, IsSeatOf, HasInputs, HaveCodes, ArePlaces, Grows, IsCodeAt, IsMapAt, IsNumbered, IsPartNumbered};
 
 use crate::part::HeldPart;
+use kept_parts::TextUses;
 use std::alloc::{AllocError, Global};
 use std::rc::Rc;
 use straight_code::Code;
 use ternary::NoMemory;
 
-// What a step reads of a part: its code, if it has one, where its map stands among the nodes and how long it
-// is, and how many members the part has.
-#[derive(Drop)]
+// What a step reads of a part that has code: where its code stands among the codes, and where its map begins among
+// the nodes.
+#[derive(Clone, Copy)]
 pub(crate) struct Seat {
-    pub(crate) code: Option<Rc<Code>>,
-    at: u32,
-    inputs: u32,
-    members: u32,
+    pub(crate) code: u32,
+    pub(crate) at: u32,
 }
 
-// What a step reads of all parts: the seat of each, and the maps one behind the other.
+// What a step reads of all parts: their codes, where equal texts share one; the maps one behind the other; and the
+// seat of each part that has code.
 //
-// The map of a part that lost its code stays where it is. Whoever holds a machine lets go of all of it where
-// most of its parts are left over, so that there are no more than so many of these maps.
+// The map of a part that lost its code stays where it is, and so does its code. Whoever holds a machine lets go of
+// all of it where most of its parts are left over, so that there are no more than so many of these.
 #[derive(Drop)]
 pub(crate) struct DenseParts {
-    pub(crate) seats: Vec<Seat>,
+    pub(crate) codes: Vec<Rc<Code>>,
     pub(crate) nodes: Vec<u32>,
+    pub(crate) seats: Vec<Option<Seat>>,
 }
 
 impl DenseParts {
-    // What a step reads of these parts. More nodes than a number of 32 bits can count are refused as want of
-    // memory.
-    pub(crate) fn of_parts(alloc: Global, parts: &[HeldPart]) -> Result<DenseParts, NoMemory>
+    // What a step reads of these parts; those whose texts have one number share their code. More codes or nodes than
+    // a number of 32 bits can count are refused as want of memory.
+    #[tactic(auto, using(crate::proofs::DenseLemmas::no_seats, crate::proofs::DenseLemmas::places_none))]
+    pub(crate) fn of_parts(
+        alloc: Global,
+        parts: &[HeldPart],
+        uses: &TextUses,
+    ) -> Result<DenseParts, NoMemory>
+        requires inputs { All HasInputs parts.now }
+        requires numbered { length uses.now.numbers ≡ length parts.now }
+        requires coded { HaveCodes uses.now.numbers parts.now }
         ensures { IfOk result (AreDense parts.now) }
     {
-        let mut nodes = Vec::new(alloc);
-        let seats = add_seats(alloc, parts, &mut nodes)?;
-        Ok(DenseParts { seats, nodes })
+        let mut places = vec![in alloc; None; uses.known().len()]?;
+        let mut dense = DenseParts {
+            codes: Vec::new(alloc),
+            nodes: Vec::new(alloc),
+            seats: Vec::with_capacity(alloc, parts.len())?,
+        };
+        for (k, part) in parts.iter().enumerate() {
+            let seat = dense.seat_shared(part, uses.number_of(k), &mut places)?;
+            dense.seats.push_reserved(seat);
+        }
+        Ok(dense)
+    }
+
+    // The seat of a part, whose map comes behind the others.
+    #[tactic(auto, using(crate::proofs::DenseLemmas::grows_same, crate::proofs::DenseLemmas::grows_then, crate::proofs::DenseLemmas::places_more))]
+    fn seat_shared(
+        &mut self,
+        part: &HeldPart,
+        number: Option<usize>,
+        places: &mut [Option<u32>],
+    ) -> Result<Option<Seat>, NoMemory>
+        requires inputs { HasInputs part.now }
+        requires inside { IfSome number (λ n. n < length places.old) }
+        ensures more { Grows self.old self.new }
+        ensures seat { (list : List CodeData) → IsPartNumbered list number part.now → ArePlaces list self.old.codes.items places.old
+            → IfOk result (IsSeatOf part.now self.new.codes.items self.new.nodes.items) }
+        ensures places { (list : List CodeData) → IsPartNumbered list number part.now → ArePlaces list self.old.codes.items places.old
+            → ArePlaces list self.new.codes.items places.new }
+    {
+        let Some(code) = &part.code else {
+            return Ok(None);
+        };
+        let place = self.place_of(number, code, places)?;
+        let at = self.add_map(&part.map)?;
+        Ok(Some(Seat { code: place, at }))
+    }
+
+    // Where a code stands: at the place of its text's number, if that has one, else behind the others, where it
+    // is put.
+    fn place_of(
+        &mut self,
+        number: Option<usize>,
+        code: &Rc<Code>,
+        places: &mut [Option<u32>],
+    ) -> Result<u32, NoMemory>
+        requires { IfSome number (λ n. n < length places.old) }
+        ensures more { Grows self.old self.new }
+        ensures place { (list : List CodeData) → IsNumbered list number code.now.value → ArePlaces list self.old.codes.items places.old
+            → IfOk result (λ place. IsCodeAt self.new.codes.items place code.now.value) }
+        ensures places { (list : List CodeData) → IsNumbered list number code.now.value → ArePlaces list self.old.codes.items places.old
+            → ArePlaces list self.new.codes.items places.new }
+    {
+        match number {
+            Some(number) => self.place_shared(number, code, places),
+            None => self.add_code(code),
+        }
+    }
+
+    // Where the code of the text with this number stands: it is put behind the others if it isn't there yet.
+    #[tactic(auto, using(crate::proofs::DenseLemmas::grows_same, crate::proofs::DenseLemmas::places_more, crate::proofs::DenseLemmas::place_known, crate::proofs::DenseLemmas::place_added))]
+    fn place_shared(
+        &mut self,
+        number: usize,
+        code: &Rc<Code>,
+        places: &mut [Option<u32>],
+    ) -> Result<u32, NoMemory>
+        requires { number < length places.old }
+        ensures more { Grows self.old self.new }
+        ensures place { (list : List CodeData) → slice_get list number ≡ Some code.now.value → ArePlaces list self.old.codes.items places.old
+            → IfOk result (λ place. IsCodeAt self.new.codes.items place code.now.value) }
+        ensures places { (list : List CodeData) → slice_get list number ≡ Some code.now.value → ArePlaces list self.old.codes.items places.old
+            → ArePlaces list self.new.codes.items places.new }
+    {
+        if let Some(place) = places[number] {
+            return Ok(place);
+        }
+        let place = self.add_code(code)?;
+        places[number] = Some(place);
+        Ok(place)
+    }
+
+    // Puts code behind the others, and answers its place.
+    #[tactic(auto, using(crate::proofs::DenseLemmas::grows_same, crate::proofs::DenseLemmas::grows_code, crate::proofs::DenseLemmas::code_last))]
+    fn add_code(&mut self, code: &Rc<Code>) -> Result<u32, NoMemory>
+        ensures more { Grows self.old self.new }
+        ensures there { IfOk result (λ place. IsCodeAt self.new.codes.items place code.now.value) }
+    {
+        let place = short(self.codes.len())?;
+        let shared = code.clone()?;
+        self.codes.push(shared).map_err(AllocError::from)?;
+        Ok(place)
+    }
+
+    // Puts a map behind the others, and answers where it begins.
+    #[tactic(auto, using(crate::proofs::DenseLemmas::grows_same, crate::proofs::DenseLemmas::grows_nodes, crate::proofs::DenseLemmas::map_last))]
+    fn add_map(&mut self, map: &[usize]) -> Result<u32, NoMemory>
+        ensures more { Grows self.old self.new }
+        ensures there { IfOk result (λ at. IsMapAt self.new.nodes.items at map.now) }
+    {
+        let at = short(self.nodes.len())?;
+        for node in map {
+            self.nodes.push(short(*node)?).map_err(AllocError::from)?;
+        }
+        Ok(at)
     }
 
     // The part with this number loses its code.
     pub(crate) fn clear(&mut self, k: usize)
         requires { k < length self.old.seats.items }
-        ensures nodes { self.new.nodes ≡ self.old.nodes }
-        ensures count { length self.new.seats.items ≡ length self.old.seats.items }
-        ensures inside { All (IsInside (length self.old.nodes.items)) self.old.seats.items → All (IsInside (length self.old.nodes.items)) self.new.seats.items }
-        ensures seats { map (seat_code self.old.nodes.items) self.new.seats.items ≡ slice_set (map (seat_code self.old.nodes.items) self.old.seats.items) k None }
+        ensures { (parts : List HeldPart) (part : HeldPart) → part.code ≡ None → AreDense parts self.old → AreDense (slice_set parts k part) self.new }
     {
-        self.seats[k] = no_seat();
+        self.seats[k] = None;
     }
 
     // Takes room for one seat more.
     pub(crate) fn make_room(&mut self) -> Result<(), AllocError>
-        ensures nodes { self.new.nodes ≡ self.old.nodes }
-        ensures seats { self.new.seats.items ≡ self.old.seats.items }
+        ensures same { (parts : List HeldPart) → AreDense parts self.old → AreDense parts self.new }
         ensures room { OnOk result (vec_len self.new.seats < vec_capacity self.new.seats) }
     {
         self.seats.reserve(1)
@@ -63,116 +172,75 @@ impl DenseParts {
     // Adds the seat of a part without code, for which there is room.
     pub(crate) fn add_stale(&mut self)
         requires { vec_len self.old.seats < vec_capacity self.old.seats }
-        ensures nodes { self.new.nodes ≡ self.old.nodes }
-        ensures inside { All (IsInside (length self.old.nodes.items)) self.old.seats.items → All (IsInside (length self.old.nodes.items)) self.new.seats.items }
-        ensures seats { map (seat_code self.old.nodes.items) self.new.seats.items ≡ map (seat_code self.old.nodes.items) self.old.seats.items ++ None ∷ [] }
+        ensures { (parts : List HeldPart) (part : HeldPart) → part.code ≡ None → AreDense parts self.old → AreDense (parts ++ part ∷ []) self.new }
     {
-        self.seats.push_reserved(no_seat());
+        self.seats.push_reserved(None);
     }
 
-    // The seats of these parts, whose maps come behind the others. At want of memory no map came.
+    // The seats of these parts, whose codes and maps come behind the others. At want of memory none came.
+    #[tactic(auto, using(crate::proofs::DenseLemmas::dense_more, crate::proofs::DenseLemmas::dense_again))]
     pub(crate) fn seats_for(
         &mut self,
         alloc: Global,
         parts: &[HeldPart],
-    ) -> Result<Vec<Seat>, NoMemory>
-        ensures same { self.new.seats ≡ self.old.seats }
-        ensures more { BeginsWith self.old.nodes.items self.new.nodes.items }
-        ensures seats { IfOk result (λ seats. AreSeatsOf parts.now self.new.nodes.items seats.items) }
+    ) -> Result<Vec<Option<Seat>>, NoMemory>
+        requires inputs { All HasInputs parts.now }
+        ensures same { (others : List HeldPart) → AreDense others self.old → AreDense others self.new }
+        ensures seats { IfOk result (λ seats. AreSeatsOf parts.now self.new.codes.items self.new.nodes.items seats.items) }
     {
-        let before = self.nodes.len();
-        let made = add_seats(alloc, parts, &mut self.nodes);
-        if made.is_err() {
-            self.nodes.truncate(before);
+        let codes = self.codes.len();
+        let nodes = self.nodes.len();
+        match self.add_seats(alloc, parts) {
+            Ok(seats) => Ok(seats),
+            Err(refused) => {
+                self.codes.truncate(codes);
+                self.nodes.truncate(nodes);
+                Err(refused)
+            }
         }
-        made
+    }
+
+    // The seats of these parts, whose codes and maps come behind the others.
+    #[tactic(auto, using(crate::proofs::DenseLemmas::grows_same, crate::proofs::DenseLemmas::no_seats))]
+    fn add_seats(
+        &mut self,
+        alloc: Global,
+        parts: &[HeldPart],
+    ) -> Result<Vec<Option<Seat>>, NoMemory>
+        requires { All HasInputs parts.now }
+        ensures more { Grows self.old self.new }
+        ensures seats { IfOk result (λ seats. AreSeatsOf parts.now self.new.codes.items self.new.nodes.items seats.items) }
+    {
+        let mut seats = Vec::with_capacity(alloc, parts.len())?;
+        for part in parts {
+            let seat = self.seat_shared(part, None, &mut [])?;
+            seats.push_reserved(seat);
+        }
+        Ok(seats)
     }
 
     // Puts seats in these slots.
-    pub(crate) fn put_all(&mut self, slots: &[usize], seats: Vec<Seat>)
+    pub(crate) fn put_all(&mut self, slots: &[usize], seats: Vec<Option<Seat>>)
         requires inside { All (λ k. k < length self.old.seats.items) slots.now }
         requires counted { length seats.items ≡ length slots.now }
-        ensures nodes { self.new.nodes ≡ self.old.nodes }
-        ensures puts { Puts slots.now seats.items self.old.seats.items self.new.seats.items }
+        ensures { (fresh old new : List HeldPart) → AreOnce slots.now → AreSeatsOf fresh self.old.codes.items self.old.nodes.items seats.items
+            → Puts slots.now fresh old new → AreDense old self.old → AreDense new self.new }
     {
-        let mut place = 0;
-        for seat in seats {
-            self.seats[slots[place]] = seat;
-            place += 1;
-        }
+        put_seats(slots, seats, &mut self.seats);
     }
 }
 
-impl Seat {
-    // The nodes of its map.
-    pub(crate) fn map<'a>(&self, nodes: &'a [u32]) -> &'a [u32]
-        requires { IsInside (length nodes.now) self.now }
-        ensures { result.now ≡ take self.now.inputs (drop self.now.at nodes.now) }
-    {
-        let at = self.at as usize;
-        &nodes[at..at + self.inputs as usize]
-    }
-
-    // How many members its part has.
-    pub(crate) fn members(&self) -> usize
-        ensures { result ≡ self.now.members }
-    {
-        self.members as usize
-    }
-}
-
-// The seat of a part without code.
-fn no_seat() -> Seat
-    ensures { result ≡ record { code = None; at = 0; inputs = 0; members = 0 } }
+// Puts seats in these slots.
+fn put_seats(slots: &[usize], seats: Vec<Option<Seat>>, all: &mut [Option<Seat>])
+    requires inside { All (λ k. k < length all.old) slots.now }
+    requires counted { length seats.items ≡ length slots.now }
+    ensures { Puts slots.now seats.items all.old all.new }
 {
-    Seat {
-        code: None,
-        at: 0,
-        inputs: 0,
-        members: 0,
+    let mut place = 0;
+    for seat in seats {
+        all[slots[place]] = seat;
+        place += 1;
     }
-}
-
-// The seats of these parts, whose maps come behind the nodes.
-fn add_seats(alloc: Global, parts: &[HeldPart], nodes: &mut Vec<u32>) -> Result<Vec<Seat>, NoMemory>
-    ensures more { BeginsWith nodes.old.items nodes.new.items }
-    ensures seats { IfOk result (λ seats. AreSeatsOf parts.now nodes.new.items seats.items) }
-{
-    let mut seats = Vec::with_capacity(alloc, parts.len())?;
-    for part in parts {
-        let seat = add_seat(part, nodes)?;
-        seats.push_reserved(seat);
-    }
-    Ok(seats)
-}
-
-// The seat of a part, whose map comes behind the nodes if the part has code.
-fn add_seat(part: &HeldPart, nodes: &mut Vec<u32>) -> Result<Seat, NoMemory>
-    ensures more { BeginsWith nodes.old.items nodes.new.items }
-    ensures seat { IfOk result (IsSeatOf part.now nodes.new.items) }
-{
-    let Some(code) = &part.code else {
-        return Ok(no_seat());
-    };
-    let at = short(nodes.len())?;
-    add_nodes(&part.map, nodes)?;
-    Ok(Seat {
-        code: Some(code.clone()?),
-        at,
-        inputs: short(part.map.len())?,
-        members: short(part.members)?,
-    })
-}
-
-// Puts these behind the nodes.
-fn add_nodes(these: &[usize], nodes: &mut Vec<u32>) -> Result<(), NoMemory>
-    ensures more { BeginsWith nodes.old.items nodes.new.items }
-    ensures ok { OnOk result (nodes.new.items ≡ nodes.old.items ++ these.now) }
-{
-    for node in these {
-        nodes.push(short(*node)?).map_err(AllocError::from)?;
-    }
-    Ok(())
 }
 
 // A number as one of 32 bits. A larger one is want of memory.

@@ -11,6 +11,7 @@ ghost use Rattle.unit_step.specs.Planning.{IsPlan};
 ghost use Rattle.unit_step.specs.Fitting.{FitsGraph};
 ghost use Rattle.unit_step.specs.Lasting.{AreInOrder, HasLast, texts_lasting};
 ghost use Rattle.unit_step.specs.Drafting.{CanStart, drafted};
+ghost use Rattle.unit_step.specs.Dense.{HaveCodes};
 
 use crate::agenda::Agenda;
 use crate::dense::DenseParts;
@@ -88,6 +89,7 @@ impl Draft {
         requires apart { AreApart parts.items }
         requires reads { All (λ part. All (λ node. node < length state.items) part.reads.items) parts.items }
         requires numbered { length uses.numbers ≡ length parts.items }
+        requires coded { HaveCodes uses.numbers parts.items }
         ensures starts { IfOk result CanStart }
         ensures groups { IfOk result (λ draft. draft.groups ≡ groups) }
         ensures parts { IfOk result (λ draft. draft.parts ≡ parts) }
@@ -101,7 +103,7 @@ impl Draft {
         let readers = ReaderLists::of_parts(alloc, &parts, nodes)?;
         let owners = all_owners(alloc, &parts, nodes)?;
         let desk = desk_for(alloc, &parts)?;
-        let dense = DenseParts::of_parts(alloc, &parts)?;
+        let dense = DenseParts::of_parts(alloc, &parts, &uses)?;
         let lasting = Lasting::of_parts(alloc, &parts, &uses, nodes)?;
         Ok(Draft {
             groups,

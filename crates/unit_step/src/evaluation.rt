@@ -1,43 +1,38 @@
 //! The evaluation of the marked parts: their codes run under the old state, and what changes is noted.
-ghost use Rattle.std.specs.Prelude.{◌≡◌, ℕ, ◌+◌, ◌*◌, ◌<◌, ◌≤◌, List, [], length, map, take, All, Contains, Some, vec_len, vec_capacity, slice_index};
-ghost use Rattle.path_meaning.specs.Switching.{state_at};
-ghost use Rattle.straight_code.specs.Code.{code_value};
-ghost use Rattle.unit_step.specs.declared.part.HeldPart.{HeldPart};
-ghost use Rattle.unit_step.specs.Parts.{Stands, IsStale};
+ghost use Rattle.std.specs.Prelude.{◌≡◌, ℕ, ◌+◌, ◌<◌, ◌≤◌, [], length, All, vec_len, vec_capacity};
+ghost use Rattle.unit_step.specs.declared.batches.TheConstants.{SLOTS};
+ghost use Rattle.unit_step.specs.declared.dense.Seat.{Seat};
 ghost use Rattle.unit_step.specs.Machines.{IsMarked, count_marked, marked_sum, instructions_of, members_of};
-ghost use Rattle.unit_step.specs.Stepping.{after};
-ghost use Rattle.unit_step.specs.Evaluating.{rooms, IsSeated, Notes, Reports, Evaluated};
-ghost use Rattle.unit_step.specs.Dense.{AreDense, IsSeatOf};
+ghost use Rattle.unit_step.specs.Evaluating.{rooms, IsSeated, Evaluated};
+ghost use Rattle.unit_step.specs.Waiting.{Waits, IsEmptyFrom, HasRoom, cleared_at, waiting_sum};
+ghost use Rattle.unit_step.specs.Together.{CanRun, RunsSome, TakesIn, outputs_at, instructions_at};
+ghost use Rattle.unit_step.specs.Dense.{AreDense};
 
 use crate::agenda::Agenda;
+use crate::batches::{Batches, slot_for};
 use crate::dense::{DenseParts, Seat};
 use crate::part::HeldPart;
+use part_words::{Change, run_together};
 use std::sync::ledger::Ledger;
-use straight_code::Code;
 use ternary::{Steps, Tern};
-
-// A node that takes another state.
-#[derive(Clone, Copy)]
-pub(crate) struct Change {
-    pub(crate) node: usize,
-    pub(crate) value: Tern,
-}
 
 // Where a step works, in room that was taken before.
 #[derive(Drop)]
 pub(crate) struct Desk {
-    // all that a code's instructions read, and the states of its outputs
-    pub(crate) values: Vec<bool>,
-    pub(crate) out: Vec<Tern>,
+    // all that a code's instructions read, for up to 64 parts
+    pub(crate) values: Vec<u64>,
     // the nodes that change in this step
     pub(crate) changes: Vec<Change>,
     // the parts that were evaluated in this step
     pub(crate) done: Vec<usize>,
+    // the parts that wait to be run with others of their code
+    pub(crate) batches: Batches,
 }
 
 // Evaluates all marked parts that have code, and clears their marks. No state is written.
 //
-// A part is read through its seat alone: what stands with the part itself is far apart in memory.
+// Parts of one code are run together. A part is read through its seat alone: what stands with the part itself is
+// far apart in memory.
 pub(crate) fn evaluate_all<L: Ledger>(
     joining: bool,
     parts: &[HeldPart],
@@ -61,109 +56,128 @@ pub(crate) fn evaluate_all<L: Ledger>(
     ensures rooms { rooms desk.new ≡ rooms desk.old }
     ensures steps { steps.new ≤ steps.old + marked_sum instructions_of parts.now agenda.old.marks }
 {
+    desk.batches.clear_all();
     while let Some(k) = agenda.pop() {
-        let seat = &dense.seats[k];
-        evaluate(joining, &parts[k], seat, &dense.nodes, state, desk, steps);
         desk.done.push_reserved(k);
-    }
-}
-
-// Runs the code of a part, if it has one, and notes its members that change. It reads the part's seat.
-fn evaluate<L: Ledger>(
-    joining: bool,
-    part: &HeldPart,
-    seat: &Seat,
-    nodes: &[u32],
-    state: &[Tern],
-    desk: &mut Desk,
-    steps: &mut Steps<L>,
-)
-    requires dense { IsSeatOf part.now nodes.now seat.now }
-    requires seated { IsSeated (length state.now) (rooms desk.old) part.now }
-    requires room { vec_len desk.old.changes + part.now.members ≤ vec_capacity desk.old.changes }
-    ensures changes { (parts : List HeldPart) (k : ℕ) → Stands parts k part.now
-        → Reports joining parts state.now k desk.old.changes.items desk.new.changes.items }
-    ensures few { vec_len desk.new.changes ≤ vec_len desk.old.changes + part.now.members }
-    ensures done { desk.new.done ≡ desk.old.done }
-    ensures rooms { rooms desk.new ≡ rooms desk.old }
-    ensures steps { steps.new ≤ steps.old + instructions_of part.now }
-{
-    if let Some(code) = &seat.code {
-        let map = seat.map(nodes);
-        run_part(code, map, state, desk, steps);
-        let values = &desk.out[..seat.members()];
-        note_all(joining, map, state, values, &mut desk.changes);
-    }
-}
-
-// Runs code on the states of the nodes of a map.
-fn run_part<L: Ledger>(
-    code: &Code,
-    nodes: &[u32],
-    state: &[Tern],
-    desk: &mut Desk,
-    steps: &mut Steps<L>,
-)
-    requires nodes { length nodes.now ≡ code.now.inputs }
-    requires below { All (λ node. node < length state.now) nodes.now }
-    requires values { 2 + 2 * code.now.inputs + length code.now.instructions ≤ length desk.old.values.items }
-    requires out { length code.now.outputs ≤ length desk.old.out.items }
-    ensures value { take (length code.now.outputs) desk.new.out.items ≡ code_value code.now (map (state_at state.now) nodes.now) }
-    ensures changes { desk.new.changes ≡ desk.old.changes }
-    ensures done { desk.new.done ≡ desk.old.done }
-    ensures rooms { rooms desk.new ≡ rooms desk.old }
-    ensures steps { steps.new ≡ steps.old + length code.now.instructions }
-{
-    run_front(code, nodes, state, &mut desk.values, &mut desk.out, steps);
-}
-
-// Runs code on the states of the nodes of a map, and writes those of its outputs to the front of `out`.
-fn run_front<L: Ledger>(
-    code: &Code,
-    nodes: &[u32],
-    state: &[Tern],
-    values: &mut [bool],
-    out: &mut [Tern],
-    steps: &mut Steps<L>,
-)
-    requires nodes { length nodes.now ≡ code.now.inputs }
-    requires below { All (λ node. node < length state.now) nodes.now }
-    requires values { 2 + 2 * code.now.inputs + length code.now.instructions ≤ length values.old }
-    requires out { length code.now.outputs ≤ length out.old }
-    ensures value { take (length code.now.outputs) out.new ≡ code_value code.now (map (state_at state.now) nodes.now) }
-    ensures steps { steps.new ≡ steps.old + length code.now.instructions }
-{
-    let outputs = code.outputs();
-    code.run_mapped(state, nodes, values, &mut out[..outputs], steps);
-}
-
-// Notes each node at the front of a map whose next value differs from its state.
-fn note_all(
-    joining: bool,
-    nodes: &[u32],
-    state: &[Tern],
-    values: &[Tern],
-    changes: &mut Vec<Change>,
-)
-    requires below { All (λ node. node < length state.now) nodes.now }
-    requires front { length values.now ≤ length nodes.now }
-    requires room { vec_len changes.old + length values.now ≤ vec_capacity changes.old }
-    ensures changes { Notes joining nodes.now state.now values.now changes.old.items changes.new.items }
-    ensures few { vec_len changes.new ≤ vec_len changes.old + length values.now }
-    ensures capacity { vec_capacity changes.new ≡ vec_capacity changes.old }
-{
-    for (place, value) in values.iter().enumerate() {
-        let node = nodes[place] as usize;
-        let next = after(joining, state[node], *value);
-        if next != state[node] {
-            changes.push_reserved(Change { node, value: next });
+        if let Some(seat) = dense.seats[k] {
+            take_in(joining, dense, state, seat, desk, steps);
         }
     }
+    run_all(joining, dense, state, desk, steps);
 }
 
-// The next state of a node that is given a value: a joining step joins it with the old state.
-fn after(joining: bool, state: Tern, value: Tern) -> Tern
-    ensures { result ≡ after joining state value }
+// The part with this seat waits to be run. Where it can't, those in its slot are run first.
+fn take_in<L: Ledger>(
+    joining: bool,
+    dense: &DenseParts,
+    state: &[Tern],
+    seat: Seat,
+    desk: &mut Desk,
+    steps: &mut Steps<L>,
+)
+    requires run { CanRun (length state.now) (rooms desk.old) dense.now.codes.items dense.now.nodes.items seat }
+    requires all { (one : Seat) → Waits desk.old.batches one → CanRun (length state.now) (rooms desk.old) dense.now.codes.items dense.now.nodes.items one }
+    requires room { vec_len desk.old.changes + waiting_sum (outputs_at dense.now.codes.items) desk.old.batches ≤ vec_capacity desk.old.changes }
+    ensures takes { TakesIn joining dense.now.codes.items dense.now.nodes.items state.now seat desk.old.batches desk.new.batches
+        desk.old.changes.items desk.new.changes.items }
+    ensures room { vec_len desk.new.changes + waiting_sum (outputs_at dense.now.codes.items) desk.new.batches
+        ≤ vec_len desk.old.changes + waiting_sum (outputs_at dense.now.codes.items) desk.old.batches + outputs_at dense.now.codes.items seat.code }
+    ensures steps { steps.new + waiting_sum (instructions_at dense.now.codes.items) desk.new.batches
+        ≤ steps.old + waiting_sum (instructions_at dense.now.codes.items) desk.old.batches + instructions_at dense.now.codes.items seat.code }
+    ensures done { desk.new.done ≡ desk.old.done }
+    ensures rooms { rooms desk.new ≡ rooms desk.old }
 {
-    if joining { state.join(value) } else { value }
+    make_room(joining, dense, state, seat.code, desk, steps);
+    desk.batches.add(seat);
+}
+
+// A part with this code can wait: where it couldn't, the parts in its slot are run.
+fn make_room<L: Ledger>(
+    joining: bool,
+    dense: &DenseParts,
+    state: &[Tern],
+    code: u32,
+    desk: &mut Desk,
+    steps: &mut Steps<L>,
+)
+    requires all { (one : Seat) → Waits desk.old.batches one → CanRun (length state.now) (rooms desk.old) dense.now.codes.items dense.now.nodes.items one }
+    requires room { vec_len desk.old.changes + waiting_sum (outputs_at dense.now.codes.items) desk.old.batches ≤ vec_capacity desk.old.changes }
+    ensures has_room { HasRoom desk.new.batches code }
+    ensures counted { length desk.new.batches ≡ SLOTS }
+    ensures runs { RunsSome joining dense.now.codes.items dense.now.nodes.items state.now desk.old.batches desk.new.batches
+        desk.old.changes.items desk.new.changes.items }
+    ensures room { vec_len desk.new.changes + waiting_sum (outputs_at dense.now.codes.items) desk.new.batches
+        ≤ vec_len desk.old.changes + waiting_sum (outputs_at dense.now.codes.items) desk.old.batches }
+    ensures steps { steps.new + waiting_sum (instructions_at dense.now.codes.items) desk.new.batches
+        ≤ steps.old + waiting_sum (instructions_at dense.now.codes.items) desk.old.batches }
+    ensures done { desk.new.done ≡ desk.old.done }
+    ensures rooms { rooms desk.new ≡ rooms desk.old }
+{
+    if desk.batches.has_room(code) {
+        return;
+    }
+    run_slot(joining, dense, state, slot_for(code), desk, steps);
+}
+
+// Runs all parts that wait.
+fn run_all<L: Ledger>(
+    joining: bool,
+    dense: &DenseParts,
+    state: &[Tern],
+    desk: &mut Desk,
+    steps: &mut Steps<L>,
+)
+    requires all { (one : Seat) → Waits desk.old.batches one → CanRun (length state.now) (rooms desk.old) dense.now.codes.items dense.now.nodes.items one }
+    requires room { vec_len desk.old.changes + waiting_sum (outputs_at dense.now.codes.items) desk.old.batches ≤ vec_capacity desk.old.changes }
+    ensures runs { RunsSome joining dense.now.codes.items dense.now.nodes.items state.now desk.old.batches desk.new.batches
+        desk.old.changes.items desk.new.changes.items }
+    ensures empty { IsEmptyFrom 0 desk.new.batches }
+    ensures steps { steps.new ≤ steps.old + waiting_sum (instructions_at dense.now.codes.items) desk.old.batches }
+    ensures done { desk.new.done ≡ desk.old.done }
+    ensures rooms { rooms desk.new ≡ rooms desk.old }
+{
+    let high = desk.batches.high();
+    for place in 0..high {
+        run_slot(joining, dense, state, place, desk, steps);
+    }
+}
+
+// Runs the parts together that wait in a slot, and notes their members that change.
+fn run_slot<L: Ledger>(
+    joining: bool,
+    dense: &DenseParts,
+    state: &[Tern],
+    place: usize,
+    desk: &mut Desk,
+    steps: &mut Steps<L>,
+)
+    requires inside { place < SLOTS }
+    requires all { (one : Seat) → Waits desk.old.batches one → CanRun (length state.now) (rooms desk.old) dense.now.codes.items dense.now.nodes.items one }
+    requires room { vec_len desk.old.changes + waiting_sum (outputs_at dense.now.codes.items) desk.old.batches ≤ vec_capacity desk.old.changes }
+    ensures runs { RunsSome joining dense.now.codes.items dense.now.nodes.items state.now desk.old.batches desk.new.batches
+        desk.old.changes.items desk.new.changes.items }
+    ensures cleared { desk.new.batches ≡ cleared_at desk.old.batches place }
+    ensures room { vec_len desk.new.changes + waiting_sum (outputs_at dense.now.codes.items) desk.new.batches
+        ≤ vec_len desk.old.changes + waiting_sum (outputs_at dense.now.codes.items) desk.old.batches }
+    ensures steps { steps.new + waiting_sum (instructions_at dense.now.codes.items) desk.new.batches
+        ≤ steps.old + waiting_sum (instructions_at dense.now.codes.items) desk.old.batches }
+    ensures done { desk.new.done ≡ desk.old.done }
+    ensures rooms { rooms desk.new ≡ rooms desk.old }
+{
+    let starts = desk.batches.starts(place);
+    if starts.is_empty() {
+        return;
+    }
+    let code = &dense.codes[desk.batches.code(place) as usize];
+    run_together(
+        joining,
+        code,
+        &dense.nodes,
+        starts,
+        state,
+        &mut desk.values,
+        &mut desk.changes,
+        steps,
+    );
+    desk.batches.clear(place);
 }

@@ -155,7 +155,7 @@ impl Machine {
             return Err(NoMemory);
         };
         let numbers = numbers_of(alloc, &texts, &mut self.uses)?;
-        widen_for_codes(&mut self.desk, needs.values, needs.outs)?;
+        widen_for_codes(&mut self.desk, needs.values)?;
         let seats = self.dense.seats_for(alloc, &fresh)?;
         self.lasting.note_all(&slots, &self.parts)?;
         self.readers.list_all(&slots, &fresh, &self.parts)?;

@@ -18,6 +18,7 @@
 
 mod advance;
 mod agenda;
+mod batches;
 mod dense;
 mod drafting;
 mod editing;

@@ -7,11 +7,12 @@ ghost use Rattle.unit_step.specs.Evaluating.{rooms};
 ghost use Rattle.unit_step.specs.Running.{AreOwners};
 ghost use Rattle.unit_step.specs.Making.{held, Owns, HasRoomFor, IsCodeRoom};
 
+use crate::batches::Batches;
 use crate::evaluation::Desk;
 use crate::part::HeldPart;
 use std::alloc::{AllocError, Global};
 use straight_code::{Code, Part};
-use ternary::{NoMemory, Tern};
+use ternary::NoMemory;
 
 // The parts, each with the nodes that it reads.
 pub(crate) fn held_parts(
@@ -85,9 +86,8 @@ pub(crate) fn own(k: usize, members: &[usize], owners: &mut [Option<usize>])
 // How much room the steps of these parts take.
 #[derive(Clone, Copy)]
 pub(crate) struct Needs {
-    // the most that a code reads, and the most members of a part
+    // the most that a code reads
     pub(crate) values: usize,
-    pub(crate) outs: usize,
     // the members of all parts
     changes: usize,
 }
@@ -105,17 +105,14 @@ pub(crate) fn desk_for(alloc: Global, parts: &[HeldPart]) -> Result<Desk, NoMemo
 // How much room these parts need; None where it is more than there can be.
 pub(crate) fn needs_of(parts: &[HeldPart]) -> Option<Needs>
     ensures values { IfSome result (λ needs. All (IsCodeRoom needs.values) parts.now) }
-    ensures outs { IfSome result (λ needs. All (λ part. part.members ≤ needs.outs) parts.now) }
     ensures changes { IfSome result (λ needs. sum_by members_of parts.now ≤ needs.changes) }
 {
     let mut needs = Needs {
         values: 0,
-        outs: 0,
         changes: 0,
     };
     for part in parts {
         needs.values = needs.values.max(values_of(part)?);
-        needs.outs = needs.outs.max(part.members);
         needs.changes = needs.changes.checked_add(part.members)?;
     }
     Some(needs)
@@ -142,13 +139,12 @@ fn count_values(code: &Code) -> Option<usize>
 // Room for so much, and so many parts.
 fn desk_of(alloc: Global, needs: Needs, parts: usize) -> Result<Desk, AllocError>
     ensures values { IfOk result (λ desk. length desk.values.items ≡ needs.values) }
-    ensures outs { IfOk result (λ desk. length desk.out.items ≡ needs.outs) }
     ensures changes { IfOk result (λ desk. needs.changes ≤ vec_capacity desk.changes) }
     ensures parts { IfOk result (λ desk. parts ≤ vec_capacity desk.done) }
 {
     Ok(Desk {
-        values: vec![in alloc; false; needs.values]?,
-        out: vec![in alloc; Tern::Unk; needs.outs]?,
+        values: vec![in alloc; 0; needs.values]?,
+        batches: Batches::new(alloc)?,
         changes: Vec::with_capacity(alloc, needs.changes)?,
         done: Vec::with_capacity(alloc, parts)?,
     })
@@ -161,7 +157,6 @@ pub(crate) fn widen_for_parts(
     parts: usize,
 ) -> Result<(), AllocError>
     ensures values { (rooms desk.new).values ≡ (rooms desk.old).values }
-    ensures outs { (rooms desk.new).outs ≡ (rooms desk.old).outs }
     ensures changes { (rooms desk.old).changes ≤ (rooms desk.new).changes }
     ensures parts { (rooms desk.old).parts ≤ (rooms desk.new).parts }
     ensures more_changes { OnOk result (changes ≤ (rooms desk.new).changes) }
@@ -174,22 +169,17 @@ pub(crate) fn widen_for_parts(
     Ok(())
 }
 
-// Takes room for so many values and outputs, beside what there is.
-pub(crate) fn widen_for_codes(desk: &mut Desk, values: usize, outs: usize) -> Result<(), AllocError>
+// Takes room for so many values, beside what there is.
+pub(crate) fn widen_for_codes(desk: &mut Desk, values: usize) -> Result<(), AllocError>
     ensures values { OnOk result (values ≤ length desk.new.values.items) }
-    ensures outs { OnOk result (outs ≤ length desk.new.out.items) }
     ensures more_values { length desk.old.values.items ≤ length desk.new.values.items }
-    ensures more_outs { length desk.old.out.items ≤ length desk.new.out.items }
     ensures changes { vec_capacity desk.new.changes ≡ vec_capacity desk.old.changes }
     ensures done { vec_capacity desk.new.done ≡ vec_capacity desk.old.done }
     ensures changes_are { desk.new.changes ≡ desk.old.changes }
     ensures done_are { desk.new.done ≡ desk.old.done }
 {
     if desk.values.len() < values {
-        desk.values.resize(values, false)?;
-    }
-    if desk.out.len() < outs {
-        desk.out.resize(outs, Tern::Unk)?;
+        desk.values.resize(values, 0)?;
     }
     Ok(())
 }

@@ -4,9 +4,8 @@ use Rattle.std.specs.Prelude.{Contains, slice_index_or}
 use Rattle.std.proofs.lemmas.List.Sums.{count_by-le-length}
 use Rattle.unit_step.specs.Machines.{members_of}
 use Rattle.unit_step.specs.Marking.{MarksAll}
-use Rattle.unit_step.specs.Evaluating.{IsSeated}
 use Rattle.unit_step.proofs.MarkLemmas.{marked_inside, marked_sum-within}
-use Rattle.lane_machine.specs.Evaluating.{rooms}
+use Rattle.lane_machine.specs.Evaluating.{rooms, IsSeated}
 use Rattle.lane_machine.specs.Running.{AreWritten, ReadsAny}
 use Rattle.lane_machine.proofs.EvaluationLemmas.{cleared_rooms}
 use Rattle.lane_machine.proofs.TakingLemmas.{AreChanged, not_beyond}

@@ -3,9 +3,8 @@ use Rattle.std.proofs.Common.{◌≡◌, ◌<◌, ℕ, [], ◌∷◌, ◌++◌, 
 use Rattle.std.specs.Prelude.{slice_index_or, vec_capacity}
 use Rattle.std.proofs.lemmas.List.{length-set}
 use Rattle.unit_step.specs.Machines.{members_of}
-use Rattle.unit_step.specs.Evaluating.{Rooms, IsSeated}
 use Rattle.unit_step.proofs.MarkLemmas.{marked_inside, count_marked-cleared, marked_sum-cleared}
-use Rattle.lane_machine.specs.Evaluating.{rooms}
+use Rattle.lane_machine.specs.Evaluating.{rooms, Rooms, IsSeated}
 use Rattle.lane_machine.proofs.EvaluationLemmas.{Evaluated-more}
 use Rattle.lane_machine.proofs.evaluation.evaluate_all.Goals as goal
 

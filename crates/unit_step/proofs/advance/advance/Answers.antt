@@ -5,7 +5,7 @@ use Rattle.std.proofs.lemmas.Bool.{not-true, not-false, eqb-true, eqb-false, OnT
 use Rattle.std.proofs.lemmas.List.Elements.{Contains-get_or}
 use Rattle.std.proofs.lemmas.List.Sums.{count_by-le-length}
 use Rattle.ternary.specs.declared.tern.Tern.TheVariants.{Zero}
-use Rattle.unit_step.specs.declared.evaluation.Change.{Change}
+use Rattle.part_words.specs.declared.change.Change.{Change}
 use Rattle.unit_step.specs.Machines.{members_of}
 use Rattle.unit_step.specs.Marking.{MarksAll}
 use Rattle.unit_step.specs.Evaluating.{rooms, IsSeated}

@@ -4,7 +4,7 @@ use Rattle.std.specs.Prelude.{length}
 use Rattle.std.proofs.lemmas.List.{get_or_default}
 use Rattle.std.proofs.lemmas.List.Elements.{Contains-get_or}
 use Rattle.ternary.specs.declared.tern.Tern.TheVariants.{Zero}
-use Rattle.unit_step.specs.declared.evaluation.Change.{Change}
+use Rattle.part_words.specs.declared.change.Change.{Change}
 use Rattle.unit_step.proofs.TakingLemmas.{IsTaken-more, MarksAll-readers}
 use Rattle.unit_step.proofs.advance.take_over.Goals as goal
 

@@ -3,7 +3,6 @@ use Rattle.std.proofs.Common.{◌≤◌, take, subst, arith}
 use Rattle.std.proofs.lemmas.List.Elements.{All-more, All-weaker}
 use Rattle.std.proofs.lemmas.List.Sums.{sum_by_more}
 use Rattle.std.proofs.Common.{ap}
-use Rattle.unit_step.specs.declared.part.HeldPart.{HeldPart}
 use Rattle.unit_step.specs.Machines.{members_of}
 use Rattle.unit_step.specs.Making.{IsCodeRoom}
 use Rattle.unit_step.proofs.making.needs_of.Goals as goal
@@ -19,8 +18,6 @@ loop-part-preserved c =
     let so_far = c.loop-part.invariant in
     let values_up : before.values ≤ c.max.result = omega (arith, c.max.ensures) in
     let value_here : c.in_ok-values_of.field-0 ≤ c.max.result = omega (arith, c.max.ensures) in
-    let outs_up : before.outs ≤ c.max-in-loop-part.result = omega (arith, c.max-in-loop-part.ensures) in
-    let out_here : part.members ≤ c.max-in-loop-part.result = omega (arith, c.max-in-loop-part.ensures) in
     let sum = sum_by_more members_of parts i part test in
     let last = ap members_of is in
     record {
@@ -28,9 +25,5 @@ loop-part-preserved c =
           (All-weaker (IsCodeRoom before.values) (IsCodeRoom c.max.result) (λ one room code has. omega (arith, room code has, values_up)) (take i parts)
           so_far.values)
           (subst (IsCodeRoom c.max.result) is (λ code has. omega (arith, c.in_ok-values_of.ensures code has, value_here)));
-      outs = All-more (λ (one : HeldPart). one.members ≤ c.max-in-loop-part.result) parts i part test
-          (All-weaker (λ (one : HeldPart). one.members ≤ before.outs) (λ (one : HeldPart). one.members ≤ c.max-in-loop-part.result)
-          (λ one fits. omega (arith, fits, outs_up)) (take i parts) so_far.outs)
-          (subst (λ (one : HeldPart). one.members ≤ c.max-in-loop-part.result) is out_here);
       changes = omega (arith, sum, last, so_far.changes, c.in_ok-needs.ensures.1);
     }

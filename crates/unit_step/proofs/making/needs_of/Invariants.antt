@@ -8,6 +8,5 @@ use Rattle.unit_step.proofs.making.needs_of.Given as goal
 abbrev pub invariant-loop-part : goal.invariant-loop-part
 invariant-loop-part l = record {
   values : All (IsCodeRoom l.needs.values) (take l.part-index l.parts);
-  outs : All (λ part. part.members ≤ l.needs.outs) (take l.part-index l.parts);
   changes : sum_by members_of (take l.part-index l.parts) ≤ l.needs.changes;
 }

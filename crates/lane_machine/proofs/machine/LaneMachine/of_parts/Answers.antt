@@ -1,8 +1,7 @@
 -- All that was made is of these parts.
 use Rattle.std.proofs.Common.{◌≡◌, true, false, length, ap, subst, ◌∙◌, arith}
 use Rattle.std.specs.Prelude.{replicate}
-use Rattle.unit_step.specs.Making.{HasRoomFor}
-use Rattle.lane_machine.specs.Evaluating.{rooms}
+use Rattle.lane_machine.specs.Evaluating.{rooms, HasRoomFor}
 use Rattle.lane_machine.specs.Running.{AreLists}
 use Rattle.lane_machine.proofs.MakingLemmas.{IsLaneMachine-made, nodes_inside}
 use Rattle.lane_machine.proofs.machine.LaneMachine.of_parts.Goals as goal

@@ -1,21 +1,22 @@
--- One seat more is in its slot.
-use Rattle.std.proofs.Common.{◌≡◌, ◌+◌, ◌<◌, [], ◌∷◌, ◌++◌, get_or, length, refl, sym, ap, arith}
-use Rattle.std.proofs.lemmas.List.{length_push}
-use Rattle.unit_step.proofs.FinishingParts.{Puts-more}
+-- The seats are put where the parts are.
+use Rattle.std.proofs.Common.{List, Option, refl, sym, subst, arith}
+use Rattle.std.specs.Vec.{with_items}
+use Rattle.std.proofs.lemmas.List.{with_items_is}
+use Rattle.unit_step.specs.declared.dense.Seat.{Seat}
+use Rattle.unit_step.specs.Finishing.{Puts}
+use Rattle.unit_step.proofs.DenseLemmas.{seats_put}
 use Rattle.unit_step.proofs.dense.DenseParts.put_all.Goals as goal
 
-pub loop-seat-preserved : goal.loop-seat-preserved
-loop-seat-preserved c =
+pub put_seats-requires-clause-inside : goal.put_seats-requires-clause-inside
+put_seats-requires-clause-inside c = rw c.deref_mut.ensures.value c.requires.inside
+
+pub returns : goal.returns
+returns c =
+    let dense = c.args.self.now in
     let slots = c.args.slots.now in
-    let i = c.loop-seat.place in
-    let invariant = c.loop-seat.invariant in
-    let long : length (c.loop-seat.yielded ++ c.in-Some.seat ∷ []) ≡ length c.loop-seat.yielded + 1 = length_push c.loop-seat.yielded c.in-Some.seat in
-    let inside : i < length slots = omega (arith, invariant.place, invariant.left, ap length c.in-Some.ensures.steps.0) in
-    let within : get_or slots i 0 < length c.loop-seat.self.seats.items = omega (arith, c.requires.inside i 0 inside, invariant.puts.count) in
-    record {
-      place = omega (arith, invariant.place, long);
-      left = omega (arith, invariant.left, long, ap length c.in-Some.ensures.steps.0);
-      nodes = invariant.nodes;
-      puts = Puts-more slots c.loop-seat.yielded c.args.self.now.seats.items c.loop-seat.self.seats.items i (get_or slots i 0) c.in-Some.seat inside refl
-          (sym invariant.place) within invariant.puts;
-    }
+    let seats = c.args.seats.items in
+    let all = c.put_seats.new.all in
+    let final = with_items_is dense.seats all (omega (arith, c.put_seats.auto.all, c.deref_mut.ensures.len)) in
+    let puts = subst (λ (list : List (Option Seat)). Puts slots seats list all) c.deref_mut.ensures.value c.put_seats.ensures in
+    seats_put slots dense (record dense { seats = with_items dense.seats all }) seats refl refl
+    (subst (λ (list : List (Option Seat)). Puts slots seats dense.seats.items list) (sym final) puts)

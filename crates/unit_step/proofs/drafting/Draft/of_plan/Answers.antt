@@ -10,6 +10,7 @@ use Rattle.circuit_texts.proofs.MemberLemmas.{AreMembers-from_groups}
 use Rattle.kept_parts.proofs.GroupParts.{parts_of_groups, parts_fit}
 use Rattle.unit_step.proofs.MakingLemmas.{formed_parts, apart_parts, reads_inside, held_count}
 use Rattle.unit_step.proofs.BuildLemmas.{lists_inside, numbers_counted, all_numbered}
+use Rattle.unit_step.proofs.DenseLemmas.{HaveCodes-held}
 use Rattle.unit_step.proofs.DraftLemmas.{FitsGraph-planned, FitsGraph-drafted, HasLast-drafted}
 use Rattle.unit_step.proofs.drafting.Draft.of_plan.Goals as goal
 
@@ -32,7 +33,7 @@ held_parts-requires c =
     let texts = map (text_of_group g) groups in
     let parts = c.in_ok-parts.parts.items in
     let plan = c.requires.plan in
-    let of = parts_of_groups g groups texts _ parts refl plan.maps (c.in_ok-parts.ensures texts plan.texts) in
+    let of = parts_of_groups g groups texts _ parts refl plan.maps (c.in_ok-parts.ensures.made texts plan.texts) in
     AllZip-long (λ group list. AreReads g group list.items) groups c.args.plan.reads.items plan.reads
     ∙ sym (AllZip-long (IsPartOf g) groups parts of)
 
@@ -45,7 +46,7 @@ of_parts-requires c =
     let reads = c.args.plan.reads.items in
     let plan = c.requires.plan in
     let wired = c.graphs_are_wired.ensures in
-    let of = parts_of_groups g groups texts _ parts refl plan.maps (c.in_ok-parts.ensures texts plan.texts) in
+    let of = parts_of_groups g groups texts _ parts refl plan.maps (c.in_ok-parts.ensures.made texts plan.texts) in
     let numbers = numbers_counted g c.args.plan.state.items c.args.plan plan in
     let lists = AllZip-long (λ group list. AreReads g group list.items) groups reads plan.reads ∙ sym (AllZip-long (IsPartOf g) groups parts of) in
     rw (c.in_ok-held.ensures, c.requires.counted) (record {
@@ -53,6 +54,7 @@ of_parts-requires c =
       apart = apart_parts parts reads (AreMembers-from_groups g groups plan.are.are parts of).once;
       reads = reads_inside (nodes g) parts reads (lists_inside g wired groups reads plan.reads);
       numbered = numbers ∙ sym (AllZip-long (IsPartOf g) groups parts of) ∙ sym (held_count parts reads lists);
+      coded = HaveCodes-held c.args.plan.uses.numbers parts reads c.in_ok-parts.ensures.coded;
     })
 
 pub returns-clause-fits : goal.returns-clause-fits
@@ -62,7 +64,7 @@ returns-clause-fits c =
     let texts = map (text_of_group g) groups in
     let parts = c.in_ok-parts.parts.items in
     let plan = c.requires.plan in
-    let of = parts_of_groups g groups texts _ parts refl plan.maps (c.in_ok-parts.ensures texts plan.texts) in
+    let of = parts_of_groups g groups texts _ parts refl plan.maps (c.in_ok-parts.ensures.made texts plan.texts) in
     let fits = FitsGraph-planned g c.args.plan plan c.requires.counted c.requires.railed c.requires.sound parts of
     c.in_ok-held.held.items c.in_ok-held.ensures in
     FitsGraph-drafted g (Some c.args.plan.groups) c.in_ok-held.held c.args.plan.state c.args.plan.uses fits c.of_parts.result c.of_parts.ensures.groups
@@ -75,7 +77,7 @@ returns-clause-last c =
     let texts = map (text_of_group g) groups in
     let parts = c.in_ok-parts.parts.items in
     let plan = c.requires.plan in
-    let of = parts_of_groups g groups texts _ parts refl plan.maps (c.in_ok-parts.ensures texts plan.texts) in
+    let of = parts_of_groups g groups texts _ parts refl plan.maps (c.in_ok-parts.ensures.made texts plan.texts) in
     let fits = FitsGraph-planned g c.args.plan plan c.requires.counted c.requires.railed c.requires.sound parts of
     c.in_ok-held.held.items c.in_ok-held.ensures in
     HasLast-drafted g (Some c.args.plan.groups) c.in_ok-held.held c.args.plan.state c.args.plan.uses fits c.of_parts.result c.of_parts.ensures.uses

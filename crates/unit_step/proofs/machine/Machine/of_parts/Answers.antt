@@ -1,12 +1,14 @@
 -- Parts that fit are formed.
-use Rattle.std.proofs.Common.{◌≡◌, [], None, length, map, ap, subst, ◌∙◌, arith}
+use Rattle.std.proofs.Common.{◌≡◌, [], None, length, map, sym, ap, subst, ◌∙◌, arith}
 use Rattle.std.specs.Prelude.{zip, replicate}
 use Rattle.std.proofs.lemmas.List.{length-replicate}
 use Rattle.kept_parts.specs.Uses.{UsesData, texts_used}
 use Rattle.unit_step.specs.Making.{held, started}
+use Rattle.unit_step.specs.Dense.{HaveCodes}
 use Rattle.unit_step.specs.Lasting.{AreInOrder, texts_lasting}
 use Rattle.kept_parts.proofs.NumberLemmas.{none_used}
 use Rattle.unit_step.proofs.MakingLemmas.{formed_parts, apart_parts, reads_inside, held_count}
+use Rattle.unit_step.proofs.DenseLemmas.{HaveCodes-none}
 use Rattle.unit_step.proofs.DraftLemmas.{drafted-of, none_last}
 use Rattle.unit_step.proofs.machine.Machine.of_parts.Goals as goal
 
@@ -24,6 +26,8 @@ of_parts-requires c =
       apart = apart_parts parts reads c.requires.apart;
       reads = reads_inside nodes parts reads c.requires.below;
       numbered = numbers ∙ count;
+      coded = subst (λ (uses : UsesData). HaveCodes uses.numbers (map held (zip parts reads))) (sym c.in_ok-uses.ensures)
+          (HaveCodes-none c.len.result (map held (zip parts reads)));
     })
 
 pub returns : goal.returns

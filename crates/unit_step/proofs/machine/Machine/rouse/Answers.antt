@@ -1,5 +1,5 @@
 -- The stale parts get their codes.
-use Rattle.std.proofs.Common.{◌≡◌, ℕ, Vec, Global, ◌≤◌, ◌<◌, ◌⊎◌, Bool, List, length, map, All, Some, refl, sym, ap, subst, ◌∙◌, arith}
+use Rattle.std.proofs.Common.{◌≡◌, ℕ, ◌<◌, ◌⊎◌, Bool, List, length, map, All, Some, refl, sym, ap, subst, ◌∙◌, arith}
 use Rattle.std.specs.Prelude.{Contains, slice_get}
 use Rattle.std.specs.Vec.{with_items}
 use Rattle.std.proofs.lemmas.List.{length-map, with_items_is}
@@ -17,12 +17,12 @@ use Rattle.unit_step.specs.Running.{IsMachine}
 use Rattle.unit_step.specs.Fitting.{Covers}
 use Rattle.unit_step.specs.Editing.{Rouses}
 use Rattle.unit_step.specs.Finishing.{IsWaking, Puts}
+use Rattle.unit_step.specs.Marking.{AreOnce}
 use Rattle.unit_step.specs.Readers.{ListsAll}
 use Rattle.unit_step.specs.Dense.{AreDense, AreSeatsOf}
 use Rattle.unit_step.specs.Lasting.{BeginsAt, AreLasting, texts_lasting}
 use Rattle.unit_step.proofs.LastingRoused.{AreLasting-numbered, AreLasting-noted, AreLasting-roused, texts_lasting-numbered, same_texts_left}
 use Rattle.unit_step.proofs.FillingLemmas.{on_err}
-use Rattle.unit_step.proofs.DenseLemmas.{AreDense-more, AreSeatsOf-put, seats_counted}
 use Rattle.unit_step.proofs.FinishingRoused.{IsMachine-wider, HaveSameReaders-refl, AreMade-held, parts_counted, unlisted, known_inside, IsMachine-roused, Rouses-roused}
 use Rattle.unit_step.proofs.machine.Machine.rouse.Goals as goal
 
@@ -42,7 +42,7 @@ pub invariant_of-self : goal.invariant_of-self
 invariant_of-self c =
     let i = c.self.inside in (
       IsMachine-wider i.parts.items i.agenda.marks i.agenda.waiting _ i.readers i.readers i.owners.items i.uses.numbers c.numbers_of.new.uses.numbers
-          i.held i.most (rooms i.desk) (rooms i.desk) (omega arith) (omega arith) refl refl c.numbers_of.ensures.numbered.numbers (HaveSameReaders-refl i.readers)
+          i.held i.most (rooms i.desk) (rooms i.desk) (omega arith) refl refl c.numbers_of.ensures.numbered.numbers (HaveSameReaders-refl i.readers)
           c.self.invariant.0,
       c.self.invariant.1,
       AreLasting-numbered i.parts.items i.uses c.numbers_of.new.uses (length i.state.items) i.lasting c.numbers_of.ensures.numbered c.self.invariant.2,
@@ -60,7 +60,7 @@ pub invariant_of-self-in_err-widen_for_codes : goal.invariant_of-self-in_err-wid
 invariant_of-self-in_err-widen_for_codes c =
     let i = c.self.inside in (
       IsMachine-wider i.parts.items i.agenda.marks i.agenda.waiting _ i.readers i.readers i.owners.items i.uses.numbers c.numbers_of.new.uses.numbers
-          i.held i.most _ _ (omega (arith, c.widen_for_codes.ensures.more_values)) (omega (arith, c.widen_for_codes.ensures.more_outs)) c.widen_for_codes.ensures.changes c.widen_for_codes.ensures.done
+          i.held i.most _ _ (omega (arith, c.widen_for_codes.ensures.more_values)) c.widen_for_codes.ensures.changes c.widen_for_codes.ensures.done
           c.numbers_of.ensures.numbered.numbers (HaveSameReaders-refl i.readers) c.self.invariant.0,
       c.self.invariant.1,
       AreLasting-numbered i.parts.items i.uses c.numbers_of.new.uses (length i.state.items) i.lasting c.numbers_of.ensures.numbered c.self.invariant.2,
@@ -78,9 +78,9 @@ pub invariant_of-self-in_err-seats : goal.invariant_of-self-in_err-seats
 invariant_of-self-in_err-seats c =
     let i = c.self.inside in (
       IsMachine-wider i.parts.items i.agenda.marks i.agenda.waiting _ i.readers i.readers i.owners.items i.uses.numbers c.numbers_of.new.uses.numbers
-          i.held i.most _ _ (omega (arith, c.widen_for_codes.ensures.more_values)) (omega (arith, c.widen_for_codes.ensures.more_outs)) c.widen_for_codes.ensures.changes c.widen_for_codes.ensures.done
+          i.held i.most _ _ (omega (arith, c.widen_for_codes.ensures.more_values)) c.widen_for_codes.ensures.changes c.widen_for_codes.ensures.done
           c.numbers_of.ensures.numbered.numbers (HaveSameReaders-refl i.readers) c.self.invariant.0,
-      AreDense-more i.parts.items i.dense c.seats_for.new.self c.seats_for.ensures.same c.seats_for.ensures.more c.self.invariant.1,
+      c.seats_for.ensures.same i.parts.items c.self.invariant.1,
       AreLasting-numbered i.parts.items i.uses c.numbers_of.new.uses (length i.state.items) i.lasting c.numbers_of.ensures.numbered c.self.invariant.2,
     )
 
@@ -91,6 +91,20 @@ returns-in_err-seats-clause-err c =
     let last_is = texts_lasting-numbered i.uses uses uses.known i.lasting i.lasting c.numbers_of.ensures.numbered refl refl c.self.invariant.2.inside in
     on_err c.from_residual-in_err-seats.result
     (same_texts_left (the_view i) (texts_used uses) (texts_lasting uses.known i.lasting) c.numbers_of.ensures.same last_is ∙ c.self.view_is)
+
+pub seats_for-requires : goal.seats_for-requires
+seats_for-requires c =
+    let g = c.args.graph.now in
+    let i = c.self.inside in
+    let covers = subst (Covers g) (sym c.self.view_is) c.requires.covers in
+    let waking = subst (λ (m : MachineData). IsWaking g m.parts c.args.waking) (sym c.self.view_is) c.requires.waking in
+    let slots = c.args.waking.slots.items in
+    let parts = c.in_ok-parts_of.field-0.items in
+    let of = parts_of_groups g waking.some _ _ parts (c.deref.ensures.value ∙ waking.texts) waking.maps c.in_ok-parts_of.ensures in
+    let fresh = c.in_ok-fresh.fresh.items in
+    let made = AreMade-held g c.graphs_are_wired.ensures waking.groups waking.some slots i.parts.items waking.are waking.waiting parts
+    c.args.waking.reads.items fresh (length i.state.items) of waking.reads c.in_ok-fresh.ensures covers.counted in
+    rw c.deref-4.ensures.value (record { inputs = λ k d inside code has. (made.formed k d inside).inputs code has })
 
 pub note_all-requires-clause-inside : goal.note_all-requires-clause-inside
 note_all-requires-clause-inside c =
@@ -114,9 +128,9 @@ invariant_of-self-in_err-note_all c =
     Contains i.lasting.changed.items node ⊎ ((k : ℕ) × Contains slots k × BeginsAt parts k node)) c.deref-6.ensures.value c.note_all.ensures.only in
     let more = AreLasting-numbered i.parts.items i.uses c.numbers_of.new.uses (length i.state.items) i.lasting c.numbers_of.ensures.numbered c.self.invariant.2 in (
       IsMachine-wider i.parts.items i.agenda.marks i.agenda.waiting _ i.readers i.readers i.owners.items i.uses.numbers c.numbers_of.new.uses.numbers
-          i.held i.most _ _ (omega (arith, c.widen_for_codes.ensures.more_values)) (omega (arith, c.widen_for_codes.ensures.more_outs)) c.widen_for_codes.ensures.changes c.widen_for_codes.ensures.done
+          i.held i.most _ _ (omega (arith, c.widen_for_codes.ensures.more_values)) c.widen_for_codes.ensures.changes c.widen_for_codes.ensures.done
           c.numbers_of.ensures.numbered.numbers (HaveSameReaders-refl i.readers) c.self.invariant.0,
-      AreDense-more i.parts.items i.dense c.seats_for.new.self c.seats_for.ensures.same c.seats_for.ensures.more c.self.invariant.1,
+      c.seats_for.ensures.same i.parts.items c.self.invariant.1,
       AreLasting-noted i.parts.items c.numbers_of.new.uses.numbers (length i.state.items) (length c.numbers_of.new.uses.known) (rooms i.desk)
           c.self.invariant.0.runs.seated slots i.lasting c.note_all.new.self c.note_all.ensures.numbers c.note_all.ensures.stays only more,
     )
@@ -184,9 +198,9 @@ invariant_of-self-in_err-list_all c =
     Contains i.lasting.changed.items node ⊎ ((k : ℕ) × Contains slots k × BeginsAt parts k node)) c.deref-6.ensures.value c.note_all.ensures.only in
     let more = AreLasting-numbered i.parts.items i.uses c.numbers_of.new.uses (length i.state.items) i.lasting c.numbers_of.ensures.numbered c.self.invariant.2 in (
       IsMachine-wider i.parts.items i.agenda.marks i.agenda.waiting _ i.readers c.list_all.new.self i.owners.items i.uses.numbers
-          c.numbers_of.new.uses.numbers i.held i.most _ _ (omega (arith, c.widen_for_codes.ensures.more_values)) (omega (arith, c.widen_for_codes.ensures.more_outs))
+          c.numbers_of.new.uses.numbers i.held i.most _ _ (omega (arith, c.widen_for_codes.ensures.more_values))
           c.widen_for_codes.ensures.changes c.widen_for_codes.ensures.done c.numbers_of.ensures.numbered.numbers c.in_err-list_all.ensures.err c.self.invariant.0,
-      AreDense-more i.parts.items i.dense c.seats_for.new.self c.seats_for.ensures.same c.seats_for.ensures.more c.self.invariant.1,
+      c.seats_for.ensures.same i.parts.items c.self.invariant.1,
       AreLasting-noted i.parts.items c.numbers_of.new.uses.numbers (length i.state.items) (length c.numbers_of.new.uses.known) (rooms i.desk)
           c.self.invariant.0.runs.seated slots i.lasting c.note_all.new.self c.note_all.ensures.numbers c.note_all.ensures.stays only more,
     )
@@ -262,9 +276,8 @@ put_all-requires-clause-inside c =
     let fresh = c.in_ok-fresh.fresh.items in
     let made = AreMade-held g c.graphs_are_wired.ensures waking.groups waking.some slots i.parts.items waking.are waking.waiting parts
     c.args.waking.reads.items fresh (length i.state.items) of waking.reads c.in_ok-fresh.ensures covers.counted in
-    let old_seats = AreDense-more i.parts.items i.dense c.seats_for.new.self c.seats_for.ensures.same c.seats_for.ensures.more c.self.invariant.1 in
-    let counted = seats_counted i.parts.items c.seats_for.new.self.nodes.items c.seats_for.new.self.seats.items old_seats in
-    rw c.deref-12.ensures.value (λ k d inside. omega (arith, made.inside k d inside, counted))
+    let old_seats = c.seats_for.ensures.same i.parts.items c.self.invariant.1 in
+    rw c.deref-12.ensures.value (λ k d inside. omega (arith, made.inside k d inside, old_seats.counted))
 
 pub put_all-requires-clause-counted : goal.put_all-requires-clause-counted
 put_all-requires-clause-counted c =
@@ -278,10 +291,9 @@ put_all-requires-clause-counted c =
     let fresh = c.in_ok-fresh.fresh.items in
     let made = AreMade-held g c.graphs_are_wired.ensures waking.groups waking.some slots i.parts.items waking.are waking.waiting parts
     c.args.waking.reads.items fresh (length i.state.items) of waking.reads c.in_ok-fresh.ensures covers.counted in
-    let fresh_seats = subst (λ (list : List HeldPart). AreSeatsOf list c.seats_for.new.self.nodes.items c.in_ok-seats.seats.items) c.deref-4.ensures.value
-    c.in_ok-seats.ensures.seats in
-    let counted = seats_counted fresh c.seats_for.new.self.nodes.items c.in_ok-seats.seats.items fresh_seats in
-    omega (arith, ap length c.deref-12.ensures.value, made.counted, counted)
+    let fresh_seats = subst (λ (list : List HeldPart). AreSeatsOf list c.seats_for.new.self.codes.items c.seats_for.new.self.nodes.items c.in_ok-seats.seats.items)
+    c.deref-4.ensures.value c.in_ok-seats.ensures.seats in
+    omega (arith, ap length c.deref-12.ensures.value, made.counted, fresh_seats.counted)
 
 pub put_parts-requires-clause-inside : goal.put_parts-requires-clause-inside
 put_parts-requires-clause-inside c =
@@ -340,27 +352,18 @@ invariant_of-self-2 c =
     All-weaker (IsCodeRoom c.in-Some.needs.values) (IsCodeRoom wide.values)
     (λ part room code has. omega (arith, room code has, c.in_ok-widen_for_codes.ensures.values)) fresh
     (subst (All (IsCodeRoom c.in-Some.needs.values)) c.deref-2.ensures.value c.in-Some.ensures.values) in
-    let outs_room : All (λ (part : HeldPart). part.members ≤ wide.outs) fresh =
-    All-weaker (λ (part : HeldPart). part.members ≤ c.in-Some.needs.outs) (λ (part : HeldPart). part.members ≤ wide.outs)
-    (λ part room. omega (arith, room, c.in_ok-widen_for_codes.ensures.outs)) fresh
-    (subst (All (λ (part : HeldPart). part.members ≤ c.in-Some.needs.outs)) c.deref-2.ensures.value c.in-Some.ensures.outs) in
     let base = IsMachine-roused g (the_view i) covers waking.groups waking.some slots waking.waiting fresh new (length i.state.items) made puts
     i.readers lists_now i.agenda.marks i.agenda.waiting c.rouse.new.self.waiting i.owners.items i.uses.numbers c.put_texts.new.uses.numbers
-    i.held i.most (rooms i.desk) wide listed values_room outs_room (omega (arith, c.widen_for_codes.ensures.more_values)) (omega (arith, c.widen_for_codes.ensures.more_outs))
+    i.held i.most (rooms i.desk) wide listed values_room (omega (arith, c.widen_for_codes.ensures.more_values))
     c.widen_for_codes.ensures.changes c.widen_for_codes.ensures.done c.rouse.ensures.waiting (text_puts.count ∙ ap length c.numbers_of.ensures.numbered.numbers) c.self.invariant.0 in
     let with_parts = subst (λ (list : List HeldPart). IsMachine list i.agenda.marks c.rouse.new.self.waiting (length i.state.items) lists_now i.owners.items
     c.put_texts.new.uses.numbers i.held i.most wide) (sym final_parts) base in
-    let nodes = c.seats_for.new.self.nodes.items in
-    let seats = c.in_ok-seats.seats.items in
-    let before = c.seats_for.new.self.seats.items in
-    let after = c.put_all.new.self.seats.items in
-    let old_seats = AreDense-more i.parts.items i.dense c.seats_for.new.self c.seats_for.ensures.same c.seats_for.ensures.more c.self.invariant.1 in
-    let fresh_seats = subst (λ (list : List HeldPart). AreSeatsOf list nodes seats) c.deref-4.ensures.value c.in_ok-seats.ensures.seats in
-    let seat_puts = subst (λ (list : List ℕ). Puts list seats before after) c.deref-12.ensures.value c.put_all.ensures.puts in
-    let put : AreSeatsOf new nodes after =
-    AreSeatsOf-put slots waking.waiting.once nodes fresh i.parts.items new seats before after fresh_seats old_seats puts seat_puts in
-    let put_dense : AreDense new c.put_all.new.self =
-    subst (λ (list : Vec ℕ Global). AreSeatsOf new list.items after) (sym c.put_all.ensures.nodes) put in
+    let old_seats = c.seats_for.ensures.same i.parts.items c.self.invariant.1 in
+    let fresh_seats = subst (λ (list : List HeldPart). AreSeatsOf list c.seats_for.new.self.codes.items c.seats_for.new.self.nodes.items c.in_ok-seats.seats.items)
+    c.deref-4.ensures.value c.in_ok-seats.ensures.seats in
+    let once : AreOnce c.deref-12.result.now = subst AreOnce (sym c.deref-12.ensures.value) waking.waiting.once in
+    let seat_puts = subst (λ (list : List ℕ). Puts list fresh i.parts.items new) (sym c.deref-12.ensures.value) puts in
+    let put_dense : AreDense new c.put_all.new.self = c.put_all.ensures fresh i.parts.items new once fresh_seats seat_puts old_seats in
     let dense = subst (λ (list : List HeldPart). AreDense list c.put_all.new.self) (sym final_parts) put_dense in
     let only = subst (λ list. (node : ℕ) → Contains c.note_all.new.self.changed.items node →
     Contains i.lasting.changed.items node ⊎ ((k : ℕ) × Contains c.deref-5.result.now k × BeginsAt list k node)) c.deref-6.ensures.value c.note_all.ensures.only in

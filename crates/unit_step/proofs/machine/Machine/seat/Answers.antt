@@ -1,5 +1,5 @@
 -- The new part comes behind the others, and its members are its own.
-use Rattle.std.proofs.Common.{◌≡◌, Vec, Global, ◌+◌, ◌<◌, ◌++◌, ◌∷◌, [], ℕ, List, Option, None, length, refl, sym, ap, subst, ◌∙◌, arith}
+use Rattle.std.proofs.Common.{◌≡◌, ◌+◌, ◌<◌, ◌++◌, ◌∷◌, [], ℕ, List, Option, None, length, refl, sym, ap, subst, ◌∙◌, arith}
 use Rattle.std.specs.Prelude.{Contains, slice_index_or, All}
 use Rattle.std.proofs.lemmas.List.{with_items_is, length_push}
 use Rattle.channel_groups.proofs.StoreLemmas.{same_more}
@@ -11,9 +11,8 @@ use Rattle.unit_step.specs.Evaluating.{rooms}
 use Rattle.unit_step.specs.Parts.{HasMember}
 use Rattle.unit_step.specs.Marking.{AgendaData}
 use Rattle.unit_step.specs.Making.{Owns}
-use Rattle.unit_step.specs.Dense.{AreDense, AreSeatsOf}
+use Rattle.unit_step.specs.Dense.{AreDense}
 use Rattle.unit_step.specs.Lasting.{texts_lasting}
-use Rattle.unit_step.proofs.DenseLemmas.{AreSeatsOf-stale, AreDense-same}
 use Rattle.unit_step.proofs.SeatingLemmas.{IsMachine-roomier, IsMachine-seated}
 use Rattle.unit_step.proofs.LastingEdits.{AreLasting-same, AreLasting-seated}
 use Rattle.unit_step.proofs.machine.Machine.seat.Goals as goal
@@ -29,8 +28,8 @@ invariant_of-self-in_err-widen_for_parts c =
     let members = c.args.members.now in
     rw c.reserve.ensures.items (
       (IsMachine-roomier i.parts.items i.agenda.marks i.agenda.waiting (length i.state.items) i.readers i.owners.items i.uses.numbers i.held i.most (rooms i.desk) c.self.invariant.0 i.uses.numbers (rooms c.widen_for_parts.new.desk) (omega arith)
-          c.widen_for_parts.ensures.values c.widen_for_parts.ensures.outs c.widen_for_parts.ensures.changes c.widen_for_parts.ensures.parts),
-      AreDense-same i.parts.items i.dense c.make_room.new.self c.make_room.ensures.nodes c.make_room.ensures.seats c.self.invariant.1,
+          c.widen_for_parts.ensures.values c.widen_for_parts.ensures.changes c.widen_for_parts.ensures.parts),
+      c.make_room.ensures.same i.parts.items c.self.invariant.1,
       c.self.invariant.2,
     )
 
@@ -41,8 +40,8 @@ invariant_of-self-in_err-add c =
     let same = ap (λ (uses : UsesData). length uses.numbers) c.in_err-add.ensures.err in
     rw c.reserve.ensures.items (
       (IsMachine-roomier i.parts.items i.agenda.marks i.agenda.waiting (length i.state.items) i.readers i.owners.items i.uses.numbers i.held i.most (rooms i.desk) c.self.invariant.0 c.add.new.self.numbers (rooms c.widen_for_parts.new.desk)
-          (omega (arith, same)) c.widen_for_parts.ensures.values c.widen_for_parts.ensures.outs c.widen_for_parts.ensures.changes c.widen_for_parts.ensures.parts),
-      AreDense-same i.parts.items i.dense c.make_room.new.self c.make_room.ensures.nodes c.make_room.ensures.seats c.self.invariant.1,
+          (omega (arith, same)) c.widen_for_parts.ensures.values c.widen_for_parts.ensures.changes c.widen_for_parts.ensures.parts),
+      c.make_room.ensures.same i.parts.items c.self.invariant.1,
       rw (ap (λ (uses : UsesData). length uses.known) c.in_err-add.ensures.err, ap (λ (uses : UsesData). uses.numbers) c.in_err-add.ensures.err)
           c.self.invariant.2,
     )
@@ -54,8 +53,8 @@ invariant_of-self-in_err-wait_more c =
     let more = ap length c.in_ok-add.ensures.ok in
     rw (c.reserve.ensures.items, c.in_err-wait_more.ensures.err) (
       (IsMachine-roomier i.parts.items i.agenda.marks i.agenda.waiting (length i.state.items) i.readers i.owners.items i.uses.numbers i.held i.most (rooms i.desk) c.self.invariant.0 c.add.new.self.numbers (rooms c.widen_for_parts.new.desk)
-          (omega (arith, more, length_push i.uses.numbers None)) c.widen_for_parts.ensures.values c.widen_for_parts.ensures.outs c.widen_for_parts.ensures.changes c.widen_for_parts.ensures.parts),
-      AreDense-same i.parts.items i.dense c.make_room.new.self c.make_room.ensures.nodes c.make_room.ensures.seats c.self.invariant.1,
+          (omega (arith, more, length_push i.uses.numbers None)) c.widen_for_parts.ensures.values c.widen_for_parts.ensures.changes c.widen_for_parts.ensures.parts),
+      c.make_room.ensures.same i.parts.items c.self.invariant.1,
       rw c.add.ensures.known (AreLasting-same i.parts.items i.uses.numbers (length i.state.items) (length i.uses.known) i.lasting c.self.invariant.2
           c.add.new.self.numbers i.lasting (numbers_read i.uses c.add.new.self c.in_ok-add.ensures.ok) refl refl),
     )
@@ -79,17 +78,13 @@ invariant_of-self-2 c =
     let waiting : length i.agenda.waiting ≡ length i.parts.items = c.wait_more.ensures.counted ∙ c.self.invariant.0.runs.counted in
     let numbers = ap length c.in_ok-add.ensures.ok ∙ length_push i.uses.numbers None in
     let roomier = IsMachine-roomier i.parts.items i.agenda.marks i.agenda.waiting (length i.state.items) i.readers i.owners.items i.uses.numbers i.held i.most (rooms i.desk) c.self.invariant.0 i.uses.numbers room (omega arith)
-    c.widen_for_parts.ensures.values c.widen_for_parts.ensures.outs c.widen_for_parts.ensures.changes c.widen_for_parts.ensures.parts in
+    c.widen_for_parts.ensures.values c.widen_for_parts.ensures.changes c.widen_for_parts.ensures.parts in
     let inside : All (λ node. node < length i.state.items) members =
     subst (λ n. All (λ node. node < n) members) (ap (λ (m : MachineData). length m.state) (sym c.self.view_is)) c.requires.inside in
     let free : (k node : ℕ) → Contains members node → ¬ HasMember i.parts.items k node =
     λ k node there has. c.requires.free k node there (subst (λ list. HasMember list k node) (ap (λ (m : MachineData). m.parts) c.self.view_is) has) in
-    let kept = AreDense-same i.parts.items i.dense c.make_room.new.self c.make_room.ensures.nodes c.make_room.ensures.seats c.self.invariant.1 in
-    let nodes = c.make_room.new.self.nodes.items in
-    let added = AreSeatsOf-stale i.parts.items e nodes c.make_room.new.self.seats.items c.add_stale.new.self.seats.items c.in_ok-part.ensures.code
-    c.add_stale.ensures.inside c.add_stale.ensures.seats kept in
-    let dense : AreDense (i.parts.items ++ e ∷ []) c.add_stale.new.self =
-    subst (λ (list : Vec ℕ Global). AreSeatsOf (i.parts.items ++ e ∷ []) list.items c.add_stale.new.self.seats.items) (sym c.add_stale.ensures.nodes) added in
+    let kept = c.make_room.ensures.same i.parts.items c.self.invariant.1 in
+    let dense : AreDense (i.parts.items ++ e ∷ []) c.add_stale.new.self = c.add_stale.ensures i.parts.items e c.in_ok-part.ensures.code kept in
     rw (parts, marks, waits, owners, most) (
       (IsMachine-seated i.parts.items i.agenda.marks i.agenda.waiting (length i.state.items) i.readers i.owners.items i.uses.numbers i.held i.most
           room roomier members e c.in_ok-part.ensures c.requires.some inside c.requires.once free c.own.new.owners owns c.add.new.self.numbers numbers

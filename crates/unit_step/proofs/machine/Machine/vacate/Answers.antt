@@ -11,9 +11,8 @@ use Rattle.unit_step.specs.Machines.{MachineData, members_of}
 use Rattle.unit_step.specs.Evaluating.{rooms}
 use Rattle.unit_step.specs.Seating.{Disowns, IsVacant, one_of}
 use Rattle.unit_step.specs.Readers.{Unlists}
-use Rattle.unit_step.specs.Dense.{AreDense, AreSeatsOf}
+use Rattle.unit_step.specs.Dense.{AreDense}
 use Rattle.unit_step.specs.Lasting.{starts_of, texts_numbered, texts_lasting}
-use Rattle.unit_step.proofs.DenseLemmas.{AreSeatsOf-cleared}
 use Rattle.unit_step.proofs.SeatingLemmas.{seat_of, members_there, reads_there, IsMachine-vacated}
 use Rattle.unit_step.proofs.LastingEdits.{AreLasting-same, AreLasting-vacated}
 use Rattle.unit_step.proofs.machine.Machine.vacate.Goals as goal
@@ -80,10 +79,7 @@ invariant_of-self-2 c =
     subst (λ (part : HeldPart). one_of part ≤ count_by has_members i.parts.items) (sym read) (get_or-le-sum_by one_of i.parts.items k gone inside) in
     let held : i.held - c.count_one.result + one_of gone ≡ i.held = omega (arith, one, c.count_one.ensures, c.self.invariant.0.number) in
     let most : i.most - gone.members + gone.members ≡ i.most = omega (arith, some, c.self.invariant.0.most_members) in
-    let cleared = AreSeatsOf-cleared i.parts.items k e i.dense.nodes.items i.dense.seats.items c.clear.new.self.seats.items vacant.code
-    c.clear.ensures.inside c.clear.ensures.seats c.self.invariant.1 in
-    let dense : AreDense (slice_set i.parts.items k e) c.clear.new.self =
-    subst (λ (nodes : Vec ℕ Global). AreSeatsOf (slice_set i.parts.items k e) nodes.items c.clear.new.self.seats.items) (sym c.clear.ensures.nodes) cleared in
+    let dense : AreDense (slice_set i.parts.items k e) c.clear.new.self = c.clear.ensures i.parts.items e vacant.code c.self.invariant.1 in
     let noted : c.note.new.self.changed.items ≡ i.lasting.changed.items ++ starts_of gone =
     c.in_ok-note.ensures.ok ∙ ap (λ part. i.lasting.changed.items ++ starts_of part)
     (c.index.ensures ∙ get_or_default i.parts.items k c.index.result.now gone inside ∙ sym read) in
