@@ -20,7 +20,7 @@ use ternary::{Steps, Tern};
 use unit_step::{EditRefused, Machine};
 
 // How many parts a machine may always have that groups left which are gone.
-const MOST_LEFT: usize = 1_000;
+const MOST_LEFT: usize = 16;
 
 /// How the graph is before what stands at a place is changed; past the last place nothing stands.
 pub(crate) fn change_at(graph: &Graph, place: usize) -> Change
@@ -59,7 +59,7 @@ pub(crate) fn change_of_level(graph: &Graph, node: usize) -> Change
 
 /// The state, or the machine, after an edit of the graph, with X for each new node, in room that is
 /// there. Where the machine's edit lacks memory, it is the state that is handed back; so it is where more than
-/// half of the machine's parts, and 1,000 of them, were left by groups that are gone, so that a script of very many
+/// half of the machine's parts, and more than 16, were left by groups that are gone, so that a script of very many
 /// edits holds no more than its circuit asks for. A machine that is let go leaves the texts of its last build in
 /// front of what is kept.
 #[tactic(auto, using(crate::proofs::LastLemmas::leaves_last, crate::proofs::LastLemmas::kept_alone, crate::proofs::LastLemmas::none_missing))]
