@@ -7,6 +7,7 @@ use Rattle.group_text.specs.Texts.{GroupTextData, text_of_group}
 use Rattle.group_text.specs.FirstTexts.{first_texts}
 use Rattle.group_analysis.specs.Held.{TextSet}
 use Rattle.analysis_cache.specs.Keeping.{KeptData, KeepsAll, KeepsSome, entry_texts, texts_of}
+use Rattle.analysis_cache.proofs.DistinctLemmas.{first_texts-first}
 use Rattle.analysis_cache.proofs.NewTextLemmas.{new_texts-none_kept}
 use Rattle.circuit_listing.specs.Analysed.{AnalysesFront}
 
@@ -49,18 +50,22 @@ front_some old new before after texts none keeps =
     }
 
 module _ (g : GraphData) (groups : List Group) (are : AreGroups g groups) (texts : List GroupTextData)
-    (texts_are : texts ≡ map (text_of_group g) groups) (before after : List GroupTextData) where
+    (texts_are : texts ≡ first_texts (map (text_of_group g) groups)) (before after : List GroupTextData) where
+  -- the texts are distinct already
+  distinct : first_texts texts ≡ first_texts (map (text_of_group g) groups)
+  distinct = ap first_texts texts_are ∙ first_texts-first (map (text_of_group g) groups)
+
   -- a front of the distinct texts of the groups that were found is one of those of all groups of the graph
   pub front_of_groups : AnalysesFront before after (first_texts texts) → (others : List Group) → AreGroups g others →
       AnalysesFront before after (first_texts (map (text_of_group g) others))
   front_of_groups front others others_are =
-      rw (unique g others groups others_are are, ← texts_are) front
+      rw (unique g others groups others_are are, ← distinct) front
 
   -- so are all of them
   pub all_of_groups : after ≡ before ++ first_texts texts → (others : List Group) → AreGroups g others →
       after ≡ before ++ first_texts (map (text_of_group g) others)
   all_of_groups analysed others others_are =
-      rw (unique g others groups others_are are, ← texts_are) analysed
+      rw (unique g others groups others_are are, ← distinct) analysed
 
   -- and where all were analysed, a front was
   pub whole_front : after ≡ before ++ first_texts texts → (others : List Group) → AreGroups g others →

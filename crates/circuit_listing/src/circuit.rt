@@ -11,9 +11,9 @@ ghost use Rattle.netlist.specs.Circuits.{HasVisibleNames, called};
 
 use analysis_cache::Kept;
 use channel_groups::Groups;
-use circuit_texts::{BuildFault, GroupTexts, texts_of};
+use circuit_texts::BuildFault;
 use group_analysis::Analyst;
-use kept_parts::parts_of;
+use kept_parts::{NumberedTexts, numbered_texts, parts_by_number};
 use linear_code::Listing;
 use netlist::Circuit;
 use std::alloc::{AllocError, Global};
@@ -43,13 +43,13 @@ pub fn list_circuit<A: Analyst>(
         ⊎ (TellsTooLarge circuit.now.graph fault × (A.analysed analyst.new ≡ A.analysed analyst.old))) }
 {
     let groups = Groups::of(alloc, circuit.graph())?;
-    let GroupTexts { texts, maps } = texts_of(alloc, circuit.graph(), &groups)?;
+    let NumberedTexts { uses, maps } = numbered_texts(alloc, keys, circuit.graph(), &groups)?;
     drop(groups);
     let mut kept = Kept::with_keys(alloc, keys);
-    kept.ensure(&texts, analyst)?;
-    let parts = parts_of(alloc, &kept, &texts, maps)?;
+    kept.ensure(uses.known(), analyst)?;
+    let parts = parts_by_number(alloc, &kept, &uses, maps)?;
     // The parts share what they need of these: the listing is made without them.
-    drop(texts);
+    drop(uses);
     drop(kept);
     let names = names_of(alloc, circuit)?;
     Ok(Listing::build(alloc, circuit.graph(), names, &parts)?)
