@@ -8,3 +8,9 @@ mod JudgingLemmas
 pub mod FrontLemmas
 mod OnceLemmas
 mod NameLemmas
+mod CalmLemmas
+mod DetectedLemmas
+mod PlaceLemmas
+mod EndLemmas
+mod BenchLemmas
+mod FromLemmas

@@ -35,7 +35,7 @@ use Rattle.fault_runs.proofs.BeginLemmas.{has_start}
 use Rattle.fault_runs.proofs.VerdictLemmas.{verdict_exists}
 
 -- the lines of a script can be read again
-runs-readable : (reading : Reading) → IsSound reading → (cut : Option ℕ) (session : SessionData) (lines : List (ℕ × List ℕ)) (outcome : Outcome) →
+pub runs-readable : (reading : Reading) → IsSound reading → (cut : Option ℕ) (session : SessionData) (lines : List (ℕ × List ℕ)) (outcome : Outcome) →
     Runs reading cut session lines outcome → IsBounded session → All IsReadable outcome.lines
 runs-readable reading sound cut _ _ _ (ends session) bounded = All-nil IsReadable
 runs-readable reading sound cut _ _ _ (passes session line lines rest idle runs) bounded =
@@ -122,14 +122,14 @@ traced c script kept fault new asked told trace (TooLarge number size) outgrown 
 -- ---- each fault has a run
 
 -- what an outcome shows
-trace_of : Outcome → Trace
+pub trace_of : Outcome → Trace
 trace_of outcome = record {
   rows = filter_map row_of outcome.lines;
   names = map (called outcome.end.circuit) outcome.end.watched;
   refused = option_map (λ stopped. stopped.line) outcome.refused;
 }
 
-shows_so : (outcome : Outcome) → Shows outcome (trace_of outcome)
+pub shows_so : (outcome : Outcome) → Shows outcome (trace_of outcome)
 unfolding trace_of
 shows_so outcome = record { rows = refl; names = refl; refused = refl }
 

@@ -5,3 +5,4 @@ pub mod Judging
 pub mod Counts
 pub mod Runnings
 pub mod Laws
+pub mod Early

@@ -1,12 +1,16 @@
 //! The bench on which the script is run under one fault after the other.
 
-ghost use Rattle.std.specs.Prelude.{◌≡◌, None, IfOk};
+ghost use Rattle.std.specs.Prelude.{◌≡◌, None, Some, IfOk};
 ghost use Rattle.netlist.specs.Circuits.{HasVisibleNames};
+ghost use Rattle.fault_sim.specs.Benches.{JudgesBy};
+ghost use Rattle.fault_sim.specs.Faults.{IsFault};
+ghost use Rattle.fault_runs.specs.Runnings.{HasTraced};
 ghost use Rattle.fault_runs.specs.Traces.{start_with};
 
-use crate::running::run_under;
+use crate::early::{calm_from, judge_lines};
+use crate::running::{are_bounded, put_fault, run_under, stuck_under};
 use cosmos_session::Session;
-use fault_sim::{Bench, Fault, Trace};
+use fault_sim::{Bench, Fault, Trace, Verdict, judge};
 use group_analysis::Analyst;
 use netlist::Circuit;
 use std::alloc::Global;
@@ -20,19 +24,23 @@ pub(crate) struct FaultBench<'a> {
     alloc: Global,
     start: Circuit,
     script: &'a [u8],
+    // The line of the script from which on nothing more is analysed, and what is kept stays, where there is one.
+    calm_from: Option<u64>,
     // None after want of memory: then nothing is kept.
     session: Option<Session>,
 }
 
 impl<'a> Model for FaultBench<'a> {
+    ghost use Rattle.std.specs.Prelude.{IfSome};
     ghost use Rattle.netlist.specs.Circuits.{HasVisibleNames};
+    ghost use Rattle.fault_runs.specs.Early.{IsCalmFrom};
     ghost use Rattle.fault_runs.specs.Runnings.{BenchData, kept_in};
 
     ghost Value = { BenchData };
 
     ghost view = { λ bench. record { start = bench.start; script = bench.script.now; kept = kept_in bench.session } };
 
-    ghost invariant = { λ bench. HasVisibleNames bench.start };
+    ghost invariant = { λ bench. HasVisibleNames bench.start × IfSome bench.calm_from (IsCalmFrom bench.script.now) };
 }
 
 impl<'a> FaultBench<'a> {
@@ -42,16 +50,18 @@ impl<'a> FaultBench<'a> {
         start: Circuit,
         script: &'a [u8],
         session: Session,
-    ) -> FaultBench<'a>
+    ) -> Result<FaultBench<'a>, NoMemory>
         requires { HasVisibleNames start }
-        ensures { result ≡ record { start = start; script = script.now; kept = session.core.kept } }
+        ensures { IfOk result (λ bench. bench ≡ record { start = start; script = script.now; kept = session.core.kept }) }
     {
-        FaultBench {
+        let calm_from = calm_from(alloc, script)?;
+        Ok(FaultBench {
             alloc,
             start,
             script,
+            calm_from,
             session: Some(session),
-        }
+        })
     }
 
     // A session at the start in a copy of the circuit, with what the last one keeps.
@@ -66,6 +76,65 @@ impl<'a> FaultBench<'a> {
             Some(session) => session.restart(circuit),
             None => Session::new(self.alloc, circuit),
         }
+    }
+
+    /// Runs the script under a fault that the start circuit can have, and gives the verdict on its trace
+    /// beside the good one.
+    ///
+    /// Where no line of the script edits the circuit or is `keep` once it was built, the run ends at its first
+    /// strong difference: nothing after it can change the verdict, what was analysed, or what is kept.
+    pub(crate) fn judge<A: Analyst>(
+        &mut self,
+        good: &Trace,
+        fault: Fault,
+        analyst: &mut A,
+    ) -> Result<Verdict, NoMemory>
+        requires { IsFault self.old.start fault }
+        ensures verdict { IfOk result (JudgesBy (λ bad. HasTraced self.old (A.analysed analyst.old) (Some fault) bad
+            self.new (A.analysed analyst.new)) good.now) }
+        ensures start { self.new.start ≡ self.old.start }
+        ensures script { self.new.script ≡ self.old.script }
+    {
+        if self.can_end_early() {
+            self.judge_early(good, fault, analyst)
+        } else {
+            judge(self, good, fault, analyst)
+        }
+    }
+
+    // Whether there is a line of the script from which on nothing more is analysed, and what is kept stays.
+    fn can_end_early(&self) -> bool {
+        self.calm_from.is_some()
+    }
+
+    // The same, by a run that ends at its first strong difference from that line on.
+    fn judge_early<A: Analyst>(
+        &mut self,
+        good: &Trace,
+        fault: Fault,
+        analyst: &mut A,
+    ) -> Result<Verdict, NoMemory>
+        requires { IsFault self.old.start fault }
+        ensures verdict { IfOk result (JudgesBy (λ bad. HasTraced self.old (A.analysed analyst.old) (Some fault) bad
+            self.new (A.analysed analyst.new)) good.now) }
+        ensures start { self.new.start ≡ self.old.start }
+        ensures script { self.new.script ≡ self.old.script }
+    {
+        let fault = Some(fault);
+        let mut session = self.session_at_start()?;
+        put_fault(self.alloc, &mut session, &self.start, fault, analyst)?;
+        are_bounded(&session);
+        let verdict = judge_lines(
+            self.alloc,
+            &mut session,
+            self.script,
+            self.calm_from,
+            stuck_under(fault),
+            good,
+            analyst,
+        )?;
+        self.session = Some(session);
+        Ok(verdict)
     }
 }
 

@@ -17,7 +17,7 @@ use crate::counts::VerdictCounts;
 use crate::list::{FaultList, read_list};
 use crate::running::run_under;
 use cosmos_session::Session;
-use fault_sim::{Trace, Verdict, judge};
+use fault_sim::{Trace, Verdict};
 use group_analysis::Analyst;
 use netlist::Circuit;
 use port_edge::{Sink, send};
@@ -161,7 +161,7 @@ fn judge_beside<S: Sink, A: Analyst>(
 {
     // for its contract alone: a circuit keeps itself well formed
     let _graph = circuit.graph();
-    let mut bench = FaultBench::new(alloc, circuit, script, session);
+    let mut bench = FaultBench::new(alloc, circuit, script, session)?;
     judge_each(alloc, &mut bench, good, faults, out, analyst)
 }
 
@@ -185,7 +185,7 @@ fn judge_each<S: Sink, A: Analyst>(
     let mut line = LineBuf::new(alloc, FAULTS_LINE_ROOM)?;
     let mut counts = VerdictCounts::new();
     for listed in faults.items() {
-        let verdict = judge(bench, good, listed.fault, analyst)?;
+        let verdict = bench.judge(good, listed.fault, analyst)?;
         counts.add(verdict);
         send_verdict(&mut line, good, listed.line, verdict, out)?;
     }

@@ -55,8 +55,8 @@ pub(crate) fn run_under<A: Analyst>(
     Ok((trace, halt))
 }
 
-// The node that is stuck, and its state, where one is.
-fn stuck_under(fault: Option<Fault>) -> Option<(usize, Tern)>
+/// The node that is stuck, and its state, where one is.
+pub(crate) fn stuck_under(fault: Option<Fault>) -> Option<(usize, Tern)>
     ensures { result ≡ traces.stuck_under fault }
 {
     match fault {
@@ -65,16 +65,16 @@ fn stuck_under(fault: Option<Fault>) -> Option<(usize, Tern)>
     }
 }
 
-// Each session's data are bounded: a call of this is for its contract alone.
-fn are_bounded(session: &Session)
+/// Each session's data are bounded: a call of this is for its contract alone.
+pub(crate) fn are_bounded(session: &Session)
     ensures { IsBounded session.now.core }
 {
     let _circuit = session.circuit();
     let _nodes = session.state().len();
 }
 
-// Puts a fault into the circuit of a session, by its commands.
-fn put_fault<A: Analyst>(
+/// Puts a fault into the circuit of a session, by its commands.
+pub(crate) fn put_fault<A: Analyst>(
     alloc: Global,
     session: &mut Session,
     start: &Circuit,

@@ -113,7 +113,7 @@ returns-in_err-send_verdict-clause-told g c =
     rw stop.1
     (subst (λ (faults : List ListedFault). IsStopped (TellsJudged start script good kept faults) before last) c.items-listed-items.ensures
     (stopped_in_line start script good kept all before asked c.requires.circuit faulty bench place after told counts come listed
-    c.loop-listed-test.true here c.judge.new.bench (g.A.Analyst.analysed c.judge.new.analyst) c.in_ok-verdict.verdict c.in_ok-verdict.ensures.verdict
+    c.loop-listed-test.true here c.judge.new.self (g.A.Analyst.analysed c.judge.new.analyst) c.in_ok-verdict.verdict c.in_ok-verdict.ensures.verdict
     last c.in_err-send_verdict.ensures.part))
 
 pub loop-listed-preserved : goal.loop-listed-preserved
@@ -137,7 +137,7 @@ loop-listed-preserved g c =
     let here : listed ≡ get_or all place listed = get_or_default all place first listed c.loop-listed-test.true in
     record {
       come = judged_on start script good kept all before asked c.requires.circuit faulty bench place after told counts come listed
-          c.loop-listed-test.true here c.judge.new.bench (g.A.Analyst.analysed c.judge.new.analyst) c.in_ok-verdict.verdict
+          c.loop-listed-test.true here c.judge.new.self (g.A.Analyst.analysed c.judge.new.analyst) c.in_ok-verdict.verdict
           c.in_ok-verdict.ensures.verdict (g.S.Sink.written c.send_verdict.new.out) c.add.new.self c.add.ensures c.in_ok-send_verdict.ensures.ok;
       faults = c.in_ok-send_verdict.ensures.write ∙ c.loop-listed.invariant.faults;
       refusals = c.in_ok-send_verdict.ensures.refused ∙ c.loop-listed.invariant.refusals;
