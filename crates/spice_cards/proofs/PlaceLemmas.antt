@@ -2,8 +2,10 @@
 use Rattle.std.proofs.Common.{◌≡◌, ℕ, ◌+◌, ◌-◌, Bool, true, false, cond, ltb, List, [], ◌∷◌, length, take, drop, position, Option, Some, None, refl, sym, ◌∙◌, ap, arith, lt-ltb, not, suc, inl, inr, ◌≤◌, ◌<◌}
 use Rattle.std.specs.List.{after_first, before_first, position_or_len}
 use Rattle.std.proofs.lemmas.Bool.{cases_lt, cond-true}
-use Rattle.std.proofs.lemmas.List.{drop_all, take_all}
+use Rattle.std.proofs.lemmas.List.{at_drop_more, drop_all, take_all}
 use Rattle.line_words.proofs.CutLemmas.{rest_from}
+use Rattle.spice_cards.specs.CardLines.{head_of}
+use Rattle.spice_cards.specs.Reading.{word_at}
 
 -- the place of the first that passes is where the search for it ends
 place : {X : Type 0} (p : X → Bool) (xs : List X) (at : ℕ) → position p xs ≡ Some at → position_or_len p xs ≡ at
@@ -52,3 +54,21 @@ before_first-more p x xs passes =
   where
     one_more : (n : ℕ) → 1 + n ≡ suc n
     one_more n = omega arith
+
+-- ---- words by their places
+
+-- the words that are left at a place begin with the one there
+pub left-first : (words : List (List ℕ)) (place : ℕ) → place < length words → drop place words ≡ word_at words place ∷ drop (place + 1) words
+left-first words place low =
+    let first = at_drop_more (λ (ws : List (List ℕ)). ws) words place [] low in
+    first ∙ ap (λ (word : List ℕ). word ∷ drop (place + 1) words) (sym (ap head_of first))
+
+-- they end behind a word that doesn't pass
+pub end-later : (p : List ℕ → Bool) (words : List (List ℕ)) (place : ℕ) → place < length words → p (word_at words place) ≡ false →
+    place + position_or_len p (drop place words) ≡ position_or_len p words →
+    place + 1 + position_or_len p (drop (place + 1) words) ≡ position_or_len p words
+end-later p words place low goes_on seen =
+    let one_more : position_or_len p (drop place words) ≡ 1 + position_or_len p (drop (place + 1) words) =
+    ap (position_or_len p) (left-first words place low)
+    ∙ ap (λ (passes : Bool). cond (not passes) (1 + position_or_len p (drop (place + 1) words)) 0) goes_on in
+    omega (arith, one_more, seen)

@@ -1,11 +1,12 @@
 -- The pool of a deck's words: a part keeps its words while the words behind them come and go.
 use Rattle.std.proofs.Common.{◌≡◌, ℕ, ◌+◌, ◌-◌, ◌<◌, ◌≤◌, List, [], ◌∷◌, ◌++◌, All, length, map, take, drop, refl, sym, ◌∙◌, ap, arith, length-append, length-drop}
-use Rattle.std.proofs.lemmas.List.{drop-append-le, drop-map, drop-take, drop_all, length-take-le, map-append, take-append-le, take-map, take-take, take_all}
+use Rattle.std.proofs.lemmas.List.{drop-append-le, drop-map, drop-take, drop_all, length-map, length-take-le, map-append, take-append-le, take-map, take-take, take_all}
 use Rattle.std.proofs.lemmas.List.Elements.{All-head, All-tail}
 use Rattle.spice_cards.specs.declared.places.PartPlace.{PartPlace}
+use Rattle.spice_cards.specs.declared.places.Span.{Span}
 use Rattle.spice_cards.specs.declared.sorts.PartSort.{PartSort}
 use Rattle.spice_cards.specs.Decks.{PartCard}
-use Rattle.spice_cards.specs.Pools.{IsPlace, IsPool, PoolData, part_at, parts_at, pool_of, with_inside, with_outside}
+use Rattle.spice_cards.specs.Pools.{IsPlace, IsPool, IsSpan, PoolData, part_at, parts_at, pool_of, with_inside, with_outside, word_of, words_at}
 
 -- a slice ends where the words that are taken for it end
 slice_is : (words : List (List ℕ)) (first end : ℕ) → first ≤ end → take (end - first) (drop first words) ≡ drop first (take end words)
@@ -30,15 +31,21 @@ parts_at-same kept words others (at ∷ places) are alike =
     ap (λ part. part ∷ parts_at words places) (part_at-same kept words others at (All-head (IsPlace kept) at places are) alike)
     ∙ ap (λ parts. part_at others at ∷ parts) (parts_at-same kept words others places (All-tail (IsPlace kept) at places are) alike)
 
+-- as many words as are kept are among so many, and each part has its words among them
+record IsKept (count kept : ℕ) (outside_places inside_places : List PartPlace) : Type 0 where
+  counted : kept ≤ count
+  outside : All (IsPlace kept) outside_places
+  inside : All (IsPlace kept) inside_places
+
 -- nothing is pending of words that end where those of the parts end
 none_pending : (n : ℕ) (words : List (List ℕ)) → n ≤ length words → drop n (take n words) ≡ []
 none_pending n words within = drop_all n (take n words) (let long = length-take-le n words within in omega arith)
 
 -- the pool without the pending words
-pub pool_of-cleared : (words left : List (List ℕ)) (kept : ℕ) (outside inside : List PartPlace) (before : PoolData) →
-    IsPool (length words) kept outside inside → left ≡ take kept words → pool_of words kept outside inside ≡ before →
+words-cleared : (words left : List (List ℕ)) (kept : ℕ) (outside inside : List PartPlace) (before : PoolData) →
+    IsKept (length words) kept outside inside → left ≡ take kept words → pool_of words kept outside inside ≡ before →
     pool_of left kept outside inside ≡ record { outside = before.outside; inside = before.inside; pending = [] }
-pool_of-cleared words left kept outside inside before is cut seen =
+words-cleared words left kept outside inside before is cut seen =
     let alike : take kept left ≡ take kept words = ap (take kept) cut ∙ take-take kept kept words (omega arith) in
     let out = parts_at-same kept left words outside is.outside alike ∙ ap (λ (p : PoolData). p.outside) seen in
     let within = parts_at-same kept left words inside is.inside alike ∙ ap (λ (p : PoolData). p.inside) seen in
@@ -46,10 +53,10 @@ pool_of-cleared words left kept outside inside before is cut seen =
     λ j. record { outside = out j; inside = within j; pending = none j }
 
 -- the pool with one more pending word
-pub pool_of-added : (words more : List (List ℕ)) (word : List ℕ) (kept : ℕ) (outside inside : List PartPlace) (before : PoolData) →
-    IsPool (length words) kept outside inside → more ≡ words ++ word ∷ [] → pool_of words kept outside inside ≡ before →
+words-added : (words more : List (List ℕ)) (word : List ℕ) (kept : ℕ) (outside inside : List PartPlace) (before : PoolData) →
+    IsKept (length words) kept outside inside → more ≡ words ++ word ∷ [] → pool_of words kept outside inside ≡ before →
     pool_of more kept outside inside ≡ record { outside = before.outside; inside = before.inside; pending = before.pending ++ word ∷ [] }
-pool_of-added words more word kept outside inside before is grown seen =
+words-added words more word kept outside inside before is grown seen =
     let alike : take kept more ≡ take kept words = ap (take kept) grown ∙ take-append-le kept words (word ∷ []) is.counted in
     let out = parts_at-same kept more words outside is.outside alike ∙ ap (λ (p : PoolData). p.outside) seen in
     let within = parts_at-same kept more words inside is.inside alike ∙ ap (λ (p : PoolData). p.inside) seen in
@@ -84,11 +91,11 @@ grown_parts words left kept count places more at are within cut grown first end 
     ∙ ap (λ parts. parts ++ part_at left at ∷ []) old ∙ ap (λ p. parts_at words places ++ p ∷ []) part
 
 -- the pool with the first pending words as one more part outside subcircuits
-pub pool_of-outside : (words left : List (List ℕ)) (kept count : ℕ) (outside more inside : List PartPlace) (at : PartPlace) (line : ℕ) (before : PoolData) →
-    IsPool (length words) kept outside inside → pool_of words kept outside inside ≡ before → count ≤ length before.pending →
+words-outside : (words left : List (List ℕ)) (kept count : ℕ) (outside more inside : List PartPlace) (at : PartPlace) (line : ℕ) (before : PoolData) →
+    IsKept (length words) kept outside inside → pool_of words kept outside inside ≡ before → count ≤ length before.pending →
     left ≡ take (kept + count) words → more ≡ outside ++ at ∷ [] → at.first ≡ kept → at.end ≡ kept + count → at.line ≡ line →
     pool_of left (kept + count) more inside ≡ with_outside before (record { line = line; sort = at.sort; words = take count before.pending })
-pool_of-outside words left kept count outside more inside at line before is seen room cut grown first end numbered =
+words-outside words left kept count outside more inside at line before is seen room cut grown first end numbered =
     let within : kept + count ≤ length words = omega (arith, ap (λ (p : PoolData). length p.pending) seen, length-drop kept words, is.counted, room) in
     let alike : take kept left ≡ take kept words = ap (take kept) cut ∙ take-take kept (kept + count) words (omega arith) in
     let here : parts_at left more ≡ before.outside ++ record { line = line; sort = at.sort; words = take count before.pending } ∷ [] =
@@ -100,11 +107,11 @@ pool_of-outside words left kept count outside more inside at line before is seen
     λ j. record { outside = here j; inside = others j; pending = none j }
 
 -- and as one more part inside
-pub pool_of-inside : (words left : List (List ℕ)) (kept count : ℕ) (outside inside more : List PartPlace) (at : PartPlace) (line : ℕ) (before : PoolData) →
-    IsPool (length words) kept outside inside → pool_of words kept outside inside ≡ before → count ≤ length before.pending →
+words-inside : (words left : List (List ℕ)) (kept count : ℕ) (outside inside more : List PartPlace) (at : PartPlace) (line : ℕ) (before : PoolData) →
+    IsKept (length words) kept outside inside → pool_of words kept outside inside ≡ before → count ≤ length before.pending →
     left ≡ take (kept + count) words → more ≡ inside ++ at ∷ [] → at.first ≡ kept → at.end ≡ kept + count → at.line ≡ line →
     pool_of left (kept + count) outside more ≡ with_inside before (record { line = line; sort = at.sort; words = take count before.pending })
-pool_of-inside words left kept count outside inside more at line before is seen room cut grown first end numbered =
+words-inside words left kept count outside inside more at line before is seen room cut grown first end numbered =
     let within : kept + count ≤ length words = omega (arith, ap (λ (p : PoolData). length p.pending) seen, length-drop kept words, is.counted, room) in
     let alike : take kept left ≡ take kept words = ap (take kept) cut ∙ take-take kept (kept + count) words (omega arith) in
     let here : parts_at left more ≡ before.inside ++ record { line = line; sort = at.sort; words = take count before.pending } ∷ [] =
@@ -120,3 +127,88 @@ pub parts_at-slice : (words : List (List ℕ)) (places : List PartPlace) (first 
     parts_at words (take count (drop first places)) ≡ take count (drop first (parts_at words places))
 parts_at-slice words places first count =
     sym (take-map (part_at words) count (drop first places)) ∙ ap (take count) (sym (drop-map (part_at words) first places))
+
+-- ---- words by their places
+
+-- some of the words at places, from the first on
+words_at-take : (text : List ℕ) (words left : List Span) (n : ℕ) → left ≡ take n words → words_at text left ≡ take n (words_at text words)
+words_at-take text words left n cut = ap (words_at text) cut ∙ sym (take-map (word_of text) n words)
+
+-- what is kept of a pool, by its words
+kept_of : (text : List ℕ) (words : List Span) (kept : ℕ) (outside inside : List PartPlace) → IsPool (length text) words kept outside inside →
+    IsKept (length (words_at text words)) kept outside inside
+kept_of text words kept outside inside is = record {
+  counted = omega (arith, length-map words (word_of text), is.counted);
+  outside = is.outside;
+  inside = is.inside;
+}
+
+-- the pool without the pending words
+pub pool_of-cleared : (text : List ℕ) (words left : List Span) (kept : ℕ) (outside inside : List PartPlace) (before : PoolData) →
+    IsPool (length text) words kept outside inside → left ≡ take kept words → pool_of (words_at text words) kept outside inside ≡ before →
+    pool_of (words_at text left) kept outside inside ≡ record { outside = before.outside; inside = before.inside; pending = [] }
+pool_of-cleared text words left kept outside inside before is cut seen =
+    words-cleared (words_at text words) (words_at text left) kept outside inside before (kept_of text words kept outside inside is)
+    (words_at-take text words left kept cut) seen
+
+-- words stay where they are in a text that grows
+words_at-grown : (text more : List ℕ) (words : List Span) → All (IsSpan (length text)) words → words_at (text ++ more) words ≡ words_at text words
+words_at-grown text more [] are = refl
+words_at-grown text more (span ∷ words) are =
+    let is = All-head (IsSpan (length text)) span words are in
+    let rest : drop span.at (text ++ more) ≡ drop span.at text ++ more = drop-append-le span.at text more (omega (arith, is.ordered, is.within)) in
+    let same : word_of (text ++ more) span ≡ word_of text span =
+    ap (take (span.end - span.at)) rest
+    ∙ take-append-le (span.end - span.at) (drop span.at text) more (omega (arith, length-drop span.at text, is.ordered, is.within)) in
+    ap (λ (word : List ℕ). word ∷ words_at (text ++ more) words) same
+    ∙ ap (λ (ws : List (List ℕ)). word_of text span ∷ ws) (words_at-grown text more words (All-tail (IsSpan (length text)) span words are))
+
+-- the word behind a text
+word_of-last : (text word : List ℕ) (span : Span) → span.at ≡ length text → span.end ≡ length text + length word → word_of (text ++ word) span ≡ word
+word_of-last text word span begins ends =
+    let size : span.end - span.at ≡ length word = omega (arith, begins, ends) in
+    ap (λ n. take n (drop span.at (text ++ word))) size
+    ∙ ap (λ n. take (length word) (drop n (text ++ word))) begins
+    ∙ ap (take (length word)) (drop-append-le (length text) text word (omega arith) ∙ ap (λ (left : List ℕ). left ++ word) (drop_all (length text) text (omega arith)))
+    ∙ take_all (length word) word (omega arith)
+
+-- the words with one more, whose bytes come behind those of the others
+words_at-added : (text word more : List ℕ) (words all : List Span) (span : Span) → All (IsSpan (length text)) words → more ≡ text ++ word →
+    all ≡ words ++ span ∷ [] → span.at ≡ length text → span.end ≡ length text + length word →
+    words_at more all ≡ words_at text words ++ word ∷ []
+words_at-added text word more words all span are grown added begins ends =
+    ap (λ (t : List ℕ). words_at t all) grown
+    ∙ ap (words_at (text ++ word)) added
+    ∙ map-append (word_of (text ++ word)) words (span ∷ [])
+    ∙ ap (λ (ws : List (List ℕ)). ws ++ word_of (text ++ word) span ∷ []) (words_at-grown text word words are)
+    ∙ ap (λ (w : List ℕ). words_at text words ++ w ∷ []) (word_of-last text word span begins ends)
+
+-- the pool with one more pending word
+pub pool_of-added : (text word more : List ℕ) (words all : List Span) (span : Span) (kept : ℕ) (outside inside : List PartPlace) (before : PoolData) →
+    IsPool (length text) words kept outside inside → more ≡ text ++ word → all ≡ words ++ span ∷ [] →
+    span.at ≡ length text → span.end ≡ length text + length word → pool_of (words_at text words) kept outside inside ≡ before →
+    pool_of (words_at more all) kept outside inside
+    ≡ record { outside = before.outside; inside = before.inside; pending = before.pending ++ word ∷ [] }
+pool_of-added text word more words all span kept outside inside before is grown added begins ends seen =
+    words-added (words_at text words) (words_at more all) word kept outside inside before (kept_of text words kept outside inside is)
+    (words_at-added text word more words all span is.words grown added begins ends) seen
+
+-- the pool with the first pending words as one more part outside subcircuits
+pub pool_of-outside : (text : List ℕ) (words left : List Span) (kept count : ℕ) (outside more inside : List PartPlace) (at : PartPlace) (line : ℕ) (before : PoolData) →
+    IsPool (length text) words kept outside inside → pool_of (words_at text words) kept outside inside ≡ before → count ≤ length before.pending →
+    left ≡ take (kept + count) words → more ≡ outside ++ at ∷ [] → at.first ≡ kept → at.end ≡ kept + count → at.line ≡ line →
+    pool_of (words_at text left) (kept + count) more inside
+    ≡ with_outside before (record { line = line; sort = at.sort; words = take count before.pending })
+pool_of-outside text words left kept count outside more inside at line before is seen room cut grown first end numbered =
+    words-outside (words_at text words) (words_at text left) kept count outside more inside at line before (kept_of text words kept outside inside is)
+    seen room (words_at-take text words left (kept + count) cut) grown first end numbered
+
+-- and as one more part inside
+pub pool_of-inside : (text : List ℕ) (words left : List Span) (kept count : ℕ) (outside inside more : List PartPlace) (at : PartPlace) (line : ℕ) (before : PoolData) →
+    IsPool (length text) words kept outside inside → pool_of (words_at text words) kept outside inside ≡ before → count ≤ length before.pending →
+    left ≡ take (kept + count) words → more ≡ inside ++ at ∷ [] → at.first ≡ kept → at.end ≡ kept + count → at.line ≡ line →
+    pool_of (words_at text left) (kept + count) outside more
+    ≡ with_inside before (record { line = line; sort = at.sort; words = take count before.pending })
+pool_of-inside text words left kept count outside inside more at line before is seen room cut grown first end numbered =
+    words-inside (words_at text words) (words_at text left) kept count outside inside more at line before (kept_of text words kept outside inside is)
+    seen room (words_at-take text words left (kept + count) cut) grown first end numbered

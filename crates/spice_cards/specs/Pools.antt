@@ -1,6 +1,8 @@
--- The words and parts of a deck, as they are kept: all words in one list, and for each part the place of its own.
-use Rattle.std.specs.Prelude.{ℕ, ◌-◌, ◌≤◌, Bool, not, ◌&&◌, List, [], ◌∷◌, ◌++◌, All, filter, map, take, drop}
+-- The words and parts of a deck, as they are kept: the bytes of all words one behind the other, the places of the words among these
+-- bytes in one list, and for each part the place of its own words in that list.
+use Rattle.std.specs.Prelude.{ℕ, ◌-◌, ◌≤◌, Bool, not, ◌&&◌, List, [], ◌∷◌, ◌++◌, All, filter, length, map, take, drop}
 use Rattle.spice_cards.specs.declared.places.PartPlace.{PartPlace}
+use Rattle.spice_cards.specs.declared.places.Span.{Span}
 use Rattle.spice_cards.specs.CardSorts.{is_setting}
 use Rattle.spice_cards.specs.Decks.{PartCard}
 
@@ -9,6 +11,14 @@ pub record PoolData : Type 0 where
   pub outside : List PartCard
   pub inside : List PartCard
   pub pending : List (List ℕ)
+
+-- the bytes of a word
+abbrev pub word_of : List ℕ → Span → List ℕ
+word_of text span = take (span.end - span.at) (drop span.at text)
+
+-- the words at these places of a text
+abbrev pub words_at : List ℕ → List Span → List (List ℕ)
+words_at text spans = map (word_of text) spans
 
 -- the part at a place
 abbrev pub part_at : List (List ℕ) → PartPlace → PartCard
@@ -36,9 +46,15 @@ with_outside pool part = record { outside = pool.outside ++ part ∷ []; inside 
 abbrev pub with_inside : PoolData → PartCard → PoolData
 with_inside pool part = record { outside = pool.outside; inside = pool.inside ++ part ∷ []; pending = [] }
 
--- the pool is well formed: as many words as are kept are there, and each part has its words among them
-pub record IsPool (count kept : ℕ) (outside_places inside_places : List PartPlace) : Type 0 where
-  pub counted : kept ≤ count
+-- the word is within so many bytes
+pub record IsSpan (count : ℕ) (span : Span) : Type 0 where
+  pub ordered : span.at ≤ span.end
+  pub within : span.end ≤ count
+
+-- the pool is well formed: each word is within so many bytes, as many words as are kept are there, and each part has its words among them
+pub record IsPool (bytes : ℕ) (spans : List Span) (kept : ℕ) (outside_places inside_places : List PartPlace) : Type 0 where
+  pub words : All (IsSpan bytes) spans
+  pub counted : kept ≤ length spans
   pub outside : All (IsPlace kept) outside_places
   pub inside : All (IsPlace kept) inside_places
 

@@ -1,6 +1,6 @@
 //! The readers of a line of a deck, and of each sort of card.
 
-ghost use Rattle.std.specs.Prelude.{◌≡◌, ◌≤◌, ◌∷◌, true, false, List, ℕ, length, take, drop, position, IfErr, OnOk, Ok, Err, Some, None};
+ghost use Rattle.std.specs.Prelude.{◌≡◌, ◌≤◌, ◌∷◌, true, false, List, ℕ, length, take, drop, IfErr, OnOk, Ok, Err, Some, None};
 ghost use Rattle.std.specs.List.{before_first};
 ghost use Rattle.line_words.specs.Files as files;
 ghost use Rattle.spice_cards.specs.CardLines as lines;
@@ -11,12 +11,12 @@ ghost use Rattle.spice_cards.specs.Stops.{IsStop};
 
 use crate::fault::{CardStop, DeckWhat};
 use crate::lines::DeckLines;
-use crate::reading::{Reading, word_at};
+use crate::reading::Reading;
 use crate::sorts::{
     CardSort, LineSort, PartSort, Strength, begins, card_sort, first_word, is_end, is_params,
     is_setting, kind_of_type, line_fault, line_sort, strength_set,
 };
-use crate::word::Word;
+use crate::words::Words;
 
 /// How many words of a transistor's card count: its name, drain, gate, source, bulk and model.
 pub const TRANSISTOR_WORDS: usize = 6;
@@ -27,12 +27,12 @@ pub const TRANSISTOR_WORDS: usize = 6;
 /// long; it has a bad byte; it begins no card; its card has too few words; subcircuits don't begin
 /// and end in turn; a subcircuit is defined already.
 #[tactic(auto, unfolding(crate::specs::Reading::line_meaning))]
-pub(crate) fn read_line<'a>(
-    reading: &mut Reading<'a>,
+pub(crate) fn read_line(
+    reading: &mut Reading,
     cut: Option<u64>,
     number: u64,
-    bytes: &'a [u8],
-    later: &DeckLines<'a>,
+    bytes: &[u8],
+    later: &DeckLines<'_>,
 ) -> Result<(), CardStop>
     ensures ok { OnOk result
         (spec.line_meaning cut reading.old.so_far (number, bytes.now) later.now ≡ Ok reading.new.so_far) }
@@ -63,11 +63,11 @@ fn refuse(what: DeckWhat) -> Result<(), CardStop>
 }
 
 // Reads a line that has no fault as a line.
-fn read_sorted<'a>(
-    reading: &mut Reading<'a>,
+fn read_sorted(
+    reading: &mut Reading,
     number: u64,
-    bytes: &'a [u8],
-    later: &DeckLines<'a>,
+    bytes: &[u8],
+    later: &DeckLines<'_>,
 ) -> Result<(), CardStop>
     ensures ok { OnOk result
         (spec.sorted_meaning reading.old.so_far (number, bytes.now) (line_sort bytes.now) later.now ≡ Ok reading.new.so_far) }
@@ -91,11 +91,11 @@ fn read_sorted<'a>(
 }
 
 // Reads the card that a line begins.
-fn read_card<'a>(
-    reading: &mut Reading<'a>,
+fn read_card(
+    reading: &mut Reading,
     number: u64,
-    bytes: &'a [u8],
-    later: &DeckLines<'a>,
+    bytes: &[u8],
+    later: &DeckLines<'_>,
 ) -> Result<(), CardStop>
     ensures ok { OnOk result (spec.card_meaning reading.old.so_far number (sorts.card_sort (first_word bytes.now))
         (card_words bytes.now later.now) (lines.is_ended later.now) ≡ Ok reading.new.so_far) }
@@ -115,11 +115,11 @@ fn read_card<'a>(
 }
 
 // Reads a transistor.
-fn read_transistor<'a>(
-    reading: &mut Reading<'a>,
+fn read_transistor(
+    reading: &mut Reading,
     number: u64,
-    bytes: &'a [u8],
-    later: &DeckLines<'a>,
+    bytes: &[u8],
+    later: &DeckLines<'_>,
 ) -> Result<(), CardStop>
     ensures ok { OnOk result
         (spec.transistor_meaning reading.old.so_far number (card_words bytes.now later.now) ≡ Ok reading.new.so_far) }
@@ -130,28 +130,28 @@ fn read_transistor<'a>(
     if reading.words().len() < TRANSISTOR_WORDS {
         return refuse(DeckWhat::FewWords);
     }
-    let strength = strength_of(&reading.words()[1..]);
+    let strength = strength_of(reading.words().behind(1));
     reading.keep(number, PartSort::Transistor(strength), TRANSISTOR_WORDS)?;
     Ok(())
 }
 
 // The strength that a transistor's card sets, by its words after its name.
-fn strength_of(words: &[Word<'_>]) -> Strength
-    ensures { result ≡ sorts.strength_of words.now }
+fn strength_of(words: Words<'_>) -> Strength
+    ensures { result ≡ sorts.strength_of words.entry }
 {
     let mut strength = Strength::Usual;
     for word in words {
-        strength = strength_set(strength, word.bytes());
+        strength = strength_set(strength, word);
     }
     strength
 }
 
 // Reads a call.
-fn read_call<'a>(
-    reading: &mut Reading<'a>,
+fn read_call(
+    reading: &mut Reading,
     number: u64,
-    bytes: &'a [u8],
-    later: &DeckLines<'a>,
+    bytes: &[u8],
+    later: &DeckLines<'_>,
 ) -> Result<(), CardStop>
     ensures ok { OnOk result (spec.call_meaning reading.old.so_far number (sorts.call_words (card_words bytes.now later.now))
         ≡ Ok reading.new.so_far) }
@@ -168,49 +168,44 @@ fn read_call<'a>(
 }
 
 // How many words of a call count.
-fn call_count(words: &[Word<'_>]) -> usize
-    ensures words { take result words.now ≡ sorts.call_words words.now }
-    ensures count { length (sorts.call_words words.now) ≡ result }
-    ensures within { result ≤ length words.now }
+fn call_count(mut words: Words<'_>) -> usize
+    ensures words { take result words.entry ≡ sorts.call_words words.entry }
+    ensures count { length (sorts.call_words words.entry) ≡ result }
+    ensures within { result ≤ length words.entry }
 {
-    match words {
-        [_, rest @ ..] => 1 + end_count(rest),
-        [] => 0,
+    match words.next() {
+        Some(_) => 1 + end_count(words),
+        None => 0,
     }
 }
 
 // How many words stand before the one at which a call ends.
-fn end_count(words: &[Word<'_>]) -> usize
-    ensures words { take result words.now ≡ before_first sorts.ends_call words.now }
-    ensures count { length (before_first sorts.ends_call words.now) ≡ result }
-    ensures within { result ≤ length words.now }
+fn end_count(words: Words<'_>) -> usize
+    ensures words { take result words.entry ≡ before_first sorts.ends_call words.entry }
+    ensures count { length (before_first sorts.ends_call words.entry) ≡ result }
+    ensures within { result ≤ length words.entry }
 {
-    match call_end(words) {
-        Some(at) => at,
-        None => words.len(),
+    for place in 0..words.len() {
+        if ends_call(words.at(place)) {
+            return place;
+        }
     }
-}
-
-// The place of the word at which a call ends.
-fn call_end(words: &[Word<'_>]) -> Option<usize>
-    ensures { result ≡ position sorts.ends_call words.now }
-{
-    words.iter().position(ends_call)
+    words.len()
 }
 
 // Whether a call ends at this word.
-fn ends_call(word: &Word<'_>) -> bool
+fn ends_call(word: &[u8]) -> bool
     ensures { result ≡ sorts.ends_call word.now }
 {
-    is_setting(word.bytes()) || is_params(word.bytes())
+    is_setting(word) || is_params(word)
 }
 
 // Reads a subcircuit that begins.
-fn read_opening<'a>(
-    reading: &mut Reading<'a>,
+fn read_opening(
+    reading: &mut Reading,
     number: u64,
-    bytes: &'a [u8],
-    later: &DeckLines<'a>,
+    bytes: &[u8],
+    later: &DeckLines<'_>,
 ) -> Result<(), CardStop>
     ensures ok { OnOk result (spec.opening_meaning reading.old.so_far number (sorts.opening_words (card_words bytes.now later.now))
         (lines.is_ended later.now) ≡ Ok reading.new.so_far) }
@@ -225,30 +220,25 @@ fn read_opening<'a>(
     if reading.is_inside() || !is_ended(later.ahead()) {
         return refuse(DeckWhat::BadNesting);
     }
-    if reading.has_subcircuit(word_at(&reading.words()[..count], 1)) {
+    if reading.has_subcircuit(reading.words().front(count).at(1)) {
         return refuse(DeckWhat::Redefined);
     }
     reading.begin(number, count)?;
     Ok(())
 }
 
-// How many words of a `.subckt` count.
-fn opening_count(words: &[Word<'_>]) -> usize
-    ensures words { take result words.now ≡ before_first sorts.is_params words.now }
-    ensures count { length (before_first sorts.is_params words.now) ≡ result }
-    ensures within { result ≤ length words.now }
+// How many words of a `.subckt` count: those before the one behind which parameters stand.
+fn opening_count(words: Words<'_>) -> usize
+    ensures words { take result words.entry ≡ before_first sorts.is_params words.entry }
+    ensures count { length (before_first sorts.is_params words.entry) ≡ result }
+    ensures within { result ≤ length words.entry }
 {
-    match params_place(words) {
-        Some(at) => at,
-        None => words.len(),
+    for place in 0..words.len() {
+        if is_params(words.at(place)) {
+            return place;
+        }
     }
-}
-
-// The place of the word behind which parameters stand.
-fn params_place(words: &[Word<'_>]) -> Option<usize>
-    ensures { result ≡ position sorts.is_params words.now }
-{
-    words.iter().position(|word| is_params(word.bytes()))
+    words.len()
 }
 
 // Whether a subcircuit that begins before these lines is ended.
@@ -267,11 +257,7 @@ fn is_ended(later: DeckLines<'_>) -> bool
 }
 
 // Reads a `.model` card.
-fn read_model<'a>(
-    reading: &mut Reading<'a>,
-    bytes: &'a [u8],
-    later: &DeckLines<'a>,
-) -> Result<(), CardStop>
+fn read_model(reading: &mut Reading, bytes: &[u8], later: &DeckLines<'_>) -> Result<(), CardStop>
     ensures ok { OnOk result
         (spec.model_meaning reading.old.so_far (card_words bytes.now later.now) ≡ Ok reading.new.so_far) }
     ensures refused { IfErr result
@@ -281,19 +267,15 @@ fn read_model<'a>(
     if reading.words().len() < 3 {
         return refuse(DeckWhat::FewWords);
     }
-    match kind_of_type(word_at(reading.words(), 2)) {
-        Some(kind) => reading.put_model(word_at(reading.words(), 1), kind)?,
+    match kind_of_type(reading.words().at(2)) {
+        Some(kind) => reading.put_model(kind)?,
         None => {}
     }
     Ok(())
 }
 
 // Reads a `.global` card.
-fn read_globals<'a>(
-    reading: &mut Reading<'a>,
-    bytes: &'a [u8],
-    later: &DeckLines<'a>,
-) -> Result<(), CardStop>
+fn read_globals(reading: &mut Reading, bytes: &[u8], later: &DeckLines<'_>) -> Result<(), CardStop>
     ensures ok { OnOk result (reading.new.so_far
         ≡ spec.globals_meaning reading.old.so_far (drop 1 (card_words bytes.now later.now))) }
     ensures refused { IfErr result (λ stop. stop ≡ CardStop.NoMemory) }

@@ -1,6 +1,6 @@
 //! A deck, and the reader of one.
 
-ghost use Rattle.std.specs.Prelude.{◌≡◌, map, drop, is_some, IfOk, IfErr, IfSome, IsNone, Ok, Some, None};
+ghost use Rattle.std.specs.Prelude.{◌≡◌, map, is_some, IfOk, IfErr, IfSome, IsNone, Ok, Some, None};
 ghost use Rattle.std.specs.Char.{to_ascii_lowercase};
 ghost use Rattle.std.specs.List.{enumerate_from};
 ghost use Rattle.line_words.specs.Lines.{lines_of};
@@ -16,7 +16,7 @@ use crate::lines::DeckLines;
 use crate::parts::Parts;
 use crate::reading::Reading;
 use crate::sorts::is_end;
-use crate::word::Word;
+use crate::words::Words;
 use line_words::{LONGEST_LINE, front};
 use path_meaning::SwitchKind;
 use std::alloc::Global;
@@ -26,11 +26,11 @@ use ternary::NoMemory;
 
 /// The cards of a deck.
 #[derive(Drop)]
-pub struct Deck<'a> {
-    reading: Reading<'a>,
+pub struct Deck {
+    reading: Reading,
 }
 
-impl<'a> Model for Deck<'a> {
+impl Model for Deck {
     ghost use Rattle.spice_cards.specs.Decks.{DeckCards};
 
     ghost Value = { DeckCards };
@@ -40,27 +40,27 @@ impl<'a> Model for Deck<'a> {
 
 /// A subcircuit of a deck.
 #[derive(Drop)]
-pub struct Subcircuit<'d, 'a> {
+pub struct Subcircuit<'d> {
     /// The line of its `.subckt`, by which it is told from others.
     pub line: u64,
     /// Its ports.
-    pub ports: &'d [Word<'a>],
+    pub ports: Words<'d>,
     /// Its parts.
-    pub parts: Parts<'d, 'a>,
+    pub parts: Parts<'d>,
 }
 
-impl<'a> Deck<'a> {
+impl Deck {
     /// The parts outside subcircuits.
-    pub fn outside(&self) -> Parts<'_, 'a>
+    pub fn outside(&self) -> Parts<'_>
         ensures { result ≡ self.now.outside }
     {
         self.reading.outside()
     }
 
     /// The subcircuit of this name, where there is one.
-    pub fn find(&self, name: &[u8]) -> Option<Subcircuit<'_, 'a>>
+    pub fn find(&self, name: &[u8]) -> Option<Subcircuit<'_>>
         ensures found { IfSome result (λ s. named self.now.subcircuits name.now
-            ≡ Some (record { line = s.line; ports = s.ports.now; parts = s.parts })) }
+            ≡ Some (record { line = s.line; ports = s.ports; parts = s.parts })) }
         ensures none { IsNone result → named self.now.subcircuits name.now ≡ None }
     {
         let Some(mut parts) = self.reading.find(name) else {
@@ -69,7 +69,7 @@ impl<'a> Deck<'a> {
         match parts.next() {
             Some(opening) => Some(Subcircuit {
                 line: opening.line,
-                ports: behind_name(opening.words),
+                ports: opening.words.behind(2),
                 parts,
             }),
             None => unreachable!(),
@@ -88,16 +88,6 @@ impl<'a> Deck<'a> {
         ensures { result ≡ is_some (named self.now.globals name.now) }
     {
         self.reading.is_global(name)
-    }
-}
-
-// The words behind the first two.
-fn behind_name<'d, 'a>(words: &'d [Word<'a>]) -> &'d [Word<'a>]
-    ensures { result.now ≡ drop 2 words.now }
-{
-    match words {
-        [_, _, ports @ ..] => ports,
-        _ => &[],
     }
 }
 
@@ -122,7 +112,7 @@ pub fn read_cards(
     keys: TableKeys,
     cut: Option<u64>,
     text: &[u8],
-) -> Result<Deck<'_>, DeckFault>
+) -> Result<Deck, DeckFault>
     ensures ok { IfOk result (λ deck.
         spec.titled_meaning cut (enumerate_from 1 (lines_of text.now)) ≡ Ok deck) }
     ensures refused { IfErr result
@@ -140,15 +130,15 @@ pub fn read_cards(
 }
 
 // Reads the lines that are left.
-fn read_lines<'a>(
-    mut reading: Reading<'a>,
+fn read_lines(
+    mut reading: Reading,
     cut: Option<u64>,
-    mut lines: DeckLines<'a>,
-) -> Result<Deck<'a>, DeckFault>
+    mut lines: DeckLines<'_>,
+) -> Result<Deck, DeckFault>
     ensures ok { IfOk result (λ deck.
-        spec.lines_meaning cut reading.entry.so_far lines.entry ≡ Ok deck) }
+        spec.lines_meaning cut reading.so_far lines.entry ≡ Ok deck) }
     ensures refused { IfErr result
-        (IsFault (spec.lines_meaning cut reading.entry.so_far lines.entry)) }
+        (IsFault (spec.lines_meaning cut reading.so_far lines.entry)) }
 {
     'lines: while let Some(line) = lines.next() {
         match read_line(&mut reading, cut, line.number, line.bytes, &lines) {
@@ -163,8 +153,8 @@ fn read_lines<'a>(
 }
 
 // The deck, unless there is a fault.
-fn unless<'a>(fault: Option<DeckFault>, deck: Deck<'a>) -> Result<Deck<'a>, DeckFault>
-    ensures { result ≡ spec.unless fault (Ok deck.entry) }
+fn unless(fault: Option<DeckFault>, deck: Deck) -> Result<Deck, DeckFault>
+    ensures { result ≡ spec.unless fault (Ok deck) }
 {
     match fault {
         Some(fault) => Err(fault),

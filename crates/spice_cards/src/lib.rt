@@ -14,9 +14,9 @@
 //! read_cards(alloc, keys, None, b"t\nq1 a b c m\n")      is refused at line 2: BadCard
 //! ```
 //!
-//! The words of a deck are slices of its folded text and stand in one list; a part has the place of
-//! its words there, in numbers of 32 bits, so that the cards of a long text take little more than
-//! their words.
+//! The words of a deck that count are copied one behind the other. They stand in one list, each by its
+//! place among all bytes, and a part has the place of its words in that list, in numbers of 32 bits, so
+//! that the cards of a long text take little more than their words; the text itself may be let go.
 //!
 //! For the proofs of crates above: `VisibleLemmas` says that the words of the parts of a deck that isn't
 //! refused are visible names, and that each part has those that it needs; `ReadingLemmas` that what a name
@@ -40,13 +40,12 @@ mod sorts;
 mod table;
 #[cfg(test)]
 mod tests;
-mod word;
+mod words;
 
 pub use cards::TRANSISTOR_WORDS;
 pub use deck::{Deck, Subcircuit, folded, read_cards};
 pub use fault::{DeckFault, DeckWhat};
 pub use parts::{Part, Parts};
-pub use reading::word_at;
 pub use report::deck_line;
 pub use sorts::{PartSort, Strength};
-pub use word::Word;
+pub use words::Words;

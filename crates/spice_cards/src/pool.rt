@@ -7,9 +7,9 @@ ghost use Rattle.spice_cards.specs.Pools.{taken, with_inside, with_outside, with
 
 use crate::lines::DeckLines;
 use crate::parts::Parts;
-use crate::places::PartPlace;
+use crate::places::{PartPlace, Span};
 use crate::sorts::{LineSort, PartSort, after_sign, ends_line, is_setting, line_sort};
-use crate::word::Word;
+use crate::words::Words;
 use line_words::words;
 use std::alloc::Global;
 use std::marker::Model;
@@ -17,33 +17,37 @@ use ternary::NoMemory;
 
 /// The words of a deck that count, in one list, and the parts with the places of their words.
 ///
-/// Behind the words of the parts stand those of the card that is being read.
+/// Behind the words of the parts stand those of the card that is being read. The bytes of the words
+/// are copied one behind the other; those of a word that was let go stay, since no more come in all
+/// than the text has.
 #[derive(Drop)]
-pub(crate) struct Pool<'a> {
-    words: Vec<Word<'a>>,
+pub(crate) struct Pool {
+    text: Vec<u8>,
+    words: Vec<Span>,
     // How many of the words are those of parts.
     kept: usize,
     outside: Vec<PartPlace>,
     inside: Vec<PartPlace>,
 }
 
-impl<'a> Model for Pool<'a> {
+impl Model for Pool {
     ghost use Rattle.std.specs.Prelude.{length};
-    ghost use Rattle.spice_cards.specs.Pools.{PoolData, IsPool, pool_of};
+    ghost use Rattle.spice_cards.specs.Pools.{PoolData, IsPool, pool_of, words_at};
 
     ghost Value = { PoolData };
 
-    ghost view = { λ pool. pool_of pool.words.items pool.kept pool.outside.items pool.inside.items };
+    ghost view = { λ pool. pool_of (words_at pool.text.items pool.words.items) pool.kept pool.outside.items pool.inside.items };
 
-    ghost invariant = { λ pool. IsPool (length pool.words.items) pool.kept pool.outside.items pool.inside.items };
+    ghost invariant = { λ pool. IsPool (length pool.text.items) pool.words.items pool.kept pool.outside.items pool.inside.items };
 }
 
-impl<'a> Pool<'a> {
+impl Pool {
     /// No words.
-    pub(crate) fn new(alloc: Global) -> Pool<'a>
+    pub(crate) fn new(alloc: Global) -> Pool
         ensures { result ≡ record { outside = []; inside = []; pending = [] } }
     {
         Pool {
+            text: Vec::new(alloc),
             words: Vec::new(alloc),
             kept: 0,
             outside: Vec::new(alloc),
@@ -52,10 +56,10 @@ impl<'a> Pool<'a> {
     }
 
     /// The words of the card that is being read.
-    pub(crate) fn pending(&self) -> &[Word<'a>]
-        ensures { result.now ≡ self.now.pending }
+    pub(crate) fn pending(&self) -> Words<'_>
+        ensures { result ≡ self.now.pending }
     {
-        &self.words[self.kept..]
+        Words::new(&self.text, &self.words).behind(self.kept)
     }
 
     /// Begins another card: no word of it was read.
@@ -66,13 +70,19 @@ impl<'a> Pool<'a> {
     }
 
     /// Adds a word of the card that is being read.
-    pub(crate) fn add(&mut self, word: &'a [u8]) -> Result<(), NoMemory>
+    pub(crate) fn add(&mut self, word: &[u8]) -> Result<(), NoMemory>
         ensures ok { OnOk result
             (self.new ≡ record self.old { pending = self.old.pending ++ word.now ∷ [] }) }
         ensures err { OnErr result (self.new ≡ self.old) }
     {
+        let at = self.text.len();
+        let span = Span {
+            at: short(at as u64)?,
+            end: short(at as u64 + word.len() as u64)?,
+        };
         self.words.reserve(1)?;
-        self.words.push_reserved(Word::new(word));
+        self.text.extend_from_slice(word)?;
+        self.words.push_reserved(span);
         Ok(())
     }
 
@@ -81,8 +91,8 @@ impl<'a> Pool<'a> {
     pub(crate) fn collect(
         &mut self,
         plain: bool,
-        bytes: &'a [u8],
-        later: DeckLines<'a>,
+        bytes: &[u8],
+        later: DeckLines<'_>,
     ) -> Result<(), NoMemory>
         ensures ok { OnOk result
             (self.new ≡ with_pending self.old (taken plain (card_words bytes.now later.entry))) }
@@ -94,7 +104,7 @@ impl<'a> Pool<'a> {
     }
 
     // Adds the words of a part of a line that count.
-    fn add_words(&mut self, plain: bool, bytes: &'a [u8]) -> Result<(), NoMemory>
+    fn add_words(&mut self, plain: bool, bytes: &[u8]) -> Result<(), NoMemory>
         ensures ok { OnOk result (self.new ≡ with_words self.old (taken plain (kept_words bytes.now))) }
         ensures stays { self.new.inside ≡ self.old.inside }
     {
@@ -110,7 +120,7 @@ impl<'a> Pool<'a> {
     }
 
     // Adds the words that the lines after a card go on with.
-    fn add_continued(&mut self, plain: bool, later: DeckLines<'a>) -> Result<(), NoMemory>
+    fn add_continued(&mut self, plain: bool, later: DeckLines<'_>) -> Result<(), NoMemory>
         ensures ok { OnOk result (self.new ≡ with_words self.old (taken plain (continued later.entry))) }
         ensures stays { self.new.inside ≡ self.old.inside }
     {
@@ -184,19 +194,22 @@ impl<'a> Pool<'a> {
     }
 
     /// The parts outside subcircuits.
-    pub(crate) fn outside_parts(&self) -> Parts<'_, 'a>
+    pub(crate) fn outside_parts(&self) -> Parts<'_>
         ensures { result ≡ self.now.outside }
     {
-        Parts::new(&self.words, &self.outside)
+        Parts::new(Words::new(&self.text, &self.words), &self.outside)
     }
 
     /// Of the parts inside subcircuits those from a place to another one.
-    pub(crate) fn inside_parts(&self, first: usize, end: usize) -> Parts<'_, 'a>
+    pub(crate) fn inside_parts(&self, first: usize, end: usize) -> Parts<'_>
         requires ordered { first ≤ end }
         requires within { end ≤ length self.now.inside }
         ensures { result ≡ take (end - first) (drop first self.now.inside) }
     {
-        Parts::new(&self.words, &self.inside[first..end])
+        Parts::new(
+            Words::new(&self.text, &self.words),
+            &self.inside[first..end],
+        )
     }
 }
 
@@ -207,7 +220,7 @@ fn is_taken(plain: bool, word: &[u8]) -> bool
     !(plain && is_setting(word))
 }
 
-/// A number of 32 bits: no text that is read has more lines or words.
+/// A number of 32 bits: no text that is read has more lines, words or bytes.
 pub(crate) fn short(number: u64) -> Result<u32, NoMemory>
     ensures { IfOk result (λ same. same ≡ number) }
 {

@@ -3,8 +3,7 @@
 ghost use Rattle.std.specs.Prelude.{◌≡◌, ◌≤◌, ◌<◌, [], ◌∷◌, true, Ok, Some, length, is_some, option_map, filter, take, drop, IfErr, IfSome, OnOk};
 ghost use Rattle.spice_cards.specs.CardLines.{card_words, head_of};
 ghost use Rattle.spice_cards.specs.CardSorts.{is_plain};
-ghost use Rattle.spice_cards.specs.Reading.{closing_meaning, globals_meaning, nothing_read, with_globals, with_model, with_part};
-ghost use Rattle.spice_cards.specs.Reading as meaning;
+ghost use Rattle.spice_cards.specs.Reading.{closing_meaning, globals_meaning, nothing_read, with_globals, with_model, with_part, word_at};
 ghost use Rattle.spice_cards.specs.Readings.{with_words_of};
 ghost use Rattle.spice_cards.specs.Readings as spec;
 ghost use Rattle.spice_cards.specs.Stops.{IsStop};
@@ -17,7 +16,7 @@ use crate::places::SubcircuitPlace;
 use crate::pool::{Pool, short};
 use crate::sorts::PartSort;
 use crate::table::Table;
-use crate::word::Word;
+use crate::words::Words;
 use path_meaning::SwitchKind;
 use std::alloc::Global;
 use std::marker::Model;
@@ -26,8 +25,8 @@ use ternary::NoMemory;
 
 /// What was read of a deck so far, and the words of the card that is being read.
 #[derive(Drop)]
-pub(crate) struct Reading<'a> {
-    pool: Pool<'a>,
+pub(crate) struct Reading {
+    pool: Pool,
     subcircuits: Table<SubcircuitPlace>,
     models: Table<SwitchKind>,
     globals: Table<()>,
@@ -36,7 +35,7 @@ pub(crate) struct Reading<'a> {
     has_card: bool,
 }
 
-impl<'a> Model for Reading<'a> {
+impl Model for Reading {
     ghost use Rattle.std.specs.Prelude.{length};
     ghost use Rattle.spice_cards.specs.Readings.{IsReading, ReadingData, reading_of};
 
@@ -47,9 +46,9 @@ impl<'a> Model for Reading<'a> {
     ghost invariant = { λ r. IsReading (length r.pool.inside) r.subcircuits r.begun };
 }
 
-impl<'a> Reading<'a> {
+impl Reading {
     /// Nothing was read. Names are hashed from these keys.
-    pub(crate) fn new(alloc: Global, keys: TableKeys) -> Reading<'a>
+    pub(crate) fn new(alloc: Global, keys: TableKeys) -> Reading
         ensures { result ≡ record { so_far = nothing_read; pending = [] } }
     {
         Reading {
@@ -63,7 +62,7 @@ impl<'a> Reading<'a> {
     }
 
     /// Reads the words of the card that a line begins.
-    pub(crate) fn collect(&mut self, bytes: &'a [u8], later: DeckLines<'a>) -> Result<(), NoMemory>
+    pub(crate) fn collect(&mut self, bytes: &[u8], later: DeckLines<'_>) -> Result<(), NoMemory>
         ensures { OnOk result
             (self.new ≡ with_words_of self.old (card_words bytes.now later.entry)) }
     {
@@ -73,8 +72,8 @@ impl<'a> Reading<'a> {
     /// Reads the words of the card that a line begins, but those that set a parameter.
     pub(crate) fn collect_plain(
         &mut self,
-        bytes: &'a [u8],
-        later: DeckLines<'a>,
+        bytes: &[u8],
+        later: DeckLines<'_>,
     ) -> Result<(), NoMemory>
         ensures { OnOk result
             (self.new ≡ with_words_of self.old (filter is_plain (card_words bytes.now later.entry))) }
@@ -83,8 +82,8 @@ impl<'a> Reading<'a> {
     }
 
     /// The words of the card that is being read.
-    pub(crate) fn words(&self) -> &[Word<'a>]
-        ensures { result.now ≡ self.now.pending }
+    pub(crate) fn words(&self) -> Words<'_>
+        ensures { result ≡ self.now.pending }
     {
         self.pool.pending()
     }
@@ -166,12 +165,12 @@ impl<'a> Reading<'a> {
         Ok(())
     }
 
-    /// Notes the kind of a model, unless the model has one.
-    pub(crate) fn put_model(&mut self, name: &[u8], kind: SwitchKind) -> Result<(), NoMemory>
+    /// Notes the kind of the model that the second word of the card names, unless the model has one.
+    pub(crate) fn put_model(&mut self, kind: SwitchKind) -> Result<(), NoMemory>
         ensures { OnOk result
-            (self.new.so_far ≡ with_model self.old.so_far name.now (Some kind)) }
+            (self.new.so_far ≡ with_model self.old.so_far (word_at self.old.pending 1) (Some kind)) }
     {
-        self.models.put_first(name, kind)
+        self.models.put_first(self.pool.pending().at(1), kind)
     }
 
     /// Notes the words of the card that is being read, but its first, as global names.
@@ -179,21 +178,18 @@ impl<'a> Reading<'a> {
         ensures { OnOk result
             (self.new.so_far ≡ globals_meaning self.old.so_far (drop 1 self.old.pending)) }
     {
-        match self.pool.pending() {
-            [_, names @ ..] => put_names(&mut self.globals, names),
-            [] => Ok(()),
-        }
+        put_names(&mut self.globals, self.pool.pending().behind(1))
     }
 
     /// The parts outside subcircuits.
-    pub(crate) fn outside(&self) -> Parts<'_, 'a>
+    pub(crate) fn outside(&self) -> Parts<'_>
         ensures { result ≡ self.now.so_far.deck.outside }
     {
         self.pool.outside_parts()
     }
 
     /// The parts of the subcircuit of this name, with its `.subckt`.
-    pub(crate) fn find(&self, name: &[u8]) -> Option<Parts<'_, 'a>>
+    pub(crate) fn find(&self, name: &[u8]) -> Option<Parts<'_>>
         ensures value { option_map spec.subcircuit_of result
             ≡ named self.now.so_far.deck.subcircuits name.now }
         ensures opening { IfSome result (λ parts. 0 < length parts) }
@@ -221,34 +217,21 @@ impl<'a> Reading<'a> {
 }
 
 // Notes names, unless they are noted already.
-fn put_names(names: &mut Table<()>, more: &[Word<'_>]) -> Result<(), NoMemory>
-    ensures { OnOk result (names.new ≡ with_globals names.old more.now) }
+fn put_names(names: &mut Table<()>, more: Words<'_>) -> Result<(), NoMemory>
+    ensures { OnOk result (names.new ≡ with_globals names.old more.entry) }
 {
     for name in more {
-        names.put_first(name.bytes(), ())?;
+        names.put_first(name, ())?;
     }
     Ok(())
 }
 
 // The name of the subcircuit that begins with the first of the parts.
-fn name_of<'a>(mut parts: Parts<'_, 'a>) -> &'a [u8]
+fn name_of<'d>(mut parts: Parts<'d>) -> &'d [u8]
     ensures { result.now ≡ spec.name_of parts.entry }
 {
     match parts.next() {
-        Some(opening) => word_at(opening.words, 1),
+        Some(opening) => opening.words.at(1),
         None => &[],
-    }
-}
-
-/// The word at a place, where there is one, else no bytes.
-pub fn word_at<'a>(words: &[Word<'a>], place: usize) -> &'a [u8]
-    ensures { result.now ≡ meaning.word_at words.now place }
-{
-    if place >= words.len() {
-        return &[];
-    }
-    match &words[place..] {
-        [word, ..] => word.bytes(),
-        [] => &[],
     }
 }

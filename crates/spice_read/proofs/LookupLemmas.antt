@@ -41,11 +41,11 @@ kept-more deck (entry ∷ entries) line found are is =
 -- what is kept for a line, by the name that it is kept with
 pub kept-named : (deck : DeckCards) (entries : List (ℕ × Found)) (line : ℕ) (found : Found) (name : List ℕ) (s : Subcircuit) →
     All (IsFound deck) entries → Some found ≡ lookup (nat_eq line) entries → bytes_eq found.name.now name ≡ true →
-    s.line ≡ found.subcircuit.line → s.ports.now ≡ found.subcircuit.ports.now → s.parts ≡ found.subcircuit.parts →
-    named deck.subcircuits name ≡ Some (record { line = s.line; ports = s.ports.now; parts = s.parts })
+    s.line ≡ found.subcircuit.line → s.ports ≡ found.subcircuit.ports → s.parts ≡ found.subcircuit.parts →
+    named deck.subcircuits name ≡ Some (record { line = s.line; ports = s.ports; parts = s.parts })
 kept-named deck entries line found name s are is same lines ports parts =
-    let cards : Some (record { line = found.subcircuit.line; ports = found.subcircuit.ports.now; parts = found.subcircuit.parts })
-    ≡ Some (record { line = s.line; ports = s.ports.now; parts = s.parts }) =
+    let cards : Some (record { line = found.subcircuit.line; ports = found.subcircuit.ports; parts = found.subcircuit.parts })
+    ≡ Some (record { line = s.line; ports = s.ports; parts = s.parts }) =
     λ j. Some (record { line = sym lines j; ports = sym ports j; parts = sym parts j }) in
     ap (named deck.subcircuits) (sym ((bytes_eq-Decides found.name.now name).0 same))
     ∙ kept-found deck entries line found are is

@@ -1,12 +1,14 @@
 -- Tables of the words for ports: what is put, and what the last one of a name leaves.
-use Rattle.std.proofs.Common.{◌≡◌, ℕ, ◌+◌, ◌<◌, ◌≤◌, Bool, true, false, List, [], ◌∷◌, length, get_or, drop, bytes_eq, Option, Some, None, option_map, if◌then◌else◌, refl, sym, ◌∙◌, ap, arith}
+use Rattle.std.proofs.Common.{◌≡◌, ℕ, ◌+◌, ◌<◌, ◌≤◌, Bool, true, false, List, [], ◌∷◌, length, drop, bytes_eq, Option, Some, None, option_map, if◌then◌else◌, refl, sym, ◌∙◌, ap, arith}
 use Rattle.std.specs.Borrow.{Bor}
 use Rattle.std.specs.List.{zip}
 use Rattle.std.specs.Map.{lookup}
-use Rattle.std.proofs.lemmas.List.{at_drop_more, drop_all}
+use Rattle.std.proofs.lemmas.List.{drop_all}
 use Rattle.std.proofs.lemmas.Slice.Eq.{bytes_eq-Decides}
 use Rattle.indexmap.specs.IndexMap.{insert_entry}
+use Rattle.spice_cards.specs.Reading.{word_at}
 use Rattle.spice_cards.specs.Tables.{named}
+use Rattle.spice_cards.proofs.PlaceLemmas.{left-first}
 use Rattle.spice_read.specs.Expansions.{last_named}
 use Rattle.spice_read.specs.Ports.{entries_of}
 use Rattle.spice_read.specs.Scopes.{with_each, with_last}
@@ -86,15 +88,14 @@ last_counts ports name = after_each ports [] name
 -- ---- loops over the ports
 
 -- the ports that are left, with the words for them
-left-first : (ports words : List (List ℕ)) (place : ℕ) (port word unported unworded : List ℕ) → length ports ≡ length words → place < length ports →
-    port ≡ get_or ports place unported → word ≡ get_or words place unworded →
+pairs-first : (ports words : List (List ℕ)) (place : ℕ) (port word : List ℕ) → length ports ≡ length words → place < length ports →
+    port ≡ word_at ports place → word ≡ word_at words place →
     zip (drop place ports) (drop place words) ≡ (port, word) ∷ zip (drop (place + 1) ports) (drop (place + 1) words)
-left-first ports words place port word unported unworded counted low is_port is_word =
-    let low_word : place < length words = omega arith in
+pairs-first ports words place port word counted low is_port is_word =
     let next_port : drop place ports ≡ port ∷ drop (place + 1) ports =
-    at_drop_more (λ (ps : List (List ℕ)). ps) ports place unported low ∙ ap (λ (p : List ℕ). p ∷ drop (place + 1) ports) (sym is_port) in
+    left-first ports place low ∙ ap (λ (p : List ℕ). p ∷ drop (place + 1) ports) (sym is_port) in
     let next_word : drop place words ≡ word ∷ drop (place + 1) words =
-    at_drop_more (λ (ws : List (List ℕ)). ws) words place unworded low_word ∙ ap (λ (w : List ℕ). w ∷ drop (place + 1) words) (sym is_word) in
+    left-first words place (omega arith) ∙ ap (λ (w : List ℕ). w ∷ drop (place + 1) words) (sym is_word) in
     ap (λ (ps : List (List ℕ)). zip ps (drop place words)) next_port
     ∙ ap (λ (ws : List (List ℕ)). zip (port ∷ drop (place + 1) ports) ws) next_word
 
@@ -103,13 +104,13 @@ left-none ports words place past = ap (λ (ps : List (List ℕ)). zip ps (drop p
 
 -- the table with one more port, where those that are left are put
 pub one_more : (ports words : List (List ℕ)) (place : ℕ) (port word : List ℕ) (old new whole : List (List ℕ × List ℕ)) →
-    length ports ≡ length words → place < length ports → port ≡ get_or ports place port → word ≡ get_or words place word →
+    length ports ≡ length words → place < length ports → port ≡ word_at ports place → word ≡ word_at words place →
     new ≡ with_last old port word →
     with_each old (zip (drop place ports) (drop place words)) ≡ whole →
     with_each new (zip (drop (place + 1) ports) (drop (place + 1) words)) ≡ whole
 one_more ports words place port word old new whole counted low is_port is_word put seen =
     ap (λ (table : List (List ℕ × List ℕ)). with_each table (zip (drop (place + 1) ports) (drop (place + 1) words))) put
-    ∙ sym (ap (with_each old) (left-first ports words place port word port word counted low is_port is_word))
+    ∙ sym (ap (with_each old) (pairs-first ports words place port word counted low is_port is_word))
     ∙ seen
 
 -- no port is left
@@ -119,24 +120,24 @@ none_left ports words place table whole past seen = sym (ap (with_each table) (l
 
 -- what was found of a name, where the next port has it
 pub here : (ports words : List (List ℕ)) (place : ℕ) (port word name : List ℕ) (found whole : Option (List ℕ)) →
-    length ports ≡ length words → place < length ports → port ≡ get_or ports place port → word ≡ get_or words place word →
+    length ports ≡ length words → place < length ports → port ≡ word_at ports place → word ≡ word_at words place →
     bytes_eq name port ≡ true →
     last_named found (zip (drop place ports) (drop place words)) name ≡ whole →
     last_named (Some word) (zip (drop (place + 1) ports) (drop (place + 1) words)) name ≡ whole
 here ports words place port word name found whole counted low is_port is_word same seen =
     ap (λ (is : Bool). last_named (if is then Some word else found) (zip (drop (place + 1) ports) (drop (place + 1) words)) name) (sym same)
-    ∙ sym (ap (λ (left : List (List ℕ × List ℕ)). last_named found left name) (left-first ports words place port word port word counted low is_port is_word))
+    ∙ sym (ap (λ (left : List (List ℕ × List ℕ)). last_named found left name) (pairs-first ports words place port word counted low is_port is_word))
     ∙ seen
 
 -- and where it has another
 pub elsewhere : (ports words : List (List ℕ)) (place : ℕ) (port name : List ℕ) (found whole : Option (List ℕ)) →
-    length ports ≡ length words → place < length ports → port ≡ get_or ports place port → bytes_eq name port ≡ false →
+    length ports ≡ length words → place < length ports → port ≡ word_at ports place → bytes_eq name port ≡ false →
     last_named found (zip (drop place ports) (drop place words)) name ≡ whole →
     last_named found (zip (drop (place + 1) ports) (drop (place + 1) words)) name ≡ whole
 elsewhere ports words place port name found whole counted low is_port same seen =
-    let word = get_or words place [] in
+    let word = word_at words place in
     ap (λ (is : Bool). last_named (if is then Some word else found) (zip (drop (place + 1) ports) (drop (place + 1) words)) name) (sym same)
-    ∙ sym (ap (λ (left : List (List ℕ × List ℕ)). last_named found left name) (left-first ports words place port word port [] counted low is_port refl))
+    ∙ sym (ap (λ (left : List (List ℕ × List ℕ)). last_named found left name) (pairs-first ports words place port word counted low is_port refl))
     ∙ seen
 
 -- after all ports

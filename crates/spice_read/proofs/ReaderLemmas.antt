@@ -14,24 +14,24 @@ use Rattle.spice_cards.proofs.FrontLemmas.{cards_of-front_of}
 use Rattle.spice_read.specs.Making.{circuit_by, circuit_of}
 use Rattle.spice_read.proofs.VisibleLemmas.{circuit_of-circuit, circuit_of-visible}
 
-module _ (text : List ℕ) (cut : Option ℕ) (bytes : List ℕ) (is_cut : cut ≡ cut_line text) (are : bytes ≡ map to_ascii_lowercase (front_of text)) where
-  -- the cards that are read
-  cards-read : titled_meaning cut (enumerate_from 1 (lines_of bytes)) ≡ cards_of text
-  unfolding cards_of
-  cards-read =
-      ap (λ (c : Option ℕ). titled_meaning c (enumerate_from 1 (lines_of bytes))) is_cut
-      ∙ ap (λ (bs : List ℕ). titled_meaning (cut_line text) (enumerate_from 1 (lines_of bs))) are
+-- the cards that are read
+pub cards-read : (text : List ℕ) (cut : Option ℕ) (bytes : List ℕ) → cut ≡ cut_line text → bytes ≡ map to_ascii_lowercase (front_of text) →
+    titled_meaning cut (enumerate_from 1 (lines_of bytes)) ≡ cards_of text
+unfolding cards_of
+cards-read text cut bytes is_cut are =
+    ap (λ (c : Option ℕ). titled_meaning c (enumerate_from 1 (lines_of bytes))) is_cut
+    ∙ ap (λ (bs : List ℕ). titled_meaning (cut_line text) (enumerate_from 1 (lines_of bs))) are
 
-  -- what they give
-  pub circuit-read : (deck : DeckCards) → titled_meaning cut (enumerate_from 1 (lines_of bytes)) ≡ Ok deck → circuit_by (Ok deck) ≡ circuit_of text
-  unfolding circuit_of
-  circuit-read deck same = ap circuit_by (sym same ∙ cards-read)
+-- what they give
+pub circuit-read : (text : List ℕ) (deck : DeckCards) → cards_of text ≡ Ok deck → circuit_by (Ok deck) ≡ circuit_of text
+unfolding circuit_of
+circuit-read text deck same = ap circuit_by (sym same)
 
-  -- and their refusal
-  pub fault-read : (told : DeckFault) → IsFault (titled_meaning cut (enumerate_from 1 (lines_of bytes))) told → IsFault (circuit_of text) told
-  unfolding circuit_of
-  fault-read (fault.At line what) tells = ap circuit_by (sym cards-read ∙ tells)
-  fault-read fault.NoMemory tells = tt
+-- and their refusal
+pub fault-read : (text : List ℕ) (told : DeckFault) → IsFault (cards_of text) told → IsFault (circuit_of text) told
+unfolding circuit_of
+fault-read text (fault.At line what) tells = ap circuit_by tells
+fault-read text fault.NoMemory tells = tt
 
 -- what is read is a circuit
 pub circuit-is : (answer : Result CircuitData DeckFault) (text : List ℕ) → IfOk answer (λ c. circuit_of text ≡ Ok c) → IfOk answer IsCircuit

@@ -8,4 +8,4 @@ use Rattle.spice_read.specs.declared.found.Found.{Found}
 abbrev pub IsFound : DeckCards → (ℕ × Found) → Type 0
 IsFound deck entry =
     named deck.subcircuits entry.1.name.now
-    ≡ Some (record { line = entry.1.subcircuit.line; ports = entry.1.subcircuit.ports.now; parts = entry.1.subcircuit.parts })
+    ≡ Some (record { line = entry.1.subcircuit.line; ports = entry.1.subcircuit.ports; parts = entry.1.subcircuit.parts })

@@ -10,7 +10,7 @@ ghost use Rattle.spice_read.specs.Steps as spec;
 use crate::frame::Frame;
 use crate::making::Made;
 use crate::names::{kind_of, nodes_of, strength_number, subcircuit_named};
-use spice_cards::{DeckFault, DeckWhat, PartSort, Parts, Strength, Subcircuit, Word, word_at};
+use spice_cards::{DeckFault, DeckWhat, PartSort, Parts, Strength, Subcircuit, Words};
 
 /// The most calls that are open inside one another.
 pub const MOST_OPEN: usize = 32;
@@ -24,11 +24,11 @@ pub const MOST_CALLS: u64 = 1_000_000;
 /// wins: no subcircuit has the name; it has another number of ports; it is being expanded; there is no room
 /// for the call; there are too many calls. Of a transistor's: its model has no kind; then what the edit of
 /// the circuit refuses.
-pub(crate) fn expand<'d, 'a>(
+pub(crate) fn expand<'d>(
     made: &mut Made,
     room: usize,
-    frame: &mut Frame<'d, 'a>,
-    parts: Parts<'d, 'a>,
+    frame: &mut Frame<'d>,
+    parts: Parts<'d>,
 ) -> Result<(), DeckFault>
     ensures ok { OnOk result
         (after made.old (spec.expand room frame.old.deck (scope_of frame.old) parts.entry) ≡ Ok made.new) }
@@ -41,13 +41,13 @@ pub(crate) fn expand<'d, 'a>(
     for part in parts {
         match part.sort {
             PartSort::Transistor(strength) => {
-                match place(made, frame, part.line, strength, part.words) {
+                match place(made, frame, part.line, strength, &part.words) {
                     Ok(()) => {}
                     Err(fault) => return Err(fault),
                 }
             }
             PartSort::Call => {
-                let subcircuit = match entry(frame, part.line, part.words) {
+                let subcircuit = match entry(frame, part.line, &part.words) {
                     Ok(subcircuit) => subcircuit,
                     Err(what) => {
                         return Err(DeckFault::At {
@@ -67,7 +67,7 @@ pub(crate) fn expand<'d, 'a>(
                     Err(fault) => return Err(fault),
                 }
                 let depth = frame.depth();
-                match frame.open(part.words, subcircuit.line, subcircuit.ports) {
+                match frame.open(&part.words, subcircuit.line, subcircuit.ports) {
                     Ok(()) => {}
                     Err(_) => return Err(DeckFault::NoMemory),
                 }
@@ -86,25 +86,25 @@ pub(crate) fn expand<'d, 'a>(
 // Places a transistor, by its line, the strength that its card sets, and its words.
 fn place(
     made: &mut Made,
-    frame: &Frame<'_, '_>,
+    frame: &Frame<'_>,
     line: u64,
     set: Strength,
-    words: &[Word<'_>],
+    words: &Words<'_>,
 ) -> Result<(), DeckFault>
     ensures ok { OnOk result
         (step_meaning made.old (spec.transistor_step frame.now.deck (scope_of frame.now) line set words.now) ≡ Ok made.new) }
     ensures refused { IfErr result
         (IsFault (step_meaning made.old (spec.transistor_step frame.now.deck (scope_of frame.now) line set words.now))) }
 {
-    let Some(kind) = kind_of(frame.deck(), word_at(words, 5)) else {
+    let Some(kind) = kind_of(frame.deck(), words.at(5)) else {
         return Err(DeckFault::At {
             line,
             what: DeckWhat::BadModel,
         });
     };
-    let gate = frame.node_of(word_at(words, 2))?;
-    let source = frame.node_of(word_at(words, 3))?;
-    let drain = frame.node_of(word_at(words, 1))?;
+    let gate = frame.node_of(words.at(2))?;
+    let source = frame.node_of(words.at(3))?;
+    let drain = frame.node_of(words.at(1))?;
     made.place(
         line,
         kind,
@@ -116,16 +116,16 @@ fn place(
 }
 
 // The subcircuit that a call opens, by the line and the words of its card, or why it opens none.
-fn entry<'d, 'a>(
-    frame: &mut Frame<'d, 'a>,
+fn entry<'d>(
+    frame: &mut Frame<'d>,
     line: u64,
-    words: &[Word<'a>],
-) -> Result<Subcircuit<'d, 'a>, DeckWhat>
+    words: &Words<'d>,
+) -> Result<Subcircuit<'d>, DeckWhat>
     ensures value { MatchResult result
         (λ s. spec.entry_of frame.old.deck (scope_of frame.old) words.now
-        ≡ Ok (record { line = s.line; ports = s.ports.now; parts = s.parts }))
+        ≡ Ok (record { line = s.line; ports = s.ports; parts = s.parts }))
         (λ what. spec.entry_of frame.old.deck (scope_of frame.old) words.now ≡ Err what) }
-    ensures counted { IfOk result (λ s. length s.ports.now ≡ length (scopes.nodes_of words.now)) }
+    ensures counted { IfOk result (λ s. length s.ports ≡ length (scopes.nodes_of words.now)) }
     ensures stays { frame.new ≡ frame.old }
 {
     let Some(subcircuit) = frame.find(line, subcircuit_named(words)) else {

@@ -10,7 +10,7 @@ use crate::lookups::Lookups;
 use crate::names::{fixed_node, is_fixed, nodes_of};
 use crate::open_call::OpenCall;
 use crate::ports::Ports;
-use spice_cards::{Deck, Subcircuit, Word, word_at};
+use spice_cards::{Deck, Subcircuit, Words};
 use std::alloc::Global;
 use std::marker::Model;
 use table_keys::TableKeys;
@@ -21,14 +21,14 @@ use ternary::NoMemory;
 /// No node is written down for a call, nor its path: the node of a name is found where it is asked for,
 /// by the words on the cards of the calls from the innermost on.
 #[derive(Drop)]
-pub(crate) struct Frame<'d, 'a> {
-    lookups: Lookups<'d, 'a>,
+pub(crate) struct Frame<'d> {
+    lookups: Lookups<'d>,
     keys: TableKeys,
     // The outermost first.
-    calls: Vec<OpenCall<'d, 'a>>,
+    calls: Vec<OpenCall<'d>>,
 }
 
-impl<'d, 'a> Model for Frame<'d, 'a> {
+impl<'d> Model for Frame<'d> {
     ghost use Rattle.spice_read.specs.Frames.{FrameData};
 
     ghost Value = { FrameData };
@@ -36,9 +36,9 @@ impl<'d, 'a> Model for Frame<'d, 'a> {
     ghost view = { λ frame. record { deck = frame.lookups; calls = frame.calls.items } };
 }
 
-impl<'d, 'a> Frame<'d, 'a> {
+impl<'d> Frame<'d> {
     /// Outside every call of a deck. Names are hashed from these keys.
-    pub(crate) fn outside(alloc: Global, keys: TableKeys, deck: &'d Deck<'a>) -> Frame<'d, 'a>
+    pub(crate) fn outside(alloc: Global, keys: TableKeys, deck: &'d Deck) -> Frame<'d>
         ensures { result ≡ record { deck = deck.now; calls = [] } }
     {
         Frame {
@@ -49,16 +49,16 @@ impl<'d, 'a> Frame<'d, 'a> {
     }
 
     /// The deck.
-    pub(crate) fn deck(&self) -> &'d Deck<'a>
+    pub(crate) fn deck(&self) -> &'d Deck
         ensures { result.now ≡ self.now.deck }
     {
         self.lookups.deck()
     }
 
     /// The subcircuit that the card on this line calls by this name, where there is one.
-    pub(crate) fn find(&mut self, line: u64, name: &'a [u8]) -> Option<Subcircuit<'d, 'a>>
+    pub(crate) fn find(&mut self, line: u64, name: &'d [u8]) -> Option<Subcircuit<'d>>
         ensures found { IfSome result (λ s. named self.old.deck.subcircuits name.now
-            ≡ Some (record { line = s.line; ports = s.ports.now; parts = s.parts })) }
+            ≡ Some (record { line = s.line; ports = s.ports; parts = s.parts })) }
         ensures none { IsNone result → named self.old.deck.subcircuits name.now ≡ None }
         ensures stays { self.new ≡ self.old }
     {
@@ -75,20 +75,20 @@ impl<'d, 'a> Frame<'d, 'a> {
     /// Opens a call, by the words of its card, and by the line and the ports of its subcircuit.
     pub(crate) fn open(
         &mut self,
-        words: &'d [Word<'a>],
+        words: &Words<'d>,
         line: u64,
-        ports: &'d [Word<'a>],
+        ports: Words<'d>,
     ) -> Result<(), NoMemory>
-        requires { length ports.now ≡ length (spec.nodes_of words.now) }
+        requires { length ports ≡ length (spec.nodes_of words.now) }
         ensures scope { OnOk result
-            (scope_of self.new ≡ spec.called self.old.deck (scope_of self.old) words.now line ports.now) }
+            (scope_of self.new ≡ spec.called self.old.deck (scope_of self.old) words.now line ports.entry) }
         ensures outer { OnOk result (take (length self.old.calls) self.new.calls ≡ self.old.calls) }
         ensures deck { self.new.deck ≡ self.old.deck }
     {
         let ports = Ports::new(*self.calls.allocator(), self.keys, ports, nodes_of(words))?;
         self.calls.reserve(1)?;
         self.calls.push_reserved(OpenCall {
-            name: word_at(words, 0),
+            name: words.at(0),
             line,
             ports,
         });
@@ -123,7 +123,7 @@ impl<'d, 'a> Frame<'d, 'a> {
 }
 
 // Whether one of these calls is of the subcircuit that begins on this line.
-fn is_open(calls: &[OpenCall<'_, '_>], line: u64) -> bool
+fn is_open(calls: &[OpenCall<'_>], line: u64) -> bool
     ensures { result ≡ list_any (λ call. call.line == line) calls.now }
 {
     calls.iter().any(|call| call.line == line)
@@ -132,8 +132,8 @@ fn is_open(calls: &[OpenCall<'_, '_>], line: u64) -> bool
 // The node that a name stands for in these calls.
 fn node_in(
     alloc: Global,
-    deck: &Deck<'_>,
-    calls: &[OpenCall<'_, '_>],
+    deck: &Deck,
+    calls: &[OpenCall<'_>],
     name: &[u8],
 ) -> Result<Vec<u8>, NoMemory>
     ensures { IfOk result (λ node. node.items
@@ -151,8 +151,8 @@ fn node_in(
 // The node in these calls of a name that is no port.
 fn own_node(
     alloc: Global,
-    deck: &Deck<'_>,
-    calls: &[OpenCall<'_, '_>],
+    deck: &Deck,
+    calls: &[OpenCall<'_>],
     name: &[u8],
 ) -> Result<Vec<u8>, NoMemory>
     ensures { IfOk result (λ node. node.items
@@ -166,7 +166,7 @@ fn own_node(
 }
 
 // What has this name in these calls.
-fn below(alloc: Global, calls: &[OpenCall<'_, '_>], name: &[u8]) -> Result<Vec<u8>, NoMemory>
+fn below(alloc: Global, calls: &[OpenCall<'_>], name: &[u8]) -> Result<Vec<u8>, NoMemory>
     ensures { IfOk result (λ bytes. bytes.items ≡ name_below calls.now name.now) }
 {
     let mut bytes = Vec::new(alloc);

@@ -18,13 +18,13 @@ const LONG_NAME: usize = 64;
 
 /// A deck, with what was looked up for the cards of its calls. Contracts see it as the deck.
 #[derive(Drop)]
-pub(crate) struct Lookups<'d, 'a> {
-    deck: &'d Deck<'a>,
+pub(crate) struct Lookups<'d> {
+    deck: &'d Deck,
     // By the lines of the cards. What is kept for a line counts only for the name that is kept with it.
-    cards: IndexMap<u64, Found<'d, 'a>, TableKeys>,
+    cards: IndexMap<u64, Found<'d>, TableKeys>,
 }
 
-impl<'d, 'a> Model for Lookups<'d, 'a> {
+impl<'d> Model for Lookups<'d> {
     ghost use Rattle.std.specs.Prelude.{All};
     ghost use Rattle.spice_cards.specs.Decks.{DeckCards};
     ghost use Rattle.spice_read.specs.Lookups.{IsFound};
@@ -36,9 +36,9 @@ impl<'d, 'a> Model for Lookups<'d, 'a> {
     ghost invariant = { λ lookups. All (IsFound lookups.deck.now) lookups.cards.entries };
 }
 
-impl<'d, 'a> Lookups<'d, 'a> {
+impl<'d> Lookups<'d> {
     /// Nothing was looked up in the deck. Lines are hashed from these keys.
-    pub(crate) fn new(alloc: Global, keys: TableKeys, deck: &'d Deck<'a>) -> Lookups<'d, 'a>
+    pub(crate) fn new(alloc: Global, keys: TableKeys, deck: &'d Deck) -> Lookups<'d>
         ensures { result ≡ deck.now }
     {
         Lookups {
@@ -48,16 +48,16 @@ impl<'d, 'a> Lookups<'d, 'a> {
     }
 
     /// The deck.
-    pub(crate) fn deck(&self) -> &'d Deck<'a>
+    pub(crate) fn deck(&self) -> &'d Deck
         ensures { result.now ≡ self.now }
     {
         self.deck
     }
 
     /// The subcircuit that the card on this line calls by this name, where there is one.
-    pub(crate) fn find(&mut self, line: u64, name: &'a [u8]) -> Option<Subcircuit<'d, 'a>>
+    pub(crate) fn find(&mut self, line: u64, name: &'d [u8]) -> Option<Subcircuit<'d>>
         ensures found { IfSome result (λ s. named self.old.subcircuits name.now
-            ≡ Some (record { line = s.line; ports = s.ports.now; parts = s.parts })) }
+            ≡ Some (record { line = s.line; ports = s.ports; parts = s.parts })) }
         ensures none { IsNone result → named self.old.subcircuits name.now ≡ None }
         ensures stays { self.new ≡ self.old }
     {
@@ -74,13 +74,13 @@ impl<'d, 'a> Lookups<'d, 'a> {
 }
 
 // What is kept for the card on this line, where it is of this name.
-fn kept<'d, 'a>(
-    cards: &IndexMap<u64, Found<'d, 'a>, TableKeys>,
+fn kept<'d>(
+    cards: &IndexMap<u64, Found<'d>, TableKeys>,
     line: u64,
     name: &[u8],
-) -> Option<Subcircuit<'d, 'a>>
+) -> Option<Subcircuit<'d>>
     ensures { IfSome result (λ s. (deck : DeckCards) → All (IsFound deck) cards.now.entries → named deck.subcircuits name.now
-        ≡ Some (record { line = s.line; ports = s.ports.now; parts = s.parts })) }
+        ≡ Some (record { line = s.line; ports = s.ports; parts = s.parts })) }
 {
     match cards.get(&line) {
         Some(found) if found.name == name => Some(again(&found.subcircuit)),
@@ -89,11 +89,11 @@ fn kept<'d, 'a>(
 }
 
 // Keeps what was found for the card on this line. For want of memory it is looked up again another time.
-fn keep<'d, 'a>(
-    cards: &mut IndexMap<u64, Found<'d, 'a>, TableKeys>,
+fn keep<'d>(
+    cards: &mut IndexMap<u64, Found<'d>, TableKeys>,
     line: u64,
-    name: &'a [u8],
-    subcircuit: Subcircuit<'d, 'a>,
+    name: &'d [u8],
+    subcircuit: Subcircuit<'d>,
 )
     ensures { (deck : DeckCards) → All (IsFound deck) cards.old.entries →
         IsFound deck (line, record { name = name.entry; subcircuit = subcircuit.entry }) → All (IsFound deck) cards.new.entries }
@@ -105,14 +105,14 @@ fn keep<'d, 'a>(
 }
 
 // The same subcircuit.
-fn again<'d, 'a>(subcircuit: &Subcircuit<'d, 'a>) -> Subcircuit<'d, 'a>
+fn again<'d>(subcircuit: &Subcircuit<'d>) -> Subcircuit<'d>
     ensures line { result.line ≡ subcircuit.now.line }
-    ensures ports { result.ports.now ≡ subcircuit.now.ports.now }
+    ensures ports { result.ports ≡ subcircuit.now.ports }
     ensures parts { result.parts ≡ subcircuit.now.parts }
 {
     Subcircuit {
         line: subcircuit.line,
-        ports: subcircuit.ports,
+        ports: subcircuit.ports.again(),
         parts: subcircuit.parts.again(),
     }
 }

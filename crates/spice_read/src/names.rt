@@ -7,7 +7,7 @@ ghost use Rattle.spice_read.specs.Steps as steps;
 
 use netlist::usual_strength;
 use path_meaning::SwitchKind;
-use spice_cards::{Deck, Strength, Word};
+use spice_cards::{Deck, Strength, Words};
 
 /// The node of a name outside every call: `0` is Gnd, and each other name stands for itself.
 pub(crate) fn fixed_node(name: &[u8]) -> &[u8]
@@ -17,7 +17,7 @@ pub(crate) fn fixed_node(name: &[u8]) -> &[u8]
 }
 
 /// Whether a name means in every call what it means outside.
-pub(crate) fn is_fixed(deck: &Deck<'_>, name: &[u8]) -> bool
+pub(crate) fn is_fixed(deck: &Deck, name: &[u8]) -> bool
     ensures { result ≡ spec.is_fixed deck.now name.now }
 {
     is_zero(name) || is_rail(name) || deck.is_global(name)
@@ -41,27 +41,21 @@ fn is_rail(name: &[u8]) -> bool
 }
 
 /// The nodes on a call's card: the words between its name and its subcircuit.
-pub(crate) fn nodes_of<'d, 'a>(words: &'d [Word<'a>]) -> &'d [Word<'a>]
-    ensures { result.now ≡ spec.nodes_of words.now }
+pub(crate) fn nodes_of<'d>(words: &Words<'d>) -> Words<'d>
+    ensures { result ≡ spec.nodes_of words.now }
 {
-    match words {
-        [_, nodes @ .., _] => nodes,
-        _ => &[],
-    }
+    words.behind(1).front(words.len().saturating_sub(2))
 }
 
 /// The subcircuit that a call's card names: its last word.
-pub(crate) fn subcircuit_named<'a>(words: &[Word<'a>]) -> &'a [u8]
+pub(crate) fn subcircuit_named<'d>(words: &Words<'d>) -> &'d [u8]
     ensures { result.now ≡ spec.subcircuit_named words.now }
 {
-    match words {
-        [.., name] => name.bytes(),
-        [] => &[],
-    }
+    words.at(words.len().saturating_sub(1))
 }
 
 /// The kind of a model: that of its `.model` card, else the one by its first letter.
-pub(crate) fn kind_of(deck: &Deck<'_>, model: &[u8]) -> Option<SwitchKind>
+pub(crate) fn kind_of(deck: &Deck, model: &[u8]) -> Option<SwitchKind>
     ensures { result ≡ steps.kind_of deck.now model.now }
 {
     deck.model(model).or(kind_by_name(model))

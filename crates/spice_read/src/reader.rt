@@ -2,6 +2,7 @@
 
 ghost use Rattle.std.specs.Prelude.{◌≡◌, IfOk, IfErr, Ok};
 ghost use Rattle.netlist.specs.Circuits.{HasVisibleNames, IsCircuit};
+ghost use Rattle.spice_cards.specs.Reading as cards;
 ghost use Rattle.spice_cards.specs.Stops.{IsFault};
 ghost use Rattle.spice_read.specs.Making as spec;
 ghost use Rattle.spice_read.specs.Making.{circuit_of};
@@ -27,16 +28,24 @@ pub fn read_deck(alloc: Global, keys: TableKeys, text: &[u8]) -> Result<Circuit,
     ensures circuit { IfOk result IsCircuit }
     ensures visible { IfOk result HasVisibleNames }
 {
-    let words = folded(alloc, text)?;
-    let deck = match read_cards(alloc, keys, cut_line(text), &words) {
+    let deck = match cards_of(alloc, keys, text) {
         Ok(deck) => deck,
         Err(fault) => return Err(fault),
     };
     read_parts(alloc, keys, &deck)
 }
 
+// The cards of a text. What they were read of is let go: the deck keeps words of its own.
+fn cards_of(alloc: Global, keys: TableKeys, text: &[u8]) -> Result<Deck, DeckFault>
+    ensures ok { IfOk result (λ deck. cards.cards_of text.now ≡ Ok deck) }
+    ensures refused { IfErr result (IsFault (cards.cards_of text.now)) }
+{
+    let words = folded(alloc, text)?;
+    read_cards(alloc, keys, cut_line(text), &words)
+}
+
 // The circuit of cards.
-fn read_parts(alloc: Global, keys: TableKeys, deck: &Deck<'_>) -> Result<Circuit, DeckFault>
+fn read_parts(alloc: Global, keys: TableKeys, deck: &Deck) -> Result<Circuit, DeckFault>
     ensures ok { IfOk result (λ circuit. spec.circuit_by (Ok deck.now) ≡ Ok circuit) }
     ensures refused { IfErr result (IsFault (spec.circuit_by (Ok deck.now))) }
 {

@@ -14,7 +14,7 @@ use Rattle.spice_read.proofs.expansion.+expand.Goals as goal
 pub loop-part-preserved-in-Ok : goal.loop-part-preserved-in-Ok
 loop-part-preserved-in-Ok t c =
     let line = c.in-Some.part.line in
-    let words = c.in-Some.part.words.now in
+    let words = c.in-Some.part.words in
     let part : PartCard = record { line = line; sort = c.in-Some.part.sort; words = words } in
     let step = transistor_step c.loop-part.frame.deck (scope_of c.loop-part.frame) line c.in-Transistor.strength words in (
       part-made c.loop-part.made c.place.new.made c.args.room c.loop-part.frame.deck (scope_of c.loop-part.frame) c.loop-part.part-iterator part c.next.new.self
@@ -27,7 +27,7 @@ loop-part-preserved-in-Ok t c =
 pub returns-in-Err-clause-refused : goal.returns-in-Err-clause-refused
 returns-in-Err-clause-refused t c =
     let line = c.in-Some.part.line in
-    let words = c.in-Some.part.words.now in
+    let words = c.in-Some.part.words in
     let part : PartCard = record { line = line; sort = c.in-Some.part.sort; words = words } in
     let step = transistor_step c.loop-part.frame.deck (scope_of c.loop-part.frame) line c.in-Transistor.strength words in
     part-refused c.loop-part.made c.args.room c.loop-part.frame.deck (scope_of c.loop-part.frame) c.loop-part.part-iterator part c.next.new.self
@@ -38,7 +38,7 @@ returns-in-Err-clause-refused t c =
 pub returns-in-Err-entry-clause-refused : goal.returns-in-Err-entry-clause-refused
 returns-in-Err-entry-clause-refused t c =
     let line = c.in-Some.part.line in
-    let words = c.in-Some.part.words.now in
+    let words = c.in-Some.part.words in
     let what = c.in-Err-entry.what in
     let part : PartCard = record { line = line; sort = c.in-Some.part.sort; words = words } in
     part-refused c.loop-part.made c.args.room c.loop-part.frame.deck (scope_of c.loop-part.frame) c.loop-part.part-iterator part c.next.new.self
@@ -49,9 +49,9 @@ returns-in-Err-entry-clause-refused t c =
 pub returns-then-room-eq0-clause-refused : goal.returns-then-room-eq0-clause-refused
 returns-then-room-eq0-clause-refused t c =
     let line = c.in-Some.part.line in
-    let words = c.in-Some.part.words.now in
+    let words = c.in-Some.part.words in
     let found = c.in-Ok-entry.subcircuit in
-    let s : SubcircuitCards = record { line = found.line; ports = found.ports.now; parts = found.parts } in
+    let s : SubcircuitCards = record { line = found.line; ports = found.ports; parts = found.parts } in
     let part : PartCard = record { line = line; sort = c.in-Some.part.sort; words = words } in
     part-refused c.loop-part.made c.args.room c.loop-part.frame.deck (scope_of c.loop-part.frame) c.loop-part.part-iterator part c.next.new.self
     (refused line TooDeep ∷ []) _ (At line TooDeep) c.in-Some.ensures.steps
@@ -61,11 +61,11 @@ returns-then-room-eq0-clause-refused t c =
 pub returns-in-Err-open-clause-refused : goal.returns-in-Err-open-clause-refused
 returns-in-Err-open-clause-refused t c =
     let line = c.in-Some.part.line in
-    let words = c.in-Some.part.words.now in
+    let words = c.in-Some.part.words in
     let found = c.in-Ok-entry.subcircuit in
-    let s : SubcircuitCards = record { line = found.line; ports = found.ports.now; parts = found.parts } in
+    let s : SubcircuitCards = record { line = found.line; ports = found.ports; parts = found.parts } in
     let part : PartCard = record { line = line; sort = c.in-Some.part.sort; words = words } in
-    let inner : Scope = called c.loop-part.frame.deck (scope_of c.loop-part.frame) words found.line found.ports.now in
+    let inner : Scope = called c.loop-part.frame.deck (scope_of c.loop-part.frame) words found.line found.ports in
     let steps : List Step = expand (c.args.room - 1) c.loop-part.frame.deck inner found.parts in
     part-refused c.loop-part.made c.args.room c.loop-part.frame.deck (scope_of c.loop-part.frame) c.loop-part.part-iterator part c.next.new.self
     (opened line ∷ steps) _ c.in-Err-open.fault c.in-Some.ensures.steps
@@ -77,19 +77,19 @@ returns-in-Err-open-clause-refused t c =
 pub returns-in-Err-expand-clause-refused : goal.returns-in-Err-expand-clause-refused
 returns-in-Err-expand-clause-refused t c =
     let line = c.in-Some.part.line in
-    let words = c.in-Some.part.words.now in
+    let words = c.in-Some.part.words in
     let found = c.in-Ok-entry.subcircuit in
     let deck = c.loop-part.frame.deck in
     let scope = scope_of c.loop-part.frame in
     let opened_frame = c.open-in-Call.new.self in
-    let s : SubcircuitCards = record { line = found.line; ports = found.ports.now; parts = found.parts } in
+    let s : SubcircuitCards = record { line = found.line; ports = found.ports; parts = found.parts } in
     let part : PartCard = record { line = line; sort = c.in-Some.part.sort; words = words } in
     let steps : List Step = expand (c.args.room - 1) deck (scope_of opened_frame) found.parts in
     part-refused c.loop-part.made c.args.room deck scope c.loop-part.part-iterator part c.next.new.self
     (opened line ∷ steps) _ c.in-Err-expand.fault c.in-Some.ensures.steps
     (opened-steps c.args.room deck scope (scope_of opened_frame) line c.in-Some.part.sort words s c.in-Call.is c.in-Ok-entry.ensures.value
     (λ none. c.if-room-eq0.false none)
-    (c.in-Ok-open-2.ensures.scope ∙ ap (λ (f : FrameData). called f.deck (scope_of f) words found.line found.ports.now) c.in-Ok-entry.ensures.stays))
+    (c.in-Ok-open-2.ensures.scope ∙ ap (λ (f : FrameData). called f.deck (scope_of f) words found.line found.ports) c.in-Ok-entry.ensures.stays))
     c.loop-part.invariant.0
     (same-fault (sym (after-opened c.loop-part.made c.open.new.self line steps c.in-Ok-open.ensures.ok)) c.in-Err-expand.fault
     (same-fault (ap (λ (d : DeckCards). after c.open.new.self (expand (c.args.room - 1) d (scope_of opened_frame) found.parts)) (c.in-Ok-open-2.ensures.deck ∙ ap (λ (f : FrameData). f.deck) c.in-Ok-entry.ensures.stays))
@@ -98,12 +98,12 @@ returns-in-Err-expand-clause-refused t c =
 pub loop-part-preserved-in-Call : goal.loop-part-preserved-in-Call
 loop-part-preserved-in-Call t c =
     let line = c.in-Some.part.line in
-    let words = c.in-Some.part.words.now in
+    let words = c.in-Some.part.words in
     let found = c.in-Ok-entry.subcircuit in
     let deck = c.loop-part.frame.deck in
     let scope = scope_of c.loop-part.frame in
     let opened_frame = c.open-in-Call.new.self in
-    let s : SubcircuitCards = record { line = found.line; ports = found.ports.now; parts = found.parts } in
+    let s : SubcircuitCards = record { line = found.line; ports = found.ports; parts = found.parts } in
     let part : PartCard = record { line = line; sort = c.in-Some.part.sort; words = words } in
     let steps : List Step = expand (c.args.room - 1) deck (scope_of opened_frame) found.parts in
     let kept = closed-frame c.entry.new.frame opened_frame c.expand.new.frame c.close.new.self c.depth-depth.result c.depth-depth.ensures
@@ -112,7 +112,7 @@ loop-part-preserved-in-Call t c =
     (opened line ∷ steps) _ c.in-Some.ensures.steps
     (opened-steps c.args.room deck scope (scope_of opened_frame) line c.in-Some.part.sort words s c.in-Call.is c.in-Ok-entry.ensures.value
     (λ none. c.if-room-eq0.false none)
-    (c.in-Ok-open-2.ensures.scope ∙ ap (λ (f : FrameData). called f.deck (scope_of f) words found.line found.ports.now) c.in-Ok-entry.ensures.stays))
+    (c.in-Ok-open-2.ensures.scope ∙ ap (λ (f : FrameData). called f.deck (scope_of f) words found.line found.ports) c.in-Ok-entry.ensures.stays))
     c.loop-part.invariant.0
     (after-opened c.loop-part.made c.open.new.self line steps c.in-Ok-open.ensures.ok
     ∙ sym (ap (λ (d : DeckCards). after c.open.new.self (expand (c.args.room - 1) d (scope_of opened_frame) found.parts)) (c.in-Ok-open-2.ensures.deck ∙ ap (λ (f : FrameData). f.deck) c.in-Ok-entry.ensures.stays))
@@ -122,7 +122,7 @@ loop-part-preserved-in-Call t c =
 pub loop-part-preserved : goal.loop-part-preserved
 loop-part-preserved t c =
     let line = c.in-Some.part.line in
-    let words = c.in-Some.part.words.now in
+    let words = c.in-Some.part.words in
     let part : PartCard = record { line = line; sort = c.in-Some.part.sort; words = words } in (
       part-made c.loop-part.made c.loop-part.made c.args.room c.loop-part.frame.deck (scope_of c.loop-part.frame) c.loop-part.part-iterator part c.next.new.self
           [] _ c.in-Some.ensures.steps

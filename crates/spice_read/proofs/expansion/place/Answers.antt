@@ -18,11 +18,11 @@ is_placed c =
     let node = λ (name : List ℕ). node_in c.args.frame.now.deck (scope_of c.args.frame.now) name in
     placed-step c.args.frame.now.deck (scope_of c.args.frame.now) c.args.line c.args.set c.args.words.now c.in-Some.kind c.strength_number.result
     c.deref.result.now c.deref-2.result.now c.deref-3.result.now
-    (sym (c.in-Some.ensures ∙ ap (λ (deck : DeckCards). kind_of deck c.word_at.result.now) c.deck.ensures ∙ ap (kind_of c.args.frame.now.deck) c.word_at.ensures))
+    (sym (c.in-Some.ensures ∙ ap (λ (deck : DeckCards). kind_of deck c.at.result.now) c.deck.ensures ∙ ap (kind_of c.args.frame.now.deck) c.at.ensures))
     c.strength_number.ensures
-    (c.deref.ensures.value ∙ c.in_ok-gate.ensures ∙ ap node c.word_at-2.ensures)
-    (c.deref-2.ensures.value ∙ c.in_ok-source.ensures ∙ ap node c.word_at-3.ensures)
-    (c.deref-3.ensures.value ∙ c.in_ok-drain.ensures ∙ ap node c.word_at-4.ensures)
+    (c.deref.ensures.value ∙ c.in_ok-gate.ensures ∙ ap node c.at-2.ensures)
+    (c.deref-2.ensures.value ∙ c.in_ok-source.ensures ∙ ap node c.at-3.ensures)
+    (c.deref-3.ensures.value ∙ c.in_ok-drain.ensures ∙ ap node c.at-4.ensures)
 
 pub returns-clause-ok : goal.returns-clause-ok
 returns-clause-ok c =

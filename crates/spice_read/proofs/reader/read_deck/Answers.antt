@@ -1,4 +1,4 @@
-use Rattle.std.proofs.Common.{◌≡◌, Result, Ok, IfOk, IfErr, ◌∙◌, subst}
+use Rattle.std.proofs.Common.{◌≡◌, Result, Ok, IfOk, IfErr, subst}
 use Rattle.netlist.specs.Circuits.{CircuitData}
 use Rattle.spice_cards.specs.declared.fault.DeckFault.{DeckFault}
 use Rattle.spice_cards.specs.Stops.{IsFault}
@@ -7,19 +7,18 @@ use Rattle.spice_read.proofs.reader.read_deck.Goals as goal
 
 pub returns-in-Err-clause-refused : goal.returns-in-Err-clause-refused
 returns-in-Err-clause-refused c =
-    fault-read c.args.text.now c.cut_line.result c.deref.result.now c.cut_line.ensures (c.deref.ensures.value ∙ c.in_ok-words.ensures) c.in-Err.fault
-    c.in-Err.ensures.refused
+    fault-read c.args.text.now c.in-Err.fault c.in-Err.ensures.refused
 
 pub returns-clause-ok : goal.returns-clause-ok
 returns-clause-ok c =
     subst (λ (m : Result CircuitData DeckFault). IfOk c.read_parts.result (λ circuit. m ≡ Ok circuit))
-    (circuit-read c.args.text.now c.cut_line.result c.deref.result.now c.cut_line.ensures (c.deref.ensures.value ∙ c.in_ok-words.ensures) c.in-Ok.deck c.in-Ok.ensures.ok)
+    (circuit-read c.args.text.now c.in-Ok.deck c.in-Ok.ensures.ok)
     c.read_parts.ensures.ok
 
 pub returns-clause-refused : goal.returns-clause-refused
 returns-clause-refused c =
     subst (λ (m : Result CircuitData DeckFault). IfErr c.read_parts.result (IsFault m))
-    (circuit-read c.args.text.now c.cut_line.result c.deref.result.now c.cut_line.ensures (c.deref.ensures.value ∙ c.in_ok-words.ensures) c.in-Ok.deck c.in-Ok.ensures.ok)
+    (circuit-read c.args.text.now c.in-Ok.deck c.in-Ok.ensures.ok)
     c.read_parts.ensures.refused
 
 pub returns-clause-circuit : goal.returns-clause-circuit

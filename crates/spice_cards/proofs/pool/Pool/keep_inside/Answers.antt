@@ -11,7 +11,7 @@ returns-clause-ok c =
       first = c.in_ok-short-2.field-0;
       end = c.in_ok-short-3.field-0;
     } in
-    pool_of-inside c.self.inside.words.items _ _ _ _ _ _ at _ _ c.self.invariant c.self.view_is c.requires
+    pool_of-inside c.self.inside.text.items c.self.inside.words.items _ _ _ _ _ _ at _ _ c.self.invariant c.self.view_is c.requires
     c.truncate.ensures.items
     (c.push_reserved.ensures.items ∙ ap (λ (places : List PartPlace). places ++ at ∷ []) c.in_ok-reserve.ensures.items)
     c.in_ok-short-2.ensures c.in_ok-short-3.ensures c.in_ok-short.ensures

@@ -1,4 +1,4 @@
-use Rattle.std.proofs.Common.{List, length, ap, subst, sym}
+use Rattle.std.proofs.Common.{List, length, subst, sym}
 use Rattle.spice_cards.specs.Decks.{PartCard}
 use Rattle.spice_cards.specs.Readings.{IsReading}
 use Rattle.spice_cards.proofs.ReadingLemmas.{collected}

@@ -5,8 +5,8 @@ use Rattle.spice_read.proofs.frame.Frame.open.Goals as goal
 
 pub returns-clause-scope : goal.returns-clause-scope
 returns-clause-scope c =
-    let call : OpenCall = record { name = c.word_at.result; line = c.args.line; ports = c.in_ok-ports.ports } in
+    let call : OpenCall = record { name = c.at.result; line = c.args.line; ports = c.in_ok-ports.ports } in
     opened-scope c.self.inside.lookups c.self.inside.calls.items c.push_reserved.new.self.items call c.args.self.now c.args.words.now c.args.line
-    c.args.ports.now c.self.view_is
-    (c.push_reserved.ensures.items ∙ ap (λ (calls : List OpenCall). calls ++ call ∷ []) c.in_ok-reserve.ensures.items) c.word_at.ensures refl
-    (c.in_ok-ports.ensures ∙ ap (λ (words : List (List ℕ)). record { ports = c.args.ports.now; words = words }) c.nodes_of.ensures)
+    c.args.ports c.self.view_is
+    (c.push_reserved.ensures.items ∙ ap (λ (calls : List OpenCall). calls ++ call ∷ []) c.in_ok-reserve.ensures.items) c.at.ensures refl
+    (c.in_ok-ports.ensures ∙ ap (λ (words : List (List ℕ)). record { ports = c.args.ports; words = words }) c.nodes_of.ensures)

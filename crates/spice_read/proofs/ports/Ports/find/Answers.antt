@@ -13,7 +13,7 @@ use Rattle.spice_read.proofs.ports.Ports.find.Goals as goal
 pub returns-in-Some : goal.returns-in-Some
 returns-in-Some c =
     let name = c.args.name.now in
-    let entries = zip c.self.inside.ports.now c.self.inside.words.now in
+    let entries = zip c.self.inside.ports c.self.inside.words in
     let kept : entries_of c.in-Some.table.entries ≡ with_each [] entries =
     subst (λ (o : Option (IndexMap (Bor (List ℕ)) (Bor (List ℕ)) TableKeys)). IfSome o (λ t. entries_of t.entries ≡ with_each [] entries)) c.in-Some.is
     c.self.invariant.last in

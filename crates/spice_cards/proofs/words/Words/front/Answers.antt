@@ -1,0 +1,11 @@
+use Rattle.std.proofs.Common.{List, ℕ, take, ◌∙◌, ap, sym}
+use Rattle.std.proofs.lemmas.List.{take-map}
+use Rattle.spice_cards.specs.Pools.{word_of, words_at}
+use Rattle.spice_cards.proofs.words.Words.front.Goals as goal
+
+pub returns : goal.returns
+returns c =
+    c.new.ensures
+    ∙ ap (words_at c.self.inside.text.now) c.front.ensures
+    ∙ sym (take-map (word_of c.self.inside.text.now) c.args.count c.self.inside.spans.now)
+    ∙ ap (λ (words : List (List ℕ)). take c.args.count words) c.self.view_is
