@@ -1,7 +1,7 @@
 -- How a script runs in columns: something comes of it in all of them together, and what was sent so far is where its rows begin.
 -- The plan is that of a plain script: a record of how far the script has come says that each outcome from here, after what was written and
 -- analysed before it, is an outcome from the start, now in all columns at once.
-use Rattle.std.proofs.Common.{◌≡◌, ◌≢◌, ℕ, ◌<◌, ◌⊎◌, inl, inr, Bool, true, false, List, [], ◌∷◌, ◌++◌, Option, None, Some, Ok, Err, refl, sym, ap, subst, ◌∙◌, append_assoc, append-nil, arith}
+use Rattle.std.proofs.Common.{◌≡◌, ℕ, ◌<◌, ◌⊎◌, inl, inr, Bool, true, false, List, [], ◌∷◌, ◌++◌, Option, None, Some, Ok, Err, refl, sym, ap, subst, ◌∙◌, append_assoc, append-nil, arith}
 use Rattle.std.specs.Io.KnownBytes.{append_known}
 use Rattle.port_edge.specs.Sending.{WritesPart}
 use Rattle.port_edge.proofs.SendingLemmas.{append_known-nil, append_known-append, sends_part, part_whole, part_longer}
@@ -10,8 +10,6 @@ use Rattle.netlist.specs.Circuits.{CircuitData}
 use Rattle.group_text.specs.Texts.{GroupTextData}
 use Rattle.circuit_texts.specs.declared.texts.BuildFault.{BuildFault}
 use Rattle.circuit_texts.specs.Sizes.{TellsTooLarge}
-use Rattle.script_lang.specs.declared.command.ScriptFault.{ScriptFault}
-use Rattle.script_lang.specs.declared.command.ScriptFault.TheVariants as script
 use Rattle.lane_script.specs.declared.command.LaneCommand.{LaneCommand}
 use Rattle.lane_script.specs.Commands.{in_column}
 use Rattle.cosmos_session.specs.Sessions.{SessionData, IsReady}
@@ -23,9 +21,10 @@ use Rattle.lane_session.proofs.RowLemmas.{rows-none, rows-append}
 use Rattle.lane_session.proofs.StepLemmas.{column_stands, circuit_stands}
 use Rattle.script_run.specs.declared.stop.Stop.{Stop}
 use Rattle.script_run.specs.declared.script.Turn.TheVariants.{Accepted, Refused, TooLarge}
-use Rattle.script_run.specs.Codes.{Cause, plain_cause, size_cause, script_code, refusal_code}
+use Rattle.script_run.specs.Codes.{Cause, plain_cause, size_cause, refusal_code}
 use Rattle.script_run.specs.Runs.{RefusedLine, Runs, ends, passes, obeys, refuses, too_long, unread, refused, too_large, at_end, refused_at, after_command}
 use Rattle.script_run.proofs.SizeLemmas.{size_caused}
+use Rattle.script_run.proofs.RunLemmas.{script_coded}
 use Rattle.lane_run.specs.Batches.{reading_in, RunsTogether}
 use Rattle.lane_run.specs.Turns.{AreIdle, AskTogether, AreRefused, Follows, TakesTurn, HaveObeyed, HaveOutgrown, BreakOff}
 use Rattle.lane_run.proofs.LineLemmas.{LineReads, fails, idles, commands, line_reads}
@@ -39,17 +38,6 @@ ready_columns session is = record {
   alike = λ lane inside. record { same = refl };
   ready = λ lane inside. (is.each lane inside).ready;
 }
-
--- a fault of a line has a code, but for want of memory
-script_coded : (fault : ScriptFault) → fault ≢ script.NoMemory → (code : FaultCode) × (script_code fault ≡ Some code)
-script_coded script.LineTooLong other = (_, refl)
-script_coded script.BadByte other = (_, refl)
-script_coded script.BadCommand other = (_, refl)
-script_coded script.FewWords other = (_, refl)
-script_coded script.ManyWords other = (_, refl)
-script_coded script.BadValue other = (_, refl)
-script_coded script.BadNumber other = (_, refl)
-script_coded script.NoMemory other = absurd (other refl)
 
 -- ---- runs that are joined
 
@@ -185,11 +173,29 @@ comes_first lanes cut start all before asked ready = record {
   ready = ready;
 }
 
--- as many columns have come as far
-pub comes_in : {lanes count : ℕ} {cut : Option ℕ} {start now : ℕ → SessionData} {all left : List (ℕ × List ℕ)} {before after : Option (List ℕ)} {asked told : List GroupTextData} →
-    lanes ≡ count → HasCome lanes cut start all before asked now left after told → HasCome count cut start all before asked now left after told
-comes_in {lanes} {count} {cut} {start} {now} {all} {left} {before} {after} {asked} {told} same come =
-    subst (λ n. HasCome n cut start all before asked now left after told) same come
+-- the next line comes to so many columns, which have come as far
+pub comes_at : {lanes count : ℕ} {cut : Option ℕ} {start now : ℕ → SessionData} {all left next : List (ℕ × List ℕ)} {before after : Option (List ℕ)} {asked told : List GroupTextData} →
+    lanes ≡ count → left ≡ next → HasCome lanes cut start all before asked now left after told → HasCome count cut start all before asked now next after told
+comes_at {lanes} {count} {cut} {start} {now} {all} {left} {next} {before} {after} {asked} {told} same steps come =
+    subst (λ n. HasCome n cut start all before asked now next after told) same (subst (λ lines. HasCome lanes cut start all before asked now lines after told) steps come)
+
+-- what so many columns have obeyed up to a line is what as many have
+pub obeyed_in : {lanes count : ℕ} {cut other : Option ℕ} {start : ℕ → SessionData} {all : List (ℕ × List ℕ)} {before after : Option (List ℕ)} {asked told : List GroupTextData}
+    {last : Option RefusedLine} → lanes ≡ count → cut ≡ other → HaveObeyed lanes cut start all before after asked told last →
+    HaveObeyed count other start all before after asked told last
+obeyed_in {lanes} {count} {cut} {other} {start} {all} {before} {after} {asked} {told} {last} same far obeyed =
+    subst (λ n. HaveObeyed n other start all before after asked told last) same (subst (λ c. HaveObeyed lanes c start all before after asked told last) far obeyed)
+
+pub outgrown_in : {lanes count : ℕ} {cut other : Option ℕ} {start : ℕ → SessionData} {all : List (ℕ × List ℕ)} {circuit : CircuitData} {before after : Option (List ℕ)}
+    {asked told : List GroupTextData} {number : ℕ} {fault : BuildFault} → lanes ≡ count → cut ≡ other →
+    HaveOutgrown lanes cut start all circuit before after asked told number fault → HaveOutgrown count other start all circuit before after asked told number fault
+outgrown_in same far outgrown = record { first = outgrown.first; halted = λ other cause tells named. obeyed_in same far (outgrown.halted other cause tells named) }
+
+-- and where they broke off, as many did
+pub breaks_in_all : {lanes count : ℕ} {cut other : Option ℕ} {start : ℕ → SessionData} {all : List (ℕ × List ℕ)} {before after : Option (List ℕ)} →
+    lanes ≡ count → cut ≡ other → BreakOff lanes cut start all before after → BreakOff count other start all before after
+breaks_in_all {lanes} {count} {cut} {other} {start} {all} {before} {after} same far breaks =
+    subst (λ n. BreakOff n other start all before after) same (subst (λ c. BreakOff lanes c start all before after) far breaks)
 
 -- columns that are the same run to the same
 pub together-same : (lanes : ℕ) (cut : Option ℕ) (columns other : ℕ → SessionData) (lines : List (ℕ × List ℕ)) (text : List ℕ) (texts : List GroupTextData) (last : Option RefusedLine) →

@@ -30,7 +30,7 @@ use Rattle.script_run.proofs.SizeLemmas.{size_caused}
 use Rattle.script_run.proofs.FirstRefusedLemmas.{after_command-twice}
 
 -- a fault of a line has a code, but for want of memory
-script_coded : (fault : ScriptFault) → fault ≢ script.NoMemory → (code : FaultCode) × (script_code fault ≡ Some code)
+pub script_coded : (fault : ScriptFault) → fault ≢ script.NoMemory → (code : FaultCode) × (script_code fault ≡ Some code)
 script_coded script.LineTooLong other = (_, refl)
 script_coded script.BadByte other = (_, refl)
 script_coded script.BadCommand other = (_, refl)
