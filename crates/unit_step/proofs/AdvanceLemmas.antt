@@ -1,28 +1,26 @@
 -- What a step does, from what was noted of it: which nodes take which values, which parts are marked, and whether the state changed.
-use Rattle.std.proofs.Common.{◌≡◌, ◌≢◌, ℕ, zero, suc, ◌<◌, Bool, true, false, inl, inr, ◌⊎◌, List, [], ◌∷◌, length, map, Global, Vec, refl, sym, ap, subst, ◌∙◌, arith}
+use Rattle.std.proofs.Common.{◌≡◌, ◌≢◌, ℕ, zero, suc, ◌<◌, Bool, true, false, inl, inr, ◌⊎◌, List, [], ◌∷◌, length, Global, Vec, refl, sym, ap, subst, ◌∙◌, arith}
 use Rattle.std.specs.Prelude.{Contains, vec_capacity}
 use Rattle.std.proofs.lemmas.Bool.{cases_eq}
 use Rattle.std.proofs.lemmas.List.{ext_get_or}
-use Rattle.std.specs.declared.rc.Rc.{Rc}
 use Rattle.smallvec.specs.SmallVec.{SmallVec}
 use Rattle.ternary.specs.declared.tern.Tern.{Tern}
 use Rattle.ternary.specs.declared.tern.Tern.TheVariants.{Zero, Unk}
 use Rattle.path_meaning.specs.Switching.{state_at}
-use Rattle.straight_code.specs.Code.{CodeData, code_value}
 use Rattle.oscillation_x.specs.Settling.{StaysOrBecomesX}
 use Rattle.unit_step.specs.declared.part.HeldPart.{HeldPart}
 use Rattle.part_words.specs.declared.change.Change.{Change}
 use Rattle.unit_step.specs.declared.evaluation.Desk.{Desk}
-use Rattle.unit_step.specs.Parts.{IsMemberAt, IsStale}
+use Rattle.unit_step.specs.Parts.{IsStale}
 use Rattle.unit_step.specs.Machines.{IsMarked}
-use Rattle.unit_step.specs.Stepping.{Gives, IsGiven, Moves, StaysMarked, Remarks}
+use Rattle.unit_step.specs.Stepping.{IsGiven, Moves, StaysMarked, Remarks}
 use Rattle.part_words.specs.Noting.{after}
 use Rattle.unit_step.specs.Marking.{MarksAll}
 use Rattle.unit_step.specs.Evaluating.{Rooms, rooms, IsSeated, IsChange, Evaluated}
 use Rattle.unit_step.specs.Running.{IsRunnable, AreAgreed, IsTaken, ReadsAny}
 use Rattle.unit_step.specs.Readers.{readers_of}
 use Rattle.unit_step.proofs.CaseLemmas.{same_or_not, after-differs}
-use Rattle.unit_step.proofs.PartLemmas.{same_part, HasMember-from_Gives}
+use Rattle.unit_step.proofs.PartLemmas.{same_part, given_once}
 
 -- clearing the lists of a step keeps their room
 pub cleared_rooms : (desk : Desk) (changes : Vec Change Global) (done : Vec ℕ Global) → vec_capacity changes ≡ vec_capacity desk.changes →
@@ -59,28 +57,9 @@ pub record AreChanges (joining : Bool) (parts : List HeldPart) (marks : List Boo
 
 module _ (joining : Bool) (parts : List HeldPart) (marks : List Bool) (waiting : List Bool) (old : List Tern) (readers : List (SmallVec ℕ)) (room : Rooms)
     (runs : IsRunnable parts marks waiting (length old) readers room) where
-  -- a part gives a node one value
-  gives_once : (k node : ℕ) (v w : Tern) → Gives parts old k node v → Gives parts old k node w → v ≡ w
-  gives_once k node v w one two =
-      let part = one.part in
-      let same = same_part parts k two.part part two.stands one.stands in
-      let codes : two.code ≡ one.code = cc (ap (λ (p : HeldPart). p.code) same) in
-      let there = subst (λ p. IsMemberAt p two.place node) same two.member in
-      let seat = subst (IsSeated (length old) room) one.stands.here (runs.seated k part one.stands.inside) in
-      let places = seat.apart one.place two.place one.member.within there.within (one.member.here ∙ sym there.here) in
-      let value_of : HeldPart → ℕ → Tern = λ p place. state_at (code_value one.code.value (map (state_at old) p.map.items)) place in
-      let second : w ≡ value_of part one.place =
-      two.value_is
-      ∙ (ap (λ (p : HeldPart). state_at (code_value two.code.value (map (state_at old) p.map.items)) two.place) same
-      ∙ (ap (λ (shared : Rc CodeData Global). state_at (code_value shared.value (map (state_at old) part.map.items)) two.place) codes
-      ∙ ap (value_of part) (sym places))) in
-      one.value_is ∙ sym second
-
-  -- and all marked parts together give it one
-  given_once : (node : ℕ) (v w : Tern) → IsGiven parts marks old node v → IsGiven parts marks old node w → v ≡ w
-  given_once node v w one two =
-      let same = runs.apart two.k one.k node (HasMember-from_Gives parts old two.k node w two.gives) (HasMember-from_Gives parts old one.k node v one.gives) in
-      gives_once one.k node v w one.gives (subst (λ k. Gives parts old k node w) same two.gives)
+  -- all marked parts together give a node one value
+  given_one : (node : ℕ) (v w : Tern) → IsGiven parts marks old node v → IsGiven parts marks old node w → v ≡ w
+  given_one = given_once parts old (λ k part stands. (subst (IsSeated (length old) room) stands.here (runs.seated k part stands.inside)).apart) marks runs.apart
 
   -- the changes that were noted when nothing was left to be evaluated are those that the marked parts make
   pub AreChanges-from_Evaluated : (now : List Bool) (changes : List Change) (done : List ℕ) →
@@ -125,7 +104,7 @@ module _ (joining : Bool) (parts : List HeldPart) (marks : List Bool) (waiting :
     changes_agree one two there also same =
         let (v, given, is) = given_change one there in
         let (w, given_too, is_too) = given_change two also in
-        let values = given_once two.node v w (subst (λ n. IsGiven parts marks old n v) same given) given_too in
+        let values = given_one two.node v w (subst (λ n. IsGiven parts marks old n v) same given) given_too in
         is ∙ (ap (λ n. after joining (state_at old n) v) same ∙ (ap (after joining (state_at old two.node)) values ∙ sym is_too))
 
     module _ (new : List Tern) (taken : IsTaken changes old new) where
@@ -136,7 +115,7 @@ module _ (joining : Bool) (parts : List HeldPart) (marks : List Bool) (waiting :
             | inl same ↦
                 let none : (change : Change) → Contains changes change → change.node ≢ node = λ change there is.
                 let (w, given_too, value_is) = given_change change there in
-                let values = given_once node value w given (subst (λ n. IsGiven parts marks old n w) is given_too) in
+                let values = given_one node value w given (subst (λ n. IsGiven parts marks old n w) is given_too) in
                 let next : change.value ≡ state_at old change.node =
                 value_is ∙ (ap (after joining (state_at old change.node)) (sym values)
                 ∙ subst (λ n. after joining (state_at old n) value ≡ state_at old n) (sym is) same) in

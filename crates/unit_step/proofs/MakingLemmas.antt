@@ -33,7 +33,7 @@ at_on_ok P (Ok made) fact is = fact
 at_on_ok P (Err fault) fact is = absurd (cc)
 
 -- where no part is marked none is
-none_marked : (n k : ℕ) → ¬ IsMarked (replicate n false) k
+pub none_marked : (n k : ℕ) → ¬ IsMarked (replicate n false) k
 none_marked zero k marked = absurd cc
 none_marked (suc n) zero marked = absurd cc
 none_marked (suc n) (suc k) marked = none_marked n k marked

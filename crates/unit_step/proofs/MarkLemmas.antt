@@ -8,7 +8,7 @@ use Rattle.std.proofs.lemmas.List.Sums.{sum_by-set, sum_by-cons, sum_by_push, co
 use Rattle.std.proofs.lemmas.List.Elements.{All-push, Contains-push, Contains-push_cases, Contains-append_left}
 use Rattle.unit_step.specs.declared.part.HeldPart.{HeldPart}
 use Rattle.unit_step.specs.Machines.{IsMarked, count_marked, marked_sum}
-use Rattle.unit_step.specs.Marking.{AreOnce, IsAgenda, MarksAll}
+use Rattle.unit_step.specs.Marking.{AreOnce, IsAgenda, MarksAll, IsReached}
 
 -- a marked part is one of the parts
 pub marked_inside : (marks : List Bool) (k : ℕ) → IsMarked marks k → k < length marks
@@ -234,6 +234,42 @@ pub MarksAll-more : (parts : List ℕ) (i k : ℕ) (old mid : List Bool) → i <
 MarksAll-more parts i k old mid i_inside is inside all =
     let more : take (i + 1) parts ≡ take i parts ++ k ∷ [] = take_more parts i 0 i_inside ∙ ap (λ x. take i parts ++ x ∷ []) (sym is) in
     subst (λ xs. MarksAll (Contains xs) old (slice_set mid k true)) (sym more) (MarksAll-push (take i parts) k old mid inside all)
+
+-- the parts that one change more reaches are marked
+pub MarksAll-reached : {X : Type 0} (reaches : X → List ℕ) (changes : List X) (i : ℕ) (change : X) (parts : List ℕ) (old mid new : List Bool) → i < length changes →
+    change ≡ get_or changes i change → parts ≡ reaches change → MarksAll (IsReached reaches (take i changes)) old mid → MarksAll (Contains parts) mid new →
+    MarksAll (IsReached reaches (take (i + 1) changes)) old new
+MarksAll-reached {X} reaches changes i change parts old mid new i_inside is lists so_far marks =
+    let more : take (i + 1) changes ≡ take i changes ++ change ∷ [] =
+    take_more changes i change i_inside ∙ ap (λ c. take i changes ++ c ∷ []) (sym is) in
+    subst (λ xs. MarksAll (IsReached reaches xs) old new) (sym more) (record {
+      count = marks.count ∙ so_far.count;
+      stays = λ k was. marks.stays k (so_far.stays k was);
+      set = λ k any.
+          elim (Contains-push_cases (take i changes) change any.change any.changes_it) [
+            | inl before ↦ marks.stays k (so_far.set k (record { change = any.change; changes_it = before; reads = any.reads }))
+            | inr same ↦
+                let reads : Contains (reaches change) k = subst (λ (c : X). Contains (reaches c) k) (sym same) any.reads in
+                marks.set k (subst (λ xs. Contains xs k) (sym lists) reads)
+          ];
+      only = λ k marked.
+          elim (marks.only k marked) [
+            | inl before ↦
+                elim (so_far.only k before) [
+                  | inl was ↦ inl was
+                  | inr any ↦ inr (record {
+                    change = any.change;
+                    changes_it = Contains-append_left (take i changes) (change ∷ []) any.change any.changes_it;
+                    reads = any.reads;
+                  })
+                ]
+            | inr there ↦ inr (record {
+              change = change;
+              changes_it = Contains-push (take i changes) change;
+              reads = subst (λ xs. Contains xs k) lists there;
+            })
+          ];
+    })
 
 -- a part that waits goes on without waiting
 pub IsAgenda-released : (marks waiting : List Bool) (work waiters : List ℕ) (stale capacity k left : ℕ) → IsMarked waiting k → left + 1 ≡ stale →

@@ -1,5 +1,5 @@
 -- The changes of a step are taken over one by one.
-use Rattle.std.proofs.Common.{◌≡◌, ◌≢◌, ℕ, ◌+◌, ◌<◌, Bool, inl, inr, List, [], ◌∷◌, ◌++◌, length, take, get_or, sym, ap, subst, ◌∙◌, arith}
+use Rattle.std.proofs.Common.{◌≡◌, ◌≢◌, ℕ, ◌+◌, ◌<◌, inl, inr, List, [], ◌∷◌, ◌++◌, length, take, get_or, sym, ap, subst, ◌∙◌, arith}
 use Rattle.std.specs.Prelude.{Contains, slice_set}
 use Rattle.std.proofs.lemmas.Bool.{cases_eq}
 use Rattle.std.proofs.lemmas.List.{get_or-set_same, get_or-set_other, get_or-take, get_or-map, length-set, length-take, take_more}
@@ -9,12 +9,11 @@ use Rattle.ternary.specs.declared.tern.Tern.{Tern}
 use Rattle.ternary.specs.declared.tern.Tern.TheVariants.{Zero}
 use Rattle.path_meaning.specs.Switching.{state_at}
 use Rattle.part_words.specs.declared.change.Change.{Change}
-use Rattle.unit_step.specs.Marking.{MarksAll}
-use Rattle.unit_step.specs.Running.{AreAgreed, IsTaken, ReadsAny}
+use Rattle.unit_step.specs.Running.{AreAgreed, IsTaken}
 use Rattle.unit_step.specs.Readers.{readers_of}
 
 -- what stands at the front stands in the list
-Contains-from_take : {X : Type 0} (n : ℕ) (xs : List X) (x : X) → Contains (take n xs) x → Contains xs x
+pub Contains-from_take : {X : Type 0} (n : ℕ) (xs : List X) (x : X) → Contains (take n xs) x → Contains xs x
 Contains-from_take n xs x (k, inside, here) =
     let first : k < n = omega (arith, inside, length-take n xs) in
     let within : k < length xs = omega (arith, inside, length-take n xs) in
@@ -53,44 +52,6 @@ IsTaken-more changes i change old mid agreed i_inside is inside so_far =
     λ other there. Contains-from_take (i + 1) changes other (subst (λ xs. Contains xs other) (sym more) there) in
     subst (λ xs. IsTaken xs old (slice_set mid change.node change.value)) (sym more)
     (IsTaken-push changes (take i changes) change old mid agreed among inside so_far)
-
--- the readers of one node more are marked
-pub MarksAll-readers : (readers : List (SmallVec ℕ)) (changes : List Change) (i : ℕ) (change : Change) (parts : List ℕ) (old mid new : List Bool) →
-    i < length changes → change ≡ get_or changes i change → parts ≡ readers_of readers change.node →
-    MarksAll (ReadsAny readers (take i changes)) old mid → MarksAll (Contains parts) mid new →
-    MarksAll (ReadsAny readers (take (i + 1) changes)) old new
-MarksAll-readers readers changes i change parts old mid new i_inside is lists so_far marks =
-    let more : take (i + 1) changes ≡ take i changes ++ change ∷ [] =
-    take_more changes i change i_inside ∙ ap (λ c. take i changes ++ c ∷ []) (sym is) in
-    subst (λ xs. MarksAll (ReadsAny readers xs) old new) (sym more) (record {
-      count = marks.count ∙ so_far.count;
-      stays = λ k was. marks.stays k (so_far.stays k was);
-      set = λ k any.
-          elim (Contains-push_cases (take i changes) change any.change any.changes_it) [
-            | inl before ↦ marks.stays k (so_far.set k (record { change = any.change; changes_it = before; reads = any.reads }))
-            | inr same ↦
-                let reads : Contains (readers_of readers change.node) k =
-                subst (λ (c : Change). Contains (readers_of readers c.node) k) (sym same) any.reads in
-                marks.set k (subst (λ xs. Contains xs k) (sym lists) reads)
-          ];
-      only = λ k marked.
-          elim (marks.only k marked) [
-            | inl before ↦
-                elim (so_far.only k before) [
-                  | inl was ↦ inl was
-                  | inr any ↦ inr (record {
-                    change = any.change;
-                    changes_it = Contains-append_left (take i changes) (change ∷ []) any.change any.changes_it;
-                    reads = any.reads;
-                  })
-                ]
-            | inr there ↦ inr (record {
-              change = change;
-              changes_it = Contains-push (take i changes) change;
-              reads = subst (λ xs. Contains xs k) lists there;
-            })
-          ];
-    })
 
 -- the readers of a node that are read by its index
 pub readers_read : (readers : List (SmallVec ℕ)) (node : ℕ) (found : SmallVec ℕ) → node < length readers → found ≡ get_or readers node found →

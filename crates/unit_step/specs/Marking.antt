@@ -32,3 +32,9 @@ pub record MarksAll (These : ℕ → Type 0) (old new : List Bool) : Type 0 wher
   pub stays : (k : ℕ) → IsMarked old k → IsMarked new k
   pub set : (k : ℕ) → These k → IsMarked new k
   pub only : (k : ℕ) → IsMarked new k → IsMarked old k ⊎ These k
+
+-- the part with this number is among those that some of these changes reaches
+pub record IsReached {X : Type 0} (reaches : X → List ℕ) (changes : List X) (k : ℕ) : Type 0 where
+  pub change : X
+  pub changes_it : Contains changes change
+  pub reads : Contains (reaches change) k

@@ -9,6 +9,7 @@ use Rattle.part_words.specs.declared.change.Change.{Change}
 use Rattle.unit_step.specs.Parts.{HasMember, ReadsAt, IsStale, AreApart, has_members}
 use Rattle.unit_step.specs.Readers.{readers_of}
 use Rattle.unit_step.specs.Machines.{IsMarked, members_of}
+use Rattle.unit_step.specs.Marking.{IsReached}
 use Rattle.unit_step.specs.Evaluating.{Rooms, IsSeated}
 
 -- the parts are seated, share no members, and have marks; the stale ones wait; each node has its readers; and there is room for a step
@@ -41,10 +42,8 @@ pub record IsTaken (changes : List Change) (old new : List Tern) : Type 0 where
   pub stays : (node : ℕ) → ((change : Change) → Contains changes change → change.node ≢ node) → state_at new node ≡ state_at old node
 
 -- the part with this number is listed as a reader of some node that changes
-pub record ReadsAny (readers : List (SmallVec ℕ)) (changes : List Change) (k : ℕ) : Type 0 where
-  pub change : Change
-  pub changes_it : Contains changes change
-  pub reads : Contains (readers_of readers change.node) k
+abbrev pub ReadsAny : List (SmallVec ℕ) → List Change → ℕ → Type 0
+ReadsAny readers = IsReached (λ (change : Change). readers_of readers change.node)
 
 -- the machine can run, knows the owners of its nodes, has a text or none for each part, and counts the parts with members; and there is
 -- room for so many changes as it has members

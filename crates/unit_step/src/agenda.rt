@@ -1,5 +1,6 @@
 //! Which parts are marked, and the list of those that can be evaluated.
-ghost use Rattle.std.specs.Prelude.{◌≡◌, ℕ, ◌<◌, ◌++◌, ◌∷◌, true, false, slice_set, slice_index_or, length, replicate, [], All, Contains, IfOk, IfSome, OnOk, OnErr};
+ghost use Rattle.std.specs.Prelude.{◌≡◌, ℕ, ◌<◌, ◌++◌, ◌∷◌, true, false, slice_set, slice_index_or, length, map, replicate, vec_capacity, [], All, Contains, IfOk, IfSome, OnOk, OnErr};
+ghost use Rattle.std.specs.List.{range_with_len};
 ghost use Rattle.std.specs.Bool.{OnTrue};
 ghost use Rattle.std.specs.Option.{IfNone};
 ghost use Rattle.unit_step.specs.Machines.{IsMarked, count_marked};
@@ -36,10 +37,7 @@ impl Agenda {
         ensures marks { IfOk result (λ agenda. agenda.marks ≡ replicate parts true) }
         ensures waiting { IfOk result (λ agenda. agenda.waiting ≡ replicate parts false) }
     {
-        let mut work = Vec::with_capacity(alloc, parts)?;
-        for k in 0..parts {
-            work.push_reserved(k);
-        }
+        let work = numbers_below(alloc, parts)?;
         Ok(Agenda {
             marks: vec![in alloc; true; parts]?,
             waits: vec![in alloc; false; parts]?,
@@ -167,4 +165,16 @@ pub(crate) fn mark_all(parts: &[usize], agenda: &mut Agenda)
     for k in parts {
         agenda.mark(*k);
     }
+}
+
+/// The numbers of so many parts, in order.
+pub fn numbers_below(alloc: Global, count: usize) -> Result<Vec<usize>, AllocError>
+    ensures numbers { IfOk result (λ list. list.items ≡ map (λ k. k) (range_with_len 0 count)) }
+    ensures room { IfOk result (λ list. vec_capacity list ≡ count) }
+{
+    let mut list = Vec::with_capacity(alloc, count)?;
+    for k in 0..count {
+        list.push_reserved(k);
+    }
+    Ok(list)
 }

@@ -1,7 +1,7 @@
 //! What a machine is made of: its parts, who owns and who reads a node, and room for its steps.
-ghost use Rattle.std.specs.Prelude.{◌≡◌, ℕ, ◌+◌, ◌*◌, ◌<◌, ◌≤◌, length, vec_capacity, map, zip, count_by, All, Contains, Some, IfOk, IfSome, OnOk};
+ghost use Rattle.std.specs.Prelude.{◌≡◌, ◌+◌, ◌*◌, ◌<◌, ◌≤◌, length, vec_capacity, map, zip, count_by, All, Some, IfOk, IfSome, OnOk};
 ghost use Rattle.std.specs.List.{sum_by};
-ghost use Rattle.unit_step.specs.Parts.{HasMember, ReadsAt, AreApart, has_members};
+ghost use Rattle.unit_step.specs.Parts.{AreApart, has_members};
 ghost use Rattle.unit_step.specs.Machines.{members_of};
 ghost use Rattle.unit_step.specs.Evaluating.{rooms};
 ghost use Rattle.unit_step.specs.Running.{AreOwners};
@@ -83,13 +83,13 @@ pub(crate) fn own(k: usize, members: &[usize], owners: &mut [Option<usize>])
     }
 }
 
-// How much room the steps of these parts take.
+/// How much room the steps of these parts take.
 #[derive(Clone, Copy)]
-pub(crate) struct Needs {
-    // the most that a code reads
-    pub(crate) values: usize,
-    // the members of all parts
-    changes: usize,
+pub struct Needs {
+    /// The most that a code reads.
+    pub values: usize,
+    /// The members of all parts.
+    pub changes: usize,
 }
 
 // Room for the steps of these parts.
@@ -102,8 +102,8 @@ pub(crate) fn desk_for(alloc: Global, parts: &[HeldPart]) -> Result<Desk, NoMemo
     }
 }
 
-// How much room these parts need; None where it is more than there can be.
-pub(crate) fn needs_of(parts: &[HeldPart]) -> Option<Needs>
+/// How much room these parts need; None where it is more than there can be.
+pub fn needs_of(parts: &[HeldPart]) -> Option<Needs>
     ensures values { IfSome result (λ needs. All (IsCodeRoom needs.values) parts.now) }
     ensures changes { IfSome result (λ needs. sum_by members_of parts.now ≤ needs.changes) }
 {

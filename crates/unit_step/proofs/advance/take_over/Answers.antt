@@ -5,7 +5,9 @@ use Rattle.std.proofs.lemmas.List.{get_or_default}
 use Rattle.std.proofs.lemmas.List.Elements.{Contains-get_or}
 use Rattle.ternary.specs.declared.tern.Tern.TheVariants.{Zero}
 use Rattle.part_words.specs.declared.change.Change.{Change}
-use Rattle.unit_step.proofs.TakingLemmas.{IsTaken-more, MarksAll-readers}
+use Rattle.unit_step.specs.Readers.{readers_of}
+use Rattle.unit_step.proofs.MarkLemmas.{MarksAll-reached}
+use Rattle.unit_step.proofs.TakingLemmas.{IsTaken-more}
 use Rattle.unit_step.proofs.advance.take_over.Goals as goal
 
 first : Change
@@ -45,7 +47,7 @@ loop-change-preserved c =
     let lists = c.of.ensures in
     record {
       taken = IsTaken-more changes i change c.args.state.now c.loop-change.state c.requires.agreed test is here c.loop-change.invariant.taken;
-      marks = MarksAll-readers c.args.readers.now changes i change c.of.result.now c.args.agenda.now.marks c.loop-change.agenda.marks
+      marks = MarksAll-reached (λ (change : Change). readers_of c.args.readers.now change.node) changes i change c.of.result.now c.args.agenda.now.marks c.loop-change.agenda.marks
           c.mark_all.new.agenda.marks test is lists c.loop-change.invariant.marks c.mark_all.ensures.marks;
       waiting = c.mark_all.ensures.waiting ∙ c.loop-change.invariant.waiting;
     }

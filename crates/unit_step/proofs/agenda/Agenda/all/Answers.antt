@@ -1,24 +1,11 @@
 -- All parts are marked and listed.
-use Rattle.std.proofs.Common.{rules, ◌≡◌, ◌∷◌, ◌++◌, [], true, false, sym, ap, ◌∙◌, arith}
+use Rattle.std.proofs.Common.{rules, ◌≡◌, true, false, arith}
 use Rattle.std.specs.Prelude.{replicate}
-use Rattle.std.proofs.lemmas.List.FromFn.{map-range_with_len_more}
 use Rattle.unit_step.proofs.MakingLemmas.{IsAgenda-all}
 use Rattle.unit_step.proofs.agenda.Agenda.all.Goals as goal
 
-pub loop-k-preserved : goal.loop-k-preserved
-loop-k-preserved c =
-    let k = c.loop-k.k in
-    record {
-      items = c.push_reserved.ensures.items
-          ∙ (ap (λ front. front ++ k ∷ []) c.loop-k.invariant.items ∙ sym (map-range_with_len_more (λ n. n) 0 k k (omega arith)));
-      len = omega (arith, c.push_reserved.ensures.len, c.loop-k.invariant.len);
-      room = c.push_reserved.ensures.capacity ∙ c.loop-k.invariant.room;
-    }
-
 pub invariant_of-result : goal.invariant_of-result
 invariant_of-result c =
-    let last : c.loop-k.k ≡ c.args.parts = omega (arith, c.loop-k.auto.k-end, c.loop-k-test.false) in
-    let work = rw last at c.loop-k.invariant.items in
     let marks : c.in_ok-vec.field-0.items ≡ replicate c.args.parts true = search rules in
     let waits : c.in_ok-vec-2.field-0.items ≡ replicate c.args.parts false = search rules in
-    rw (marks, work, waits, c.new.ensures.items) (IsAgenda-all c.args.parts _ (omega (arith, c.loop-k.invariant.room)))
+    rw (marks, c.in_ok-work.ensures.numbers, waits, c.new.ensures.items) (IsAgenda-all c.args.parts _ (omega (arith, c.in_ok-work.ensures.room)))
