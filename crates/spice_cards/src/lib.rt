@@ -38,8 +38,6 @@ mod reading;
 mod report;
 mod sorts;
 mod table;
-#[cfg(test)]
-mod tests;
 mod words;
 
 pub use cards::TRANSISTOR_WORDS;

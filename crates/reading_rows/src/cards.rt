@@ -1,6 +1,8 @@
-use crate::{DeckFault, DeckWhat, PartSort, Strength, deck_line, folded, read_cards};
+//! What no clause says: decks of which the cards or the refusal is known, and a refusal as it is printed.
+
 use line_words::cut_line;
 use path_meaning::SwitchKind;
+use spice_cards::{DeckFault, DeckWhat, PartSort, Strength, deck_line, folded, read_cards};
 use std::test::Fail;
 use table_keys::TableKeys;
 
