@@ -35,6 +35,3 @@ pub use change::{Change, nodes_after, nodes_before};
 pub use group::{Group, GroupId};
 pub use groups::Groups;
 pub use laws::{empty_places_change_no_group, untouched_groups_are_kept};
-
-#[cfg(test)]
-mod tests;

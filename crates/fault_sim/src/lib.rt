@@ -28,8 +28,6 @@ mod differences;
 mod fault;
 mod masks;
 mod rows;
-#[cfg(test)]
-mod tests;
 mod trace;
 mod verdicts;
 

@@ -8,4 +8,10 @@
 #[cfg(test)]
 mod edits;
 #[cfg(test)]
+mod reasons;
+#[cfg(test)]
+mod regrouping;
+#[cfg(test)]
+mod reports;
+#[cfg(test)]
 mod tests;

@@ -17,8 +17,6 @@
 mod listing;
 mod listing_text;
 mod reading;
-#[cfg(test)]
-mod tests;
 
 pub use listing::Listing;
 pub use listing_text::TextPlace;

@@ -15,6 +15,8 @@
 
 mod by_text;
 #[cfg(test)]
+mod listings;
+#[cfg(test)]
 mod tests;
 
 pub use by_text::{read_back, step_by_text};

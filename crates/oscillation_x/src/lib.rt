@@ -21,8 +21,6 @@ mod laws;
 mod plain_stepping;
 mod settling;
 mod stepping;
-#[cfg(test)]
-mod tests;
 
 pub use laws::{every_state_settles, joining_steps_make_x, settling_is_unique};
 pub use plain_stepping::PlainStepper;

@@ -21,15 +21,11 @@
 #![tactic(auto)]
 
 mod compared;
-#[cfg(test)]
-mod drawn;
 mod graph;
 mod laws;
 mod plain;
 mod spread;
 mod switching;
-#[cfg(test)]
-mod tests;
 mod walks;
 
 pub use graph::Graph;

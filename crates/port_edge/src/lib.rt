@@ -44,6 +44,3 @@ pub use reading::read_front;
 pub use real_ports::{HostFiles, RealFiles, RealSink, real_files, real_sink};
 pub use sending::send;
 pub use sink_over::SinkOver;
-
-#[cfg(test)]
-mod tests;

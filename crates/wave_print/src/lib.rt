@@ -18,8 +18,6 @@
 mod faults;
 mod line_buf;
 mod lines;
-#[cfg(test)]
-mod tests;
 mod verdicts;
 mod waves;
 

@@ -24,8 +24,6 @@ mod line;
 mod near;
 mod reasons;
 mod search;
-#[cfg(test)]
-mod tests;
 
 pub use blocking::unblocked;
 pub use grouped::group_reason;

@@ -1,0 +1,98 @@
+ghost use Rattle.std.specs.Prelude.{◌≡◌, ◌≢◌, ◌≤◌};
+ghost use Rattle.oscillation_x.specs.declared.settling.TheConstants.{MOST_LIMIT};
+
+use oscillation_x::{MOST_LIMIT, PlainStepper, Settled, Stepper, settle};
+use path_meaning::{Graph, Switch, SwitchKind};
+use std::alloc::Global;
+use std::marker::Brand;
+use std::sync::ledger::{Blank, Ledger};
+use std::test::Fail;
+use ternary::{Steps, Tern};
+
+// the level of each node, Gnd and Vdd first, and the input and the output of each inverter
+type Drawing = (&'static [u8], &'static [(usize, usize)]);
+
+// an inverter that feeds itself
+const RING: Drawing = (&[16, 16, 1], &[(2, 2)]);
+
+// two inverters in a row
+const ROW: Drawing = (&[16, 16, 16, 1, 1], &[(2, 3), (3, 4)]);
+
+// an inverter that feeds itself, and two in a row that read it
+const READ_RING: Drawing = (&[16, 16, 1, 1, 1], &[(2, 2), (2, 3), (3, 4)]);
+
+// a circuit, its states before, the limit, its states after, the number of steps, whether it joined
+type Row = (Drawing, &'static [u8], u64, &'static [u8], u64, bool);
+
+const ROWS: [Row; 6] = [
+    // it oscillates until the limit, and becomes X
+    (RING, b"010", 4, b"01X", 5, true),
+    // X is steady there
+    (RING, b"01X", 4, b"01X", 0, false),
+    (ROW, b"010XX", 100, b"01010", 2, false),
+    // a limit that comes too early leaves an X, which goes the next time
+    (ROW, b"01110", 1, b"0110X", 2, true),
+    (ROW, b"0110X", 1, b"01101", 1, false),
+    // what reads a node that became X becomes X in the next joining step
+    (READ_RING, b"01010", 1, b"01XXX", 3, true),
+];
+
+#[test]
+fn a_state_settles_or_becomes_x(rt: HostRuntime) -> Result<(), Fail> {
+    for (drawing, before, limit, after, steps, joined) in &ROWS {
+        let graph = drawn(rt.alloc(), drawing)?;
+        let state = vec![in rt.alloc(); Tern::Unk; graph.nodes()]?;
+        let mut stepper = PlainStepper::new(rt.alloc(), &graph, &state)?;
+        for (node, letter) in before.iter().enumerate() {
+            if node < stepper.state().len() {
+                stepper.set_node(node, Tern::from_letter(*letter).unwrap_or(Tern::Unk));
+            }
+        }
+        assert!(rt; (1..=MOST_LIMIT).contains(limit));
+        let settled = counted::<_, Brand>(&mut stepper, &graph, *limit, Blank::new(1));
+        assert_eq!(rt; (settled.steps, settled.joined), (*steps, *joined));
+        let mut letters = Vec::new(rt.alloc());
+        for node in stepper.state() {
+            letters.push(node.letter())?;
+        }
+        assert_eq!(rt; letters.as_slice(), *after);
+    }
+    Ok(())
+}
+
+// What settling gives, with steps that nothing else counts.
+fn counted<M: Stepper, L: Ledger>(m: &mut M, graph: &Graph, limit: u64, blank: Blank) -> Settled
+    requires low { 1 ≤ limit }
+    requires high { limit ≤ MOST_LIMIT }
+    requires name { blank.name ≡ L.name }
+    requires parts { blank.parts ≡ L.parts }
+    requires some { blank.parts ≢ 0 }
+{
+    settle(m, graph, limit, &mut Steps::<L>::new(blank))
+}
+
+// The graph of a drawing; what doesn't fit is left out.
+fn drawn(alloc: Global, drawing: &Drawing) -> Result<Graph, Fail> {
+    let mut graph = Graph::new(alloc);
+    let (levels, inverters) = drawing;
+    for level in *levels {
+        if (1..=16).contains(level) {
+            graph.add_node(*level)?;
+        }
+    }
+    for (input, output) in *inverters {
+        for (kind, rail) in [(SwitchKind::PChan, 1), (SwitchKind::NChan, 0)] {
+            let nodes = graph.nodes();
+            if *input < nodes && *output < nodes && rail < nodes {
+                graph.add_switch(Switch {
+                    kind,
+                    level: 10,
+                    gate: *input,
+                    a: rail,
+                    b: *output,
+                })?;
+            }
+        }
+    }
+    Ok(graph)
+}
