@@ -1,14 +1,13 @@
 -- The list of the marked parts, when one part more is marked, when one is taken out, and at first.
-use Rattle.std.proofs.Common.{◌≡◌, ◌≢◌, ℕ, ◌*◌, ◌<◌, ◌≤◌, Bool, true, false, cond, inl, inr, List, [], ◌∷◌, ◌++◌, length, map, get_or, refl, sym, subst, ◌∙◌, arith}
+use Rattle.std.proofs.Common.{◌≢◌, ℕ, ◌<◌, ◌≤◌, Bool, true, false, inl, inr, List, [], ◌∷◌, ◌++◌, length, map, refl, sym, subst, ◌∙◌, arith}
 use Rattle.std.specs.Prelude.{Contains, slice_set, replicate}
 use Rattle.std.specs.List.{range_with_len}
-use Rattle.std.proofs.lemmas.List.{length-set, length_push, length-replicate, get_or-replicate, get_or_push, get_or_append_left, get_or_default}
+use Rattle.std.proofs.lemmas.List.{length-set, length_push, get_or_push, get_or_append_left, get_or_default}
 use Rattle.std.proofs.lemmas.List.Elements.{Contains-push, Contains-push_cases, Contains-append_left}
-use Rattle.std.proofs.lemmas.List.Folds.{sum_by-replicate}
-use Rattle.std.proofs.lemmas.List.FromFn.{length-map-range_with_len, get_or-map-range_with_len}
-use Rattle.unit_step.specs.Machines.{IsMarked, count_marked}
+use Rattle.unit_step.specs.Machines.{IsMarked}
 use Rattle.unit_step.specs.Marking.{AreOnce}
-use Rattle.unit_step.proofs.MarkLemmas.{AreOnce-push, marked_inside, marked-set, marked-stays, marked-set_cases, marked-kept, marked-cleared, marked-cleared_was, count_marked-set, count_marked-cleared}
+use Rattle.unit_step.proofs.MarkLemmas.{AreOnce-push, marked-set, marked-stays, marked-set_cases, marked-kept, marked-cleared, marked-cleared_was, count_marked-set, count_marked-cleared}
+use Rattle.unit_step.proofs.MakingLemmas.{none_marked, IsAgenda-all as all_listed}
 use Rattle.lane_machine.specs.Marking.{IsAgenda}
 
 -- one part more is marked
@@ -63,23 +62,15 @@ IsAgenda-popped marks work capacity k agenda =
 -- all of so many parts are marked and listed
 pub IsAgenda-all : (n capacity : ℕ) → n ≤ capacity → IsAgenda (replicate n true) (map (λ k. k) (range_with_len 0 n)) capacity
 IsAgenda-all n capacity room =
-    let work = map (λ k. k) (range_with_len 0 n) in
-    let long : length work ≡ n = length-map-range_with_len (λ k. k) 0 n in
-    let here : (i d : ℕ) → i < n → get_or work i d ≡ i = λ i d inside. get_or-map-range_with_len (λ k. k) 0 n i i d inside (omega arith) in
-    let one : Bool → ℕ = λ mark. cond mark 1 0 in
-    let all : count_marked (replicate n true) ≡ n * 1 = sum_by-replicate one n true in
+    let all = all_listed n capacity room in
     record {
       listed = λ k marked.
-          let inside : k < n = omega (arith, marked_inside (replicate n true) k marked, length-replicate n true) in
-          (k, omega (arith, long, inside), here k k inside);
-      marked = λ k (i, inside, is).
-          let within : i < n = omega (arith, inside, long) in
-          let same : i ≡ k = sym (here i k within) ∙ is in
-          get_or-replicate n k true false (omega (arith, within, same));
-      once = λ i j before inside same.
-          let first = here i 0 (omega (arith, before, inside, long)) in
-          let second = here j 0 (omega (arith, inside, long)) in
-          omega (arith, before, sym first ∙ (same ∙ second));
-      number = omega (arith, long, all);
-      room = omega (arith, room, length-replicate n true);
+          elim (all.listed k marked) [
+            | inl there ↦ there
+            | inr waits ↦ absurd (none_marked n k waits)
+          ];
+      marked = all.marked;
+      once = all.once;
+      number = omega (arith, all.number, all.stale_is);
+      room = all.room;
     }

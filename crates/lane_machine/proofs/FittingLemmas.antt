@@ -47,21 +47,18 @@ module _ (g : GraphData) (wired : IsWired g) (parts : List HeldPart) (marks new_
   join_step steps = (unit.columns_join_apart g _ _ wired (column_machine g parts marks state fit) (advances true steps)).0
 
   -- and the column fits the graph again
+  fits_with : FitsGraph g (record fit.machine { parts = parts; marks = new_marks; state = next }) → HasFit g parts new_marks next
+  fits_with fits = record {
+    machine = record fit.machine { parts = parts; marks = new_marks; state = next };
+    fits = fits;
+    parts_are = refl;
+    marks_are = refl;
+    state_is = refl;
+  }
+
   pub fits_again : (joining : Bool) → StepsTo joining parts marks new_marks state next bit → HasFit g parts new_marks next
-  fits_again true steps = record {
-    machine = record fit.machine { parts = parts; marks = new_marks; state = next };
-    fits = (unit.columns_join_apart g _ _ wired (column_machine g parts marks state fit) (advances true steps)).1;
-    parts_are = refl;
-    marks_are = refl;
-    state_is = refl;
-  }
-  fits_again false steps = record {
-    machine = record fit.machine { parts = parts; marks = new_marks; state = next };
-    fits = (unit.columns_step_apart g _ _ wired (column_machine g parts marks state fit) (advances false steps)).1;
-    parts_are = refl;
-    marks_are = refl;
-    state_is = refl;
-  }
+  fits_again true steps = fits_with ((unit.columns_join_apart g _ _ wired (column_machine g parts marks state fit) (advances true steps)).1)
+  fits_again false steps = fits_with ((unit.columns_step_apart g _ _ wired (column_machine g parts marks state fit) (advances false steps)).1)
 
 -- the columns fit the graph after a step
 pub FitsInLanes-stepped : (g : GraphData) → IsWired g → (joining : Bool) (old new : LaneData) (changed : ℕ) → StepsLanes joining old new changed →

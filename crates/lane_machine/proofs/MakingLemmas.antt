@@ -11,12 +11,13 @@ use Rattle.unit_step.specs.Stepping.{Concerns}
 use Rattle.unit_step.specs.Columns.{AreSeated}
 use Rattle.unit_step.proofs.PartLemmas.{same_part}
 use Rattle.unit_step.proofs.MakingLemmas.{member_at_front, front_of_member}
+use Rattle.unit_step.proofs.TakingLemmas.{Contains-from_take}
 use Rattle.lane_machine.specs.Evaluating.{Rooms, IsSeated, HasRoomFor}
 use Rattle.lane_machine.specs.Columns.{column, HasColumn}
 use Rattle.lane_machine.specs.Running.{listed_at, nodes_of, IsAmong, AreLists, IsRunnable, AreUsed, AreColumns, IsLaneMachine, StepsInAll}
 use Rattle.lane_machine.specs.Stepping.{StepsLanes}
 use Rattle.lane_machine.specs.Making.{Lists, AreListed}
-use Rattle.lane_machine.proofs.TakingLemmas.{list_read, Contains-from_take}
+use Rattle.lane_machine.proofs.TakingLemmas.{list_read}
 
 abbrev pub items_of : Vec ℕ Global → List ℕ
 items_of parts = parts.items
@@ -194,6 +195,11 @@ IsLaneMachine-again lanes used parts marks new_marks readers owners hi lo new_hi
       owners_are = subst (λ n. AreLists true parts n owners) (sym long) machine.owners_are;
       columns = columns;
     })
+
+-- a part that is listed for a node is one of the parts
+pub listed_part : (members : Bool) (parts : List HeldPart) (count : ℕ) (lists : List (Vec ℕ Global)) → AreLists members parts count lists → (node : ℕ) (list : List ℕ) →
+    list ≡ listed_at lists node → (k : ℕ) → Contains list k → k < length parts
+listed_part members parts count lists are node list is k there = (are.only node k (subst (λ xs. Contains xs k) is there)).stands.inside
 
 -- the parts that have a node as a member, or read it, are marked, and no others
 pub MarksAll-concerned : (parts : List HeldPart) (count : ℕ) (room : Rooms) (readers owners : List (Vec ℕ Global)) (node : ℕ) (old mid new : List Bool) →

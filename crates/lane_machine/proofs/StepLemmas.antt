@@ -1,27 +1,24 @@
 -- What a step does in each column, from what was noted and written: which nodes take which states, which parts are marked, and whether the
 -- column changed.
-use Rattle.std.proofs.Common.{◌≡◌, ◌≢◌, ℕ, ◌<◌, ◌⊎◌, Bool, true, false, inl, inr, List, length, map, Global, Vec, refl, sym, ap, subst, ◌∙◌, arith}
+use Rattle.std.proofs.Common.{◌≡◌, ◌≢◌, ℕ, ◌<◌, ◌⊎◌, Bool, true, false, inl, inr, List, length, Global, Vec, refl, sym, ap, subst, ◌∙◌, arith}
 use Rattle.std.specs.Prelude.{Contains, slice_index}
 use Rattle.std.proofs.lemmas.Bool.{cases_lt}
 use Rattle.std.proofs.lemmas.List.{ext_get_or, get_or_past}
-use Rattle.std.specs.declared.rc.Rc.{Rc}
 use Rattle.ternary.specs.declared.tern.Tern.{Tern}
 use Rattle.ternary.specs.declared.tern.Tern.TheVariants.{Zero, Unk}
 use Rattle.ternary.specs.Tern.{may_one, may_zero}
 use Rattle.ternary.proofs.TernLemmas.{same_rails, join-fades}
 use Rattle.path_meaning.specs.Switching.{state_at}
-use Rattle.straight_code.specs.Code.{CodeData, code_value}
 use Rattle.oscillation_x.specs.Settling.{StaysOrBecomesX}
 use Rattle.batch_words.specs.Lanes.{is_in_lane, HasLane}
 use Rattle.batch_words.proofs.RunLemmas.{high_counted, high_at_node, low_at_node}
 use Rattle.unit_step.specs.declared.part.HeldPart.{HeldPart}
-use Rattle.unit_step.specs.Parts.{IsMemberAt}
 use Rattle.unit_step.specs.Machines.{IsMarked}
-use Rattle.unit_step.specs.Stepping.{Gives, IsGiven, Moves, StaysMarked}
+use Rattle.unit_step.specs.Stepping.{IsGiven, Moves, StaysMarked}
 use Rattle.part_words.specs.Noting.{after}
 use Rattle.unit_step.specs.Columns.{KeepsMarks}
 use Rattle.unit_step.specs.Marking.{MarksAll}
-use Rattle.unit_step.proofs.PartLemmas.{same_part, HasMember-from_Gives}
+use Rattle.unit_step.proofs.PartLemmas.{given_once}
 use Rattle.lane_machine.specs.declared.evaluation.WordChange.{WordChange}
 use Rattle.lane_machine.specs.Columns.{column, HasColumn}
 use Rattle.lane_machine.specs.Noting.{HasChange}
@@ -43,29 +40,9 @@ module _ (joining : Bool) (used : ℕ) (parts : List HeldPart) (marks : List Boo
     counted : length hi ≡ length state
     counted = high_counted lane hi lo state col.has
 
-    -- a part gives a node one value
-    gives_once : (k node : ℕ) (v w : Tern) → Gives parts state k node v → Gives parts state k node w → v ≡ w
-    gives_once k node v w one two =
-        let part = one.part in
-        let same = same_part parts k two.part part two.stands one.stands in
-        let codes : two.code ≡ one.code = cc (ap (λ (p : HeldPart). p.code) same) in
-        let there = subst (λ p. IsMemberAt p two.place node) same two.member in
-        let seat = subst (IsSeated (length hi) room) one.stands.here (runs.seated k part one.stands.inside) in
-        let places = seat.apart one.place two.place one.member.within there.within (one.member.here ∙ sym there.here) in
-        let value_of : HeldPart → ℕ → Tern = λ p place. state_at (code_value one.code.value (map (state_at state) p.map.items)) place in
-        let second : w ≡ value_of part one.place =
-        two.value_is
-        ∙ (ap (λ (p : HeldPart). state_at (code_value two.code.value (map (state_at state) p.map.items)) two.place) same
-        ∙ (ap (λ (shared : Rc CodeData Global). state_at (code_value shared.value (map (state_at state) part.map.items)) two.place) codes
-        ∙ ap (value_of part) (sym places))) in
-        one.value_is ∙ sym second
-
-    -- and all marked parts together give it one
-    given_once : (node : ℕ) (v w : Tern) → IsGiven parts marks state node v → IsGiven parts marks state node w → v ≡ w
-    given_once node v w one two =
-        let same = runs.apart two.k one.k node (HasMember-from_Gives parts state two.k node w two.gives)
-        (HasMember-from_Gives parts state one.k node v one.gives) in
-        gives_once one.k node v w one.gives (subst (λ k. Gives parts state k node w) same two.gives)
+    -- all marked parts together give a node one value
+    given_one : (node : ℕ) (v w : Tern) → IsGiven parts marks state node v → IsGiven parts marks state node w → v ≡ w
+    given_one = given_once parts state (λ k part stands. (subst (IsSeated (length hi) room) stands.here (runs.seated k part stands.inside)).apart) marks runs.apart
 
     -- a node to which a value is given is there
     given_inside : (node : ℕ) (value : Tern) → IsGiven parts marks state node value → node < length hi
@@ -166,7 +143,7 @@ module _ (joining : Bool) (used : ℕ) (parts : List HeldPart) (marks : List Boo
       given_taken node value given =
           elim (becomes node) [
             | inl takes ↦
-                taken node (given_inside node value given) takes ∙ ap (after joining (state_at state node)) (given_once node takes.value value takes.given given)
+                taken node (given_inside node value given) takes ∙ ap (after joining (state_at state node)) (given_one node takes.value value takes.given given)
             | inr left ↦
                 elim (noted_or_stays node value given) [
                   | inl has ↦ absurd (left.none has.change has.there has.of_node)

@@ -2,21 +2,13 @@
 use Rattle.std.proofs.Common.{◌≡◌, ℕ, ◌+◌, ◌<◌, ◌⊎◌, Bool, true, false, ◌&&◌, ◌||◌, inl, inr, List, [], ◌∷◌, ◌++◌, length, take, get_or, refl, sym, ap, subst, ◌∙◌, Vec, Global, arith}
 use Rattle.std.specs.Prelude.{Contains, slice_index, slice_set, bit_or}
 use Rattle.std.proofs.lemmas.Bool.{cases_eq}
-use Rattle.std.proofs.lemmas.List.{get_or-set_same, get_or-set_other, get_or-take, get_or-map, length-set, length-take, take_more}
+use Rattle.std.proofs.lemmas.List.{get_or-set_same, get_or-set_other, get_or-map, length-set, take_more}
 use Rattle.std.proofs.lemmas.List.Elements.{Contains-push, Contains-push_cases, Contains-append_left}
 use Rattle.batch_words.specs.Lanes.{is_in_lane}
 use Rattle.batch_words.proofs.LaneLemmas.{lane-or}
-use Rattle.unit_step.specs.Marking.{MarksAll}
 use Rattle.lane_machine.specs.declared.evaluation.WordChange.{WordChange}
 use Rattle.lane_machine.specs.Noting.{differs_in}
-use Rattle.lane_machine.specs.Running.{listed_at, AreWritten, ReadsAny}
-
--- what stands at the front stands in the list
-pub Contains-from_take : {X : Type 0} (n : ℕ) (xs : List X) (x : X) → Contains (take n xs) x → Contains xs x
-Contains-from_take n xs x (k, inside, here) =
-    let first : k < n = omega (arith, inside, length-take n xs) in
-    let within : k < length xs = omega (arith, inside, length-take n xs) in
-    (k, within, sym (get_or-take n xs k x first) ∙ here)
+use Rattle.lane_machine.specs.Running.{listed_at, AreWritten}
 
 -- one change more is written
 AreWritten-push : (done : List WordChange) (change : WordChange) (old_hi old_lo hi lo : List ℕ) → change.node < length hi → change.node < length lo →
@@ -74,44 +66,6 @@ AreWritten-none hi lo = record {
   lows = refl;
   each = λ node. inr (record { none = λ change (k, inside, here). absurd (omega (arith, inside)); high = refl; low = refl });
 }
-
--- the readers of one node more are marked
-pub MarksAll-readers : (readers : List (Vec ℕ Global)) (changes : List WordChange) (i : ℕ) (change : WordChange) (parts : List ℕ) (old mid new : List Bool) →
-    i < length changes → change ≡ get_or changes i change → parts ≡ listed_at readers change.node →
-    MarksAll (ReadsAny readers (take i changes)) old mid → MarksAll (Contains parts) mid new →
-    MarksAll (ReadsAny readers (take (i + 1) changes)) old new
-MarksAll-readers readers changes i change parts old mid new i_inside is lists so_far marks =
-    let more : take (i + 1) changes ≡ take i changes ++ change ∷ [] =
-    take_more changes i change i_inside ∙ ap (λ c. take i changes ++ c ∷ []) (sym is) in
-    subst (λ xs. MarksAll (ReadsAny readers xs) old new) (sym more) (record {
-      count = marks.count ∙ so_far.count;
-      stays = λ k was. marks.stays k (so_far.stays k was);
-      set = λ k any.
-          elim (Contains-push_cases (take i changes) change any.change any.changes_it) [
-            | inl before ↦ marks.stays k (so_far.set k (record { change = any.change; changes_it = before; reads = any.reads }))
-            | inr same ↦
-                let reads : Contains (listed_at readers change.node) k =
-                subst (λ (c : WordChange). Contains (listed_at readers c.node) k) (sym same) any.reads in
-                marks.set k (subst (λ xs. Contains xs k) (sym lists) reads)
-          ];
-      only = λ k marked.
-          elim (marks.only k marked) [
-            | inl before ↦
-                elim (so_far.only k before) [
-                  | inl was ↦ inl was
-                  | inr any ↦ inr (record {
-                    change = any.change;
-                    changes_it = Contains-append_left (take i changes) (change ∷ []) any.change any.changes_it;
-                    reads = any.reads;
-                  })
-                ]
-            | inr there ↦ inr (record {
-              change = change;
-              changes_it = Contains-push (take i changes) change;
-              reads = subst (λ xs. Contains xs k) lists there;
-            })
-          ];
-    })
 
 -- the list of a node that is read by its index
 pub list_read : (lists : List (Vec ℕ Global)) (node : ℕ) (found : Vec ℕ Global) → node < length lists → found ≡ get_or lists node found →

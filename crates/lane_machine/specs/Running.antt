@@ -10,6 +10,7 @@ use Rattle.unit_step.specs.Parts.{Stands, IsStale, AreApart}
 use Rattle.unit_step.specs.Machines.{members_of}
 use Rattle.unit_step.specs.Stepping.{Moves}
 use Rattle.unit_step.specs.Columns.{KeepsMarks}
+use Rattle.unit_step.specs.Marking.{IsReached}
 use Rattle.lane_machine.specs.Evaluating.{Rooms, IsSeated}
 use Rattle.lane_machine.specs.declared.evaluation.WordChange.{WordChange}
 use Rattle.lane_machine.specs.Columns.{column, HasColumn}
@@ -83,10 +84,8 @@ pub record AreWritten (changes : List WordChange) (old_hi old_lo hi lo : List �
   pub each : (node : ℕ) → IsWrittenAt changes hi lo node ⊎ IsLeftAt changes old_hi old_lo hi lo node
 
 -- the part with this number is listed for some node that changes
-pub record ReadsAny (readers : List (Vec ℕ Global)) (changes : List WordChange) (k : ℕ) : Type 0 where
-  pub change : WordChange
-  pub changes_it : Contains changes change
-  pub reads : Contains (listed_at readers change.node) k
+abbrev pub ReadsAny : List (Vec ℕ Global) → List WordChange → ℕ → Type 0
+ReadsAny readers = IsReached (λ (change : WordChange). listed_at readers change.node)
 
 -- a column takes a step, plain or joining, and the bit tells whether the step changed it
 pub record StepsTo (joining : Bool) (parts : List HeldPart) (marks new_marks : List Bool) (state next : List Tern) (bit : Bool) : Type 0 where

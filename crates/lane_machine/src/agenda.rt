@@ -6,6 +6,7 @@ ghost use Rattle.unit_step.specs.Marking.{MarksAll};
 
 use std::alloc::{AllocError, Global};
 use std::marker::Model;
+use unit_step::numbers_below;
 
 // A mark for each part; the marked ones stand in a list.
 #[derive(Drop)]
@@ -30,10 +31,7 @@ impl Agenda {
     pub(crate) fn all(alloc: Global, parts: usize) -> Result<Agenda, AllocError>
         ensures { IfOk result (λ agenda. agenda ≡ replicate parts true) }
     {
-        let mut work = Vec::with_capacity(alloc, parts)?;
-        for k in 0..parts {
-            work.push_reserved(k);
-        }
+        let work = numbers_below(alloc, parts)?;
         Ok(Agenda {
             marks: vec![in alloc; true; parts]?,
             work,

@@ -1,7 +1,7 @@
 //! The machine of columns.
 ghost use Rattle.std.specs.Prelude.{◌≡◌, ◌≢◌, ℕ, ◌^◌, ◌<◌, ◌≤◌, ◌⊎◌, true, false, length, replicate, slice_index_or, Err, IfOk, IfErr, OnOk};
 ghost use Rattle.path_meaning.specs.declared.TheConstants.{RAILS};
-ghost use Rattle.path_meaning.specs.Graphs.{nodes};
+ghost use Rattle.path_meaning.specs.Graphs.{nodes, IsWired};
 ghost use Rattle.path_meaning.specs.Rails.{IsRailed};
 ghost use Rattle.path_meaning.specs.Step.{IsStep};
 ghost use Rattle.oscillation_x.specs.declared.settling.TheConstants.{MOST_LIMIT};
@@ -195,6 +195,16 @@ impl LaneMachine {
         ensures fits { FitsInLanes graph.now self.old → FitsInLanes graph.now self.new }
     {
         graphs_are_wired(graph);
+        self.put(node, hi, lo);
+    }
+
+    // Gives a node these words, and marks the parts that have it as a member or read it.
+    fn put(&mut self, node: usize, hi: u64, lo: u64)
+        requires inside { node < length self.old.hi }
+        requires states { HasStates self.old.lanes hi lo }
+        ensures places { PlacesWords node hi lo self.old self.new }
+        ensures counted { length self.old.lo ≡ length self.old.hi }
+    {
         self.hi[node] = hi;
         self.lo[node] = lo;
         mark_all(&self.owners[node], &mut self.agenda);
@@ -220,7 +230,23 @@ impl LaneMachine {
         settle_lanes(self, graph, limit, out);
     }
 
-    // Takes a step of all columns, plain or joining, and answers with the bits of those that it changes.
+    // Takes a step of all columns on a graph, plain or joining, and answers with the bits of those that it changes.
+    fn step_on(&mut self, graph: &Graph, joining: bool) -> u64
+        ensures wired { IsWired graph.now }
+        ensures steps { StepsLanes joining self.old self.new result }
+        ensures fits { FitsInLanes graph.now self.old → FitsInLanes graph.now self.new }
+        ensures lanes { self.new.lanes ≡ self.old.lanes }
+        ensures nodes { (lane : ℕ) → lane < self.old.lanes → length (column_of self.new lane) ≡ length (column_of self.old lane) }
+        ensures few { (lane : ℕ) → lane < self.old.lanes → length (column_of self.new lane) < 2 ^ 63 }
+        ensures changed { (lane : ℕ) → lane < self.old.lanes → is_in_lane lane result ≡ true → column_of self.new lane ≢ column_of self.old lane }
+        ensures same { (lane : ℕ) → lane < self.old.lanes → is_in_lane lane result ≡ false → column_of self.new lane ≡ column_of self.old lane }
+        ensures beyond { (lane : ℕ) → self.old.lanes ≤ lane → is_in_lane lane result ≡ false }
+    {
+        graphs_are_wired(graph);
+        self.take(joining)
+    }
+
+    // Takes such a step, whatever the graph is.
     fn take(&mut self, joining: bool) -> u64
         ensures steps { StepsLanes joining self.old self.new result }
         ensures few { (lane : ℕ) → length (column_of self.new lane) < 2 ^ 63 }
@@ -255,8 +281,7 @@ impl LaneStepper for LaneMachine {
         ensures same { (lane : ℕ) → lane < self.old.lanes → is_in_lane lane result ≡ false → column_of self.new lane ≡ column_of self.old lane }
         ensures beyond { (lane : ℕ) → self.old.lanes ≤ lane → is_in_lane lane result ≡ false }
     {
-        graphs_are_wired(graph);
-        self.take(false)
+        self.step_on(graph, false)
     }
 
     fn join_step(&mut self, graph: &Graph) -> u64
@@ -271,7 +296,6 @@ impl LaneStepper for LaneMachine {
         ensures same { (lane : ℕ) → lane < self.old.lanes → is_in_lane lane result ≡ false → column_of self.new lane ≡ column_of self.old lane }
         ensures beyond { (lane : ℕ) → self.old.lanes ≤ lane → is_in_lane lane result ≡ false }
     {
-        graphs_are_wired(graph);
-        self.take(true)
+        self.step_on(graph, true)
     }
 }

@@ -1,19 +1,15 @@
 //! What a machine of columns is made of: the lists of its nodes, its columns, and room for its steps.
-ghost use Rattle.std.specs.Prelude.{◌≡◌, ℕ, ◌+◌, ◌*◌, ◌<◌, ◌≤◌, true, length, vec_capacity, All, Contains, IfOk, IfSome, OnOk};
-ghost use Rattle.std.specs.List.{sum_by};
+ghost use Rattle.std.specs.Prelude.{◌≡◌, ℕ, ◌*◌, ◌<◌, ◌≤◌, length, vec_capacity, All, Contains, IfOk, OnOk};
 ghost use Rattle.ternary.specs.declared.tern.Tern.TheVariants.{Zero, One};
 ghost use Rattle.path_meaning.specs.Rails.{IsSound};
-ghost use Rattle.unit_step.specs.Machines.{members_of};
-ghost use Rattle.unit_step.specs.Making.{IsCodeRoom};
 ghost use Rattle.lane_machine.specs.Evaluating.{rooms, IsEven, HasRoomFor};
 ghost use Rattle.lane_machine.specs.Running.{nodes_of, listed_at, AreLists, AreUsed};
 ghost use Rattle.lane_machine.specs.Making.{Lists};
 
 use crate::evaluation::Desk;
 use std::alloc::{AllocError, Global};
-use straight_code::Code;
 use ternary::{NoMemory, Tern};
-use unit_step::HeldPart;
+use unit_step::{HeldPart, Needs, needs_of};
 
 // For each of so many nodes the parts that read it, or those that have it as a member.
 pub(crate) fn lists_of(
@@ -89,76 +85,40 @@ pub(crate) fn some_state(alloc: Global, nodes: usize) -> Result<Vec<Tern>, Alloc
     Ok(state)
 }
 
-// How much room the steps of these parts take.
-#[derive(Clone, Copy)]
-struct Needs {
-    // the most that a code reads, and the most members of a part
-    values: usize,
-    outs: usize,
-    // the members of all parts
-    changes: usize,
-}
-
 // Room for the steps of these parts.
 pub(crate) fn desk_for(alloc: Global, parts: &[HeldPart]) -> Result<Desk, NoMemory>
     ensures room { IfOk result (λ desk. HasRoomFor parts.now (rooms desk)) }
     ensures rails { IfOk result (λ desk. IsEven desk) }
 {
     match needs_of(parts) {
-        Some(needs) => Ok(desk_of(alloc, needs, parts.len())?),
+        Some(needs) => Ok(desk_of(alloc, needs, most_members(parts), parts.len())?),
         None => Err(NoMemory),
     }
 }
 
-// How much room these parts need; None where it is more than there can be.
-fn needs_of(parts: &[HeldPart]) -> Option<Needs>
-    ensures values { IfSome result (λ needs. All (IsCodeRoom needs.values) parts.now) }
-    ensures outs { IfSome result (λ needs. All (λ part. part.members ≤ needs.outs) parts.now) }
-    ensures changes { IfSome result (λ needs. sum_by members_of parts.now ≤ needs.changes) }
+// The most members of a part.
+fn most_members(parts: &[HeldPart]) -> usize
+    ensures { All (λ part. part.members ≤ result) parts.now }
 {
-    let mut needs = Needs {
-        values: 0,
-        outs: 0,
-        changes: 0,
-    };
+    let mut most = 0;
     for part in parts {
-        needs.values = needs.values.max(values_of(part)?);
-        needs.outs = needs.outs.max(part.members);
-        needs.changes = needs.changes.checked_add(part.members)?;
+        most = part.members.max(most);
     }
-    Some(needs)
+    most
 }
 
-// How many values the code of a part reads.
-fn values_of(part: &HeldPart) -> Option<usize>
-    ensures { IfSome result (λ count. IsCodeRoom count part.now) }
-{
-    match &part.code {
-        Some(code) => count_values(code),
-        None => Some(0),
-    }
-}
-
-// How many values code reads: both constants, both rails of each input, and the results.
-fn count_values(code: &Code) -> Option<usize>
-    ensures { IfSome result (λ count. 2 + 2 * code.now.inputs + length code.now.instructions ≡ count) }
-{
-    let rails = code.inputs().checked_mul(2)?;
-    rails.checked_add(2)?.checked_add(code.len())
-}
-
-// Room for so much, and so many parts.
-fn desk_of(alloc: Global, needs: Needs, parts: usize) -> Result<Desk, AllocError>
+// Room for so much, for so many outputs, and for so many parts.
+fn desk_of(alloc: Global, needs: Needs, outs: usize, parts: usize) -> Result<Desk, AllocError>
     ensures values { IfOk result (λ desk. length desk.values.items ≡ needs.values) }
-    ensures highs { IfOk result (λ desk. length desk.out_hi.items ≡ needs.outs) }
-    ensures lows { IfOk result (λ desk. length desk.out_lo.items ≡ needs.outs) }
+    ensures highs { IfOk result (λ desk. length desk.out_hi.items ≡ outs) }
+    ensures lows { IfOk result (λ desk. length desk.out_lo.items ≡ outs) }
     ensures changes { IfOk result (λ desk. needs.changes ≤ vec_capacity desk.changes) }
     ensures parts { IfOk result (λ desk. parts ≤ vec_capacity desk.done) }
 {
     Ok(Desk {
         values: vec![in alloc; 0; needs.values]?,
-        out_hi: vec![in alloc; 0; needs.outs]?,
-        out_lo: vec![in alloc; 0; needs.outs]?,
+        out_hi: vec![in alloc; 0; outs]?,
+        out_lo: vec![in alloc; 0; outs]?,
         changes: Vec::with_capacity(alloc, needs.changes)?,
         done: Vec::with_capacity(alloc, parts)?,
     })

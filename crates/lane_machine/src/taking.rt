@@ -1,5 +1,5 @@
 //! The changes of a step are taken over.
-ghost use Rattle.std.specs.Prelude.{◌≡◌, ℕ, ◌<◌, true, false, length, Contains, slice_index};
+ghost use Rattle.std.specs.Prelude.{◌≡◌, ℕ, ◌<◌, true, false, length, All, Contains, slice_index};
 ghost use Rattle.unit_step.specs.Marking.{MarksAll};
 ghost use Rattle.batch_words.specs.Lanes.{is_in_lane};
 ghost use Rattle.lane_machine.specs.declared.evaluation.WordChange.{WordChange};
@@ -12,7 +12,7 @@ use crate::evaluation::{WordChange, differing};
 // The used columns in which some of these changes changes its node.
 pub(crate) fn changed_lanes(used: u64, changes: &[WordChange], hi: &[u64], lo: &[u64]) -> u64
     requires words { length lo.now ≡ length hi.now }
-    requires inside { (change : WordChange) → Contains changes.now change → change.node < length hi.now }
+    requires inside { All (λ change. change.node < length hi.now) changes.now }
     ensures set { (lane : ℕ) → is_in_lane lane result ≡ true
         → (change : WordChange) × Contains changes.now change × (differs_in used (slice_index hi.now change.node) (slice_index lo.now change.node) lane change ≡ true) }
     ensures unset { (lane : ℕ) → is_in_lane lane result ≡ false → (change : WordChange) → Contains changes.now change
@@ -34,7 +34,7 @@ pub(crate) fn take_over(
     agenda: &mut Agenda,
 )
     requires words { length lo.old ≡ length hi.old }
-    requires inside { (change : WordChange) → Contains changes.now change → change.node < length hi.old }
+    requires inside { All (λ change. change.node < length hi.old) changes.now }
     requires readers { length readers.now ≡ length hi.old }
     requires parts { (node k : ℕ) → Contains (listed_at readers.now node) k → k < length agenda.old }
     ensures written { AreWritten changes.now hi.old lo.old hi.new lo.new }

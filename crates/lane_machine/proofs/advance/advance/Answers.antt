@@ -2,6 +2,7 @@
 use Rattle.std.proofs.Common.{◌≡◌, true, length, sym, subst, ◌∙◌, arith}
 use Rattle.std.specs.Prelude.{Contains, slice_index_or}
 use Rattle.std.proofs.lemmas.List.Sums.{count_by-le-length}
+use Rattle.std.proofs.lemmas.List.Elements.{Contains-get_or}
 use Rattle.unit_step.specs.Machines.{members_of}
 use Rattle.unit_step.specs.Marking.{MarksAll}
 use Rattle.unit_step.proofs.MarkLemmas.{marked_inside, marked_sum-within}
@@ -36,15 +37,17 @@ mark_again-requires c = λ k there.
     omega (arith, marked_inside c.args.agenda.now k marked, c.evaluate_all.ensures.count)
 
 pub changed_lanes-changed-requires-clause-inside : goal.changed_lanes-changed-requires-clause-inside
-changed_lanes-changed-requires-clause-inside c = λ change there.
-    c.evaluate_all.ensures.evaluated.inside change (subst (λ xs. Contains xs change) c.deref-2.ensures.value there)
+changed_lanes-changed-requires-clause-inside c = λ k d within.
+    c.evaluate_all.ensures.evaluated.inside _ (subst (λ xs. Contains xs (slice_index_or c.deref-2.result.now k d)) c.deref-2.ensures.value
+    (Contains-get_or c.deref-2.result.now k d within))
 
 pub take_over-requires : goal.take_over-requires
 take_over-requires c =
     let runs = c.requires.runnable in
     record {
       words = c.requires.words;
-      inside = λ change there. c.evaluate_all.ensures.evaluated.inside change (subst (λ xs. Contains xs change) c.deref-3.ensures.value there);
+      inside = λ k d within. c.evaluate_all.ensures.evaluated.inside _ (subst (λ xs. Contains xs (slice_index_or c.deref-3.result.now k d)) c.deref-3.ensures.value
+          (Contains-get_or c.deref-3.result.now k d within));
       readers = runs.readers_are.counted;
       parts = λ node k there.
           let among = runs.readers_are.only node k there in

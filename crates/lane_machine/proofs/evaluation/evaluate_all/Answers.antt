@@ -11,23 +11,18 @@ use Rattle.lane_machine.proofs.evaluation.evaluate_all.Goals as goal
 pub evaluate-requires-clause-seated : goal.evaluate-requires-clause-seated
 evaluate-requires-clause-seated c =
     let k = c.in-Some.k in
-    let part = c.index-parts-k.result in
     let inside : k < length c.args.parts.now =
     omega (arith, marked_inside c.loop-k.agenda k c.in-Some.ensures.marked, c.loop-k.invariant.count, c.requires.counted) in
-    let seat = subst (IsSeated (length c.args.hi.now) (rooms c.args.desk.now)) (sym c.index-parts-k.is) (c.requires.seated k part inside) in
-    rw c.loop-k.invariant.rooms seat
+    rw c.loop-k.invariant.rooms
+    (subst (IsSeated (length c.args.hi.now) (rooms c.args.desk.now)) (sym c.index-parts-k.is) (c.requires.seated k c.index-parts-k.result inside))
 
 pub evaluate-requires-clause-room : goal.evaluate-requires-clause-room
 evaluate-requires-clause-room c =
     let k = c.in-Some.k in
-    let part = c.index-parts-k.result in
     let inside : k < length c.args.parts.now =
     omega (arith, marked_inside c.loop-k.agenda k c.in-Some.ensures.marked, c.loop-k.invariant.count, c.requires.counted) in
-    omega (
-      arith,
-      marked_sum-cleared members_of c.args.parts.now c.loop-k.agenda k part inside (sym c.index-parts-k.is) c.in-Some.ensures.marked,
-      c.loop-k.invariant.changes_room,
-    )
+    let less = marked_sum-cleared members_of c.args.parts.now c.loop-k.agenda k c.index-parts-k.result inside (sym c.index-parts-k.is) c.in-Some.ensures.marked in
+    omega (arith, less, c.loop-k.invariant.changes_room)
 
 pub loop-k-preserved : goal.loop-k-preserved
 loop-k-preserved c =

@@ -2,7 +2,6 @@
 use Rattle.std.proofs.Common.{◌<◌, length, ap, arith}
 use Rattle.std.proofs.lemmas.List.{with_items_is}
 use Rattle.lane_machine.specs.Columns.{column}
-use Rattle.lane_machine.specs.Evaluating.{rooms}
 use Rattle.lane_machine.specs.Running.{StepsInAll}
 use Rattle.lane_machine.proofs.ColumnLemmas.{length-column}
 use Rattle.lane_machine.proofs.MakingLemmas.{IsLaneMachine-again, AreColumns-stepped, StepsLanes-stepped}
@@ -17,54 +16,33 @@ advance-requires c =
 pub invariant_of-self : goal.invariant_of-self
 invariant_of-self c =
     let i = c.self.inside in
-    let m = c.self.invariant.0 in
-    let joining = c.args.joining in
-    let hi = c.advance.new.hi in
-    let lo = c.advance.new.lo in
-    let marks = c.advance.new.agenda in
-    let changed = c.advance.result in
-    let highs = with_items_is i.hi hi (omega (arith, c.advance.auto.hi, c.deref_mut.ensures.len)) in
-    let lows = with_items_is i.lo lo (omega (arith, c.advance.auto.lo, c.deref_mut-2.ensures.len)) in
-    let steps : StepsInAll joining i.parts.items i.used i.agenda marks i.hi.items i.lo.items hi lo changed =
+    let highs = with_items_is i.hi c.advance.new.hi (omega (arith, c.advance.auto.hi, c.deref_mut.ensures.len)) in
+    let lows = with_items_is i.lo c.advance.new.lo (omega (arith, c.advance.auto.lo, c.deref_mut-2.ensures.len)) in
+    let steps : StepsInAll c.args.joining i.parts.items i.used i.agenda c.advance.new.agenda i.hi.items i.lo.items c.advance.new.hi c.advance.new.lo c.advance.result =
     rw (c.deref.ensures.value, c.deref_mut.ensures.value, c.deref_mut-2.ensures.value) at c.advance.ensures.columns in
-    let columns = AreColumns-stepped i.lanes i.used i.parts.items i.agenda i.readers.items i.owners.items i.hi.items i.lo.items (rooms i.desk) m joining marks hi lo
-    changed steps in
-    let again = IsLaneMachine-again i.lanes i.used i.parts.items i.agenda marks i.readers.items i.owners.items i.hi.items i.lo.items hi lo (rooms i.desk)
-    (rooms c.advance.new.desk) steps.marks_counted steps.highs c.advance.ensures.rooms columns m in
+    let columns = AreColumns-stepped _ _ _ _ _ _ _ _ _ c.self.invariant.0 _ _ _ _ _ steps in
+    let again = IsLaneMachine-again _ _ _ _ _ _ _ _ _ _ _ _ _ steps.marks_counted steps.highs c.advance.ensures.rooms columns c.self.invariant.0 in
     (rw (highs, lows) again, c.advance.ensures.rails)
 
 pub returns-clause-steps : goal.returns-clause-steps
 returns-clause-steps c =
     let i = c.self.inside in
-    let m = c.self.invariant.0 in
-    let joining = c.args.joining in
-    let hi = c.advance.new.hi in
-    let lo = c.advance.new.lo in
-    let marks = c.advance.new.agenda in
-    let changed = c.advance.result in
-    let highs = with_items_is i.hi hi (omega (arith, c.advance.auto.hi, c.deref_mut.ensures.len)) in
-    let lows = with_items_is i.lo lo (omega (arith, c.advance.auto.lo, c.deref_mut-2.ensures.len)) in
-    let steps : StepsInAll joining i.parts.items i.used i.agenda marks i.hi.items i.lo.items hi lo changed =
+    let steps : StepsInAll c.args.joining i.parts.items i.used i.agenda c.advance.new.agenda i.hi.items i.lo.items c.advance.new.hi c.advance.new.lo c.advance.result =
     rw (c.deref.ensures.value, c.deref_mut.ensures.value, c.deref_mut-2.ensures.value) at c.advance.ensures.columns in
-    let all = StepsLanes-stepped i.lanes i.used i.parts.items i.agenda i.readers.items i.owners.items i.hi.items i.lo.items (rooms i.desk) m joining marks hi lo
-    changed steps in
+    let all = StepsLanes-stepped _ _ _ _ _ _ _ _ _ c.self.invariant.0 _ _ _ _ _ steps in
+    let highs = with_items_is i.hi c.advance.new.hi (omega (arith, c.advance.auto.hi, c.deref_mut.ensures.len)) in
+    let lows = with_items_is i.lo c.advance.new.lo (omega (arith, c.advance.auto.lo, c.deref_mut-2.ensures.len)) in
     rw (← c.self.view_is) (rw (highs, lows) all)
 
 pub returns-clause-few : goal.returns-clause-few
 returns-clause-few c = λ lane.
     let i = c.self.inside in
-    let m = c.self.invariant.0 in
-    let joining = c.args.joining in
-    let hi = c.advance.new.hi in
-    let lo = c.advance.new.lo in
-    let marks = c.advance.new.agenda in
-    let changed = c.advance.result in
-    let highs = with_items_is i.hi hi (omega (arith, c.advance.auto.hi, c.deref_mut.ensures.len)) in
-    let lows = with_items_is i.lo lo (omega (arith, c.advance.auto.lo, c.deref_mut-2.ensures.len)) in
-    let steps : StepsInAll joining i.parts.items i.used i.agenda marks i.hi.items i.lo.items hi lo changed =
+    let steps : StepsInAll c.args.joining i.parts.items i.used i.agenda c.advance.new.agenda i.hi.items i.lo.items c.advance.new.hi c.advance.new.lo c.advance.result =
     rw (c.deref.ensures.value, c.deref_mut.ensures.value, c.deref_mut-2.ensures.value) at c.advance.ensures.columns in
-    let columns = AreColumns-stepped i.lanes i.used i.parts.items i.agenda i.readers.items i.owners.items i.hi.items i.lo.items (rooms i.desk) m joining marks hi lo
-    changed steps in
-    let few : length (column lane hi lo) < 9223372036854775808 =
-    omega (arith, length-column lane hi lo columns.counted, steps.highs, ap length c.deref_mut.ensures.value, c.deref_mut.type_inv.1) in
+    let columns = AreColumns-stepped _ _ _ _ _ _ _ _ _ c.self.invariant.0 _ _ _ _ _ steps in
+    let counted = length-column lane c.advance.new.hi c.advance.new.lo columns.counted in
+    let few : length (column lane c.advance.new.hi c.advance.new.lo) < 9223372036854775808 =
+    omega (arith, counted, steps.highs, ap length c.deref_mut.ensures.value, c.deref_mut.type_inv.1) in
+    let highs = with_items_is i.hi c.advance.new.hi (omega (arith, c.advance.auto.hi, c.deref_mut.ensures.len)) in
+    let lows = with_items_is i.lo c.advance.new.lo (omega (arith, c.advance.auto.lo, c.deref_mut-2.ensures.len)) in
     rw (highs, lows) few

@@ -1,0 +1,65 @@
+-- Words of a node are put in their place, and the parts that it concerns marked.
+use Rattle.std.proofs.Common.{◌≡◌, ◌<◌, true, false, length, refl, sym, ap, ◌∙◌, arith}
+use Rattle.std.specs.Prelude.{slice_set}
+use Rattle.std.proofs.lemmas.List.{length-set}
+use Rattle.lane_machine.specs.Columns.{LaneData}
+use Rattle.lane_machine.specs.Evaluating.{rooms}
+use Rattle.lane_machine.specs.Running.{listed_at, AreColumns}
+use Rattle.lane_machine.proofs.TakingLemmas.{list_read}
+use Rattle.lane_machine.proofs.MakingLemmas.{IsLaneMachine-again, MarksAll-concerned, listed_part}
+use Rattle.lane_machine.proofs.FittingLemmas.{HasLane-placed}
+use Rattle.lane_machine.proofs.machine.LaneMachine.put.Goals as goal
+
+pub mark_all-requires : goal.mark_all-requires
+mark_all-requires c = λ k there.
+    let m = c.self.invariant.0 in
+    let inside : c.args.node < length c.self.inside.owners.items =
+    omega (arith, c.requires.inside, ap (λ (d : LaneData). length d.hi) c.self.view_is, m.owners_are.counted) in
+    let lists = c.deref.ensures.value ∙ list_read c.self.inside.owners.items c.args.node c.index.result.now inside c.index.ensures in
+    omega (arith, listed_part true _ _ _ m.owners_are c.args.node _ lists k there, m.runs.counted)
+
+pub mark_all-requires-2 : goal.mark_all-requires-2
+mark_all-requires-2 c = λ k there.
+    let m = c.self.invariant.0 in
+    let inside : c.args.node < length c.self.inside.readers.items =
+    omega (arith, c.requires.inside, ap (λ (d : LaneData). length d.hi) c.self.view_is, m.runs.readers_are.counted) in
+    let lists = c.deref-2.ensures.value ∙ list_read c.self.inside.readers.items c.args.node c.index-2.result.now inside c.index-2.ensures in
+    omega (arith, listed_part false _ _ _ m.runs.readers_are c.args.node _ lists k there, m.runs.counted, c.mark_all.ensures.count)
+
+pub invariant_of-self : goal.invariant_of-self
+invariant_of-self c =
+    let i = c.self.inside in
+    let m = c.self.invariant.0 in
+    let node = c.args.node in
+    let hi = slice_set i.hi.items node c.args.hi in
+    let lo = slice_set i.lo.items node c.args.lo in
+    let inside : node < length i.hi.items = omega (arith, c.requires.inside, ap (λ (d : LaneData). length d.hi) c.self.view_is) in
+    let lanes : c.args.self.now.lanes ≡ i.lanes = ap (λ (d : LaneData). d.lanes) (sym c.self.view_is) in
+    let columns : AreColumns i.lanes hi lo = record {
+      counted = length-set i.lo.items node c.args.lo ∙ (m.columns.counted ∙ sym (length-set i.hi.items node c.args.hi));
+      each = λ lane within.
+          HasLane-placed lane node c.args.hi c.args.lo i.hi.items i.lo.items m.columns.counted inside
+          (c.requires.states lane (omega (arith, within, lanes))) (m.columns.each lane within);
+    } in (
+      IsLaneMachine-again i.lanes i.used i.parts.items i.agenda c.mark_all-2.new.agenda i.readers.items i.owners.items i.hi.items i.lo.items hi lo (rooms i.desk)
+          (rooms i.desk) (c.mark_all-2.ensures.count ∙ c.mark_all.ensures.count) (length-set i.hi.items node c.args.hi) refl columns m,
+      c.self.invariant.1,
+    )
+
+pub returns-clause-places : goal.returns-clause-places
+returns-clause-places c =
+    let i = c.self.inside in
+    let m = c.self.invariant.0 in
+    let node = c.args.node in
+    let inside : node < length i.hi.items = omega (arith, c.requires.inside, ap (λ (d : LaneData). length d.hi) c.self.view_is) in
+    let first : c.deref.result.now ≡ listed_at i.owners.items node =
+    c.deref.ensures.value ∙ list_read i.owners.items node c.index.result.now (omega (arith, inside, m.owners_are.counted)) c.index.ensures in
+    let second : c.deref-2.result.now ≡ listed_at i.readers.items node =
+    c.deref-2.ensures.value ∙ list_read i.readers.items node c.index-2.result.now (omega (arith, inside, m.runs.readers_are.counted)) c.index-2.ensures in
+    let marks = MarksAll-concerned i.parts.items (length i.hi.items) (rooms i.desk) i.readers.items i.owners.items node i.agenda c.mark_all.new.agenda
+    c.mark_all-2.new.agenda m.runs.seated m.owners_are m.runs.readers_are c.deref.result.now c.deref-2.result.now first second c.mark_all.ensures
+    c.mark_all-2.ensures in
+    rw (← c.self.view_is) (record { highs = refl; lows = refl; marks = marks; lanes = refl; parts = refl })
+
+pub returns-clause-counted : goal.returns-clause-counted
+returns-clause-counted c = rw (← c.self.view_is) c.self.invariant.0.columns.counted
