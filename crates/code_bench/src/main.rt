@@ -1,15 +1,19 @@
-//! Measures how fast straight-line code runs in its two forms.
+//! Measures how fast straight-line code runs in its three forms.
 //!
-//! `code_bench measure` makes codes of groups of three sizes, puts each code at many places of one state, and
-//! runs all of them a million times in either form: as instructions whose operands say what they are
-//! (`Code::run`), and over one array of truth values (`Code::run_mapped`), as the machine does. It writes, for
-//! each size, how many instructions a code has on average, the nanoseconds of a run in both forms, and how many
-//! times as fast the second is. All other words are answered by one line.
+//! `code_bench measure` makes codes of groups of three sizes and 20,000 parts of one state, each with one of the codes,
+//! and runs all parts fifty times in each form: as instructions whose operands say what they are (`Code::run`), over
+//! one array of truth values (`Code::run_mapped`), and in words, up to 64 parts of one code together, as the machine
+//! does (`part_words::run_together`). Each form notes the nodes that take another state, and all three have to note
+//! the same. For the third the parts stand in the order of their codes, which isn't timed.
+//!
+//! It writes, for each size, how many instructions a code has on average, the nanoseconds that a part takes in each
+//! form, and how many times as fast as the first form the others are. All other words are answered by one line.
 #![tactic(auto)]
 
 mod draws;
 mod nets;
 mod parts;
+mod rounds;
 mod timing;
 
 use crate::nets::Size;
@@ -42,7 +46,7 @@ fn is_asked(rt: &HostRuntime) -> io::Result<bool> {
 
 // Measures codes of each size.
 fn measure_all(rt: &HostRuntime) -> io::Result<()> {
-    println!(rt; "instructions  tagged ns  flat ns  ratio")?;
+    println!(rt; "instructions  tagged ns  flat ns  together ns  tagged/flat  tagged/together")?;
     for size in [Size::Small, Size::Medium, Size::Large] {
         measure(rt, size)?;
     }

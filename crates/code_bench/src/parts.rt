@@ -1,7 +1,7 @@
 //! Codes of groups, each at many places of one state.
 
-ghost use Rattle.std.specs.Prelude.{◌≡◌, ◌<◌, length, All, IfOk, IfSome};
-ghost use Rattle.code_bench.specs.Placing.{IsPlaced};
+ghost use Rattle.std.specs.Prelude.{◌≡◌, ◌+◌, ◌<◌, length, All, IfOk, OnOk};
+ghost use Rattle.code_bench.specs.Placing.{AreAlike, ArePlaced};
 
 use crate::draws::Draws;
 use crate::nets::{Size, netlist};
@@ -24,11 +24,27 @@ pub(crate) const NODES: usize = 100_000;
 /// How many places the codes have.
 pub(crate) const PLACES: usize = 20_000;
 
-/// A code at a place: input j stands for the node with number j of these.
+/// A part: a code whose input j stands for node j of the map that begins at this place.
 #[derive(Drop)]
 pub(crate) struct Placed {
     pub(crate) code: Rc<Code>,
+    pub(crate) at: u32,
+}
+
+/// All parts that have this code, by where their maps begin.
+#[derive(Drop)]
+pub(crate) struct Alike {
+    pub(crate) code: Rc<Code>,
+    pub(crate) starts: Vec<u32>,
+}
+
+/// Parts of one state: their maps one behind the other, and the parts themselves, as they were drawn and by their
+/// codes.
+#[derive(Drop)]
+pub(crate) struct Places {
     pub(crate) nodes: Vec<u32>,
+    pub(crate) parts: Vec<Placed>,
+    pub(crate) alike: Vec<Alike>,
 }
 
 /// The codes of the groups of a netlist of this size.
@@ -93,61 +109,91 @@ pub(crate) fn drawn_state(alloc: Global, draws: &mut Draws) -> Result<Vec<Tern>,
     Ok(state)
 }
 
-/// Codes that are drawn of these, at so many places, over nodes that are drawn of so many.
+/// Parts whose codes are drawn of these, over nodes that are drawn of so many.
 pub(crate) fn places_of(
     alloc: Global,
     codes: &[Rc<Code>],
-    nodes: usize,
+    count: usize,
     draws: &mut Draws,
-) -> Result<Vec<Placed>, NoMemory>
-    requires { 0 < nodes }
-    ensures { IfOk result (λ parts. All (IsPlaced nodes) parts.items) }
+) -> Result<Places, NoMemory>
+    requires { 0 < count }
+    ensures { IfOk result (ArePlaced count) }
 {
-    let mut parts = Vec::new(alloc);
+    let mut places = Places {
+        nodes: Vec::new(alloc),
+        parts: Vec::new(alloc),
+        alike: without_parts(alloc, codes)?,
+    };
     if codes.is_empty() {
-        return Ok(parts);
+        return Ok(places);
     }
     for _k in 0..PLACES {
-        let code = draws.below(codes.len());
-        let part = place(alloc, &codes[code], nodes, draws)?;
-        parts.push(part).map_err(AllocError::from)?;
+        add_part(count, draws, &mut places)?;
     }
-    Ok(parts)
+    Ok(places)
 }
 
-// A code at a place.
-fn place(
-    alloc: Global,
-    code: &Rc<Code>,
-    nodes: usize,
-    draws: &mut Draws,
-) -> Result<Placed, NoMemory>
-    requires { 0 < nodes }
-    ensures { IfOk result (IsPlaced nodes) }
+// Each code, of which there is no part yet. None has more outputs than inputs, since a group's members are the first of
+// its nodes.
+fn without_parts(alloc: Global, codes: &[Rc<Code>]) -> Result<Vec<Alike>, NoMemory>
+    ensures count { IfOk result (λ alike. length alike.items ≡ length codes.now) }
+    ensures alike { IfOk result (λ alike. All (AreAlike 0) alike.items) }
 {
-    Ok(Placed {
-        code: code.clone()?,
-        nodes: drawn_nodes(alloc, code.inputs(), nodes, draws)?,
-    })
+    let mut alike = Vec::with_capacity(alloc, codes.len())?;
+    for code in codes {
+        if code.outputs() > code.inputs() {
+            return Err(NoMemory);
+        }
+        alike.push_reserved(Alike {
+            code: code.clone()?,
+            starts: Vec::new(alloc),
+        });
+    }
+    Ok(alike)
 }
 
-// So many nodes, each of so many.
-fn drawn_nodes(
-    alloc: Global,
+// Adds a part whose code is drawn of those that are there, over nodes that are drawn of so many.
+fn add_part(count: usize, draws: &mut Draws, places: &mut Places) -> Result<(), NoMemory>
+    requires some { 0 < count }
+    requires codes { 0 < length places.old.alike.items }
+    requires placed { ArePlaced count places.old }
+    ensures codes { length places.new.alike.items ≡ length places.old.alike.items }
+    ensures placed { OnOk result (ArePlaced count places.new) }
+{
+    let Ok(at) = u32::try_from(places.nodes.len()) else {
+        return Err(NoMemory);
+    };
+    let number = draws.below(places.alike.len());
+    let code = places.alike[number].code.clone()?;
+    add_map(code.inputs(), count, draws, &mut places.nodes)?;
+    places.alike[number]
+        .starts
+        .push(at)
+        .map_err(AllocError::from)?;
+    places
+        .parts
+        .push(Placed { code, at })
+        .map_err(AllocError::from)?;
+    Ok(())
+}
+
+// Adds so many nodes, each of so many.
+fn add_map(
+    inputs: usize,
     count: usize,
-    nodes: usize,
     draws: &mut Draws,
-) -> Result<Vec<u32>, AllocError>
-    requires { 0 < nodes }
-    ensures count { IfOk result (λ drawn. length drawn.items ≡ count) }
-    ensures below { IfOk result (λ drawn. All (λ node. node < nodes) drawn.items) }
+    nodes: &mut Vec<u32>,
+) -> Result<(), AllocError>
+    requires some { 0 < count }
+    requires below { All (λ node. node < count) nodes.old.items }
+    ensures length { OnOk result (length nodes.new.items ≡ length nodes.old.items + inputs) }
+    ensures below { OnOk result (All (λ node. node < count) nodes.new.items) }
 {
-    let mut drawn = Vec::new(alloc);
-    for _k in 0..count {
-        let Ok(node) = u32::try_from(draws.below(nodes)) else {
+    for _k in 0..inputs {
+        let Ok(node) = u32::try_from(draws.below(count)) else {
             return Err(AllocError);
         };
-        drawn.push(node)?;
+        nodes.push(node)?;
     }
-    Ok(drawn)
+    Ok(())
 }

@@ -1,30 +1,27 @@
-//! Runs of codes in both forms, timed.
+//! All forms of a run, timed.
 
-ghost use Rattle.std.specs.Prelude.{◌≡◌, ◌≢◌, ◌≤◌, length, All};
-ghost use Rattle.code_bench.specs.Placing.{IsPlaced};
+ghost use Rattle.std.specs.Prelude.{length};
+ghost use Rattle.code_bench.specs.Placing.{ArePlaced};
 
 use crate::draws::Draws;
 use crate::nets::Size;
-use crate::parts::{PLACES, Placed, codes_of, drawn_state, places_of};
+use crate::parts::{PLACES, Placed, Places, codes_of, drawn_state, places_of};
+use crate::rounds::{Room, arrays, flat_rounds, tagged_rounds, together_rounds};
+use part_words::Change;
 use std::io;
 use std::marker::Brand;
-use std::sync::ledger::{Blank, Ledger};
+use std::sync::ledger::Blank;
 use std::time::Instant;
-use ternary::{NoMemory, Steps, Tern};
+use ternary::Tern;
 
-// How often all places are run, and how many runs that are.
-const ROUNDS: u32 = 50;
-
+// How many runs of parts all rounds of a form are.
 const RUNS: f64 = 1_000_000.0;
-// Room for inputs, outputs and results of one code.
-const ROOM: usize = 10_000;
 
-// Arrays that a run needs.
-#[derive(Drop)]
-struct Room {
-    input: Vec<Tern>,
-    results: Vec<bool>,
-    out: Vec<Tern>,
+// How long all rounds of a form took, and what the changes of the last one came to.
+#[derive(Clone, Copy)]
+struct Timed {
+    seconds: f64,
+    sum: u64,
 }
 
 /// Measures codes of this size, and writes their line.
@@ -39,131 +36,109 @@ pub(crate) fn measure(rt: &HostRuntime, size: Size) -> io::Result<()> {
         Ok(codes) => places_of(alloc, &codes, state.len(), &mut draws),
         Err(error) => Err(error),
     };
-    let (Ok(parts), Ok(mut room)) = (made, arrays(rt)) else {
+    let (Ok(places), Ok(mut room)) = (made, arrays(alloc)) else {
         return Err(io::Error::from(io::ErrorKind::OutOfMemory));
     };
-    time_both(rt, &parts, &state, &mut room)
+    time_all(rt, &places, &state, &mut room)
 }
 
-// Runs all places so often in both forms, and writes the line of their times.
-fn time_both(rt: &HostRuntime, parts: &[Placed], state: &[Tern], room: &mut Room) -> io::Result<()>
-    requires { All (IsPlaced (length state.now)) parts.now }
+// Runs all parts so often in each form, and writes the line of their times. Where a form changes other nodes than
+// another, or to other states, that is written before.
+fn time_all(rt: &HostRuntime, places: &Places, state: &[Tern], room: &mut Room) -> io::Result<()>
+    requires { ArePlaced (length state.now) places.now }
 {
-    let start = Instant::now(rt)?;
-    let tagged = tagged_rounds::<Brand>(parts, state, room, Blank::new(1));
-    let tagged_time = start.elapsed(rt)?.as_secs_f64();
-    let start = Instant::now(rt)?;
-    let flat = flat_rounds::<Brand>(parts, state, room, Blank::new(1));
-    let flat_time = start.elapsed(rt)?.as_secs_f64();
-    if tagged != flat {
+    let tagged = time_tagged(rt, places, state, room)?;
+    let flat = time_flat(rt, places, state, room)?;
+    let together = time_together(rt, places, state, room)?;
+    if tagged.sum != flat.sum || tagged.sum != together.sum {
         println!(rt; "the forms differ")?;
     }
-    tell(rt, parts, tagged_time, flat_time)
+    tell(rt, &places.parts, tagged, flat, together)
 }
 
-// The arrays, with room for any of the codes.
-fn arrays(rt: &HostRuntime) -> Result<Room, NoMemory> {
-    let alloc = rt.alloc();
-    Ok(Room {
-        input: vec![in alloc; Tern::Unk; ROOM]?,
-        results: vec![in alloc; false; ROOM]?,
-        out: vec![in alloc; Tern::Unk; ROOM]?,
-    })
-}
-
-// Runs all places so often by instructions with tagged operands; what they came to.
-fn tagged_rounds<L: Ledger>(parts: &[Placed], state: &[Tern], room: &mut Room, blank: Blank) -> u64
-    requires name { blank.name ≡ L.name }
-    requires parts { blank.parts ≡ L.parts }
-    requires some { blank.parts ≢ 0 }
-    requires placed { All (IsPlaced (length state.now)) parts.now }
-{
-    let mut steps: Steps<L> = Steps::new(blank);
-    let mut sum = 0;
-    for _round in 0..ROUNDS {
-        for part in parts {
-            sum = mixed(sum, run_tagged(part, state, room, &mut steps));
-        }
-    }
-    sum
-}
-
-// Runs all places so often over one array of truth values; what they came to.
-fn flat_rounds<L: Ledger>(parts: &[Placed], state: &[Tern], room: &mut Room, blank: Blank) -> u64
-    requires name { blank.name ≡ L.name }
-    requires parts { blank.parts ≡ L.parts }
-    requires some { blank.parts ≢ 0 }
-    requires placed { All (IsPlaced (length state.now)) parts.now }
-{
-    let mut steps: Steps<L> = Steps::new(blank);
-    let mut sum = 0;
-    for _round in 0..ROUNDS {
-        for part in parts {
-            sum = mixed(sum, run_flat(part, state, room, &mut steps));
-        }
-    }
-    sum
-}
-
-// One run by instructions with tagged operands, on the states of the place's nodes.
-fn run_tagged<L: Ledger>(
-    part: &Placed,
+// The time by instructions with tagged operands.
+fn time_tagged(
+    rt: &HostRuntime,
+    places: &Places,
     state: &[Tern],
     room: &mut Room,
-    steps: &mut Steps<L>,
-) -> u64
-    requires { IsPlaced (length state.now) part.now }
+) -> io::Result<Timed>
+    requires { ArePlaced (length state.now) places.now }
 {
-    let code = &part.code;
-    let (inputs, outputs) = (code.inputs(), code.outputs());
-    if inputs > room.input.len() || code.len() > room.results.len() || outputs > room.out.len() {
-        return 0;
-    }
-    let input = &mut room.input[..inputs];
-    for (j, node) in part.nodes.iter().enumerate() {
-        input[j] = state[*node as usize];
-    }
-    let out = &mut room.out[..outputs];
-    code.run(input, &mut room.results, out, steps);
-    seen(out)
+    let start = Instant::now(rt)?;
+    tagged_rounds::<Brand>(places, state, room, Blank::new(1));
+    time_since(rt, start, &room.changes)
 }
 
-// One run over an array of truth values, on the states of the place's nodes.
-fn run_flat<L: Ledger>(part: &Placed, state: &[Tern], room: &mut Room, steps: &mut Steps<L>) -> u64
-    requires { IsPlaced (length state.now) part.now }
+// The time over one array of truth values.
+fn time_flat(
+    rt: &HostRuntime,
+    places: &Places,
+    state: &[Tern],
+    room: &mut Room,
+) -> io::Result<Timed>
+    requires { ArePlaced (length state.now) places.now }
 {
-    let code = &part.code;
-    let outputs = code.outputs();
-    let half = room.results.len() / 4;
-    if code.inputs() >= half || code.len() >= half || outputs > room.out.len() {
-        return 0;
+    let start = Instant::now(rt)?;
+    flat_rounds::<Brand>(places, state, room, Blank::new(1));
+    time_since(rt, start, &room.changes)
+}
+
+// The time of parts of one code together, in words.
+fn time_together(
+    rt: &HostRuntime,
+    places: &Places,
+    state: &[Tern],
+    room: &mut Room,
+) -> io::Result<Timed>
+    requires { ArePlaced (length state.now) places.now }
+{
+    let start = Instant::now(rt)?;
+    together_rounds::<Brand>(places, state, room, Blank::new(1));
+    time_since(rt, start, &room.changes)
+}
+
+// The time since then, with what these changes come to.
+fn time_since(rt: &HostRuntime, start: Instant, changes: &[Change]) -> io::Result<Timed> {
+    let seconds = start.elapsed(rt)?.as_secs_f64();
+    let mut sum = 0u64;
+    for change in changes {
+        sum = sum.wrapping_add(spread(change));
     }
-    let out = &mut room.out[..outputs];
-    code.run_mapped(state, &part.nodes, &mut room.results, out, steps);
-    seen(out)
+    Ok(Timed { seconds, sum })
 }
 
-// States as a number.
-fn seen(out: &[Tern]) -> u64 {
-    let mut sum = 0;
-    for tern in out {
-        sum = mixed(sum, tern.may_one() as u64 + 2 * tern.may_zero() as u64);
-    }
-    sum
+// A change as a number that looks random, so that a sum of such numbers tells changes apart in whatever order they
+// stand.
+fn spread(change: &Change) -> u64 {
+    let value = change.value.may_one() as u64 + 2 * change.value.may_zero() as u64;
+    let number = (change.node as u64).wrapping_mul(4).wrapping_add(value);
+    let mixed = number.wrapping_mul(0x9e37_79b9_7f4a_7c15);
+    (mixed ^ (mixed >> 29)).wrapping_mul(0xbf58_476d_1ce4_e5b9)
 }
 
-// A sum so far with a further number.
-fn mixed(sum: u64, more: u64) -> u64 {
-    sum.wrapping_mul(31).wrapping_add(more)
-}
-
-// Writes the line of these places, by the seconds of all runs in both forms.
-fn tell(rt: &HostRuntime, parts: &[Placed], tagged: f64, flat: f64) -> io::Result<()> {
+// Writes the line of these parts: the time of a part in each form, and how many times as fast as the first form the
+// others are.
+fn tell(
+    rt: &HostRuntime,
+    parts: &[Placed],
+    tagged: Timed,
+    flat: Timed,
+    together: Timed,
+) -> io::Result<()> {
     let mut total = 0u64;
     for part in parts {
         total = total.saturating_add(part.code.len() as u64);
     }
     let size = total / PLACES as u64;
-    let (slow, fast) = (tagged * 1e9 / RUNS, flat * 1e9 / RUNS);
-    println!(rt; "{size:12}  {slow:9.1}  {fast:7.1}  {:5.1}", slow / fast)
+    let (first, second, third) = (part_time(tagged), part_time(flat), part_time(together));
+    let (flat_ratio, ratio) = (first / second, first / third);
+    println!(rt;
+        "{size:12}  {first:9.1}  {second:7.1}  {third:11.1}  {flat_ratio:11.1}  {ratio:15.1}"
+    )
+}
+
+// The nanoseconds of one part.
+fn part_time(timed: Timed) -> f64 {
+    timed.seconds * 1e9 / RUNS
 }

@@ -1,7 +1,7 @@
--- The places so far.
-use Rattle.std.specs.Prelude.{All}
-use Rattle.code_bench.specs.Placing.{IsPlaced}
+-- The parts so far.
+use Rattle.std.proofs.Common.{◌≡◌, length}
+use Rattle.code_bench.specs.Placing.{ArePlaced}
 use Rattle.code_bench.proofs.parts.places_of.Given as goal
 
 abbrev pub invariant-loop-k : goal.invariant-loop-k
-invariant-loop-k l = All (IsPlaced l.nodes) l.parts.items
+invariant-loop-k l = (length l.places.alike.items ≡ length l.codes) × ArePlaced l.count l.places
