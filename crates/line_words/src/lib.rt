@@ -35,8 +35,6 @@ mod line_check;
 mod line_cursor;
 mod pieces;
 mod points;
-#[cfg(test)]
-mod tests;
 mod word_cursor;
 
 pub use cuts::{lines, words};

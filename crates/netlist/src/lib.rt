@@ -30,8 +30,6 @@ mod fault;
 mod laws;
 mod names;
 mod strengths;
-#[cfg(test)]
-mod tests;
 
 pub use circuit::Circuit;
 pub use fault::EditFault;

@@ -18,8 +18,6 @@ mod laws;
 mod lists;
 mod parts;
 mod reader;
-#[cfg(test)]
-mod tests;
 mod verb;
 
 pub use command::{Command, ScriptFault};

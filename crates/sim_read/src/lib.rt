@@ -33,8 +33,6 @@ mod reader;
 mod records;
 mod sizing;
 mod sums;
-#[cfg(test)]
-mod tests;
 
 pub use fault::{NetFault, NetRefusal, NetWhat};
 pub use laws::{

@@ -32,8 +32,6 @@ mod names;
 mod open_call;
 mod ports;
 mod reader;
-#[cfg(test)]
-mod tests;
 
 pub use expansion::{MOST_CALLS, MOST_OPEN};
 pub use laws::{decks_are_expanded, the_last_place_of_a_port_counts};

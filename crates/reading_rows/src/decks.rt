@@ -1,7 +1,7 @@
 //! What no clause says: decks of which the circuit or the refusal is known, read with ample memory.
 
-use crate::read_deck;
 use spice_cards::{DeckFault, DeckWhat};
+use spice_read::read_deck;
 use std::alloc::Global;
 use std::test::Fail;
 use table_keys::TableKeys;

@@ -1,4 +1,6 @@
-use crate::{ScriptFault, read_command};
+//! What no clause says: lines of a script of which the command or the refusal is known.
+
+use script_lang::{ScriptFault, read_command};
 use std::test::Fail;
 
 #[test]

@@ -1,6 +1,6 @@
 //! What no clause says: texts and numbers of which the answer is known.
 
-use super::*;
+use line_words::{LineFault, check_line, decimal, lines, words};
 
 #[test]
 fn lines_are_numbered_and_lose_one_return(rt: HostRuntime) {

@@ -1,7 +1,7 @@
 //! What no clause says: netlists of which the answer is known, read with ample memory.
 
-use super::*;
 use netlist::Circuit;
+use sim_read::{NetFault, NetRefusal, NetWhat, Reader, read_netlist};
 use std::alloc::Global;
 use std::test::Fail;
 use table_keys::TableKeys;

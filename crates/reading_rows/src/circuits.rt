@@ -1,4 +1,6 @@
-use crate::{Circuit, EditFault, GND, VDD};
+//! What no clause says: edits of a circuit of which the answers are known, and the circuit after them.
+
+use netlist::{Circuit, EditFault, GND, VDD};
 use path_meaning::Switch;
 use path_meaning::SwitchKind::{self, Always, NChan, PChan};
 use std::test::Fail;
