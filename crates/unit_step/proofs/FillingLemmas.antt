@@ -1,5 +1,5 @@
--- What a fill of what is kept makes of a build: it is done where the new texts of the graph's groups were analysed and are kept, and cut off
--- where memory was wanting.
+-- What a fill of what is kept makes of a build: where the new texts of the graph's groups were analysed and are kept, the build is done once all
+-- texts stand in front; and it is cut off where memory was wanting.
 use Rattle.std.proofs.Common.{◌≡◌, ℕ, inl, inr, List, [], ◌++◌, length, Result, Ok, Err, OnErr, refl, sym, ap, ◌∙◌, append-nil}
 use Rattle.std.proofs.lemmas.List.{map-append}
 use Rattle.path_meaning.specs.Graphs.{GraphData}

@@ -1,6 +1,6 @@
 -- What a finish leaves of what is kept is what a build leaves, with the texts of the last build in front: what it has analysed stands behind, and
 -- is among the present texts.
-use Rattle.std.proofs.Common.{◌≡◌, ℕ, Bool, true, false, not, inl, inr, ◌||◌, List, ◌++◌, length, map, get_or, All, Option, refl, sym, ap, subst, ◌∙◌, arith, length-append}
+use Rattle.std.proofs.Common.{◌≡◌, ℕ, Bool, true, false, not, inl, inr, List, ◌++◌, length, map, get_or, All, Option, refl, sym, ap, subst, ◌∙◌, arith, length-append}
 use Rattle.std.proofs.lemmas.List.{get_or_append_left}
 use Rattle.std.proofs.lemmas.List.Elements.{All-filter, All-weaker, filter_passes}
 use Rattle.path_meaning.specs.Graphs.{GraphData}

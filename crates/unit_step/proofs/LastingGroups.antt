@@ -1,20 +1,20 @@
 -- The texts of a machine's parts, in the order of the nodes at which the parts begin, are those of the graph's groups where the machine fits it.
-use Rattle.std.proofs.Common.{◌≡◌, ℕ, zero, suc, ◌<◌, List, [], ◌∷◌, length, map, get_or, Some, refl, sym, ap, ap₂, subst, ◌∙◌, arith}
+use Rattle.std.proofs.Common.{◌≡◌, ℕ, zero, suc, ◌<◌, List, [], ◌∷◌, length, map, Some, refl, sym, ap, ap₂, subst, ◌∙◌, arith}
 use Rattle.std.specs.Prelude.{Contains, Option, slice_get, slice_index}
 use Rattle.std.specs.List.{AllZip}
-use Rattle.std.proofs.lemmas.List.{get_or_default, get_or-take, length-take}
-use Rattle.std.proofs.lemmas.Option.{slice_get_read, slice_get_within, get_or_from_slice_get, slice_get-get_or}
+use Rattle.std.proofs.lemmas.List.{get_or-take, length-take}
+use Rattle.std.proofs.lemmas.Option.{slice_get_read, slice_get_within, get_or_from_slice_get}
 use Rattle.path_meaning.specs.Graphs.{GraphData}
-use Rattle.group_meaning.specs.Groups.{Group, IsGroup, AreGroups, id_of}
+use Rattle.group_meaning.specs.Groups.{Group, IsGroup, id_of}
 use Rattle.group_meaning.proofs.UniqueGroups.{same_by_id, unique}
 use Rattle.group_meaning.proofs.AscendingLists.{same_ascending}
 use Rattle.group_text.specs.Texts.{GroupTextData, text_of_group}
-use Rattle.circuit_texts.proofs.PairedLists.{partner_first, partner_second}
+use Rattle.circuit_texts.proofs.PairedLists.{partner_second}
 use Rattle.unit_step.specs.declared.part.HeldPart.{HeldPart}
-use Rattle.unit_step.specs.Parts.{Stands, IsMemberAt}
+use Rattle.unit_step.specs.Parts.{IsMemberAt}
 use Rattle.unit_step.specs.Machines.{MachineData}
 use Rattle.unit_step.specs.Fitting.{IsPartOf, FitsGraph}
-use Rattle.unit_step.specs.Lasting.{BeginsAt, Begins, AreInOrder, HasLast}
+use Rattle.unit_step.specs.Lasting.{Begins, AreInOrder, HasLast}
 use Rattle.unit_step.proofs.PartLemmas.{member_from_part}
 use Rattle.unit_step.proofs.KeptLemmas.{group_there, made_at}
 use Rattle.unit_step.proofs.FinishingFits.{some_members}

@@ -1,10 +1,10 @@
 -- The texts of the last build are known while stale parts get their codes: where these parts begin is noted, and they begin where they did.
-use Rattle.std.proofs.Common.{◌≡◌, ◌≢◌, ℕ, ◌<◌, ◌≤◌, inl, inr, ◌⊎◌, List, length, get_or, All, Option, Some, None, Vec, Global, refl, sym, ap, subst, ◌∙◌, arith, length-append}
+use Rattle.std.proofs.Common.{◌≡◌, ℕ, ◌<◌, ◌≤◌, inl, inr, ◌⊎◌, List, length, get_or, All, Option, Some, None, Vec, Global, refl, sym, ap, subst, ◌∙◌, arith, length-append}
 use Rattle.std.specs.Prelude.{Contains, slice_index_or}
 use Rattle.std.specs.List.{AllZip}
 use Rattle.std.proofs.lemmas.List.Elements.{All-contains, Contains-get_or}
 use Rattle.path_meaning.specs.Graphs.{GraphData}
-use Rattle.group_meaning.specs.Groups.{Group, id_of}
+use Rattle.group_meaning.specs.Groups.{Group}
 use Rattle.group_text.specs.Texts.{GroupTextData}
 use Rattle.kept_parts.specs.Uses.{UsesData, IsNumbered, some_texts, count_distinct}
 use Rattle.kept_parts.proofs.NumberLemmas.{used_known_more}
@@ -15,7 +15,7 @@ use Rattle.unit_step.specs.Machines.{MachineData}
 use Rattle.unit_step.specs.Evaluating.{Rooms, IsSeated}
 use Rattle.unit_step.specs.Fitting.{Covers}
 use Rattle.unit_step.specs.Finishing.{IsFresh, AreWaiting, Puts}
-use Rattle.unit_step.specs.Lasting.{BeginsAt, Begins, AreLasting, texts_lasting, texts_numbered}
+use Rattle.unit_step.specs.Lasting.{BeginsAt, AreLasting, texts_lasting, texts_numbered}
 use Rattle.unit_step.proofs.PartLemmas.{member_from_part}
 use Rattle.unit_step.proofs.FinishingRoused.{Stands-at, at-Stands, stays_or_comes, read_same}
 use Rattle.unit_step.proofs.LastingGroups.{first_member}

@@ -1,5 +1,5 @@
 -- Parts that wait to be run together: slots, each with the place of a code and where the maps of parts with this code begin.
-use Rattle.std.specs.Prelude.{◌≡◌, ℕ, ◌+◌, ◌*◌, ◌%◌, ◌<◌, ◌≤◌, ◌⊎◌, List, [], ◌∷◌, ◌++◌, length, map, All, Contains, Some, option_map, unwrap_or, slice_get, slice_set, vec_capacity}
+use Rattle.std.specs.Prelude.{◌≡◌, ℕ, ◌*◌, ◌%◌, ◌<◌, ◌≤◌, ◌⊎◌, List, [], ◌∷◌, ◌++◌, length, map, All, Contains, Some, option_map, unwrap_or, slice_get, slice_set, vec_capacity}
 use Rattle.std.specs.List.{sum_by}
 use Rattle.unit_step.specs.declared.dense.Seat.{Seat}
 use Rattle.unit_step.specs.declared.batches.Batch.{Batch}

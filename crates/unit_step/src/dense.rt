@@ -21,8 +21,9 @@ pub(crate) struct Seat {
     pub(crate) at: u32,
 }
 
-// What a step reads of all parts: their codes, where equal texts share one; the maps one behind the other; and the
-// seat of each part that has code.
+// What a step reads of all parts: their codes; the maps one behind the other; and the seat of each part that has code.
+// Parts that a machine starts with share their code where their texts are equal, and each that got code later has
+// its own.
 //
 // The map of a part that lost its code stays where it is, and so does its code. Whoever holds a machine lets go of
 // all of it where most of its parts are left over, so that there are no more than so many of these.

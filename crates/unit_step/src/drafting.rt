@@ -1,5 +1,5 @@
 //! A machine before it starts.
-ghost use Rattle.std.specs.Prelude.{◌≡◌, ℕ, ◌<◌, length, All, Some, IsTrue, IfOk};
+ghost use Rattle.std.specs.Prelude.{◌≡◌, ℕ, ◌<◌, length, All, IsTrue, IfOk};
 ghost use Rattle.path_meaning.specs.Graphs.{nodes};
 ghost use Rattle.path_meaning.specs.Rails.{IsRailed, IsSound};
 ghost use Rattle.analysis_cache.specs.Keeping.{texts_of};

@@ -1,5 +1,5 @@
 //! Edits of the graph under a machine.
-ghost use Rattle.std.specs.Prelude.{◌≡◌, ℕ, ◌+◌, ◌*◌, ◌≤◌, ◌<◌, ◌-◌, ◌++◌, ◌↔◌, List, length, vec_capacity, option_map, find, Contains, IfOk, IfErr, OnOk, OnErr};
+ghost use Rattle.std.specs.Prelude.{◌≡◌, ℕ, ◌+◌, ◌*◌, ◌≤◌, ◌<◌, ◌-◌, ◌++◌, ◌↔◌, List, length, option_map, find, Contains, IfOk, IfErr, OnOk, OnErr};
 ghost use Rattle.path_meaning.specs.Graphs.{nodes, IsWired};
 ghost use Rattle.group_meaning.specs.Groups.{Group, AreGroups};
 ghost use Rattle.channel_groups.specs.Grouping.{AreOf, has_member};

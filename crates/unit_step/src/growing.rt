@@ -1,5 +1,5 @@
 //! Nodes that are added to a machine.
-ghost use Rattle.std.specs.Prelude.{◌≡◌, ℕ, ◌+◌, ◌-◌, ◌++◌, ◌≤◌, None, length, replicate, vec_capacity, OnOk, OnErr};
+ghost use Rattle.std.specs.Prelude.{◌≡◌, ◌+◌, ◌-◌, ◌++◌, ◌≤◌, None, length, replicate, vec_capacity, OnOk, OnErr};
 ghost use Rattle.unit_step.specs.Editing.{with_new_nodes};
 
 use crate::machine::Machine;

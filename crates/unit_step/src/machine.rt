@@ -1,5 +1,5 @@
 //! The machine.
-ghost use Rattle.std.specs.Prelude.{◌≡◌, ◌≢◌, ℕ, List, [], ◌-◌, vec_len, vec_capacity, ◌+◌, ◌^◌, ◌<◌, ◌≤◌, ◌⊎◌, true, false, length, map, zip, count_by, replicate, option_map, All, None, Some, Err, IsTrue, IfSome, IfNone, IfOk, IfErr, OnOk, OnErr};
+ghost use Rattle.std.specs.Prelude.{◌≡◌, ◌≢◌, ℕ, List, [], ◌-◌, vec_len, vec_capacity, ◌+◌, ◌^◌, ◌<◌, ◌≤◌, ◌⊎◌, true, false, length, map, zip, count_by, replicate, option_map, All, None, Some, Err, IsTrue, IfSome, IfNone, IfOk, IfErr, OnErr};
 ghost use Rattle.std.specs.Bool.{OnTrue, OnFalse};
 ghost use Rattle.ternary.specs.Counts.{raised};
 ghost use Rattle.path_meaning.specs.declared.TheConstants.{RAILS};
@@ -50,7 +50,6 @@ use ternary::{NoMemory, Steps, Tern};
 /// A compiled circuit: the parts of its groups, which of them are marked, and a state.
 ///
 /// A step runs the code of the marked parts alone. All its room is taken when the machine is made.
-#[derive(Drop)]
 pub struct Machine {
     // the groups of the graph that the machine was built for, if it was
     pub(crate) groups: Option<Groups>,
@@ -197,7 +196,8 @@ impl Machine {
         ensures state { result.items ≡ self.state }
         ensures room { vec_capacity result - vec_len result ≡ self.spare }
     {
-        self.state
+        let (_parts, state) = self.taken_apart();
+        state
     }
 
     /// The parts, for what goes on without the machine.
@@ -207,7 +207,36 @@ impl Machine {
         ensures apart { AreApart self.parts }
         ensures reads { (k node : ℕ) → ReadsAt self.parts k node → node < length self.state }
     {
-        self.parts
+        let (parts, _state) = self.taken_apart();
+        parts
+    }
+
+    // The parts and the states, for what goes on without the machine. All else is dropped.
+    fn taken_apart(self) -> (Vec<HeldPart>, Vec<Tern>)
+        ensures parts { result.0.items ≡ self.parts }
+        ensures state { result.1.items ≡ self.state }
+        ensures room { vec_capacity result.1 - vec_len result.1 ≡ self.spare }
+        ensures seated { AreSeated (length self.state) self.parts }
+        ensures apart { AreApart self.parts }
+        ensures reads { (k node : ℕ) → ReadsAt self.parts k node → node < length self.state }
+    {
+        let Machine {
+            groups: _groups,
+            parts,
+            dense: _dense,
+            uses: _uses,
+            lasting: _lasting,
+            held: _held,
+            most: _most,
+            agenda: _agenda,
+            readers: _readers,
+            owners: _owners,
+            state,
+            desk: _desk,
+            moves: _moves,
+            placed: _placed,
+        } = self;
+        (parts, state)
     }
 
     /// The groups of the graph that it covers, as they were found when it was built and kept through edits;
@@ -318,6 +347,13 @@ impl Machine {
         );
         self.moves = moves_after(self.moves, changed);
         changed
+    }
+}
+
+// One call drops a machine: a function that owns one has nothing to show of its many fields.
+impl Drop for Machine {
+    fn drop(self) {
+        let (_parts, _state) = self.taken_apart();
     }
 }
 

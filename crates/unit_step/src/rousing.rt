@@ -1,5 +1,5 @@
 //! The stale parts get their codes.
-ghost use Rattle.std.specs.Prelude.{◌≡◌, ℕ, ◌<◌, ◌≤◌, ◌==◌, length, map, vec_capacity, filter, not, All, Contains, Some, IfOk, OnOk, OnErr, slice_get};
+ghost use Rattle.std.specs.Prelude.{◌≡◌, ◌<◌, length, map, All, Some, IfOk, slice_get};
 ghost use Rattle.kept_parts.specs.Uses.{IsNumbered, texts_used};
 ghost use Rattle.unit_step.specs.Finishing.{Puts};
 

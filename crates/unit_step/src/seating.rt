@@ -1,5 +1,5 @@
 //! Parts that lose their group in an edit, and parts for the groups that an edit makes.
-ghost use Rattle.std.specs.Prelude.{◌≡◌, ◌≢◌, ℕ, ◌+◌, ◌++◌, ◌<◌, ◌≤◌, ◌∷◌, [], true, false, None, length, vec_capacity, slice_index, slice_index_or, slice_set, All, Contains, IfOk, OnOk, OnErr};
+ghost use Rattle.std.specs.Prelude.{◌≡◌, ℕ, ◌+◌, ◌<◌, ◌∷◌, [], None, length, slice_index, slice_index_or, All, Contains, IfOk, OnOk, OnErr};
 ghost use Rattle.unit_step.specs.Parts.{HasMember};
 ghost use Rattle.unit_step.specs.Seating.{Disowns, Vacates, Seats, Clears, Renews, one_of, IsVacant, IsStalePartOf};
 

@@ -11,7 +11,9 @@ use Rattle.unit_step.specs.Marking.{MarksAll}
 use Rattle.unit_step.specs.Evaluating.{rooms, IsSeated}
 use Rattle.unit_step.specs.Running.{AreAgreed, IsTaken, ReadsAny}
 use Rattle.unit_step.proofs.MarkLemmas.{marked_inside, marked_sum-within}
-use Rattle.unit_step.proofs.AdvanceLemmas.{AreChanges-from_Evaluated, changes_inside, changes_agree, Moves-taken, some_change, no_change, becomes_x, Remarks-taken, cleared_rooms}
+use Rattle.unit_step.proofs.AdvanceLemmas.{AreChanges, AreChanges-from_Evaluated, changes_inside, changes_agree, Moves-taken, some_change, no_change, becomes_x, Remarks-taken, cleared_rooms}
+use Rattle.unit_step.proofs.advance.advance.Given.{Over}
+use Rattle.unit_step.proofs.advance.advance.Goals.{After-evaluate_all, After-take_over}
 use Rattle.unit_step.proofs.advance.advance.Goals as goal
 
 pub evaluate_all-requires : goal.evaluate_all-requires
@@ -36,70 +38,49 @@ mark_again-requires g c = λ k there.
     let marked = c.evaluate_all.ensures.evaluated.marked k done in
     omega (arith, marked_inside c.args.agenda.now.marks k marked, c.evaluate_all.ensures.count)
 
+-- the changes that were noted are those that the marked parts make
+are_changes : (g : Over) (c : After-evaluate_all g) →
+    AreChanges c.args.joining c.args.parts.now c.args.agenda.now.marks c.args.state.now c.evaluate_all.new.desk.changes.items
+are_changes g c =
+    AreChanges-from_Evaluated c.args.joining c.args.parts.now c.args.agenda.now.marks c.args.agenda.now.waiting c.args.state.now c.args.readers.now
+    (rooms c.args.desk.now) c.requires.runnable c.evaluate_all.new.agenda.marks c.evaluate_all.new.desk.changes.items
+    c.evaluate_all.new.desk.done.items c.evaluate_all.ensures.evaluated c.evaluate_all.ensures.rest
+
+-- and they are taken over
+all_taken : (g : Over) (c : After-take_over g) → IsTaken c.evaluate_all.new.desk.changes.items c.args.state.now c.take_over.new.state
+all_taken g c = subst (λ xs. IsTaken xs c.args.state.now c.take_over.new.state) c.deref-2.ensures.value c.take_over.ensures.taken
+
 pub take_over-requires : goal.take_over-requires
 take_over-requires g c =
-    let joining = c.args.joining in
-    let parts = c.args.parts.now in
-    let marks = c.args.agenda.now.marks in
-    let waiting = c.args.agenda.now.waiting in
-    let old = c.args.state.now in
-    let readers = c.args.readers.now in
-    let room = rooms c.args.desk.now in
+    let are = are_changes g (goal.at.take_over-requires g c).After-evaluate_all in
     let runs = c.requires.runnable in
-    let e = c.evaluate_all.ensures in
-    let changes = c.evaluate_all.new.desk.changes.items in
-    let are = AreChanges-from_Evaluated joining parts marks waiting old readers room runs c.evaluate_all.new.agenda.marks changes
-    c.evaluate_all.new.desk.done.items e.evaluated e.rest in
     record {
       inside = λ change there.
-          changes_inside joining parts marks waiting old readers room runs changes are change (subst (λ xs. Contains xs change) c.deref-2.ensures.value there);
-      agreed = subst AreAgreed (sym c.deref-2.ensures.value) (changes_agree joining parts marks waiting old readers room runs changes are);
+          changes_inside c.args.joining _ _ _ _ _ _ runs _ are change (subst (λ xs. Contains xs change) c.deref-2.ensures.value there);
+      agreed = subst AreAgreed (sym c.deref-2.ensures.value) (changes_agree c.args.joining _ _ _ _ _ _ runs _ are);
       readers = runs.readers_counted;
       parts = λ node k there.
           let reads = runs.reads node k there in
-          omega (arith, reads.stands.inside, runs.counted, e.count, c.mark_again.ensures.marks.count);
+          omega (arith, reads.stands.inside, runs.counted, c.evaluate_all.ensures.count, c.mark_again.ensures.marks.count);
     }
 
 pub returns-clause-moves : goal.returns-clause-moves
 returns-clause-moves g c =
-    let joining = c.args.joining in
-    let parts = c.args.parts.now in
-    let marks = c.args.agenda.now.marks in
-    let waiting = c.args.agenda.now.waiting in
-    let old = c.args.state.now in
-    let readers = c.args.readers.now in
-    let room = rooms c.args.desk.now in
-    let runs = c.requires.runnable in
-    let e = c.evaluate_all.ensures in
-    let changes = c.evaluate_all.new.desk.changes.items in
-    let new = c.take_over.new.state in
-    let are = AreChanges-from_Evaluated joining parts marks waiting old readers room runs c.evaluate_all.new.agenda.marks changes
-    c.evaluate_all.new.desk.done.items e.evaluated e.rest in
-    let taken = subst (λ xs. IsTaken xs old new) c.deref-2.ensures.value c.take_over.ensures.taken in
-    Moves-taken joining parts marks waiting old readers room runs changes are new taken
+    let at_end = goal.at.returns-clause-moves g c in
+    Moves-taken c.args.joining _ _ _ _ _ _ c.requires.runnable _ (are_changes g at_end.After-evaluate_all) _ (all_taken g at_end.After-take_over)
 
 pub returns-clause-marks : goal.returns-clause-marks
 returns-clause-marks g c =
-    let joining = c.args.joining in
-    let parts = c.args.parts.now in
-    let marks = c.args.agenda.now.marks in
-    let waiting = c.args.agenda.now.waiting in
-    let old = c.args.state.now in
-    let readers = c.args.readers.now in
-    let room = rooms c.args.desk.now in
-    let runs = c.requires.runnable in
+    let at_end = goal.at.returns-clause-marks g c in
     let e = c.evaluate_all.ensures in
-    let changes = c.evaluate_all.new.desk.changes.items in
     let done = c.evaluate_all.new.desk.done.items in
     let first = c.evaluate_all.new.agenda.marks in
     let second = c.mark_again.new.agenda.marks in
     let third = c.take_over.new.agenda.marks in
-    let new = c.take_over.new.state in
-    let are = AreChanges-from_Evaluated joining parts marks waiting old readers room runs first changes done e.evaluated e.rest in
-    let taken = subst (λ xs. IsTaken xs old new) c.deref-2.ensures.value c.take_over.ensures.taken in
-    let again = subst (λ xs. MarksAll (λ k. (joining ≡ true) × Contains xs k) first second) c.deref.ensures.value c.mark_again.ensures.marks in
-    let read = subst (λ xs. MarksAll (ReadsAny readers xs) second third) c.deref-2.ensures.value c.take_over.ensures.marks in
-    Remarks-taken joining parts marks waiting old readers room runs changes are new taken first second third done e.evaluated e.rest e.count again read
+    let again = subst (λ xs. MarksAll (λ k. (c.args.joining ≡ true) × Contains xs k) first second) c.deref.ensures.value c.mark_again.ensures.marks in
+    let read = subst (λ xs. MarksAll (ReadsAny c.args.readers.now xs) second third) c.deref-2.ensures.value c.take_over.ensures.marks in
+    Remarks-taken c.args.joining _ _ _ _ _ _ c.requires.runnable _ (are_changes g at_end.After-evaluate_all) _ (all_taken g at_end.After-take_over)
+    first second third done e.evaluated e.rest e.count again read
 
 pub returns-clause-rooms : goal.returns-clause-rooms
 returns-clause-rooms g c =
@@ -108,60 +89,23 @@ returns-clause-rooms g c =
 
 pub returns-clause-changed : goal.returns-clause-changed
 returns-clause-changed g c =
-    let joining = c.args.joining in
-    let parts = c.args.parts.now in
-    let marks = c.args.agenda.now.marks in
-    let waiting = c.args.agenda.now.waiting in
-    let old = c.args.state.now in
-    let readers = c.args.readers.now in
-    let room = rooms c.args.desk.now in
-    let runs = c.requires.runnable in
-    let e = c.evaluate_all.ensures in
+    let at_end = goal.at.returns-clause-changed g c in
     let changes = c.evaluate_all.new.desk.changes.items in
-    let new = c.take_over.new.state in
-    let are = AreChanges-from_Evaluated joining parts marks waiting old readers room runs c.evaluate_all.new.agenda.marks changes
-    c.evaluate_all.new.desk.done.items e.evaluated e.rest in
-    let taken = subst (λ xs. IsTaken xs old new) c.deref-2.ensures.value c.take_over.ensures.taken in
     let none : Change = record { node = 0; value = Zero } in
     OnTrue_from _ _ (λ set.
     let some = eqb-false (vec_len c.evaluate_all.new.desk.changes) 0 (sym c.is_empty.ensures ∙ not-true c.is_empty.result set) in
     let inside : 0 < length changes = omega (arith, some) in
-    some_change joining parts marks waiting old readers room runs changes are new taken (slice_index_or changes 0 none) (Contains-get_or changes 0 none inside))
+    some_change c.args.joining _ _ _ _ _ _ c.requires.runnable _ (are_changes g at_end.After-evaluate_all) _ (all_taken g at_end.After-take_over)
+    (slice_index_or changes 0 none) (Contains-get_or changes 0 none inside))
 
 pub returns-clause-same : goal.returns-clause-same
 returns-clause-same g c =
-    let joining = c.args.joining in
-    let parts = c.args.parts.now in
-    let marks = c.args.agenda.now.marks in
-    let waiting = c.args.agenda.now.waiting in
-    let old = c.args.state.now in
-    let readers = c.args.readers.now in
-    let room = rooms c.args.desk.now in
-    let runs = c.requires.runnable in
-    let e = c.evaluate_all.ensures in
-    let changes = c.evaluate_all.new.desk.changes.items in
-    let new = c.take_over.new.state in
-    let are = AreChanges-from_Evaluated joining parts marks waiting old readers room runs c.evaluate_all.new.agenda.marks changes
-    c.evaluate_all.new.desk.done.items e.evaluated e.rest in
-    let taken = subst (λ xs. IsTaken xs old new) c.deref-2.ensures.value c.take_over.ensures.taken in
+    let at_end = goal.at.returns-clause-same g c in
     OnFalse_from _ _ (λ unset.
     let none = eqb-true (vec_len c.evaluate_all.new.desk.changes) 0 (sym c.is_empty.ensures ∙ not-false c.is_empty.result unset) in
-    no_change joining parts marks waiting old readers room runs changes are new taken (omega (arith, none)))
+    no_change c.args.joining _ _ _ _ _ _ c.requires.runnable _ (are_changes g at_end.After-evaluate_all) _ (all_taken g at_end.After-take_over) (omega (arith, none)))
 
 pub returns-clause-unknown : goal.returns-clause-unknown
 returns-clause-unknown g c = λ is.
-    let joining = c.args.joining in
-    let parts = c.args.parts.now in
-    let marks = c.args.agenda.now.marks in
-    let waiting = c.args.agenda.now.waiting in
-    let old = c.args.state.now in
-    let readers = c.args.readers.now in
-    let room = rooms c.args.desk.now in
-    let runs = c.requires.runnable in
-    let e = c.evaluate_all.ensures in
-    let changes = c.evaluate_all.new.desk.changes.items in
-    let new = c.take_over.new.state in
-    let are = AreChanges-from_Evaluated joining parts marks waiting old readers room runs c.evaluate_all.new.agenda.marks changes
-    c.evaluate_all.new.desk.done.items e.evaluated e.rest in
-    let taken = subst (λ xs. IsTaken xs old new) c.deref-2.ensures.value c.take_over.ensures.taken in
-    becomes_x joining parts marks waiting old readers room runs changes are new taken is
+    let at_end = goal.at.returns-clause-unknown g c in
+    becomes_x c.args.joining _ _ _ _ _ _ c.requires.runnable _ (are_changes g at_end.After-evaluate_all) _ (all_taken g at_end.After-take_over) is

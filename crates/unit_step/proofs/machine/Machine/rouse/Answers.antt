@@ -4,11 +4,13 @@ use Rattle.std.specs.Prelude.{Contains, slice_get}
 use Rattle.std.specs.Vec.{with_items}
 use Rattle.std.proofs.lemmas.List.{length-map, with_items_is}
 use Rattle.std.proofs.lemmas.List.Elements.{All-weaker}
+use Rattle.smallvec.specs.SmallVec.{SmallVec}
 use Rattle.path_meaning.specs.Rails.{IsSound}
 use Rattle.group_text.specs.Texts.{GroupTextData, text_of_group}
 use Rattle.kept_parts.specs.Uses.{texts_used, count_distinct}
 use Rattle.kept_parts.proofs.GroupParts.{parts_of_groups}
 use Rattle.unit_step.specs.declared.part.HeldPart.{HeldPart}
+use Rattle.unit_step.specs.declared.lasting.Lasting.{Lasting}
 use Rattle.unit_step.specs.contracts.machine.Machine.{the_view}
 use Rattle.unit_step.specs.Machines.{MachineData}
 use Rattle.unit_step.specs.Making.{IsCodeRoom}
@@ -18,12 +20,13 @@ use Rattle.unit_step.specs.Fitting.{Covers}
 use Rattle.unit_step.specs.Editing.{Rouses}
 use Rattle.unit_step.specs.Finishing.{IsWaking, Puts}
 use Rattle.unit_step.specs.Marking.{AreOnce}
-use Rattle.unit_step.specs.Readers.{ListsAll}
+use Rattle.unit_step.specs.Readers.{ListsAll, HaveSameReaders}
 use Rattle.unit_step.specs.Dense.{AreDense, AreSeatsOf}
 use Rattle.unit_step.specs.Lasting.{BeginsAt, AreLasting, texts_lasting}
 use Rattle.unit_step.proofs.LastingRoused.{AreLasting-numbered, AreLasting-noted, AreLasting-roused, texts_lasting-numbered, same_texts_left}
 use Rattle.unit_step.proofs.FillingLemmas.{on_err}
-use Rattle.unit_step.proofs.FinishingRoused.{IsMachine-wider, HaveSameReaders-refl, AreMade-held, parts_counted, unlisted, known_inside, IsMachine-roused, Rouses-roused}
+use Rattle.unit_step.proofs.FinishingRoused.{AreMade, IsMachine-wider, HaveSameReaders-refl, AreMade-held, parts_counted, unlisted, known_inside, IsMachine-roused, Rouses-roused}
+use Rattle.unit_step.proofs.machine.Machine.rouse.Goals.{In_ok-fresh, After-numbers_of, In_ok-numbers, After-widen_for_codes, In_ok-seats, After-note_all}
 use Rattle.unit_step.proofs.machine.Machine.rouse.Goals as goal
 
 pub held_parts-requires : goal.held_parts-requires
@@ -38,6 +41,78 @@ held_parts-requires c =
     parts_counted g c.graphs_are_wired.ensures waking.groups waking.some slots i.parts.items waking.are waking.waiting parts c.args.waking.reads.items of
     waking.reads
 
+-- the machine covers the graph
+covers_in : (c : In_ok-fresh) → Covers c.args.graph.now (the_view c.self.inside)
+covers_in c = subst (Covers c.args.graph.now) (sym c.self.view_is) c.requires.covers
+
+-- what was found of the parts that wait is of the machine's parts
+waking_in : (c : In_ok-fresh) → IsWaking c.args.graph.now c.self.inside.parts.items c.args.waking
+waking_in c = subst (λ (m : MachineData). IsWaking c.args.graph.now m.parts c.args.waking) (sym c.self.view_is) c.requires.waking
+
+-- the fresh parts are those of the groups that wait
+parts_made : (c : In_ok-fresh) → AreMade c.args.graph.now (waking_in c).some c.args.waking.slots.items c.self.inside.parts.items c.in_ok-fresh.fresh.items
+    (length c.self.inside.state.items)
+parts_made c =
+    let g = c.args.graph.now in
+    let i = c.self.inside in
+    let waking = waking_in c in
+    let parts = c.in_ok-parts_of.field-0.items in
+    let of = parts_of_groups g waking.some _ _ parts (c.deref.ensures.value ∙ waking.texts) waking.maps c.in_ok-parts_of.ensures in
+    AreMade-held g c.graphs_are_wired.ensures waking.groups waking.some c.args.waking.slots.items i.parts.items waking.are waking.waiting parts
+    c.args.waking.reads.items c.in_ok-fresh.fresh.items (length i.state.items) of waking.reads c.in_ok-fresh.ensures (covers_in c).counted
+
+-- the texts of the last build are known under more numbers
+lasting_numbered : (c : After-numbers_of) → AreLasting c.self.inside.parts.items c.numbers_of.new.uses.numbers (length c.self.inside.state.items)
+    (length c.numbers_of.new.uses.known) c.self.inside.lasting
+lasting_numbered c =
+    let i = c.self.inside in
+    AreLasting-numbered i.parts.items i.uses c.numbers_of.new.uses (length i.state.items) i.lasting c.numbers_of.ensures.numbered c.self.invariant.2
+
+-- a machine that only has more numbers, and noted some nodes, is as before
+left_as : (c : After-numbers_of) (noted : Lasting) → noted.numbers ≡ c.self.inside.lasting.numbers →
+    record (the_view c.self.inside) {
+      uses = texts_used c.numbers_of.new.uses;
+      texts = count_distinct (texts_used c.numbers_of.new.uses);
+      last = texts_lasting c.numbers_of.new.uses.known noted;
+    } ≡ c.args.self.now
+left_as c noted numbers_are =
+    let i = c.self.inside in
+    let uses = c.numbers_of.new.uses in
+    let last_is = texts_lasting-numbered i.uses uses uses.known i.lasting noted c.numbers_of.ensures.numbered refl numbers_are c.self.invariant.2.inside in
+    same_texts_left (the_view i) (texts_used uses) (texts_lasting uses.known noted) c.numbers_of.ensures.same last_is ∙ c.self.view_is
+
+-- each text has its number
+texts_numbered : (c : In_ok-numbers) → map (slice_get c.numbers_of.new.uses.known) c.in_ok-numbers.numbers.items ≡ map Some c.args.waking.texts.items
+texts_numbered c = c.in_ok-numbers.ensures.numbers ∙ ap (map Some) c.deref-3.ensures.value
+
+-- the machine with more room, and lists of the same readers
+machine_wider : (c : After-widen_for_codes) (lists : List (SmallVec ℕ)) → HaveSameReaders c.self.inside.readers lists →
+    IsMachine c.self.inside.parts.items c.self.inside.agenda.marks c.self.inside.agenda.waiting (length c.self.inside.state.items) lists
+    c.self.inside.owners.items c.numbers_of.new.uses.numbers c.self.inside.held c.self.inside.most (rooms c.widen_for_codes.new.desk)
+machine_wider c lists same =
+    let i = c.self.inside in
+    IsMachine-wider i.parts.items i.agenda.marks i.agenda.waiting (length i.state.items) i.readers lists i.owners.items i.uses.numbers
+    c.numbers_of.new.uses.numbers i.held i.most (rooms i.desk) (rooms c.widen_for_codes.new.desk) (omega (arith, c.widen_for_codes.ensures.more_values))
+    c.widen_for_codes.ensures.changes c.widen_for_codes.ensures.done c.numbers_of.ensures.numbered.numbers same c.self.invariant.0
+
+-- the seats are those of the fresh parts
+seats_of_fresh : (c : In_ok-seats) → AreSeatsOf c.in_ok-fresh.fresh.items c.seats_for.new.self.codes.items c.seats_for.new.self.nodes.items c.in_ok-seats.seats.items
+seats_of_fresh c =
+    subst (λ (list : List HeldPart). AreSeatsOf list c.seats_for.new.self.codes.items c.seats_for.new.self.nodes.items c.in_ok-seats.seats.items)
+    c.deref-4.ensures.value c.in_ok-seats.ensures.seats
+
+-- where nodes are noted, the texts of the last build stay known
+lasting_noted : (c : After-note_all) → AreLasting c.self.inside.parts.items c.numbers_of.new.uses.numbers (length c.self.inside.state.items)
+    (length c.numbers_of.new.uses.known) c.note_all.new.self
+lasting_noted c =
+    let i = c.self.inside in
+    let slots = c.deref-5.result.now in
+    let only = subst (λ parts. (node : ℕ) → Contains c.note_all.new.self.changed.items node →
+    Contains i.lasting.changed.items node ⊎ ((k : ℕ) × Contains slots k × BeginsAt parts k node)) c.deref-6.ensures.value c.note_all.ensures.only in
+    let more = AreLasting-numbered i.parts.items i.uses c.numbers_of.new.uses (length i.state.items) i.lasting c.numbers_of.ensures.numbered c.self.invariant.2 in
+    AreLasting-noted i.parts.items c.numbers_of.new.uses.numbers (length i.state.items) (length c.numbers_of.new.uses.known) (rooms i.desk)
+    c.self.invariant.0.runs.seated slots i.lasting c.note_all.new.self c.note_all.ensures.numbers c.note_all.ensures.stays only more
+
 pub invariant_of-self : goal.invariant_of-self
 invariant_of-self c =
     let i = c.self.inside in (
@@ -45,205 +120,114 @@ invariant_of-self c =
           i.held i.most (rooms i.desk) (rooms i.desk) (omega arith) refl refl c.numbers_of.ensures.numbered.numbers (HaveSameReaders-refl i.readers)
           c.self.invariant.0,
       c.self.invariant.1,
-      AreLasting-numbered i.parts.items i.uses c.numbers_of.new.uses (length i.state.items) i.lasting c.numbers_of.ensures.numbered c.self.invariant.2,
+      lasting_numbered (goal.at.invariant_of-self c).After-numbers_of,
     )
 
 pub returns-in_err-numbers-clause-err : goal.returns-in_err-numbers-clause-err
 returns-in_err-numbers-clause-err c =
-    let i = c.self.inside in
-    let uses = c.numbers_of.new.uses in
-    let last_is = texts_lasting-numbered i.uses uses uses.known i.lasting i.lasting c.numbers_of.ensures.numbered refl refl c.self.invariant.2.inside in
-    on_err c.from_residual-in_err-numbers.result
-    (same_texts_left (the_view i) (texts_used uses) (texts_lasting uses.known i.lasting) c.numbers_of.ensures.same last_is ∙ c.self.view_is)
+    on_err c.from_residual-in_err-numbers.result (left_as (goal.at.returns-in_err-numbers-clause-err c).After-numbers_of c.self.inside.lasting refl)
 
 pub invariant_of-self-in_err-widen_for_codes : goal.invariant_of-self-in_err-widen_for_codes
 invariant_of-self-in_err-widen_for_codes c =
     let i = c.self.inside in (
-      IsMachine-wider i.parts.items i.agenda.marks i.agenda.waiting _ i.readers i.readers i.owners.items i.uses.numbers c.numbers_of.new.uses.numbers
-          i.held i.most _ _ (omega (arith, c.widen_for_codes.ensures.more_values)) c.widen_for_codes.ensures.changes c.widen_for_codes.ensures.done
-          c.numbers_of.ensures.numbered.numbers (HaveSameReaders-refl i.readers) c.self.invariant.0,
+      machine_wider (goal.at.invariant_of-self-in_err-widen_for_codes c).After-widen_for_codes i.readers (HaveSameReaders-refl i.readers),
       c.self.invariant.1,
-      AreLasting-numbered i.parts.items i.uses c.numbers_of.new.uses (length i.state.items) i.lasting c.numbers_of.ensures.numbered c.self.invariant.2,
+      lasting_numbered (goal.at.invariant_of-self-in_err-widen_for_codes c).After-numbers_of,
     )
 
 pub returns-in_err-widen_for_codes-clause-err : goal.returns-in_err-widen_for_codes-clause-err
 returns-in_err-widen_for_codes-clause-err c =
-    let i = c.self.inside in
-    let uses = c.numbers_of.new.uses in
-    let last_is = texts_lasting-numbered i.uses uses uses.known i.lasting i.lasting c.numbers_of.ensures.numbered refl refl c.self.invariant.2.inside in
-    on_err c.from_residual-in_err-widen_for_codes.result
-    (same_texts_left (the_view i) (texts_used uses) (texts_lasting uses.known i.lasting) c.numbers_of.ensures.same last_is ∙ c.self.view_is)
+    on_err c.from_residual-in_err-widen_for_codes.result (left_as (goal.at.returns-in_err-widen_for_codes-clause-err c).After-numbers_of c.self.inside.lasting refl)
 
 pub invariant_of-self-in_err-seats : goal.invariant_of-self-in_err-seats
 invariant_of-self-in_err-seats c =
     let i = c.self.inside in (
-      IsMachine-wider i.parts.items i.agenda.marks i.agenda.waiting _ i.readers i.readers i.owners.items i.uses.numbers c.numbers_of.new.uses.numbers
-          i.held i.most _ _ (omega (arith, c.widen_for_codes.ensures.more_values)) c.widen_for_codes.ensures.changes c.widen_for_codes.ensures.done
-          c.numbers_of.ensures.numbered.numbers (HaveSameReaders-refl i.readers) c.self.invariant.0,
+      machine_wider (goal.at.invariant_of-self-in_err-seats c).After-widen_for_codes i.readers (HaveSameReaders-refl i.readers),
       c.seats_for.ensures.same i.parts.items c.self.invariant.1,
-      AreLasting-numbered i.parts.items i.uses c.numbers_of.new.uses (length i.state.items) i.lasting c.numbers_of.ensures.numbered c.self.invariant.2,
+      lasting_numbered (goal.at.invariant_of-self-in_err-seats c).After-numbers_of,
     )
 
 pub returns-in_err-seats-clause-err : goal.returns-in_err-seats-clause-err
 returns-in_err-seats-clause-err c =
-    let i = c.self.inside in
-    let uses = c.numbers_of.new.uses in
-    let last_is = texts_lasting-numbered i.uses uses uses.known i.lasting i.lasting c.numbers_of.ensures.numbered refl refl c.self.invariant.2.inside in
-    on_err c.from_residual-in_err-seats.result
-    (same_texts_left (the_view i) (texts_used uses) (texts_lasting uses.known i.lasting) c.numbers_of.ensures.same last_is ∙ c.self.view_is)
+    on_err c.from_residual-in_err-seats.result (left_as (goal.at.returns-in_err-seats-clause-err c).After-numbers_of c.self.inside.lasting refl)
 
 pub seats_for-requires : goal.seats_for-requires
 seats_for-requires c =
-    let g = c.args.graph.now in
-    let i = c.self.inside in
-    let covers = subst (Covers g) (sym c.self.view_is) c.requires.covers in
-    let waking = subst (λ (m : MachineData). IsWaking g m.parts c.args.waking) (sym c.self.view_is) c.requires.waking in
-    let slots = c.args.waking.slots.items in
-    let parts = c.in_ok-parts_of.field-0.items in
-    let of = parts_of_groups g waking.some _ _ parts (c.deref.ensures.value ∙ waking.texts) waking.maps c.in_ok-parts_of.ensures in
-    let fresh = c.in_ok-fresh.fresh.items in
-    let made = AreMade-held g c.graphs_are_wired.ensures waking.groups waking.some slots i.parts.items waking.are waking.waiting parts
-    c.args.waking.reads.items fresh (length i.state.items) of waking.reads c.in_ok-fresh.ensures covers.counted in
+    let made = parts_made (goal.at.seats_for-requires c).In_ok-fresh in
     rw c.deref-4.ensures.value (record { inputs = λ k d inside code has. (made.formed k d inside).inputs code has })
 
 pub note_all-requires-clause-inside : goal.note_all-requires-clause-inside
 note_all-requires-clause-inside c =
-    let g = c.args.graph.now in
-    let i = c.self.inside in
-    let covers = subst (Covers g) (sym c.self.view_is) c.requires.covers in
-    let waking = subst (λ (m : MachineData). IsWaking g m.parts c.args.waking) (sym c.self.view_is) c.requires.waking in
-    let slots = c.args.waking.slots.items in
-    let parts = c.in_ok-parts_of.field-0.items in
-    let of = parts_of_groups g waking.some _ _ parts (c.deref.ensures.value ∙ waking.texts) waking.maps c.in_ok-parts_of.ensures in
-    let fresh = c.in_ok-fresh.fresh.items in
-    let made = AreMade-held g c.graphs_are_wired.ensures waking.groups waking.some slots i.parts.items waking.are waking.waiting parts
-    c.args.waking.reads.items fresh (length i.state.items) of waking.reads c.in_ok-fresh.ensures covers.counted in
+    let made = parts_made (goal.at.note_all-requires-clause-inside c).In_ok-fresh in
     rw (c.deref-5.ensures.value, c.deref-6.ensures.value) made.inside
 
 pub invariant_of-self-in_err-note_all : goal.invariant_of-self-in_err-note_all
 invariant_of-self-in_err-note_all c =
-    let i = c.self.inside in
-    let slots = c.deref-5.result.now in
-    let only = subst (λ parts. (node : ℕ) → Contains c.note_all.new.self.changed.items node →
-    Contains i.lasting.changed.items node ⊎ ((k : ℕ) × Contains slots k × BeginsAt parts k node)) c.deref-6.ensures.value c.note_all.ensures.only in
-    let more = AreLasting-numbered i.parts.items i.uses c.numbers_of.new.uses (length i.state.items) i.lasting c.numbers_of.ensures.numbered c.self.invariant.2 in (
-      IsMachine-wider i.parts.items i.agenda.marks i.agenda.waiting _ i.readers i.readers i.owners.items i.uses.numbers c.numbers_of.new.uses.numbers
-          i.held i.most _ _ (omega (arith, c.widen_for_codes.ensures.more_values)) c.widen_for_codes.ensures.changes c.widen_for_codes.ensures.done
-          c.numbers_of.ensures.numbered.numbers (HaveSameReaders-refl i.readers) c.self.invariant.0,
+    let i = c.self.inside in (
+      machine_wider (goal.at.invariant_of-self-in_err-note_all c).After-widen_for_codes i.readers (HaveSameReaders-refl i.readers),
       c.seats_for.ensures.same i.parts.items c.self.invariant.1,
-      AreLasting-noted i.parts.items c.numbers_of.new.uses.numbers (length i.state.items) (length c.numbers_of.new.uses.known) (rooms i.desk)
-          c.self.invariant.0.runs.seated slots i.lasting c.note_all.new.self c.note_all.ensures.numbers c.note_all.ensures.stays only more,
+      lasting_noted (goal.at.invariant_of-self-in_err-note_all c).After-note_all,
     )
 
 pub returns-in_err-note_all-clause-err : goal.returns-in_err-note_all-clause-err
 returns-in_err-note_all-clause-err c =
-    let i = c.self.inside in
-    let uses = c.numbers_of.new.uses in
-    let last_is = texts_lasting-numbered i.uses uses uses.known i.lasting c.note_all.new.self c.numbers_of.ensures.numbered refl c.note_all.ensures.numbers c.self.invariant.2.inside in
     on_err c.from_residual-in_err-note_all.result
-    (same_texts_left (the_view i) (texts_used uses) (texts_lasting uses.known c.note_all.new.self) c.numbers_of.ensures.same last_is ∙ c.self.view_is)
+    (left_as (goal.at.returns-in_err-note_all-clause-err c).After-numbers_of c.note_all.new.self c.note_all.ensures.numbers)
 
 pub list_all-requires-clause-counted : goal.list_all-requires-clause-counted
 list_all-requires-clause-counted c =
-    let g = c.args.graph.now in
-    let i = c.self.inside in
-    let covers = subst (Covers g) (sym c.self.view_is) c.requires.covers in
-    let waking = subst (λ (m : MachineData). IsWaking g m.parts c.args.waking) (sym c.self.view_is) c.requires.waking in
-    let slots = c.args.waking.slots.items in
-    let parts = c.in_ok-parts_of.field-0.items in
-    let of = parts_of_groups g waking.some _ _ parts (c.deref.ensures.value ∙ waking.texts) waking.maps c.in_ok-parts_of.ensures in
-    let fresh = c.in_ok-fresh.fresh.items in
-    let made = AreMade-held g c.graphs_are_wired.ensures waking.groups waking.some slots i.parts.items waking.are waking.waiting parts
-    c.args.waking.reads.items fresh (length i.state.items) of waking.reads c.in_ok-fresh.ensures covers.counted in
+    let made = parts_made (goal.at.list_all-requires-clause-counted c).In_ok-fresh in
     omega (arith, ap length c.deref-8.ensures.value, ap length c.deref-7.ensures.value, made.counted)
 
 pub list_all-requires-clause-below : goal.list_all-requires-clause-below
 list_all-requires-clause-below c =
-    let g = c.args.graph.now in
-    let i = c.self.inside in
-    let covers = subst (Covers g) (sym c.self.view_is) c.requires.covers in
-    let waking = subst (λ (m : MachineData). IsWaking g m.parts c.args.waking) (sym c.self.view_is) c.requires.waking in
-    let slots = c.args.waking.slots.items in
-    let parts = c.in_ok-parts_of.field-0.items in
-    let of = parts_of_groups g waking.some _ _ parts (c.deref.ensures.value ∙ waking.texts) waking.maps c.in_ok-parts_of.ensures in
     let fresh = c.in_ok-fresh.fresh.items in
-    let made = AreMade-held g c.graphs_are_wired.ensures waking.groups waking.some slots i.parts.items waking.are waking.waiting parts
-    c.args.waking.reads.items fresh (length i.state.items) of waking.reads c.in_ok-fresh.ensures covers.counted in
+    let made = parts_made (goal.at.list_all-requires-clause-below c).In_ok-fresh in
     rw c.deref-8.ensures.value
     (subst (λ n. All (λ (part : HeldPart). All (λ node. node < n) part.reads.items) fresh) (sym c.self.invariant.0.runs.readers_counted) made.below)
 
 pub list_all-requires-clause-once : goal.list_all-requires-clause-once
 list_all-requires-clause-once c =
-    let i = c.self.inside in
-    let waking = subst (λ (m : MachineData). IsWaking c.args.graph.now m.parts c.args.waking) (sym c.self.view_is) c.requires.waking in
-    rw c.deref-7.ensures.value waking.waiting.once
+    rw c.deref-7.ensures.value (waking_in (goal.at.list_all-requires-clause-once c).In_ok-fresh).waiting.once
 
 pub list_all-requires-clause-unlisted : goal.list_all-requires-clause-unlisted
 list_all-requires-clause-unlisted c =
-    let g = c.args.graph.now in
+    let found = (goal.at.list_all-requires-clause-unlisted c).In_ok-fresh in
     let i = c.self.inside in
-    let covers = subst (Covers g) (sym c.self.view_is) c.requires.covers in
-    let waking = subst (λ (m : MachineData). IsWaking g m.parts c.args.waking) (sym c.self.view_is) c.requires.waking in
-    let slots = c.args.waking.slots.items in
-    let parts = c.in_ok-parts_of.field-0.items in
-    let of = parts_of_groups g waking.some _ _ parts (c.deref.ensures.value ∙ waking.texts) waking.maps c.in_ok-parts_of.ensures in
+    let waking = waking_in found in
     rw c.deref-7.ensures.value
-    (unlisted g (the_view i) covers waking.groups waking.some slots waking.waiting i.readers c.self.invariant.0.runs.reads)
+    (unlisted c.args.graph.now (the_view i) (covers_in found) waking.groups waking.some c.args.waking.slots.items waking.waiting i.readers
+    c.self.invariant.0.runs.reads)
 
 pub invariant_of-self-in_err-list_all : goal.invariant_of-self-in_err-list_all
 invariant_of-self-in_err-list_all c =
-    let i = c.self.inside in
-    let slots = c.deref-5.result.now in
-    let only = subst (λ parts. (node : ℕ) → Contains c.note_all.new.self.changed.items node →
-    Contains i.lasting.changed.items node ⊎ ((k : ℕ) × Contains slots k × BeginsAt parts k node)) c.deref-6.ensures.value c.note_all.ensures.only in
-    let more = AreLasting-numbered i.parts.items i.uses c.numbers_of.new.uses (length i.state.items) i.lasting c.numbers_of.ensures.numbered c.self.invariant.2 in (
-      IsMachine-wider i.parts.items i.agenda.marks i.agenda.waiting _ i.readers c.list_all.new.self i.owners.items i.uses.numbers
-          c.numbers_of.new.uses.numbers i.held i.most _ _ (omega (arith, c.widen_for_codes.ensures.more_values))
-          c.widen_for_codes.ensures.changes c.widen_for_codes.ensures.done c.numbers_of.ensures.numbered.numbers c.in_err-list_all.ensures.err c.self.invariant.0,
+    let i = c.self.inside in (
+      machine_wider (goal.at.invariant_of-self-in_err-list_all c).After-widen_for_codes c.list_all.new.self c.in_err-list_all.ensures.err,
       c.seats_for.ensures.same i.parts.items c.self.invariant.1,
-      AreLasting-noted i.parts.items c.numbers_of.new.uses.numbers (length i.state.items) (length c.numbers_of.new.uses.known) (rooms i.desk)
-          c.self.invariant.0.runs.seated slots i.lasting c.note_all.new.self c.note_all.ensures.numbers c.note_all.ensures.stays only more,
+      lasting_noted (goal.at.invariant_of-self-in_err-list_all c).After-note_all,
     )
 
 pub returns-in_err-list_all-clause-err : goal.returns-in_err-list_all-clause-err
 returns-in_err-list_all-clause-err c =
-    let i = c.self.inside in
-    let uses = c.numbers_of.new.uses in
-    let last_is = texts_lasting-numbered i.uses uses uses.known i.lasting c.note_all.new.self c.numbers_of.ensures.numbered refl c.note_all.ensures.numbers c.self.invariant.2.inside in
     on_err c.from_residual-in_err-list_all.result
-    (same_texts_left (the_view i) (texts_used uses) (texts_lasting uses.known c.note_all.new.self) c.numbers_of.ensures.same last_is ∙ c.self.view_is)
+    (left_as (goal.at.returns-in_err-list_all-clause-err c).After-numbers_of c.note_all.new.self c.note_all.ensures.numbers)
 
 pub put_texts-requires-clause-inside : goal.put_texts-requires-clause-inside
 put_texts-requires-clause-inside c =
-    let g = c.args.graph.now in
-    let i = c.self.inside in
-    let covers = subst (Covers g) (sym c.self.view_is) c.requires.covers in
-    let waking = subst (λ (m : MachineData). IsWaking g m.parts c.args.waking) (sym c.self.view_is) c.requires.waking in
-    let slots = c.args.waking.slots.items in
-    let parts = c.in_ok-parts_of.field-0.items in
-    let of = parts_of_groups g waking.some _ _ parts (c.deref.ensures.value ∙ waking.texts) waking.maps c.in_ok-parts_of.ensures in
-    let fresh = c.in_ok-fresh.fresh.items in
-    let made = AreMade-held g c.graphs_are_wired.ensures waking.groups waking.some slots i.parts.items waking.are waking.waiting parts
-    c.args.waking.reads.items fresh (length i.state.items) of waking.reads c.in_ok-fresh.ensures covers.counted in
+    let made = parts_made (goal.at.put_texts-requires-clause-inside c).In_ok-fresh in
     rw c.deref-10.ensures.value
     (λ k d inside. omega (arith, made.inside k d inside, c.self.invariant.0.numbered, ap length c.numbers_of.ensures.numbered.numbers))
 
 pub put_texts-requires-clause-counted : goal.put_texts-requires-clause-counted
 put_texts-requires-clause-counted c =
     let g = c.args.graph.now in
-    let i = c.self.inside in
-    let covers = subst (Covers g) (sym c.self.view_is) c.requires.covers in
-    let waking = subst (λ (m : MachineData). IsWaking g m.parts c.args.waking) (sym c.self.view_is) c.requires.waking in
+    let found = (goal.at.put_texts-requires-clause-counted c).In_ok-fresh in
+    let waking = waking_in found in
     let slots = c.args.waking.slots.items in
-    let parts = c.in_ok-parts_of.field-0.items in
-    let of = parts_of_groups g waking.some _ _ parts (c.deref.ensures.value ∙ waking.texts) waking.maps c.in_ok-parts_of.ensures in
-    let fresh = c.in_ok-fresh.fresh.items in
-    let made = AreMade-held g c.graphs_are_wired.ensures waking.groups waking.some slots i.parts.items waking.are waking.waiting parts
-    c.args.waking.reads.items fresh (length i.state.items) of waking.reads c.in_ok-fresh.ensures covers.counted in
+    let made = parts_made found in
     let numbers = c.in_ok-numbers.numbers.items in
     let texts = c.args.waking.texts.items in
-    let numbered : map (slice_get c.numbers_of.new.uses.known) numbers ≡ map Some texts =
-    c.in_ok-numbers.ensures.numbers ∙ ap (map Some) c.deref-3.ensures.value in
+    let numbered = texts_numbered (goal.at.put_texts-requires-clause-counted c).In_ok-numbers in
     let long : length numbers ≡ length slots =
     omega (
       arith,
@@ -260,85 +244,44 @@ pub put_texts-requires-clause-known : goal.put_texts-requires-clause-known
 put_texts-requires-clause-known c =
     let numbers = c.in_ok-numbers.numbers.items in
     let texts = c.args.waking.texts.items in
-    let numbered : map (slice_get c.numbers_of.new.uses.known) numbers ≡ map Some texts =
-    c.in_ok-numbers.ensures.numbers ∙ ap (map Some) c.deref-3.ensures.value in
+    let numbered = texts_numbered (goal.at.put_texts-requires-clause-known c).In_ok-numbers in
     rw c.deref-11.ensures.value (known_inside c.numbers_of.new.uses.known numbers texts numbered)
 
 pub put_all-requires-clause-inside : goal.put_all-requires-clause-inside
 put_all-requires-clause-inside c =
-    let g = c.args.graph.now in
     let i = c.self.inside in
-    let covers = subst (Covers g) (sym c.self.view_is) c.requires.covers in
-    let waking = subst (λ (m : MachineData). IsWaking g m.parts c.args.waking) (sym c.self.view_is) c.requires.waking in
-    let slots = c.args.waking.slots.items in
-    let parts = c.in_ok-parts_of.field-0.items in
-    let of = parts_of_groups g waking.some _ _ parts (c.deref.ensures.value ∙ waking.texts) waking.maps c.in_ok-parts_of.ensures in
-    let fresh = c.in_ok-fresh.fresh.items in
-    let made = AreMade-held g c.graphs_are_wired.ensures waking.groups waking.some slots i.parts.items waking.are waking.waiting parts
-    c.args.waking.reads.items fresh (length i.state.items) of waking.reads c.in_ok-fresh.ensures covers.counted in
+    let made = parts_made (goal.at.put_all-requires-clause-inside c).In_ok-fresh in
     let old_seats = c.seats_for.ensures.same i.parts.items c.self.invariant.1 in
     rw c.deref-12.ensures.value (λ k d inside. omega (arith, made.inside k d inside, old_seats.counted))
 
 pub put_all-requires-clause-counted : goal.put_all-requires-clause-counted
 put_all-requires-clause-counted c =
-    let g = c.args.graph.now in
-    let i = c.self.inside in
-    let covers = subst (Covers g) (sym c.self.view_is) c.requires.covers in
-    let waking = subst (λ (m : MachineData). IsWaking g m.parts c.args.waking) (sym c.self.view_is) c.requires.waking in
-    let slots = c.args.waking.slots.items in
-    let parts = c.in_ok-parts_of.field-0.items in
-    let of = parts_of_groups g waking.some _ _ parts (c.deref.ensures.value ∙ waking.texts) waking.maps c.in_ok-parts_of.ensures in
-    let fresh = c.in_ok-fresh.fresh.items in
-    let made = AreMade-held g c.graphs_are_wired.ensures waking.groups waking.some slots i.parts.items waking.are waking.waiting parts
-    c.args.waking.reads.items fresh (length i.state.items) of waking.reads c.in_ok-fresh.ensures covers.counted in
-    let fresh_seats = subst (λ (list : List HeldPart). AreSeatsOf list c.seats_for.new.self.codes.items c.seats_for.new.self.nodes.items c.in_ok-seats.seats.items)
-    c.deref-4.ensures.value c.in_ok-seats.ensures.seats in
+    let made = parts_made (goal.at.put_all-requires-clause-counted c).In_ok-fresh in
+    let fresh_seats = seats_of_fresh (goal.at.put_all-requires-clause-counted c).In_ok-seats in
     omega (arith, ap length c.deref-12.ensures.value, made.counted, fresh_seats.counted)
 
 pub put_parts-requires-clause-inside : goal.put_parts-requires-clause-inside
 put_parts-requires-clause-inside c =
-    let g = c.args.graph.now in
-    let i = c.self.inside in
-    let covers = subst (Covers g) (sym c.self.view_is) c.requires.covers in
-    let waking = subst (λ (m : MachineData). IsWaking g m.parts c.args.waking) (sym c.self.view_is) c.requires.waking in
-    let slots = c.args.waking.slots.items in
-    let parts = c.in_ok-parts_of.field-0.items in
-    let of = parts_of_groups g waking.some _ _ parts (c.deref.ensures.value ∙ waking.texts) waking.maps c.in_ok-parts_of.ensures in
-    let fresh = c.in_ok-fresh.fresh.items in
-    let made = AreMade-held g c.graphs_are_wired.ensures waking.groups waking.some slots i.parts.items waking.are waking.waiting parts
-    c.args.waking.reads.items fresh (length i.state.items) of waking.reads c.in_ok-fresh.ensures covers.counted in
+    let made = parts_made (goal.at.put_parts-requires-clause-inside c).In_ok-fresh in
     rw (c.deref-13.ensures.value, c.deref_mut.ensures.value) made.inside
 
 pub put_parts-requires-clause-counted : goal.put_parts-requires-clause-counted
 put_parts-requires-clause-counted c =
-    let g = c.args.graph.now in
-    let i = c.self.inside in
-    let covers = subst (Covers g) (sym c.self.view_is) c.requires.covers in
-    let waking = subst (λ (m : MachineData). IsWaking g m.parts c.args.waking) (sym c.self.view_is) c.requires.waking in
-    let slots = c.args.waking.slots.items in
-    let parts = c.in_ok-parts_of.field-0.items in
-    let of = parts_of_groups g waking.some _ _ parts (c.deref.ensures.value ∙ waking.texts) waking.maps c.in_ok-parts_of.ensures in
-    let fresh = c.in_ok-fresh.fresh.items in
-    let made = AreMade-held g c.graphs_are_wired.ensures waking.groups waking.some slots i.parts.items waking.are waking.waiting parts
-    c.args.waking.reads.items fresh (length i.state.items) of waking.reads c.in_ok-fresh.ensures covers.counted in
+    let made = parts_made (goal.at.put_parts-requires-clause-counted c).In_ok-fresh in
     omega (arith, ap length c.deref-13.ensures.value, made.counted)
 
 pub invariant_of-self-2 : goal.invariant_of-self-2
 invariant_of-self-2 c =
     let g = c.args.graph.now in
     let i = c.self.inside in
-    let covers = subst (Covers g) (sym c.self.view_is) c.requires.covers in
-    let waking = subst (λ (m : MachineData). IsWaking g m.parts c.args.waking) (sym c.self.view_is) c.requires.waking in
+    let found = (goal.at.invariant_of-self-2 c).In_ok-fresh in
+    let covers = covers_in found in
+    let waking = waking_in found in
     let slots = c.args.waking.slots.items in
-    let parts = c.in_ok-parts_of.field-0.items in
-    let of = parts_of_groups g waking.some _ _ parts (c.deref.ensures.value ∙ waking.texts) waking.maps c.in_ok-parts_of.ensures in
     let fresh = c.in_ok-fresh.fresh.items in
-    let made = AreMade-held g c.graphs_are_wired.ensures waking.groups waking.some slots i.parts.items waking.are waking.waiting parts
-    c.args.waking.reads.items fresh (length i.state.items) of waking.reads c.in_ok-fresh.ensures covers.counted in
+    let made = parts_made found in
     let numbers = c.in_ok-numbers.numbers.items in
-    let texts = c.args.waking.texts.items in
-    let numbered : map (slice_get c.numbers_of.new.uses.known) numbers ≡ map Some texts =
-    c.in_ok-numbers.ensures.numbers ∙ ap (map Some) c.deref-3.ensures.value in
+    let numbered = texts_numbered (goal.at.invariant_of-self-2 c).In_ok-numbers in
     let new = c.put_parts.new.parts in
     let puts : Puts slots fresh i.parts.items new = rw (c.deref-13.ensures.value, c.deref_mut.ensures.value) at c.put_parts.ensures in
     let text_puts : Puts slots (map Some numbers) c.numbers_of.new.uses.numbers c.put_texts.new.uses.numbers =
@@ -359,25 +302,22 @@ invariant_of-self-2 c =
     let with_parts = subst (λ (list : List HeldPart). IsMachine list i.agenda.marks c.rouse.new.self.waiting (length i.state.items) lists_now i.owners.items
     c.put_texts.new.uses.numbers i.held i.most wide) (sym final_parts) base in
     let old_seats = c.seats_for.ensures.same i.parts.items c.self.invariant.1 in
-    let fresh_seats = subst (λ (list : List HeldPart). AreSeatsOf list c.seats_for.new.self.codes.items c.seats_for.new.self.nodes.items c.in_ok-seats.seats.items)
-    c.deref-4.ensures.value c.in_ok-seats.ensures.seats in
+    let fresh_seats = seats_of_fresh (goal.at.invariant_of-self-2 c).In_ok-seats in
     let once : AreOnce c.deref-12.result.now = subst AreOnce (sym c.deref-12.ensures.value) waking.waiting.once in
     let seat_puts = subst (λ (list : List ℕ). Puts list fresh i.parts.items new) (sym c.deref-12.ensures.value) puts in
     let put_dense : AreDense new c.put_all.new.self = c.put_all.ensures fresh i.parts.items new once fresh_seats seat_puts old_seats in
     let dense = subst (λ (list : List HeldPart). AreDense list c.put_all.new.self) (sym final_parts) put_dense in
-    let only = subst (λ list. (node : ℕ) → Contains c.note_all.new.self.changed.items node →
-    Contains i.lasting.changed.items node ⊎ ((k : ℕ) × Contains c.deref-5.result.now k × BeginsAt list k node)) c.deref-6.ensures.value c.note_all.ensures.only in
-    let more = AreLasting-numbered i.parts.items i.uses c.numbers_of.new.uses (length i.state.items) i.lasting c.numbers_of.ensures.numbered c.self.invariant.2 in
     let known = length c.numbers_of.new.uses.known in
-    let are_noted = AreLasting-noted i.parts.items c.numbers_of.new.uses.numbers (length i.state.items) known (rooms i.desk)
-    c.self.invariant.0.runs.seated c.deref-5.result.now i.lasting c.note_all.new.self c.note_all.ensures.numbers c.note_all.ensures.stays only more in
+    let are_noted = lasting_noted (goal.at.invariant_of-self-2 c).After-note_all in
     let noted : (k node : ℕ) → Contains slots k → BeginsAt i.parts.items k node → Contains c.note_all.new.self.changed.items node =
     rw (c.deref-5.ensures.value, c.deref-6.ensures.value) at c.in_ok-note_all.ensures.all in
-    let are_lasting = AreLasting-roused g (the_view i) covers waking.groups waking.some slots waking.waiting fresh made.fresh_are new puts c.numbers_of.new.uses.numbers
-    c.put_texts.new.uses.numbers (map Some numbers) text_puts (length i.state.items) known c.note_all.new.self are_noted noted made.inside in
-    let lasting_known = subst (λ (list : List GroupTextData). AreLasting new c.put_texts.new.uses.numbers (length i.state.items) (length list) c.note_all.new.self)
+    let are_lasting = AreLasting-roused g (the_view i) covers waking.groups waking.some slots waking.waiting fresh made.fresh_are new puts
+    c.numbers_of.new.uses.numbers c.put_texts.new.uses.numbers (map Some numbers) text_puts (length i.state.items) known c.note_all.new.self are_noted noted made.inside in
+    let uses = c.put_texts.new.uses in
+    let count = length i.state.items in
+    let lasting_known = subst (λ (list : List GroupTextData). AreLasting new uses.numbers count (length list) c.note_all.new.self)
     (sym c.put_texts.ensures.known) are_lasting in
-    let lasting = subst (λ (list : List HeldPart). AreLasting list c.put_texts.new.uses.numbers (length i.state.items) (length c.put_texts.new.uses.known) c.note_all.new.self)
+    let lasting = subst (λ (list : List HeldPart). AreLasting list uses.numbers count (length uses.known) c.note_all.new.self)
     (sym final_parts) lasting_known in (
       subst (λ (marks : List Bool). IsMachine parts_now marks c.rouse.new.self.waiting (length i.state.items) lists_now i.owners.items c.put_texts.new.uses.numbers i.held i.most wide)
           (sym c.rouse.ensures.marks) with_parts,
@@ -389,18 +329,15 @@ pub returns-clause-rouses : goal.returns-clause-rouses
 returns-clause-rouses c =
     let g = c.args.graph.now in
     let i = c.self.inside in
-    let covers = subst (Covers g) (sym c.self.view_is) c.requires.covers in
-    let waking = subst (λ (m : MachineData). IsWaking g m.parts c.args.waking) (sym c.self.view_is) c.requires.waking in
+    let found = (goal.at.returns-clause-rouses c).In_ok-fresh in
+    let covers = covers_in found in
+    let waking = waking_in found in
     let slots = c.args.waking.slots.items in
-    let parts = c.in_ok-parts_of.field-0.items in
-    let of = parts_of_groups g waking.some _ _ parts (c.deref.ensures.value ∙ waking.texts) waking.maps c.in_ok-parts_of.ensures in
     let fresh = c.in_ok-fresh.fresh.items in
-    let made = AreMade-held g c.graphs_are_wired.ensures waking.groups waking.some slots i.parts.items waking.are waking.waiting parts
-    c.args.waking.reads.items fresh (length i.state.items) of waking.reads c.in_ok-fresh.ensures covers.counted in
+    let made = parts_made found in
     let numbers = c.in_ok-numbers.numbers.items in
     let texts = c.args.waking.texts.items in
-    let numbered : map (slice_get c.numbers_of.new.uses.known) numbers ≡ map Some texts =
-    c.in_ok-numbers.ensures.numbers ∙ ap (map Some) c.deref-3.ensures.value in
+    let numbered = texts_numbered (goal.at.returns-clause-rouses c).In_ok-numbers in
     let new = c.put_parts.new.parts in
     let puts : Puts slots fresh i.parts.items new = rw (c.deref-13.ensures.value, c.deref_mut.ensures.value) at c.put_parts.ensures in
     let text_puts : Puts slots (map Some numbers) c.numbers_of.new.uses.numbers c.put_texts.new.uses.numbers =

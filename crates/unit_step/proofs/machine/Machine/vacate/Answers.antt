@@ -1,5 +1,5 @@
 -- The part leaves its members and what it reads.
-use Rattle.std.proofs.Common.{◌≡◌, ℕ, Option, Vec, Global, ◌+◌, ◌-◌, ◌++◌, ◌<◌, ◌≤◌, length, take, get_or, refl, sym, ap, subst, ◌∙◌, arith}
+use Rattle.std.proofs.Common.{◌≡◌, ℕ, Option, Vec, Global, ◌+◌, ◌-◌, ◌++◌, ◌≤◌, length, take, get_or, refl, sym, ap, subst, ◌∙◌, arith}
 use Rattle.std.specs.Prelude.{count_by, slice_set}
 use Rattle.std.specs.List.{sum_by}
 use Rattle.std.proofs.lemmas.List.{with_items_is, get_or_default}
@@ -8,42 +8,45 @@ use Rattle.kept_parts.proofs.NumberLemmas.{texts_freed}
 use Rattle.unit_step.specs.declared.part.HeldPart.{HeldPart}
 use Rattle.unit_step.specs.Parts.{Stands, has_members}
 use Rattle.unit_step.specs.Machines.{MachineData, members_of}
-use Rattle.unit_step.specs.Evaluating.{rooms}
+use Rattle.unit_step.specs.Evaluating.{rooms, IsSeated}
 use Rattle.unit_step.specs.Seating.{Disowns, IsVacant, one_of}
 use Rattle.unit_step.specs.Readers.{Unlists}
 use Rattle.unit_step.specs.Dense.{AreDense}
 use Rattle.unit_step.specs.Lasting.{starts_of, texts_numbered, texts_lasting}
 use Rattle.unit_step.proofs.SeatingLemmas.{seat_of, members_there, reads_there, IsMachine-vacated}
 use Rattle.unit_step.proofs.LastingEdits.{AreLasting-same, AreLasting-vacated}
+use Rattle.unit_step.proofs.machine.Machine.vacate.Goals.{After-replace-gone}
 use Rattle.unit_step.proofs.machine.Machine.vacate.Goals as goal
+
+-- the part that was taken out is the one with this number
+gone_read : (c : After-replace-gone) → c.replace-gone.result ≡ get_or c.self.inside.parts.items c.args.k c.replace-gone.result
+gone_read c =
+    c.replace-gone.ensures.value ∙ (c.index_mut.ensures.value ∙ ap (get_or c.self.inside.parts.items c.args.k) (sym c.replace-gone.ensures.value))
+
+gone_stands : (c : After-replace-gone) → Stands c.self.inside.parts.items c.args.k c.replace-gone.result
+gone_stands c = record {
+  inside = omega (arith, c.requires, ap (λ (m : MachineData). length m.parts) c.self.view_is);
+  here = sym (gone_read c);
+}
+
+gone_seat : (c : After-replace-gone) → IsSeated (length c.self.inside.state.items) (rooms c.self.inside.desk) c.replace-gone.result
+gone_seat c =
+    let i = c.self.inside in
+    seat_of i.parts.items i.agenda.marks i.agenda.waiting (length i.state.items) i.readers i.owners.items i.uses.numbers i.held i.most
+    (rooms i.desk) c.self.invariant.0 c.args.k c.replace-gone.result (gone_stands c)
 
 pub disown-requires : goal.disown-requires
 disown-requires c =
     let i = c.self.inside in
-    let k = c.args.k in
-    let gone = c.replace-gone.result in
-    let inside : k < length i.parts.items = omega (arith, c.requires, ap (λ (m : MachineData). length m.parts) c.self.view_is) in
-    let read : gone ≡ get_or i.parts.items k gone =
-    c.replace-gone.ensures.value ∙ (c.index_mut.ensures.value ∙ ap (get_or i.parts.items k) (sym c.replace-gone.ensures.value)) in
-    let stands : Stands i.parts.items k gone = record { inside = inside; here = sym read } in
-    let seat = seat_of i.parts.items i.agenda.marks i.agenda.waiting (length i.state.items) i.readers i.owners.items i.uses.numbers i.held i.most
-    (rooms i.desk) c.self.invariant.0 k gone stands in
-    rw (c.deref.ensures.value, c.deref_mut.ensures.value, c.self.invariant.0.own.counted) (members_there (length i.state.items) gone seat.below)
+    let seat = gone_seat (goal.at.disown-requires c).After-replace-gone in
+    rw (c.deref.ensures.value, c.deref_mut.ensures.value, c.self.invariant.0.own.counted) (members_there (length i.state.items) c.replace-gone.result seat.below)
 
 pub unlist-requires : goal.unlist-requires
 unlist-requires c =
     let i = c.self.inside in
-    let k = c.args.k in
-    let gone = c.replace-gone.result in
-    let inside : k < length i.parts.items = omega (arith, c.requires, ap (λ (m : MachineData). length m.parts) c.self.view_is) in
-    let read : gone ≡ get_or i.parts.items k gone =
-    c.replace-gone.ensures.value ∙ (c.index_mut.ensures.value ∙ ap (get_or i.parts.items k) (sym c.replace-gone.ensures.value)) in
-    let stands : Stands i.parts.items k gone = record { inside = inside; here = sym read } in
-    let seat = seat_of i.parts.items i.agenda.marks i.agenda.waiting (length i.state.items) i.readers i.owners.items i.uses.numbers i.held i.most
-    (rooms i.desk) c.self.invariant.0 k gone stands in
     rw (c.deref-2.ensures.value, c.self.invariant.0.runs.readers_counted)
     (reads_there i.parts.items i.agenda.marks i.agenda.waiting (length i.state.items) i.readers i.owners.items i.uses.numbers i.held i.most
-    (rooms i.desk) c.self.invariant.0 k gone stands)
+    (rooms i.desk) c.self.invariant.0 c.args.k c.replace-gone.result (gone_stands (goal.at.unlist-requires c).After-replace-gone))
 
 pub invariant_of-self : goal.invariant_of-self
 invariant_of-self c =
@@ -59,12 +62,11 @@ invariant_of-self-2 c =
     let i = c.self.inside in
     let k = c.args.k in
     let gone = c.replace-gone.result in
-    let inside : k < length i.parts.items = omega (arith, c.requires, ap (λ (m : MachineData). length m.parts) c.self.view_is) in
-    let read : gone ≡ get_or i.parts.items k gone =
-    c.replace-gone.ensures.value ∙ (c.index_mut.ensures.value ∙ ap (get_or i.parts.items k) (sym c.replace-gone.ensures.value)) in
-    let stands : Stands i.parts.items k gone = record { inside = inside; here = sym read } in
-    let seat = seat_of i.parts.items i.agenda.marks i.agenda.waiting (length i.state.items) i.readers i.owners.items i.uses.numbers i.held i.most
-    (rooms i.desk) c.self.invariant.0 k gone stands in
+    let was = (goal.at.invariant_of-self-2 c).After-replace-gone in
+    let read = gone_read was in
+    let stands = gone_stands was in
+    let seat = gone_seat was in
+    let inside = stands.inside in
     let e = c.replace-gone.new.dest in
     let vacant : IsVacant e = subst IsVacant (sym c.replace-gone.ensures.after) c.no_part.ensures in
     let owners = with_items_is i.owners c.disown.new.owners (omega (arith, c.disown.auto.owners, c.deref_mut.ensures.len)) in

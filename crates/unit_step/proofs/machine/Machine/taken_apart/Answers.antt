@@ -7,7 +7,7 @@ use Rattle.smallvec.specs.SmallVec.{SmallVec}
 use Rattle.unit_step.specs.Parts.{ReadsAt}
 use Rattle.unit_step.specs.Evaluating.{rooms}
 use Rattle.unit_step.specs.Readers.{readers_of}
-use Rattle.unit_step.proofs.machine.Machine.into_parts.Goals as goal
+use Rattle.unit_step.proofs.machine.Machine.taken_apart.Goals as goal
 
 pub returns-clause-seated : goal.returns-clause-seated
 returns-clause-seated c = rw (← c.self.view_is) (rooms c.self.inside.desk, c.self.invariant.0.runs.seated)
