@@ -14,6 +14,7 @@ use Rattle.unit_step.proofs.KeptLemmas.{built_texts_are_kept}
 use Rattle.cosmos_session.specs.Sessions.{SessionData, HeldSession, IsSession}
 use Rattle.cosmos_session.specs.Machines.{Serves, IsHeldSession, AreAmong, kept_in, last_in}
 use Rattle.cosmos_session.specs.Stages.{StageData, BuiltFrom, Readied}
+use Rattle.cosmos_session.proofs.ClockLemmas.{IsSession-beside}
 use Rattle.cosmos_session.proofs.LastLemmas.{more_keep, still_among, table_keeps}
 
 -- more entries that are kept are more texts
@@ -40,21 +41,8 @@ serves-table session table is among held = by session.machine is among held.mach
 -- a session is one with another bound, other texts kept, and another count of them
 pub core-kept : (session : SessionData) (state : List Tern) (bound : Option ℕ) (kept : List GroupTextData) (fresh : ℕ) → state ≡ session.state →
     IsSession session → IsSession (record session { state = state; bound = bound; kept = kept; fresh = fresh })
-core-kept session state bound kept fresh same is = record {
-  ready = record {
-    netlist = is.ready.netlist;
-    states = ap length same ∙ is.ready.states;
-    sound = subst (λ (states : List Tern). IsSound states) (sym same) is.ready.sound;
-    free = is.ready.free;
-  };
-  watched = is.watched;
-  few = is.few;
-  clocks = is.clocks;
-  places = is.places;
-  some = is.some;
-  low = is.low;
-  high = is.high;
-}
+core-kept session state bound kept fresh same is =
+    IsSession-beside session state session.count session.missed bound kept fresh (ap length same ∙ is.ready.states) (subst IsSound (sym same) is.ready.sound) is
 
 module _ (session : HeldSession) (spare : ℕ) (bound : Option ℕ) (stage : StageData) where
   abbrev before : StageData

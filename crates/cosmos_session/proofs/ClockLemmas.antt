@@ -1,5 +1,5 @@
 -- Clocks that aren't refused have the same number of places, one at least.
-use Rattle.std.proofs.Common.{◌≡◌, ◌≢◌, ℕ, ◌<◌, Bool, true, false, List, [], ◌∷◌, length, map, All, Some, None, refl, arith}
+use Rattle.std.proofs.Common.{◌≡◌, ◌≢◌, ℕ, ◌<◌, Bool, true, false, List, [], ◌∷◌, length, map, All, Option, Some, None, refl, arith}
 use Rattle.std.specs.Prelude.{◌==◌, if◌then◌else◌}
 use Rattle.std.proofs.lemmas.Bool.Decides.{nat_tests}
 use Rattle.std.proofs.lemmas.List.Elements.{All-head}
@@ -10,6 +10,7 @@ use Rattle.netlist.specs.Names.{node_of}
 use Rattle.netlist.specs.Circuits.{CircuitData}
 use Rattle.script_lang.specs.Forms.{AreBeats}
 use Rattle.line_words.specs.Visible.{IsVisibleName}
+use Rattle.group_text.specs.Texts.{GroupTextData}
 use Rattle.cosmos_session.specs.declared.fault.Refusal.TheVariants.{ClockLength}
 use Rattle.cosmos_session.specs.Sessions.{SessionData, ClockData, IsSession, places_of, have_places}
 use Rattle.cosmos_session.specs.Refusals.{first_refusal, length_refusal, set_refusal}
@@ -72,10 +73,11 @@ IsSession-clocks session list clocks formed even none same within is = record {
   high = is.high;
 }
 
--- so it does where other sound states, one a node, take the place of its own
-pub IsSession-state : (session : SessionData) (state : List Tern) → length state ≡ nodes session.circuit.graph → IsSound state →
-    IsSession session → IsSession (record session { state = state })
-IsSession-state session state known sound is = record {
+-- so it does where other sound states, one a node, take the place of its own, and other counts and texts
+pub IsSession-beside : (session : SessionData) (state : List Tern) (count : ℕ) (missed : Bool) (bound : Option ℕ) (kept : List GroupTextData) (fresh : ℕ) →
+    length state ≡ nodes session.circuit.graph → IsSound state → IsSession session →
+    IsSession (record session { state = state; count = count; missed = missed; bound = bound; kept = kept; fresh = fresh })
+IsSession-beside session state count missed bound kept fresh known sound is = record {
   ready = record { netlist = is.ready.netlist; states = known; sound = sound; free = is.ready.free };
   watched = is.watched;
   few = is.few;
@@ -85,3 +87,8 @@ IsSession-state session state known sound is = record {
   low = is.low;
   high = is.high;
 }
+
+pub IsSession-state : (session : SessionData) (state : List Tern) → length state ≡ nodes session.circuit.graph → IsSound state →
+    IsSession session → IsSession (record session { state = state })
+IsSession-state session state known sound is =
+    IsSession-beside session state session.count session.missed session.bound session.kept session.fresh known sound is

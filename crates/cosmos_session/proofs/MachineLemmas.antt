@@ -1,6 +1,6 @@
 -- A session and its machine: what serves the data serves them after nodes were placed, after a step and after a phase.
 -- The plan: what is done to the machine is read by cases on whether there is one; its state is the session's before and after.
-use Rattle.std.proofs.Common.{◌≡◌, ℕ, ◌≤◌, ◌<◌, Bool, true, false, List, [], ◌∷◌, length, map, All, Option, None, Some, IfSome, refl, sym, ap, subst, ◌∙◌, inl, inr, arith}
+use Rattle.std.proofs.Common.{◌≡◌, ℕ, ◌≤◌, ◌<◌, Bool, true, false, List, [], ◌∷◌, map, All, Option, None, Some, IfSome, refl, sym, ap, subst, ◌∙◌, inl, inr, arith}
 use Rattle.std.specs.Prelude.{Contains, if◌then◌else◌, ◌⊎◌, nat_lt}
 use Rattle.std.proofs.lemmas.List.Elements.{All-nil, All-cons, All-head, All-tail, All-weaker, All-contains}
 use Rattle.std.proofs.lemmas.Bool.Decides.{nat_tests}
@@ -8,8 +8,7 @@ use Rattle.ternary.specs.declared.tern.Tern.{Tern}
 use Rattle.ternary.specs.Counts.{raised}
 use Rattle.strength_order.specs.declared.TheConstants.{INPUT_LEVEL}
 use Rattle.path_meaning.specs.declared.TheConstants.{RAILS}
-use Rattle.path_meaning.specs.Graphs.{GraphData, nodes, level_of}
-use Rattle.path_meaning.specs.Rails.{IsSound}
+use Rattle.path_meaning.specs.Graphs.{GraphData, level_of}
 use Rattle.path_meaning.specs.Step.{IsStep}
 use Rattle.oscillation_x.specs.Settling.{Settles}
 use Rattle.group_text.specs.Texts.{GroupTextData}
@@ -25,14 +24,14 @@ use Rattle.netlist.specs.Names.{node_of}
 use Rattle.netlist.specs.Circuits.{CircuitData}
 use Rattle.netlist.specs.Edits.{node_named}
 use Rattle.cosmos_session.specs.declared.fault.Refusal.TheVariants.{Rail, NotInput}
-use Rattle.cosmos_session.specs.Sessions.{SessionData, HeldSession, ClockData, IsSession}
+use Rattle.cosmos_session.specs.Sessions.{HeldSession, ClockData}
 use Rattle.cosmos_session.specs.Refusals.{first_refusal, set_refusal, clock_refusal, cycle_refusal, is_input}
 use Rattle.cosmos_session.specs.Effects.{assigned, moved_to, one_more}
 use Rattle.cosmos_session.specs.Machines.{Serves, FitsIn, IsHeldSession, ConcernsNamed, PlacesIn, StepsMachine, moves_of, placed_of}
 use Rattle.cosmos_session.specs.Stages.{StageData, PutsNode, PutsIn, Assigns, AssignsIn, Ticks, TicksIn, TakesStep, TakesPhase, MovesBy, IsSettled}
 use Rattle.cosmos_session.proofs.RefusalLemmas.{none_of_all}
 use Rattle.cosmos_session.proofs.StateLemmas.{length-assigned, length-settles, sound-assigned, sound-step, sound-settles}
-use Rattle.cosmos_session.proofs.ClockLemmas.{IsSession-state}
+use Rattle.cosmos_session.proofs.ClockLemmas.{IsSession-state, IsSession-beside}
 
 -- ---- input nodes
 
@@ -253,20 +252,6 @@ pub record StaysPut (old new : Option MachineData) : Type 0 where
 
 -- ---- steps and phases
 
--- a session is one with another sound state, one a node, and another count
-session-moved : (session : SessionData) (state : List Tern) (count : ℕ) → length state ≡ nodes session.circuit.graph → IsSound state →
-    IsSession session → IsSession (record session { state = state; count = count })
-session-moved session state count known sound is = record {
-  ready = record { netlist = is.ready.netlist; states = known; sound = sound; free = is.ready.free };
-  watched = is.watched;
-  few = is.few;
-  clocks = is.clocks;
-  places = is.places;
-  some = is.some;
-  low = is.low;
-  high = is.high;
-}
-
 -- what serves before
 served : (g : GraphData) (states : List Tern) (kept : List GroupTextData) (machine : Option MachineData) (before : MachineData) → machine ≡ Some before →
     IfSome machine (Serves g states kept) → Serves g states kept before
@@ -296,7 +281,7 @@ module _ (session : HeldSession) (spare : ℕ) (stage : StageData) (count : ℕ)
         let ready = held.core.ready in
         let serves = served circuit.graph session.core.state session.core.kept session.machine moves.before moves.was held.machine in
         record {
-          core = session-moved session.core stage.state count step_is.count
+          core = IsSession-beside session.core stage.state count session.core.missed session.core.bound session.core.kept session.core.fresh step_is.count
               (sound-step circuit ready.netlist session.core.state stage.state step_is ready.sound) held.core;
           machine = subst (λ (m : Option MachineData). IfSome m (Serves circuit.graph stage.state session.core.kept)) (sym moves.there)
               (record {
@@ -337,7 +322,7 @@ module _ (session : HeldSession) (spare : ℕ) (stage : StageData) (count : ℕ)
         let limit = session.core.limit in
         let serves = served circuit.graph session.core.state session.core.kept session.machine moves.before moves.was held.machine in
         record {
-          core = session-moved session.core stage.state count
+          core = IsSession-beside session.core stage.state count session.core.missed session.core.bound session.core.kept session.core.fresh
               (length-settles circuit.graph session.core.state limit stage.state steps joined ready.states settles_is)
               (sound-settles circuit ready.netlist session.core.state limit stage.state steps joined ready.states settles_is ready.sound) held.core;
           machine = subst (λ (m : Option MachineData). IfSome m (Serves circuit.graph stage.state session.core.kept)) (sym moves.there)

@@ -3,9 +3,11 @@ use ternary::Tern;
 
 /// A clock: a node, and its states at the places of a cycle.
 #[derive(Drop)]
-pub(crate) struct Clock {
-    pub(crate) node: usize,
-    pub(crate) states: Vec<Tern>,
+pub struct Clock {
+    /// Its node.
+    pub node: usize,
+    /// The node's states.
+    pub states: Vec<Tern>,
 }
 
 impl Model for Clock {

@@ -39,8 +39,10 @@ mod stage;
 mod stepping;
 mod waves;
 
+pub use clock::Clock;
 pub use fault::{ApplyFault, Refusal};
 pub use laws::only_edits_lose_the_machine;
+pub use refusals::cycle_refusal;
 pub use session::Session;
 
 /// The most entries of the watch list.

@@ -120,7 +120,7 @@ fn clock_nodes_refusal(circuit: &Circuit, list: &[(Name, StateList)]) -> Option<
 
 /// The first refusal of a cycle of these clocks: none were accepted, or a node is no input node any
 /// more.
-pub(crate) fn cycle_refusal(circuit: &Circuit, clocks: &[Clock]) -> Option<Refusal>
+pub fn cycle_refusal(circuit: &Circuit, clocks: &[Clock]) -> Option<Refusal>
     requires { All (λ clock. clock.node < nodes circuit.now.graph) clocks.now }
     ensures { result ≡ spec.cycle_refusal circuit.now clocks.now }
 {

@@ -1,10 +1,11 @@
 -- The parts of a session of columns: each column is a session, and stays one through the commands that the plain session does for all.
-use Rattle.std.proofs.Common.{◌≡◌, ℕ, ◌-◌, ◌<◌, ◌≤◌, true, List, [], ◌++◌, length, map, replicate, All, Option, None, Some, Ok, Err, IfSome, refl, sym, ap, ap₂, subst, ◌∙◌, inl, inr}
+use Rattle.std.proofs.Common.{◌≡◌, ℕ, ◌-◌, ◌<◌, ◌≤◌, true, false, List, [], ◌++◌, length, map, replicate, All, Option, None, Some, Ok, Err, IfSome, refl, sym, ap, ap₂, subst, ◌∙◌, inl, inr}
 use Rattle.std.specs.List.{IsDistinct}
 use Rattle.std.specs.Prelude.{◌⊎◌, ◌≢◌, slice_index_or, Result, IfErr, OnOk, OnErr}
 use Rattle.std.proofs.lemmas.List.Elements.{All-weaker}
 use Rattle.ternary.specs.declared.tern.Tern.{Tern}
 use Rattle.ternary.specs.declared.tern.Tern.TheVariants.{Unk}
+use Rattle.ternary.specs.Counts.{raised}
 use Rattle.path_meaning.specs.Graphs.{GraphData, nodes}
 use Rattle.path_meaning.specs.Rails.{IsSound}
 use Rattle.path_meaning.specs.Step.{IsStep}
@@ -24,7 +25,7 @@ use Rattle.lane_machine.specs.Columns.{LaneData, FitsInLanes}
 use Rattle.lane_machine.specs.Building.{HasBuilt, IsCutInColumns}
 use Rattle.script_lang.specs.declared.command.Command.{Command}
 use Rattle.lane_script.specs.declared.command.LaneCommand.{LaneCommand}
-use Rattle.lane_script.specs.declared.command.LaneCommand.TheVariants.{Input, Store, Set, Charge, Watch, Limit, Step, Phase, Clock, Cycle, Add, Del, Strength, Kind, Wire}
+use Rattle.lane_script.specs.declared.command.LaneCommand.TheVariants.{Set, Charge}
 use Rattle.lane_script.specs.Commands.{in_column, value_in}
 use Rattle.cosmos_session.specs.declared.fault.ApplyFault.{ApplyFault}
 use Rattle.cosmos_session.specs.declared.fault.ApplyFault.TheVariants.{Refused, GroupNodes, GroupSwitches, WriteFault, NoMemory}
@@ -32,10 +33,12 @@ use Rattle.cosmos_session.specs.Sessions.{SessionData, ClockData, IsSession, IsR
 use Rattle.cosmos_session.specs.Refusals.{refusal_of}
 use Rattle.cosmos_session.specs.Preparing.{fault_of_build}
 use Rattle.cosmos_session.specs.Effects.{Effect, assigned, states_with, one_more}
+use Rattle.cosmos_session.proofs.ClockLemmas.{IsSession-beside}
 use Rattle.cosmos_session.proofs.EffectLemmas.{ready-does}
 use Rattle.cosmos_session.proofs.StateLemmas.{length-states_with, length-settles, sound-states_with, sound-step, sound-settles}
 use Rattle.lane_session.specs.LaneSessions.{LaneSessionData, session_in, IsLaneSession, Stands}
 use Rattle.lane_session.specs.Stages.{HeldLanes, StageData, states_in, SameStates, IsSoundState, AreSound, StandFirst, Serves, FitsIn, MovesTogether, KeepsFit, ReadiedTogether, ReadiesTogether, TooLargeTogether, StepTaken, AreSettled, BeatPut, with_columns, one_column, AreInside, Shares, QuietlyTogether, is_edit}
+use Rattle.lane_session.proofs.EditLemmas.{edit_does}
 use Rattle.lane_session.proofs.BuildLemmas.{length-used_more}
 use Rattle.lane_session.proofs.ColumnLemmas.{within_high, within_low}
 use Rattle.lane_session.proofs.SharedLemmas.{effect-edit, effect-set, effect-charge, refusal-shared, does-shared}
@@ -56,27 +59,15 @@ same_itself stage = record { lanes = refl; each = λ lane inside. refl }
 
 module _ (plain : SessionData) (is : IsSession plain) (stage : StageData) (clocks : List ClockData) (limit : ℕ) (kept : List GroupTextData) (count : ℕ)
     (inside : AreInside plain stage clocks limit kept) where
-  -- a column is ready
-  pub column_ready : (lane : ℕ) → lane < stage.lanes → IsReady (session_in (data_of plain stage count kept) lane)
-  column_ready lane within = record {
-    netlist = is.ready.netlist;
-    states = (inside.sound lane within).counted;
-    sound = (inside.sound lane within).sound;
-    free = is.ready.free;
-  }
-
-  -- and is a session
+  -- a column is a session
   pub column_session : (lane : ℕ) → lane < stage.lanes → IsSession (session_in (data_of plain stage count kept) lane)
-  column_session lane within = record {
-    ready = column_ready lane within;
-    watched = is.watched;
-    few = is.few;
-    clocks = is.clocks;
-    places = is.places;
-    some = is.some;
-    low = is.low;
-    high = is.high;
-  }
+  column_session lane within =
+      let sound = inside.sound lane within in
+      IsSession-beside plain (states_in stage lane) count false None kept (raised 0 (length kept)) sound.counted sound.sound is
+
+  -- and so it is ready
+  pub column_ready : (lane : ℕ) → lane < stage.lanes → IsReady (session_in (data_of plain stage count kept) lane)
+  column_ready lane within = (column_session lane within).ready
 
   -- so all are
   pub are_sessions : 1 ≤ stage.lanes → stage.lanes ≤ 64 → IsLaneSession (data_of plain stage count kept)
@@ -114,25 +105,6 @@ watched_low plain is stage sound some =
 
 -- ---- edits
 
--- an edit keeps the clocks and the limit
-edit_keeps : (plain after : SessionData) (command : LaneCommand) → is_edit command ≡ true → Effect plain (in_column 0 command) after [] →
-    (after.clocks ≡ plain.clocks) × (after.limit ≡ plain.limit)
-edit_keeps plain after (Input names) is effect = (ap (λ (s : SessionData). s.clocks) effect.0, ap (λ (s : SessionData). s.limit) effect.0)
-edit_keeps plain after (Store name size) is effect = (ap (λ (s : SessionData). s.clocks) effect.0, ap (λ (s : SessionData). s.limit) effect.0)
-edit_keeps plain after (Add kind gate source drain strength) is effect = (ap (λ (s : SessionData). s.clocks) effect.0, ap (λ (s : SessionData). s.limit) effect.0)
-edit_keeps plain after (Del number) is effect = (ap (λ (s : SessionData). s.clocks) effect.0, ap (λ (s : SessionData). s.limit) effect.0)
-edit_keeps plain after (Strength number strength) is effect = (ap (λ (s : SessionData). s.clocks) effect.0, ap (λ (s : SessionData). s.limit) effect.0)
-edit_keeps plain after (Kind number kind) is effect = (ap (λ (s : SessionData). s.clocks) effect.0, ap (λ (s : SessionData). s.limit) effect.0)
-edit_keeps plain after (Wire number gate source drain) is effect = (ap (λ (s : SessionData). s.clocks) effect.0, ap (λ (s : SessionData). s.limit) effect.0)
-edit_keeps plain after (Set list) is effect = absurd (cc)
-edit_keeps plain after (Charge list) is effect = absurd (cc)
-edit_keeps plain after (Watch names) is effect = absurd (cc)
-edit_keeps plain after (Limit number) is effect = absurd (cc)
-edit_keeps plain after Step is effect = absurd (cc)
-edit_keeps plain after Phase is effect = absurd (cc)
-edit_keeps plain after (Clock list) is effect = absurd (cc)
-edit_keeps plain after (Cycle number) is effect = absurd (cc)
-
 -- an edit was done for all columns
 module _ (plain after : SessionData) (is : IsSession plain) (stage mid new : StageData) (clocks : List ClockData) (limit : ℕ) (kept : List GroupTextData) (count : ℕ)
     (inside : AreInside plain stage clocks limit kept) (command : LaneCommand) (edit : is_edit command ≡ true)
@@ -160,8 +132,8 @@ module _ (plain after : SessionData) (is : IsSession plain) (stage mid new : Sta
 
   pub edit_inside : new.machine ≡ None → AreInside after new clocks limit kept
   edit_inside none = record {
-    clocks_are = inside.clocks_are ∙ sym (edit_keeps plain after command edit shares.1).0;
-    limit_is = inside.limit_is ∙ sym (edit_keeps plain after command edit shares.1).1;
+    clocks_are = inside.clocks_are ∙ sym (edit_does plain after command edit shares.1).clocks;
+    limit_is = inside.limit_is ∙ sym (edit_does plain after command edit shares.1).limit;
     sound = sound_after plain is stage clocks limit kept count inside after new command all_lanes shares.0 edited_effect;
     machine = subst (λ (found : Option LaneData). IfSome found (Serves after.circuit.graph kept)) (sym none) tt;
   }

@@ -7,6 +7,7 @@ pub mod FitLemmas
 pub mod StepLemmas
 pub mod BeatLemmas
 pub mod OutcomeLemmas
+pub mod EditLemmas
 pub mod InsideLemmas
 pub mod FormLemmas
 pub mod QuietLemmas

@@ -1,8 +1,10 @@
 -- Outcomes in columns: a command whose effect was done in each of them, and whose rows were sent or a part of them, is obeyed.
 use Rattle.std.proofs.Common.{◌≡◌, ℕ, ◌<◌, Bool, true, false, List, [], ◌∷◌, replicate, Option, None, Some, Ok, Err, refl, sym, ap, subst, ◌∙◌, inl, inr, append-nil}
 use Rattle.std.specs.Prelude.{Result, IfErr}
+use Rattle.port_edge.specs.Sending.{WritesPart}
 use Rattle.port_edge.proofs.SendingLemmas.{append_known-nil}
 use Rattle.path_meaning.specs.Graphs.{nodes}
+use Rattle.circuit_texts.specs.declared.texts.BuildFault.{BuildFault}
 use Rattle.circuit_texts.specs.declared.texts.BuildFault.TheVariants as build
 use Rattle.netlist.specs.Circuits.{CircuitData}
 use Rattle.group_text.specs.Texts.{GroupTextData}
@@ -27,8 +29,8 @@ use Rattle.cosmos_session.proofs.OutcomeLemmas.{refusal_of-built}
 use Rattle.cosmos_session.proofs.SizeLemmas.{told_node}
 use Rattle.lane_session.specs.LaneSessions.{LaneSessionData, session_in, Stands}
 use Rattle.lane_session.specs.Rows.{Interleaves, row_text}
-use Rattle.lane_session.specs.Outcomes.{Tells, PerformsTogether, ObeysTogether}
-use Rattle.lane_session.specs.Stages.{HeldLanes, QuietlyTogether, ReadiedTogether, ReadiesTogether, StepTaken, PhasesSent, SentText, TakesBeatsTogether, count_in, wave_in}
+use Rattle.lane_session.specs.Outcomes.{Tells, PerformsTogether, BeginsTogether, RefusesSizeTogether, ObeysTogether}
+use Rattle.lane_session.specs.Stages.{HeldLanes, QuietlyTogether, ReadiedTogether, ReadiesTogether, StepTaken, PhasesSent, SentText, TakesBeatsTogether, BeatsBegunTogether, TooLargeTogether, count_in, wave_in}
 use Rattle.lane_session.proofs.RowLemmas.{rows-none, rows-one}
 use Rattle.lane_session.proofs.RefusalLemmas.{builds_alike}
 use Rattle.lane_session.proofs.StepLemmas.{column_built, column_step, column_phase, single_counts, circuit_stands, lanes_stand}
@@ -99,29 +101,26 @@ quietly_lanes old new command (Err WriteFault) none = absurd none
 
 -- ---- builds that were not done
 
+-- a group was too large for a build
+outgrown_together : (old mid : HeldLanes) (command : LaneCommand) (known : Option (List ℕ)) (asked told : List GroupTextData) (fault : BuildFault) →
+    builds (in_column 0 command) ≡ true → ((lane : ℕ) → lane < old.core.lanes → refusal_of (session_in old.core lane) (in_column lane command) ≡ None) →
+    TooLargeTogether old.core mid.core asked told fault → RefusesSizeTogether old.core command mid.core known known asked told fault
+outgrown_together old mid command known asked told fault building allowed large = record {
+  allowed = allowed;
+  building = λ lane. builds_alike command lane 0 ∙ building;
+  first = large.first;
+  keeps = record { stands = large.stands; unwritten = refl; unasked = large.unasked };
+}
+
 -- a build that was refused, or found want of memory, ends the command
 pub unready_obeys : (old mid : HeldLanes) (command : LaneCommand) (known : Option (List ℕ)) (asked told : List GroupTextData) (refusals : ℕ) (fault : ApplyFault) →
     builds (in_column 0 command) ≡ true → ((lane : ℕ) → lane < old.core.lanes → refusal_of (session_in old.core lane) (in_column lane command) ≡ None) →
     ReadiesTogether old mid asked told (Err fault) → ObeysTogether old.core command mid.core known known asked told refusals refusals (Err fault)
 unready_obeys old mid command known asked told refusals (Refused refusal) building allowed none = absurd none
-unready_obeys old mid command known asked told refusals (GroupNodes node count) building allowed large = (
-  record {
-    allowed = allowed;
-    building = λ lane. builds_alike command lane 0 ∙ building;
-    first = large.first;
-    keeps = record { stands = large.stands; unwritten = refl; unasked = large.unasked };
-  },
-  refl,
-)
-unready_obeys old mid command known asked told refusals (GroupSwitches node count) building allowed large = (
-  record {
-    allowed = allowed;
-    building = λ lane. builds_alike command lane 0 ∙ building;
-    first = large.first;
-    keeps = record { stands = large.stands; unwritten = refl; unasked = large.unasked };
-  },
-  refl,
-)
+unready_obeys old mid command known asked told refusals (GroupNodes node count) building allowed large =
+    (outgrown_together old mid command known asked told (build.GroupNodes node count) building allowed large, refl)
+unready_obeys old mid command known asked told refusals (GroupSwitches node count) building allowed large =
+    (outgrown_together old mid command known asked told (build.GroupSwitches node count) building allowed large, refl)
 unready_obeys old mid command known asked told refusals WriteFault building allowed none = absurd none
 unready_obeys old mid command known asked told refusals NoMemory building allowed cut =
     inl (record { stands = cut.stands; cut_off = cut.cut_off; unwritten = refl }, refl)
@@ -175,6 +174,22 @@ module _ (old mid : HeldLanes) (command : LaneCommand) (asked told : List GroupT
     rows = rows;
   }
 
+  -- a part of it in all columns, and of its rows
+  begun_together : (new : LaneSessionData) (before after : Option (List ℕ)) (end : ℕ → SessionData) (lines : ℕ → List Line) (text : List ℕ) →
+      ((lane : ℕ) → lane < old.core.lanes → Effect (session_in mid.core lane) (in_column lane command) (end lane) (lines lane)) →
+      Interleaves old.core.lanes lines text → WritesPart before after text →
+      ((lane : ℕ) → lane < old.core.lanes → DoesPart (session_in mid.core lane) (in_column lane command) (session_in new lane)) →
+      BeginsTogether old.core command new before after asked told
+  begun_together new before after end lines text effect rows written part = record {
+    end = end;
+    text = text;
+    texts = ready.texts;
+    performs = built_together end lines text effect rows;
+    written = written;
+    done = part;
+    analysed = ready.analysed;
+  }
+
   module _ (new : LaneSessionData) (before after : Option (List ℕ)) (refusals now : ℕ) where
     -- the effect was done in each column, and the rows sent, or a part of them
     pub sent_obeys : (result : Result (Unit {0}) ApplyFault) (lines : ℕ → List Line) (text : List ℕ) →
@@ -195,31 +210,16 @@ module _ (old mid : HeldLanes) (command : LaneCommand) (asked told : List GroupT
     sent_obeys (Err (Refused refusal)) lines text effect part rows sent cause counted = absurd cause
     sent_obeys (Err (GroupNodes node count)) lines text effect part rows sent cause counted = absurd cause
     sent_obeys (Err (GroupSwitches node count)) lines text effect part rows sent cause counted = absurd cause
-    sent_obeys (Err WriteFault) lines text effect part rows sent cause counted = (
-      record {
-        end = session_in new;
-        text = text;
-        texts = ready.texts;
-        performs = built_together (session_in new) lines text effect rows;
-        written = sent;
-        done = part;
-        analysed = ready.analysed;
-      },
-      counted,
-    )
-    sent_obeys (Err NoMemory) lines text effect part rows sent cause counted =
-        inr (
-          record {
-            end = session_in new;
-            text = text;
-            texts = ready.texts;
-            performs = built_together (session_in new) lines text effect rows;
-            written = sent;
-            done = part;
-            analysed = ready.analysed;
-          },
-          counted,
-        )
+    sent_obeys (Err WriteFault) lines text effect part rows sent cause counted = (begun_together new before after (session_in new) lines text effect rows sent part, counted)
+    sent_obeys (Err NoMemory) lines text effect part rows sent cause counted = inr (begun_together new before after (session_in new) lines text effect rows sent part, counted)
+
+-- a front of the phases of a cycle was done in each column after a build
+cycle_begun : (old mid : HeldLanes) (times : ℕ) (asked told : List GroupTextData) (new : LaneSessionData) (before after : Option (List ℕ)) →
+    ((lane : ℕ) → lane < old.core.lanes → refusal_of (session_in old.core lane) (plain.Cycle times) ≡ None) → ReadiedTogether old mid asked told →
+    BeatsBegunTogether old.core.lanes (places_in (places_of mid.core.clocks) times) (session_in mid.core) (session_in new) before after →
+    BeginsTogether old.core (Cycle times) new before after asked told
+cycle_begun old mid times asked told new before after allowed ready begun =
+    begun_together old mid (Cycle times) asked told refl allowed ready new before after begun.end begun.lines begun.text begun.beats begun.rows begun.written begun.done
 
 -- phases at the places of a cycle were done in each column after a build, or a front of them: the cycle is obeyed
 pub cycle_obeys : (old mid : HeldLanes) (times : ℕ) (asked told : List GroupTextData) (new : LaneSessionData) (before after : Option (List ℕ)) (refusals now : ℕ)
@@ -240,31 +240,10 @@ cycle_obeys old mid times asked told new before after refusals now (Ok done) all
 cycle_obeys old mid times asked told new before after refusals now (Err (Refused refusal)) allowed ready begun cause counted = absurd cause
 cycle_obeys old mid times asked told new before after refusals now (Err (GroupNodes node count)) allowed ready begun cause counted = absurd cause
 cycle_obeys old mid times asked told new before after refusals now (Err (GroupSwitches node count)) allowed ready begun cause counted = absurd cause
-cycle_obeys old mid times asked told new before after refusals now (Err WriteFault) allowed ready begun cause counted = (
-  record {
-    end = begun.end;
-    text = begun.text;
-    texts = ready.texts;
-    performs = built_together old mid (Cycle times) asked told refl allowed ready begun.end begun.lines begun.text begun.beats begun.rows;
-    written = begun.written;
-    done = begun.done;
-    analysed = ready.analysed;
-  },
-  counted,
-)
+cycle_obeys old mid times asked told new before after refusals now (Err WriteFault) allowed ready begun cause counted =
+    (cycle_begun old mid times asked told new before after allowed ready begun, counted)
 cycle_obeys old mid times asked told new before after refusals now (Err NoMemory) allowed ready begun cause counted =
-    inr (
-      record {
-        end = begun.end;
-        text = begun.text;
-        texts = ready.texts;
-        performs = built_together old mid (Cycle times) asked told refl allowed ready begun.end begun.lines begun.text begun.beats begun.rows;
-        written = begun.written;
-        done = begun.done;
-        analysed = ready.analysed;
-      },
-      counted,
-    )
+    inr (cycle_begun old mid times asked told new before after allowed ready begun, counted)
 
 -- a unit step was done in each column after a build, and its row sent, or a part of it: the step is obeyed
 pub step_obeys : (old mid : HeldLanes) (counts : List Settled) (asked told : List GroupTextData) (new : LaneSessionData) (before after : Option (List ℕ)) (refusals now : ℕ)
@@ -304,18 +283,16 @@ phase_obeys old mid asked told new before after refusals now result ready phases
 pub stands_itself : (session : LaneSessionData) → Stands session session session.kept
 stands_itself session = record { states = λ lane inside. refl; rest = refl }
 
+-- a build wanted memory before it began
+pub unbegun : (session : HeldLanes) (asked : List GroupTextData) → ReadiesTogether session session asked asked (Err NoMemory)
+unbegun session asked = record { stands = stands_itself session.core; cut_off = inl (inl (refl, refl)) }
+
 -- a command that each column refuses
 pub refused_obeys : (session : LaneSessionData) (command : LaneCommand) (refusal : Refusal) (known : Option (List ℕ)) (asked : List GroupTextData) (refusals : ℕ) →
     ((lane : ℕ) → lane < session.lanes → refusal_of (session_in session lane) (in_column lane command) ≡ Some refusal) →
     ObeysTogether session command session known known asked asked refusals refusals (Err (Refused refusal))
 refused_obeys session command refusal known asked refusals cause =
     (record { cause = cause; keeps = record { stands = stands_itself session; unwritten = refl; unasked = refl } }, refl)
-
--- and one that wants memory
-pub memory_obeys : (session : LaneSessionData) (command : LaneCommand) (known : Option (List ℕ)) (asked : List GroupTextData) (refusals : ℕ) →
-    ObeysTogether session command session known known asked asked refusals refusals (Err NoMemory)
-memory_obeys session command known asked refusals =
-    inl (record { stands = stands_itself session; cut_off = inl (inl (refl, refl)); unwritten = refl }, refl)
 
 -- ---- faults
 

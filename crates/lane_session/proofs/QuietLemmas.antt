@@ -1,17 +1,14 @@
 -- Commands that take no step: what the plain session does of them, and what the parts of a session of columns are then.
-use Rattle.std.proofs.Common.{◌≡◌, ℕ, suc, ◌+◌, ◌-◌, ◌<◌, ◌≤◌, Bool, true, false, List, [], ◌∷◌, length, map, replicate, All, is_some, Option, None, Result, Ok, Err, IfSome, refl, sym, ap, subst, ◌∙◌, inl, inr, arith, length-append}
-use Rattle.std.specs.Prelude.{◌⊎◌, if◌then◌else◌}
-use Rattle.std.proofs.lemmas.List.{length-set}
+use Rattle.std.proofs.Common.{◌≡◌, ℕ, suc, ◌+◌, ◌-◌, ◌<◌, ◌≤◌, Bool, true, false, List, [], ◌∷◌, length, map, replicate, All, is_some, Option, None, Result, Ok, Err, IfSome, refl, sym, ap, subst, ◌∙◌, inl, inr, arith}
+use Rattle.std.specs.Prelude.{◌⊎◌}
 use Rattle.std.proofs.lemmas.List.Elements.{All-nil, All-cons, All-weaker}
 use Rattle.ternary.specs.declared.tern.Tern.{Tern}
 use Rattle.ternary.specs.declared.tern.Tern.TheVariants.{Zero, One, Unk}
-use Rattle.strength_order.specs.declared.TheConstants.{LEAST_SIZE_LEVEL}
-use Rattle.strength_order.specs.Levels.{level_of_size}
 use Rattle.path_meaning.specs.declared.TheConstants.{RAILS}
 use Rattle.path_meaning.specs.Graphs.{nodes}
 use Rattle.netlist.specs.Names.{node_of}
 use Rattle.netlist.specs.Circuits.{CircuitData, IsCircuit}
-use Rattle.netlist.specs.Edits.{node_named, with_node, with_new_node, with_nodes}
+use Rattle.netlist.specs.Edits.{node_named}
 use Rattle.group_text.specs.Texts.{GroupTextData}
 use Rattle.lane_script.specs.declared.command.LaneCommand.{LaneCommand}
 use Rattle.lane_script.specs.declared.command.LaneCommand.TheVariants.{Input, Store, Set, Charge, Watch, Limit, Step, Phase, Clock, Cycle, Add, Del, Strength, Kind, Wire}
@@ -26,38 +23,16 @@ use Rattle.cosmos_session.specs.Lines.{Line}
 use Rattle.cosmos_session.specs.Effects.{Effect, clock_of}
 use Rattle.cosmos_session.specs.Sinks.{faults_applied}
 use Rattle.cosmos_session.specs.Outcomes.{Obeys}
-use Rattle.cosmos_session.proofs.EffectLemmas.{nodes-with_inputs, ready-start}
+use Rattle.cosmos_session.proofs.EffectLemmas.{ready-start}
 use Rattle.cosmos_session.proofs.RefusalLemmas.{set_known, charged_known}
 use Rattle.cosmos_session.proofs.StateLemmas.{set_past, charged_past}
 use Rattle.lane_session.specs.LaneSessions.{LaneSessionData, session_in}
-use Rattle.lane_session.specs.Stages.{StageData, states_in, AreSound, IsSoundState, Serves, AreInside, Shares, QuietlyTogether, one_column, with_columns, is_edit}
+use Rattle.lane_session.specs.Stages.{HeldLanes, StageData, states_in, AreSound, IsSoundState, Serves, AreInside, Shares, QuietlyTogether, one_column, with_columns, is_edit}
 use Rattle.lane_session.proofs.SharedLemmas.{effect-watch, effect-limit, effect-clock}
+use Rattle.lane_session.proofs.EditLemmas.{edit_does}
 use Rattle.lane_session.proofs.InsideLemmas.{data_of, done_quietly, unshared, unshared_inside, same_itself, none_serves}
 
 -- ---- the plain session
-
--- an edit builds nothing
-pub edit_is_still : (command : LaneCommand) → is_edit command ≡ true → builds (in_column 0 command) ≡ false
-edit_is_still (Input names) is = refl
-edit_is_still (Store name size) is = refl
-edit_is_still (Add kind gate source drain strength) is = refl
-edit_is_still (Del number) is = refl
-edit_is_still (Strength number strength) is = refl
-edit_is_still (Kind number kind) is = refl
-edit_is_still (Wire number gate source drain) is = refl
-edit_is_still (Set list) is = absurd (cc)
-edit_is_still (Charge list) is = absurd (cc)
-edit_is_still (Watch names) is = absurd (cc)
-edit_is_still (Limit number) is = absurd (cc)
-edit_is_still Step is = absurd (cc)
-edit_is_still Phase is = absurd (cc)
-edit_is_still (Clock list) is = absurd (cc)
-edit_is_still (Cycle number) is = absurd (cc)
-
--- values build nothing
-pub values_are_still : (command : LaneCommand) (list : List (List ℕ × List Tern)) → (command ≡ Set list) ⊎ (command ≡ Charge list) → builds (in_column 0 command) ≡ false
-values_are_still command list (inl set) = ap (λ (c : LaneCommand). builds (in_column 0 c)) set
-values_are_still command list (inr charge) = ap (λ (c : LaneCommand). builds (in_column 0 c)) charge
 
 -- a command that builds nothing tells no lines
 quiet_effect : (command : LaneCommand) (old new : SessionData) (lines : List Line) → builds (in_column 0 command) ≡ false → Effect old (in_column 0 command) new lines →
@@ -110,50 +85,10 @@ quietly_faults old new command faults (Err NoMemory) quietly = refl
 
 -- ---- edits
 
--- a name makes one node at most
-one_node : (c : CircuitData) (name : List ℕ) → nodes (with_node c name).graph ≤ nodes c.graph + 1
-one_node c name = by (is_some (node_of c.names name))
-  where
-    by : (used : Bool) → nodes (if used then c else with_new_node c name).graph ≤ nodes c.graph + 1
-    by true = omega arith
-    by false = omega (arith, length-append c.graph.levels (LEAST_SIZE_LEVEL ∷ []))
-
--- so three names make three at most
-three_nodes : (c : CircuitData) (gate source drain : List ℕ) → nodes (with_nodes c (gate ∷ source ∷ drain ∷ [])).graph ≤ nodes c.graph + 3
-three_nodes c gate source drain =
-    let one = with_node c gate in
-    let two = with_node one source in
-    omega (arith, one_node c gate, one_node one source, one_node two drain)
-
--- and an edit too
-edit_grows : (plain after : SessionData) (command : LaneCommand) → is_edit command ≡ true → Effect plain (in_column 0 command) after [] →
-    nodes after.circuit.graph ≤ nodes plain.circuit.graph + 3
-edit_grows plain after (Input names) is effect = omega (arith, ap (λ (s : SessionData). nodes s.circuit.graph) effect.0, nodes-with_inputs names plain.circuit)
-edit_grows plain after (Store name size) is effect = omega (
-  arith,
-  ap (λ (s : SessionData). nodes s.circuit.graph) effect.0,
-  length-set plain.circuit.graph.levels (node_named plain.circuit name) (level_of_size size),
-)
-edit_grows plain after (Add kind gate source drain strength) is effect =
-    omega (arith, ap (λ (s : SessionData). nodes s.circuit.graph) effect.0, three_nodes plain.circuit gate source drain)
-edit_grows plain after (Del number) is effect = omega (arith, ap (λ (s : SessionData). nodes s.circuit.graph) effect.0)
-edit_grows plain after (Strength number strength) is effect = omega (arith, ap (λ (s : SessionData). nodes s.circuit.graph) effect.0)
-edit_grows plain after (Kind number kind) is effect = omega (arith, ap (λ (s : SessionData). nodes s.circuit.graph) effect.0)
-edit_grows plain after (Wire number gate source drain) is effect =
-    omega (arith, ap (λ (s : SessionData). nodes s.circuit.graph) effect.0, three_nodes plain.circuit gate source drain)
-edit_grows plain after (Set list) is effect = absurd (cc)
-edit_grows plain after (Charge list) is effect = absurd (cc)
-edit_grows plain after (Watch names) is effect = absurd (cc)
-edit_grows plain after (Limit number) is effect = absurd (cc)
-edit_grows plain after Step is effect = absurd (cc)
-edit_grows plain after Phase is effect = absurd (cc)
-edit_grows plain after (Clock list) is effect = absurd (cc)
-edit_grows plain after (Cycle number) is effect = absurd (cc)
-
 -- there is room for the nodes that an edit makes
 pub room_for_edit : (plain after : SessionData) (command : LaneCommand) (high spare : ℕ) → is_edit command ≡ true → Effect plain (in_column 0 command) after [] →
     nodes plain.circuit.graph ≤ high → 3 ≤ spare → nodes after.circuit.graph ≤ high + spare
-room_for_edit plain after command high spare edit effect words room = omega (arith, edit_grows plain after command edit effect, words, room)
+room_for_edit plain after command high spare edit effect words room = omega (arith, (edit_does plain after command edit effect).grown, words, room)
 
 -- ---- values
 
@@ -234,31 +169,25 @@ module _ (plain after : SessionData) (is : IsSession plain) (stage : StageData) 
       done_quietly plain is stage clocks limit kept count inside after stage command refl shares.0 (λ lane within. effect shares.1 lane)
   came (Err fault) effect shares = unshared plain after stage stage kept count command fault (same_itself stage) shares
 
-  pub watch_quietly : (names : List (List ℕ)) → command ≡ Watch names → (result : Result (Unit {0}) ApplyFault) → Shares plain (in_column 0 command) after result →
-      Comes result
-  watch_quietly names watch result shares =
+  -- and so does one that is this command
+  came_as : (same : LaneCommand) → command ≡ same → (Effect plain (in_column 0 same) after [] → (lane : ℕ) → Came same lane) →
+      (result : Result (Unit {0}) ApplyFault) → Shares plain (in_column 0 command) after result → Comes result
+  came_as same is effect result shares =
       came result
-      (λ effect lane.
-      subst (λ (c : LaneCommand). Came c lane) (sym watch)
-      (effect-watch plain after (states_in stage lane) count kept lane names (subst (λ (c : LaneCommand). Effect plain (in_column 0 c) after []) watch effect)))
+      (λ done lane.
+      subst (λ (c : LaneCommand). Came c lane) (sym is) (effect (subst (λ (c : LaneCommand). Effect plain (in_column 0 c) after []) is done) lane))
       shares
 
+  pub watch_quietly : (names : List (List ℕ)) → command ≡ Watch names → (result : Result (Unit {0}) ApplyFault) → Shares plain (in_column 0 command) after result →
+      Comes result
+  watch_quietly names watch = came_as (Watch names) watch (λ effect lane. effect-watch plain after (states_in stage lane) count kept lane names effect)
+
   pub limit_quietly : (number : ℕ) → command ≡ Limit number → (result : Result (Unit {0}) ApplyFault) → Shares plain (in_column 0 command) after result → Comes result
-  limit_quietly number limited result shares =
-      came result
-      (λ effect lane.
-      subst (λ (c : LaneCommand). Came c lane) (sym limited)
-      (effect-limit plain after (states_in stage lane) count kept lane number (subst (λ (c : LaneCommand). Effect plain (in_column 0 c) after []) limited effect)))
-      shares
+  limit_quietly number limited = came_as (Limit number) limited (λ effect lane. effect-limit plain after (states_in stage lane) count kept lane number effect)
 
   pub clock_quietly : (list : List (List ℕ × List Tern)) → command ≡ Clock list → (result : Result (Unit {0}) ApplyFault) → Shares plain (in_column 0 command) after result →
       Comes result
-  clock_quietly list clock result shares =
-      came result
-      (λ effect lane.
-      subst (λ (c : LaneCommand). Came c lane) (sym clock)
-      (effect-clock plain after (states_in stage lane) count kept lane list (subst (λ (c : LaneCommand). Effect plain (in_column 0 c) after []) clock effect)))
-      shares
+  clock_quietly list clock = came_as (Clock list) clock (λ effect lane. effect-clock plain after (states_in stage lane) count kept lane list effect)
 
   -- where it had no effect, the parts are in step as before
   pub unmoved_inside : (fault : ApplyFault) → Shares plain (in_column 0 command) after (Err fault) → AreInside after stage clocks limit kept
@@ -286,6 +215,18 @@ module _ (plain after : SessionData) (is : IsSession plain) (stage : StageData) 
       let effect : Effect plain (in_column 0 (Clock list)) after [] = subst (λ (c : LaneCommand). Effect plain (in_column 0 c) after []) clock done in
       moved_apart plain after stage clocks more limit limit kept inside (ap (λ (s : SessionData). s.circuit) effect.0)
       (named ∙ sym (ap (λ (s : SessionData). s.clocks) effect.0)) (inside.limit_is ∙ sym (ap (λ (s : SessionData). s.limit) effect.0))
+
+-- a session of columns, by the plain session that has what they share
+abbrev held_of : SessionData → StageData → List GroupTextData → ℕ → HeldLanes
+held_of plain stage kept count = record { core = data_of plain stage count kept; machine = stage.machine }
+
+-- a command that the plain session didn't do leaves the columns as they are
+pub unmoved_quietly : (held : HeldLanes) (plain after : SessionData) (stage : StageData) (kept : List GroupTextData) (count : ℕ) (command : LaneCommand) (fault : ApplyFault) →
+    held_of plain stage kept count ≡ held → Shares plain (in_column 0 command) after (Err fault) →
+    QuietlyTogether held.core command (data_of after stage count kept) (Err fault)
+unmoved_quietly held plain after stage kept count command fault view shares =
+    subst (λ (s : HeldLanes). QuietlyTogether s.core command (data_of after stage count kept) (Err fault)) view
+    (unshared plain after stage stage kept count command fault (same_itself stage) shares)
 
 -- ---- the start
 

@@ -20,7 +20,6 @@
 //! are the bits of words, an old device of parallel simulation.
 #![tactic(auto)]
 
-mod clock;
 mod given;
 mod laws;
 mod rows;

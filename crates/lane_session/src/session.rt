@@ -1,17 +1,15 @@
 //! The data of a session of columns, and what each command does to them.
 
 ghost use Rattle.std.specs.Prelude.{◌≡◌, ◌≤◌, IfOk, IfErr};
-ghost use Rattle.netlist.specs.Circuits.{IsCircuit};
 ghost use Rattle.lane_script.specs.Forms.{IsFormed};
 ghost use Rattle.cosmos_session.specs.Preparing.{NamesNode};
 ghost use Rattle.cosmos_session.specs.Sinks.{faults_applied};
 ghost use Rattle.lane_session.specs.LaneSessions.{IsLaneSession, IsStart};
 ghost use Rattle.lane_session.specs.Outcomes.{ObeysTogether};
 
-use crate::clock::Clock;
 use crate::stage::LaneStage;
 use analysis_cache::{Analyst, Kept};
-use cosmos_session::{ApplyFault, FIRST_LIMIT, Session};
+use cosmos_session::{ApplyFault, Clock, FIRST_LIMIT, Session};
 use lane_script::LaneCommand;
 use netlist::Circuit;
 use port_edge::Sink;
@@ -134,17 +132,18 @@ impl LaneSession {
             LaneCommand::Step => self.step(analyst, out),
             LaneCommand::Phase => self.phase(analyst, out),
             LaneCommand::Cycle(times) => self.cycle(*times, analyst, out),
-            LaneCommand::Set(list) | LaneCommand::Charge(list) => self.assign(command, list),
-            LaneCommand::Clock(list) => self.set_clocks(command, list),
-            LaneCommand::Limit(number) => self.set_limit(command, *number),
-            LaneCommand::Watch(names) => self.watch(command, names),
-            LaneCommand::Input(_)
+            LaneCommand::Set(_)
+            | LaneCommand::Charge(_)
+            | LaneCommand::Clock(_)
+            | LaneCommand::Limit(_)
+            | LaneCommand::Watch(_)
+            | LaneCommand::Input(_)
             | LaneCommand::Store(_, _)
             | LaneCommand::Add { .. }
             | LaneCommand::Del(_)
             | LaneCommand::Strength(_, _)
             | LaneCommand::Kind(_, _)
-            | LaneCommand::Wire { .. } => self.edit(command),
+            | LaneCommand::Wire { .. } => self.stay(command),
         }
     }
 }

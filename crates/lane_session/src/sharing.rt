@@ -4,7 +4,6 @@ ghost use Rattle.std.specs.Prelude.{◌≡◌, ◌⊎◌, ℕ, ◌<◌, ◌≤�
 ghost use Rattle.path_meaning.specs.declared.TheConstants.{RAILS};
 ghost use Rattle.path_meaning.specs.Graphs.{nodes};
 ghost use Rattle.netlist.specs.Names.{node_of};
-ghost use Rattle.netlist.specs.Circuits.{IsCircuit};
 ghost use Rattle.netlist.specs.Edits.{node_named};
 ghost use Rattle.script_lang.specs.Forms as form;
 ghost use Rattle.lane_script.specs.declared.command.LaneCommand.TheVariants as asked;
@@ -15,13 +14,12 @@ ghost use Rattle.cosmos_session.specs.Preparing.{builds};
 ghost use Rattle.cosmos_session.specs.Effects.{assigned, clock_of};
 ghost use Rattle.lane_session.specs.Stages.{AreSound, KeepsFit, Shares, QuietlyTogether, is_edit, states_in};
 
-use crate::clock::Clock;
 use crate::given::first_given;
 use crate::session::LaneSession;
 use crate::stage::LaneStage;
 use crate::unasked::Unasked;
 use crate::words::value_words;
-use cosmos_session::{ApplyFault, Session};
+use cosmos_session::{ApplyFault, Clock, Session};
 use lane_script::LaneCommand;
 use netlist::Circuit;
 use port_edge::DropSink;
@@ -30,9 +28,33 @@ use std::alloc::Global;
 use ternary::NoMemory;
 
 impl LaneSession {
-    /// An edit of the circuit. Each node that is new is X in each column.
-    pub(crate) fn edit(&mut self, command: &LaneCommand) -> Result<(), ApplyFault>
+    /// Does a command that takes no step, in each column.
+    pub(crate) fn stay(&mut self, command: &LaneCommand) -> Result<(), ApplyFault>
         requires formed { IsFormed self.old.core.lanes command.now }
+        requires first { form.IsFormed (in_column 0 command.now) }
+        requires still { builds (in_column 0 command.now) ≡ false }
+        ensures { QuietlyTogether self.old.core command.now self.new.core result }
+    {
+        match command {
+            LaneCommand::Set(list) | LaneCommand::Charge(list) => self.assign(command, list),
+            LaneCommand::Clock(list) => self.set_clocks(command, list),
+            LaneCommand::Limit(number) => self.set_limit(command, *number),
+            LaneCommand::Watch(names) => self.watch(command, names),
+            LaneCommand::Input(_)
+            | LaneCommand::Store(_, _)
+            | LaneCommand::Add { .. }
+            | LaneCommand::Del(_)
+            | LaneCommand::Strength(_, _)
+            | LaneCommand::Kind(_, _)
+            | LaneCommand::Wire { .. } => self.edit(command),
+            LaneCommand::Step | LaneCommand::Phase | LaneCommand::Cycle(_) => unreachable!(),
+        }
+    }
+
+    // An edit of the circuit. Each node that is new is X in each column.
+    fn edit(&mut self, command: &LaneCommand) -> Result<(), ApplyFault>
+        requires first { form.IsFormed (in_column 0 command.now) }
+        requires still { builds (in_column 0 command.now) ≡ false }
         requires edit { is_edit command.now ≡ true }
         ensures { QuietlyTogether self.old.core command.now self.new.core result }
     {
@@ -44,13 +66,11 @@ impl LaneSession {
         Ok(())
     }
 
-    /// `set` and `charge`: gives the named nodes their states in each column, from left to right.
-    pub(crate) fn assign(
-        &mut self,
-        command: &LaneCommand,
-        list: &ClockList,
-    ) -> Result<(), ApplyFault>
+    // `set` and `charge`: gives the named nodes their states in each column, from left to right.
+    fn assign(&mut self, command: &LaneCommand, list: &ClockList) -> Result<(), ApplyFault>
         requires formed { IsFormed self.old.core.lanes command.now }
+        requires first { form.IsFormed (in_column 0 command.now) }
+        requires still { builds (in_column 0 command.now) ≡ false }
         requires values { (command.now ≡ asked.Set list.now) ⊎ (command.now ≡ asked.Charge list.now) }
         ensures { QuietlyTogether self.old.core command.now self.new.core result }
     {
@@ -59,13 +79,10 @@ impl LaneSession {
         Ok(())
     }
 
-    /// `watch`: appends the named nodes to the watch list.
-    pub(crate) fn watch(
-        &mut self,
-        command: &LaneCommand,
-        names: &NameList,
-    ) -> Result<(), ApplyFault>
-        requires formed { IsFormed self.old.core.lanes command.now }
+    // `watch`: appends the named nodes to the watch list.
+    fn watch(&mut self, command: &LaneCommand, names: &NameList) -> Result<(), ApplyFault>
+        requires first { form.IsFormed (in_column 0 command.now) }
+        requires still { builds (in_column 0 command.now) ≡ false }
         requires names { command.now ≡ asked.Watch names.now }
         ensures { QuietlyTogether self.old.core command.now self.new.core result }
     {
@@ -73,9 +90,10 @@ impl LaneSession {
         share(self.alloc, command, &mut self.plain)
     }
 
-    /// `limit`: sets the limit of a phase.
-    pub(crate) fn set_limit(&mut self, command: &LaneCommand, limit: u64) -> Result<(), ApplyFault>
-        requires formed { IsFormed self.old.core.lanes command.now }
+    // `limit`: sets the limit of a phase.
+    fn set_limit(&mut self, command: &LaneCommand, limit: u64) -> Result<(), ApplyFault>
+        requires first { form.IsFormed (in_column 0 command.now) }
+        requires still { builds (in_column 0 command.now) ≡ false }
         requires limit { command.now ≡ asked.Limit limit }
         ensures { QuietlyTogether self.old.core command.now self.new.core result }
     {
@@ -84,13 +102,10 @@ impl LaneSession {
         Ok(())
     }
 
-    /// `clock`: puts these clocks in place of all others.
-    pub(crate) fn set_clocks(
-        &mut self,
-        command: &LaneCommand,
-        list: &ClockList,
-    ) -> Result<(), ApplyFault>
-        requires formed { IsFormed self.old.core.lanes command.now }
+    // `clock`: puts these clocks in place of all others.
+    fn set_clocks(&mut self, command: &LaneCommand, list: &ClockList) -> Result<(), ApplyFault>
+        requires first { form.IsFormed (in_column 0 command.now) }
+        requires still { builds (in_column 0 command.now) ≡ false }
         requires clocks { command.now ≡ asked.Clock list.now }
         ensures { QuietlyTogether self.old.core command.now self.new.core result }
     {

@@ -1,29 +1,26 @@
 //! Unit steps, phases and cycles of all columns, and their rows of waveform lines.
 
-ghost use Rattle.std.specs.Prelude.{false, ◌≡◌, ℕ, ◌<◌, ◌≤◌, length, replicate, All, IfErr, IfOk, OnOk};
+ghost use Rattle.std.specs.Prelude.{false, ◌≡◌, ℕ, ◌<◌, ◌≤◌, length, replicate, All, Err, IfErr, IfOk};
 ghost use Rattle.std.specs.List.{range_with_len};
 ghost use Rattle.path_meaning.specs.Graphs.{level_of, nodes};
 ghost use Rattle.path_meaning.specs.declared.TheConstants.{RAILS};
 ghost use Rattle.script_lang.specs.Forms.{IsTimes};
 ghost use Rattle.lane_script.specs.declared.command.LaneCommand.TheVariants as asked;
 ghost use Rattle.cosmos_session.specs.Sessions.{IsReady, places_of};
-ghost use Rattle.cosmos_session.specs.Refusals as spec;
 ghost use Rattle.cosmos_session.specs.Effects.{places_in, states_with};
 ghost use Rattle.cosmos_session.specs.Sinks.{IsSinkFault, faults_applied, refusals_sent};
 ghost use Rattle.lane_session.specs.LaneSessions.{session_in};
 ghost use Rattle.lane_session.specs.Rows.{row_text};
 ghost use Rattle.lane_session.specs.Outcomes.{ObeysTogether};
-ghost use Rattle.lane_session.specs.Stages.{AreSettled, AreSound, BeatPut, IsBuilt, IsRoomFor, KeepsFit, PhasesSent, ReadiesTogether, SentText, SharesAll, StepTaken, TakesBeatsTogether, states_in, wave_in};
+ghost use Rattle.lane_session.specs.Stages.{AreSettled, AreSound, BeatPut, IsBuilt, IsRoomFor, KeepsFit, PhasesSent, ReadiedTogether, ReadiesTogether, SentText, SharesAll, StepTaken, TakesBeatsTogether, states_in, wave_in};
 
-use crate::clock::Clock;
 use crate::rows::RowRoom;
 use crate::session::LaneSession;
 use crate::stage::LaneStage;
 use crate::words::shared_words;
 use analysis_cache::Analyst;
 use circuit_texts::BuildFault;
-use cosmos_session::{ApplyFault, Refusal};
-use netlist::Circuit;
+use cosmos_session::{ApplyFault, Clock, cycle_refusal};
 use oscillation_x::Settled;
 use path_meaning::Graph;
 use port_edge::Sink;
@@ -43,9 +40,7 @@ impl LaneSession {
         ensures faults { S.faults out.new ≡ faults_applied (S.faults out.old) result }
         ensures lanes { self.new.core.lanes ≡ self.old.core.lanes }
     {
-        let counts = self.single_steps()?;
-        let mut room = self.row_room()?;
-        self.prepare(analyst)?;
+        let (counts, mut room) = self.begin(analyst)?;
         self.take_step();
         self.send_row(&counts, &mut room, out)
     }
@@ -62,9 +57,7 @@ impl LaneSession {
         ensures faults { S.faults out.new ≡ faults_applied (S.faults out.old) result }
         ensures lanes { self.new.core.lanes ≡ self.old.core.lanes }
     {
-        let mut counts = self.single_steps()?;
-        let mut room = self.row_room()?;
-        self.prepare(analyst)?;
+        let (mut counts, mut room) = self.begin(analyst)?;
         self.settle_and_send(&mut counts, &mut room, out)
     }
 
@@ -85,10 +78,24 @@ impl LaneSession {
         if let Some(refusal) = cycle_refusal(self.plain.circuit(), &self.clocks) {
             return Err(ApplyFault::Refused(refusal));
         }
-        let mut counts = self.single_steps()?;
-        let mut room = self.row_room()?;
-        self.prepare(analyst)?;
+        let (mut counts, mut room) = self.begin(analyst)?;
         self.run_cycles(times, &mut counts, &mut room, out)
+    }
+
+    // What a command that steps begins with: what a single unit step counts in each column, room for a row, and a
+    // machine that fits the circuit.
+    fn begin<A: Analyst>(&mut self, analyst: &mut A) -> Result<(Vec<Settled>, RowRoom), ApplyFault>
+        ensures counts { IfOk result (λ begun. begun.0.items ≡ replicate self.old.core.lanes (record { steps = 1; joined = false })) }
+        ensures counted { IfOk result (λ begun. length begun.0.items ≡ self.new.core.lanes) }
+        ensures room { IfOk result (λ begun. IsRoomFor self.new.core.lanes (length self.new.core.watched) begun.1) }
+        ensures ready { IfOk result (λ begun. ReadiedTogether self.old self.new (A.analysed analyst.old) (A.analysed analyst.new)) }
+        ensures refused { IfErr result (λ fault. ReadiesTogether self.old self.new (A.analysed analyst.old) (A.analysed analyst.new) (Err fault)) }
+        ensures lanes { self.new.core.lanes ≡ self.old.core.lanes }
+    {
+        let counts = self.single_steps()?;
+        let room = self.row_room()?;
+        self.prepare(analyst)?;
+        Ok((counts, room))
     }
 
     // What a single unit step counts, in each column.
@@ -261,22 +268,6 @@ impl LaneSession {
         let (hi, lo) = (self.stage.hi(), self.stage.lo());
         room.send(self.count, counts, hi, lo, self.plain.watched(), out)
     }
-}
-
-// The first refusal of a cycle of these clocks: none were accepted, or a node is no input node any more.
-fn cycle_refusal(circuit: &Circuit, clocks: &[Clock]) -> Option<Refusal>
-    requires { All (λ clock. clock.node < nodes circuit.now.graph) clocks.now }
-    ensures { result ≡ spec.cycle_refusal circuit.now clocks.now }
-{
-    if clocks.is_empty() {
-        return Some(Refusal::NoClock);
-    }
-    for clock in clocks {
-        if circuit.graph().level(clock.node) != INPUT_LEVEL {
-            return Some(Refusal::NotInput);
-        }
-    }
-    None
 }
 
 // How many places a cycle of these clocks has.

@@ -24,10 +24,6 @@ loop-node-preserved c =
     }
 
 pub returns-clause-states : goal.returns-clause-states
-returns-clause-states c =
-    let hi : List ℕ = c.args.hi.now in
-    let lo : List ℕ = c.args.lo.now in
-    let node = c.loop-node.node in
-    let rails = c.loop-node.rails in
-    λ lane inside.
-    rw (take_all node (column lane hi lo) (omega (arith, length-column-min lane hi lo))) at (c.loop-node.invariant.has lane inside)
+returns-clause-states c = λ lane inside.
+    rw (take_all c.loop-node.node (column lane c.args.hi.now c.args.lo.now) (omega (arith, length-column-min lane c.args.hi.now c.args.lo.now))) at
+    (c.loop-node.invariant.has lane inside)

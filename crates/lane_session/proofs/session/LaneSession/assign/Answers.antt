@@ -1,19 +1,12 @@
 -- Values that the plain session doesn't refuse are given in each column.
-use Rattle.std.proofs.Common.{◌≡◌, ◌∙◌, Err, sym, subst}
+use Rattle.std.proofs.Common.{sym, subst}
 use Rattle.std.proofs.lemmas.Result.{err_from_is_err_and}
 use Rattle.analysis_cache.specs.Keeping.{texts_of}
 use Rattle.lane_script.specs.Forms.{IsFormed}
-use Rattle.lane_session.specs.Stages.{HeldLanes, QuietlyTogether}
-use Rattle.lane_session.proofs.FormLemmas.{formed_in}
-use Rattle.lane_session.proofs.InsideLemmas.{data_of, same_itself, unshared, given_inside, given_quietly}
-use Rattle.lane_session.proofs.QuietLemmas.{values_are_still, values_fit, values_known, values_past, values_circuit, unmoved_inside}
+use Rattle.lane_session.specs.Stages.{HeldLanes}
+use Rattle.lane_session.proofs.InsideLemmas.{given_inside, given_quietly}
+use Rattle.lane_session.proofs.QuietLemmas.{values_fit, values_known, values_past, values_circuit, unmoved_inside, unmoved_quietly}
 use Rattle.lane_session.proofs.session.LaneSession.assign.Goals as goal
-
-pub share-requires-clause-formed : goal.share-requires-clause-formed
-share-requires-clause-formed c = formed_in c.args.self.now.core.lanes 0 c.args.command.now c.requires.formed
-
-pub share-requires-clause-still : goal.share-requires-clause-still
-share-requires-clause-still c = values_are_still c.args.command.now c.args.list.now c.requires.values
 
 pub assign_all-requires-clause-sound : goal.assign_all-requires-clause-sound
 assign_all-requires-clause-sound c =
@@ -34,28 +27,22 @@ assign_all-requires-clause-fit c =
 pub assign_all-requires-clause-known : goal.assign_all-requires-clause-known
 assign_all-requires-clause-known c =
     let i = c.self.inside in
-    let same : c.circuit.result.now ≡ i.plain.core.circuit =
-    c.circuit.ensures.value ∙ values_circuit i.plain.core c.share.new.plain.core i.stage.lanes c.args.command.now c.args.list.now c.requires.values
-    c.in_ok-share.ensures.shares.1 in
-    rw (c.items.ensures, same)
+    let same = values_circuit i.plain.core c.share.new.plain.core i.stage.lanes c.args.command.now c.args.list.now c.requires.values c.in_ok-share.ensures.shares.1 in
+    rw (c.items.ensures, c.circuit.ensures.value, same)
     (values_known i.plain.core c.share.new.plain.core i.stage.lanes c.args.command.now c.args.list.now c.requires.values c.in_ok-share.ensures.shares.0)
 
 pub assign_all-requires-clause-past : goal.assign_all-requires-clause-past
 assign_all-requires-clause-past c =
     let i = c.self.inside in
-    let same : c.circuit.result.now ≡ i.plain.core.circuit =
-    c.circuit.ensures.value ∙ values_circuit i.plain.core c.share.new.plain.core i.stage.lanes c.args.command.now c.args.list.now c.requires.values
-    c.in_ok-share.ensures.shares.1 in
-    rw (c.items.ensures, same)
+    let same = values_circuit i.plain.core c.share.new.plain.core i.stage.lanes c.args.command.now c.args.list.now c.requires.values c.in_ok-share.ensures.shares.1 in
+    rw (c.items.ensures, c.circuit.ensures.value, same)
     (values_past i.plain.core c.share.new.plain.core i.stage.lanes c.args.command.now c.args.list.now c.requires.values c.in_ok-share.ensures.shares.0)
 
 pub invariant_of-self : goal.invariant_of-self
-invariant_of-self c =
-    let i = c.self.inside in (
-      unmoved_inside i.plain.core c.share.new.plain.core c.share.ensures.before i.stage i.clocks.items i.limit (texts_of i.kept) i.count c.self.invariant.0 c.args.command.now
-          c.in_err-share.field-0.0 c.in_err-share.ensures.shares,
-      c.self.invariant.1,
-    )
+invariant_of-self c = (
+  unmoved_inside _ c.share.new.plain.core c.share.ensures.before _ _ _ _ c.self.inside.count c.self.invariant.0 c.args.command.now _ c.in_err-share.ensures.shares,
+  c.self.invariant.1,
+)
 
 pub invariant_of-self-2 : goal.invariant_of-self-2
 invariant_of-self-2 c =
@@ -71,10 +58,7 @@ returns-in_err-share c =
     let stopped = err_from_is_err_and c.from_residual.result c.from_residual.ensures.1 in
     let i = c.self.inside in
     rw (stopped.1, stopped.2)
-    (subst (λ (s : HeldLanes). QuietlyTogether s.core c.args.command.now (data_of c.share.new.plain.core i.stage i.count (texts_of i.kept)) (Err c.in_err-share.field-0.0))
-    c.self.view_is
-    (unshared i.plain.core c.share.new.plain.core i.stage i.stage (texts_of i.kept) i.count c.args.command.now c.in_err-share.field-0.0 (same_itself i.stage)
-    c.in_err-share.ensures.shares))
+    (unmoved_quietly _ i.plain.core c.share.new.plain.core i.stage (texts_of i.kept) i.count c.args.command.now _ c.self.view_is c.in_err-share.ensures.shares)
 
 pub returns : goal.returns
 returns c =

@@ -1,5 +1,5 @@
 -- A cycle that isn't refused has clocks, whose nodes are input nodes; a build changes neither.
-use Rattle.std.proofs.Common.{◌≡◌, ℕ, ◌<◌, None, Some, Ok, Err, refl, sym, subst, ◌∙◌}
+use Rattle.std.proofs.Common.{◌≡◌, ℕ, ◌<◌, None, Some, Err, refl, sym, subst, ◌∙◌}
 use Rattle.std.proofs.lemmas.Result.{err_from_is_err_and}
 use Rattle.analysis_cache.specs.Keeping.{texts_of}
 use Rattle.lane_script.specs.declared.command.LaneCommand.TheVariants as asked
@@ -10,8 +10,8 @@ use Rattle.cosmos_session.proofs.MachineLemmas.{cycle_inputs}
 use Rattle.lane_session.specs.LaneSessions.{session_in}
 use Rattle.lane_session.specs.Stages.{HeldLanes, TakesBeatsTogether}
 use Rattle.lane_session.proofs.InsideLemmas.{column_ready}
-use Rattle.lane_session.proofs.StepLemmas.{counts_readied, room_readied, inputs_readied, columns_readied}
-use Rattle.lane_session.proofs.OutcomeLemmas.{cycle_obeys, refused_obeys, unready_obeys, memory_obeys, readies_faults, readies_lanes}
+use Rattle.lane_session.proofs.StepLemmas.{inputs_readied, columns_readied}
+use Rattle.lane_session.proofs.OutcomeLemmas.{cycle_obeys, refused_obeys, unready_obeys, readies_faults}
 use Rattle.lane_session.proofs.session.LaneSession.cycle.Goals as goal
 
 pub cycle_refusal-requires : goal.cycle_refusal-requires
@@ -23,72 +23,50 @@ returns-in-Some-clause-obeys g c =
     let told = subst (λ (s : HeldLanes). Some c.in-Some.refusal ≡ cycle_refusal s.core.circuit s.core.clocks) c.self.view_is here in
     refused_obeys c.args.self.now.core (asked.Cycle c.args.times) c.in-Some.refusal _ _ _ (λ lane inside. sym told)
 
-pub returns-in_err-counts-clause-obeys : goal.returns-in_err-counts-clause-obeys
-returns-in_err-counts-clause-obeys g c =
-    let stopped = err_from_is_err_and c.from_residual.result c.from_residual.ensures.1 in
-    rw (stopped.1, stopped.2) (memory_obeys c.args.self.now.core (asked.Cycle c.args.times) _ _ _)
-
-pub returns-in_err-room-clause-obeys : goal.returns-in_err-room-clause-obeys
-returns-in_err-room-clause-obeys g c =
-    let stopped = err_from_is_err_and c.from_residual-in_err-room.result c.from_residual-in_err-room.ensures.1 in
-    rw (stopped.1, stopped.2) (memory_obeys c.args.self.now.core (asked.Cycle c.args.times) _ _ _)
-
 pub run_cycles-requires-clause-built : goal.run_cycles-requires-clause-built
-run_cycles-requires-clause-built g c = c.in_ok-prepare.ensures.built
+run_cycles-requires-clause-built g c = c.in_ok-counts.ensures.ready.built
 
 pub run_cycles-requires-clause-inputs : goal.run_cycles-requires-clause-inputs
 run_cycles-requires-clause-inputs g c =
     let here = rw (c.in_default.is, c.circuit.ensures.value, c.deref.ensures.value, c.self.invariant.0.clocks_are) at c.cycle_refusal.ensures in
     let none = subst (λ (s : HeldLanes). None ≡ cycle_refusal s.core.circuit s.core.clocks) c.self.view_is here in
-    inputs_readied c.args.self.now c.prepare.new.self _ _ c.in_ok-prepare.ensures (cycle_inputs c.args.self.now.core.circuit c.args.self.now.core.clocks (sym none))
+    inputs_readied c.args.self.now c.begin.new.self _ _ c.in_ok-counts.ensures.ready (cycle_inputs c.args.self.now.core.circuit c.args.self.now.core.clocks (sym none))
 
 pub run_cycles-requires-clause-ready : goal.run_cycles-requires-clause-ready
 run_cycles-requires-clause-ready g c =
     let i = c.self.inside in
-    columns_readied c.args.self.now c.prepare.new.self _ _ c.in_ok-prepare.ensures
+    columns_readied c.args.self.now c.begin.new.self _ _ c.in_ok-counts.ensures.ready
     (subst (λ (s : HeldLanes). (lane : ℕ) → lane < s.core.lanes → IsReady (session_in s.core lane)) c.self.view_is
     (column_ready i.plain.core c.circuit.ensures.session.core i.stage i.clocks.items i.limit (texts_of i.kept) i.count c.self.invariant.0))
 
 pub run_cycles-requires-clause-counts : goal.run_cycles-requires-clause-counts
-run_cycles-requires-clause-counts g c =
-    rw c.deref_mut.ensures.value
-    (counts_readied c.args.self.now c.prepare.new.self _ _ c.in_ok-counts.counts.items c.in_ok-prepare.ensures c.in_ok-counts.ensures)
+run_cycles-requires-clause-counts g c = rw c.deref_mut.ensures.value c.in_ok-counts.ensures.counted
 
-pub run_cycles-requires-clause-room : goal.run_cycles-requires-clause-room
-run_cycles-requires-clause-room g c =
-    room_readied c.args.self.now c.prepare.new.self _ _ c.in_ok-room.room c.in_ok-prepare.ensures c.in_ok-room.ensures
-
-pub returns-in_err-prepare-clause-obeys : goal.returns-in_err-prepare-clause-obeys
-returns-in_err-prepare-clause-obeys g c =
-    let stopped = err_from_is_err_and c.from_residual-in_err-prepare.result c.from_residual-in_err-prepare.ensures.1 in
+pub returns-in_err-counts-clause-obeys : goal.returns-in_err-counts-clause-obeys
+returns-in_err-counts-clause-obeys g c =
+    let stopped = err_from_is_err_and c.from_residual.result c.from_residual.ensures.1 in
     let here = rw (c.in_default.is, c.circuit.ensures.value, c.deref.ensures.value, c.self.invariant.0.clocks_are) at c.cycle_refusal.ensures in
     let none = subst (λ (s : HeldLanes). None ≡ cycle_refusal s.core.circuit s.core.clocks) c.self.view_is here in
     rw (stopped.1, stopped.2)
-    (unready_obeys c.args.self.now c.prepare.new.self (asked.Cycle c.args.times) _ _ _ _ c.in_err-prepare.field-0.0 refl (λ lane inside. sym none) c.in_err-prepare.ensures)
+    (unready_obeys c.args.self.now c.begin.new.self (asked.Cycle c.args.times) _ _ _ _ c.in_err-counts.field-0.0 refl (λ lane inside. sym none) c.in_err-counts.ensures.refused)
 
-pub returns-in_err-prepare-clause-faults : goal.returns-in_err-prepare-clause-faults
-returns-in_err-prepare-clause-faults g c =
-    let stopped = err_from_is_err_and c.from_residual-in_err-prepare.result c.from_residual-in_err-prepare.ensures.1 in
-    rw (stopped.1, stopped.2) (readies_faults c.args.self.now c.prepare.new.self (g.A.Analyst.analysed c.args.analyst.now) (g.A.Analyst.analysed c.prepare.new.analyst) _ (Err c.in_err-prepare.field-0.0)
-    c.in_err-prepare.ensures)
-
-pub returns-in_err-prepare-clause-lanes : goal.returns-in_err-prepare-clause-lanes
-returns-in_err-prepare-clause-lanes g c =
-    readies_lanes c.args.self.now c.prepare.new.self (g.A.Analyst.analysed c.args.analyst.now) (g.A.Analyst.analysed c.prepare.new.analyst) (Err c.in_err-prepare.field-0.0) c.in_err-prepare.ensures
+pub returns-in_err-counts-clause-faults : goal.returns-in_err-counts-clause-faults
+returns-in_err-counts-clause-faults g c =
+    let stopped = err_from_is_err_and c.from_residual.result c.from_residual.ensures.1 in
+    rw (stopped.1, stopped.2) (readies_faults c.args.self.now c.begin.new.self (g.A.Analyst.analysed c.args.analyst.now) (g.A.Analyst.analysed c.begin.new.analyst) _ (Err c.in_err-counts.field-0.0)
+    c.in_err-counts.ensures.refused)
 
 pub returns-clause-obeys : goal.returns-clause-obeys
 returns-clause-obeys g c =
     let old = c.args.self.now in
-    let mid = c.prepare.new.self in
+    let mid = c.begin.new.self in
     let here = rw (c.in_default.is, c.circuit.ensures.value, c.deref.ensures.value, c.self.invariant.0.clocks_are) at c.cycle_refusal.ensures in
     let none = subst (λ (s : HeldLanes). None ≡ cycle_refusal s.core.circuit s.core.clocks) c.self.view_is here in
-    let lanes = readies_lanes old mid (g.A.Analyst.analysed c.args.analyst.now) (g.A.Analyst.analysed c.prepare.new.analyst) (Ok tt) c.in_ok-prepare.ensures in
     let beats = subst
     (λ (n : ℕ). TakesBeatsTogether n (places_in (places_of mid.core.clocks) c.args.times) (session_in mid.core) (session_in c.run_cycles.new.self.core)
-    (g.S.Sink.written c.args.out.now) (g.S.Sink.written c.run_cycles.new.out) c.run_cycles.result) lanes c.run_cycles.ensures.beats in
-    cycle_obeys old mid c.args.times _ _ c.run_cycles.new.self.core _ _ _ _ c.run_cycles.result (λ lane inside. sym none) c.in_ok-prepare.ensures beats
+    (g.S.Sink.written c.args.out.now) (g.S.Sink.written c.run_cycles.new.out) c.run_cycles.result) c.begin.ensures.lanes c.run_cycles.ensures.beats in
+    cycle_obeys old mid c.args.times _ _ c.run_cycles.new.self.core _ _ _ _ c.run_cycles.result (λ lane inside. sym none) c.in_ok-counts.ensures.ready beats
     c.run_cycles.ensures.cause c.run_cycles.ensures.refusals
 
 pub returns-clause-lanes : goal.returns-clause-lanes
-returns-clause-lanes g c = c.run_cycles.ensures.lanes ∙ readies_lanes c.args.self.now c.prepare.new.self (g.A.Analyst.analysed c.args.analyst.now) (g.A.Analyst.analysed c.prepare.new.analyst) (Ok tt)
-    c.in_ok-prepare.ensures
+returns-clause-lanes g c = c.run_cycles.ensures.lanes ∙ c.begin.ensures.lanes

@@ -6,16 +6,9 @@ use Rattle.analysis_cache.specs.Keeping.{texts_of}
 use Rattle.lane_script.specs.Commands.{in_column}
 use Rattle.lane_session.specs.Stages.{HeldLanes, QuietlyTogether, states_in}
 use Rattle.lane_session.proofs.ColumnLemmas.{length-column-min}
-use Rattle.lane_session.proofs.FormLemmas.{formed_in}
 use Rattle.lane_session.proofs.InsideLemmas.{data_of, built_inside, unshared_inside, edit_inside, none_serves, kept_stands, unshared, edit_quietly}
-use Rattle.lane_session.proofs.QuietLemmas.{edit_is_still, room_for_edit}
+use Rattle.lane_session.proofs.QuietLemmas.{room_for_edit}
 use Rattle.lane_session.proofs.session.LaneSession.edit.Goals as goal
-
-pub share-requires-clause-formed : goal.share-requires-clause-formed
-share-requires-clause-formed c = formed_in c.args.self.now.core.lanes 0 c.args.command.now c.requires.formed
-
-pub share-requires-clause-still : goal.share-requires-clause-still
-share-requires-clause-still c = edit_is_still c.args.command.now c.requires.edit
 
 pub grow-requires-clause-loose : goal.grow-requires-clause-loose
 grow-requires-clause-loose c = c.in_ok-loosen.ensures.loose

@@ -1,56 +1,33 @@
 -- What all share stays in a build and in a phase: so the row has room still, and a place for each column.
-use Rattle.std.proofs.Common.{Ok, Err, ap, refl, ◌∙◌}
+use Rattle.std.proofs.Common.{Err, ap, refl, ◌∙◌}
 use Rattle.std.proofs.lemmas.Result.{err_from_is_err_and}
 use Rattle.lane_script.specs.declared.command.LaneCommand.TheVariants as asked
 use Rattle.lane_session.specs.LaneSessions.{LaneSessionData}
-use Rattle.lane_session.proofs.StepLemmas.{counts_readied, room_readied}
-use Rattle.lane_session.proofs.OutcomeLemmas.{phase_obeys, unready_obeys, memory_obeys, readies_faults, readies_lanes}
+use Rattle.lane_session.proofs.OutcomeLemmas.{phase_obeys, unready_obeys, readies_faults}
 use Rattle.lane_session.proofs.session.LaneSession.phase.Goals as goal
 
 pub settle_and_send-requires-clause-built : goal.settle_and_send-requires-clause-built
-settle_and_send-requires-clause-built g c = c.in_ok-prepare.ensures.built
+settle_and_send-requires-clause-built g c = c.in_ok-counts.ensures.ready.built
 
 pub settle_and_send-requires-clause-counts : goal.settle_and_send-requires-clause-counts
-settle_and_send-requires-clause-counts g c =
-    rw c.deref_mut.ensures.value
-    (counts_readied c.args.self.now c.prepare.new.self _ _ c.in_ok-counts.counts.items c.in_ok-prepare.ensures c.in_ok-counts.ensures)
-
-pub settle_and_send-requires-clause-room : goal.settle_and_send-requires-clause-room
-settle_and_send-requires-clause-room g c =
-    room_readied c.args.self.now c.prepare.new.self _ _ c.in_ok-room.room c.in_ok-prepare.ensures c.in_ok-room.ensures
+settle_and_send-requires-clause-counts g c = rw c.deref_mut.ensures.value c.in_ok-counts.ensures.counted
 
 pub returns-in_err-counts-clause-obeys : goal.returns-in_err-counts-clause-obeys
 returns-in_err-counts-clause-obeys g c =
     let stopped = err_from_is_err_and c.from_residual.result c.from_residual.ensures.1 in
-    rw (stopped.1, stopped.2) (memory_obeys c.args.self.now.core asked.Phase _ _ _)
-
-pub returns-in_err-room-clause-obeys : goal.returns-in_err-room-clause-obeys
-returns-in_err-room-clause-obeys g c =
-    let stopped = err_from_is_err_and c.from_residual-in_err-room.result c.from_residual-in_err-room.ensures.1 in
-    rw (stopped.1, stopped.2) (memory_obeys c.args.self.now.core asked.Phase _ _ _)
-
-pub returns-in_err-prepare-clause-obeys : goal.returns-in_err-prepare-clause-obeys
-returns-in_err-prepare-clause-obeys g c =
-    let stopped = err_from_is_err_and c.from_residual-in_err-prepare.result c.from_residual-in_err-prepare.ensures.1 in
     rw (stopped.1, stopped.2)
-    (unready_obeys c.args.self.now c.prepare.new.self asked.Phase _ _ _ _ c.in_err-prepare.field-0.0 refl (λ lane inside. refl) c.in_err-prepare.ensures)
+    (unready_obeys c.args.self.now c.begin.new.self asked.Phase _ _ _ _ c.in_err-counts.field-0.0 refl (λ lane inside. refl) c.in_err-counts.ensures.refused)
 
-pub returns-in_err-prepare-clause-faults : goal.returns-in_err-prepare-clause-faults
-returns-in_err-prepare-clause-faults g c =
-    let stopped = err_from_is_err_and c.from_residual-in_err-prepare.result c.from_residual-in_err-prepare.ensures.1 in
-    rw (stopped.1, stopped.2) (readies_faults c.args.self.now c.prepare.new.self (g.A.Analyst.analysed c.args.analyst.now) (g.A.Analyst.analysed c.prepare.new.analyst) _ (Err c.in_err-prepare.field-0.0)
-    c.in_err-prepare.ensures)
-
-pub returns-in_err-prepare-clause-lanes : goal.returns-in_err-prepare-clause-lanes
-returns-in_err-prepare-clause-lanes g c =
-    readies_lanes c.args.self.now c.prepare.new.self (g.A.Analyst.analysed c.args.analyst.now) (g.A.Analyst.analysed c.prepare.new.analyst) (Err c.in_err-prepare.field-0.0) c.in_err-prepare.ensures
+pub returns-in_err-counts-clause-faults : goal.returns-in_err-counts-clause-faults
+returns-in_err-counts-clause-faults g c =
+    let stopped = err_from_is_err_and c.from_residual.result c.from_residual.ensures.1 in
+    rw (stopped.1, stopped.2) (readies_faults c.args.self.now c.begin.new.self (g.A.Analyst.analysed c.args.analyst.now) (g.A.Analyst.analysed c.begin.new.analyst) _ (Err c.in_err-counts.field-0.0)
+    c.in_err-counts.ensures.refused)
 
 pub returns-clause-obeys : goal.returns-clause-obeys
 returns-clause-obeys g c =
-    phase_obeys c.args.self.now c.prepare.new.self _ _ c.settle_and_send.new.self.core _ _ _ _ c.settle_and_send.result c.in_ok-prepare.ensures
+    phase_obeys c.args.self.now c.begin.new.self _ _ c.settle_and_send.new.self.core _ _ _ _ c.settle_and_send.result c.in_ok-counts.ensures.ready
     c.settle_and_send.ensures.phases c.settle_and_send.ensures.cause c.settle_and_send.ensures.refusals
 
 pub returns-clause-lanes : goal.returns-clause-lanes
-returns-clause-lanes g c =
-    ap (λ (s : LaneSessionData). s.lanes) c.settle_and_send.ensures.phases.settled.rest ∙ readies_lanes c.args.self.now c.prepare.new.self (g.A.Analyst.analysed c.args.analyst.now) (g.A.Analyst.analysed c.prepare.new.analyst) (Ok tt)
-    c.in_ok-prepare.ensures
+returns-clause-lanes g c = ap (λ (s : LaneSessionData). s.lanes) c.settle_and_send.ensures.phases.settled.rest ∙ c.begin.ensures.lanes

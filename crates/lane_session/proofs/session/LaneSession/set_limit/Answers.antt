@@ -1,28 +1,14 @@
-use Rattle.std.proofs.Common.{Ok, Err, ap, subst}
+use Rattle.std.proofs.Common.{Ok}
 use Rattle.std.proofs.lemmas.Result.{err_from_is_err_and}
 use Rattle.analysis_cache.specs.Keeping.{texts_of}
-use Rattle.lane_script.specs.declared.command.LaneCommand.{LaneCommand}
-use Rattle.lane_script.specs.Commands.{in_column}
-use Rattle.cosmos_session.specs.Preparing.{builds}
-use Rattle.lane_session.specs.Stages.{HeldLanes, QuietlyTogether}
-use Rattle.lane_session.proofs.FormLemmas.{formed_in}
-use Rattle.lane_session.proofs.InsideLemmas.{data_of}
-use Rattle.lane_session.proofs.QuietLemmas.{limit_quietly, limit_inside, unmoved_inside}
+use Rattle.lane_session.proofs.QuietLemmas.{limit_quietly, limit_inside, unmoved_inside, unmoved_quietly}
 use Rattle.lane_session.proofs.session.LaneSession.set_limit.Goals as goal
 
-pub share-requires-clause-formed : goal.share-requires-clause-formed
-share-requires-clause-formed c = formed_in c.args.self.now.core.lanes 0 c.args.command.now c.requires.formed
-
-pub share-requires-clause-still : goal.share-requires-clause-still
-share-requires-clause-still c = ap (λ (command : LaneCommand). builds (in_column 0 command)) c.requires.limit
-
 pub invariant_of-self : goal.invariant_of-self
-invariant_of-self c =
-    let i = c.self.inside in (
-      unmoved_inside i.plain.core c.share.new.plain.core c.share.ensures.before i.stage i.clocks.items i.limit (texts_of i.kept) i.count c.self.invariant.0 c.args.command.now
-          c.in_err-share.field-0.0 c.in_err-share.ensures.shares,
-      c.self.invariant.1,
-    )
+invariant_of-self c = (
+  unmoved_inside _ c.share.new.plain.core c.share.ensures.before _ _ _ _ c.self.inside.count c.self.invariant.0 c.args.command.now _ c.in_err-share.ensures.shares,
+  c.self.invariant.1,
+)
 
 pub invariant_of-self-2 : goal.invariant_of-self-2
 invariant_of-self-2 c =
@@ -37,10 +23,7 @@ returns-in_err-share c =
     let stopped = err_from_is_err_and c.from_residual.result c.from_residual.ensures.1 in
     let i = c.self.inside in
     rw (stopped.1, stopped.2)
-    (subst (λ (s : HeldLanes). QuietlyTogether s.core c.args.command.now (data_of c.share.new.plain.core i.stage i.count (texts_of i.kept)) (Err c.in_err-share.field-0.0))
-    c.self.view_is
-    (limit_quietly i.plain.core c.share.new.plain.core c.share.ensures.before i.stage i.clocks.items i.limit (texts_of i.kept) i.count c.self.invariant.0 c.args.command.now
-    c.args.limit c.requires.limit (Err c.in_err-share.field-0.0) c.in_err-share.ensures.shares))
+    (unmoved_quietly _ i.plain.core c.share.new.plain.core i.stage (texts_of i.kept) i.count c.args.command.now _ c.self.view_is c.in_err-share.ensures.shares)
 
 pub returns : goal.returns
 returns c =

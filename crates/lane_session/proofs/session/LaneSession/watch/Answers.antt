@@ -1,19 +1,9 @@
-use Rattle.std.proofs.Common.{ap, subst}
+use Rattle.std.proofs.Common.{subst}
 use Rattle.analysis_cache.specs.Keeping.{texts_of}
-use Rattle.lane_script.specs.declared.command.LaneCommand.{LaneCommand}
-use Rattle.lane_script.specs.Commands.{in_column}
-use Rattle.cosmos_session.specs.Preparing.{builds}
 use Rattle.lane_session.specs.Stages.{HeldLanes, QuietlyTogether}
-use Rattle.lane_session.proofs.FormLemmas.{formed_in}
 use Rattle.lane_session.proofs.InsideLemmas.{data_of}
 use Rattle.lane_session.proofs.QuietLemmas.{watch_quietly, watch_inside}
 use Rattle.lane_session.proofs.session.LaneSession.watch.Goals as goal
-
-pub share-requires-clause-formed : goal.share-requires-clause-formed
-share-requires-clause-formed c = formed_in c.args.self.now.core.lanes 0 c.args.command.now c.requires.formed
-
-pub share-requires-clause-still : goal.share-requires-clause-still
-share-requires-clause-still c = ap (λ (command : LaneCommand). builds (in_column 0 command)) c.requires.names
 
 pub invariant_of-self : goal.invariant_of-self
 invariant_of-self c =

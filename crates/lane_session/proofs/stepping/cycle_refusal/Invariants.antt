@@ -1,7 +1,0 @@
-use Rattle.std.proofs.Common.{◌≡◌, drop}
-use Rattle.cosmos_session.specs.Refusals.{first_refusal, clock_refusal}
-use Rattle.lane_session.proofs.stepping.cycle_refusal.Given as goal
-
-abbrev pub invariant-loop-clock : goal.invariant-loop-clock
-invariant-loop-clock l =
-    first_refusal (clock_refusal l.circuit) (drop l.clock-index l.clocks) ≡ first_refusal (clock_refusal l.circuit) l.clocks
