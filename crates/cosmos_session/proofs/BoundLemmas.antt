@@ -56,25 +56,34 @@ joining_low g wired old (suc count) new (next, step, changed, more) =
 
 -- ---- phases and cycles
 
-phase_readable : (session new : SessionData) (lines : List Line) → IsBounded session → IsPhase session new lines → All IsReadable lines
-phase_readable session new lines bounded phase =
+-- the number of a phase's line and of its steps are u64s
+pub phase_small : (session new : SessionData) (lines : List Line) → IsBounded session → (phase : IsPhase session new lines) →
+    (new.count < 2 ^ 64) × (phase.steps < 2 ^ 64)
+phase_small session new lines bounded phase =
     let settles = phase.settles in
     let g = session.circuit.graph in
     let first = stepping_few g session.limit session.state settles.first settles.mid settles.stepping in
     let second = joining_low g bounded.ready.netlist.wired settles.mid settles.second phase.next settles.joining in
     let small : one_more session.count < 2 ^ 64 = omega arith in
-    let numbered : new.count < 2 ^ 64 = subst (λ (now : SessionData). now.count < 2 ^ 64) (sym phase.moved) small in
-    let few : phase.steps < 2 ^ 64 = omega (arith, first, second, bounded.few, bounded.limit, settles.total) in
-    subst (All IsReadable) (sym phase.wrote) (All-cons IsReadable _ [] (numbered, few) (All-nil IsReadable))
+    (
+      subst (λ (now : SessionData). now.count < 2 ^ 64) (sym phase.moved) small,
+      omega (arith, first, second, bounded.few, bounded.limit, settles.total),
+    )
 
-bounded-phase : (session new : SessionData) (lines : List Line) → IsBounded session → IsPhase session new lines → IsBounded new
+phase_readable : (session new : SessionData) (lines : List Line) → IsBounded session → IsPhase session new lines → All IsReadable lines
+phase_readable session new lines bounded phase =
+    subst (All IsReadable) (sym phase.wrote) (All-cons IsReadable _ [] (phase_small session new lines bounded phase) (All-nil IsReadable))
+
+-- a phase keeps the data bounded
+pub bounded-phase : (session new : SessionData) (lines : List Line) → IsBounded session → IsPhase session new lines → IsBounded new
 bounded-phase session new lines bounded phase = record {
   ready = phase-ready session new lines phase bounded.ready;
   few = subst (λ (now : SessionData). nodes now.circuit.graph < 2 ^ 63) (sym phase.moved) bounded.few;
   limit = subst (λ (now : SessionData). now.limit ≤ MOST_TIMES) (sym phase.moved) bounded.limit;
 }
 
-bounded-beat : (session : SessionData) (place : ℕ) → IsBounded session → IsBounded (with_beat session place)
+-- so does setting the clocks' nodes
+pub bounded-beat : (session : SessionData) (place : ℕ) → IsBounded session → IsBounded (with_beat session place)
 bounded-beat session place bounded =
     record { ready = with_beat-ready session place bounded.ready; few = bounded.few; limit = bounded.limit }
 
@@ -202,7 +211,8 @@ effect_small session new lines (Keep number) bounded formed allowed effect = sub
 
 -- ---- with the build before a command
 
-bounded-built : (building : Bool) (old mid : SessionData) (texts : List GroupTextData) → BuildsIf building old mid texts → IsBounded old → IsBounded mid
+-- and so does a build
+pub bounded-built : (building : Bool) (old mid : SessionData) (texts : List GroupTextData) → BuildsIf building old mid texts → IsBounded old → IsBounded mid
 bounded-built true old mid texts built bounded = record {
   ready = ready-build old mid texts built bounded.ready;
   few = subst (λ (now : SessionData). nodes now.circuit.graph < 2 ^ 63) (sym built.used) bounded.few;

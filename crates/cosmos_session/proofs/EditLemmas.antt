@@ -1,18 +1,20 @@
 -- A session after an edit of its circuit is one still, and the edit is answered by its refusal.
 -- The plan: edits of switches keep the nodes, those that make names add some, whose states are X; so what speaks of nodes holds as before. The
 -- machine covered the graph before, and covers the graph after.
-use Rattle.std.proofs.Common.{◌≡◌, ℕ, ◌+◌, ◌-◌, ◌<◌, ◌≤◌, Bool, true, false, List, [], ◌∷◌, ◌++◌, length, replicate, Option, None, Some, Result, IfSome, OnOk, is_some, nat_lt, nat_le, refl, sym, ap, subst, ◌∙◌, arith, length-append, append-nil}
+use Rattle.std.proofs.Common.{◌≡◌, ℕ, ◌+◌, ◌-◌, ◌<◌, ◌≤◌, Bool, true, false, List, [], ◌∷◌, ◌++◌, length, replicate, Option, None, Some, Result, Ok, Err, IfSome, OnOk, is_some, nat_lt, nat_le, refl, sym, ap, subst, ◌∙◌, arith, length-append, append-nil}
 use Rattle.std.specs.Prelude.{if◌then◌else◌}
 use Rattle.std.proofs.lemmas.List.{length-replicate, get_or_append_left}
 use Rattle.std.proofs.lemmas.List.Elements.{All-weaker}
+use Rattle.std.proofs.lemmas.Bool.Decides.{nat_tests}
 use Rattle.ternary.specs.declared.tern.Tern.{Tern}
 use Rattle.ternary.specs.declared.tern.Tern.TheVariants.{Zero, Unk}
 use Rattle.strength_order.specs.declared.TheConstants.{LEAST_SIZE_LEVEL}
 use Rattle.path_meaning.specs.declared.TheConstants.{GND, VDD, RAILS}
 use Rattle.path_meaning.specs.declared.switching.SwitchKind.{SwitchKind}
-use Rattle.path_meaning.specs.Graphs.{nodes}
+use Rattle.path_meaning.specs.Graphs.{GraphData, nodes}
 use Rattle.channel_groups.specs.declared.change.Change.{Change}
 use Rattle.channel_groups.specs.Changes.{undo}
+use Rattle.group_text.specs.Texts.{GroupTextData}
 use Rattle.unit_step.specs.Machines.{MachineData}
 use Rattle.unit_step.specs.Fitting.{Covers}
 use Rattle.unit_step.specs.Editing.{with_new_nodes}
@@ -23,16 +25,23 @@ use Rattle.netlist.specs.declared.fault.EditFault.TheVariants as edit
 use Rattle.netlist.specs.Faults.{MakingFault}
 use Rattle.netlist.specs.Names.{node_of}
 use Rattle.netlist.specs.Circuits.{CircuitData, IsCircuit}
-use Rattle.netlist.specs.Edits.{answer_of, is_strength, add_fault, rail_fault, strength_fault, switch_numbered, wire_fault, with_node, with_nodes, with_new_node, with_transistor, with_wires}
+use Rattle.netlist.specs.Edits.{answer_of, is_strength, add_fault, rail_fault, strength_fault, switch_numbered, wire_fault, with_node, with_nodes, with_new_node, with_transistor, with_wires, with_place}
+use Rattle.script_lang.specs.declared.command.Command.{Command}
 use Rattle.script_lang.specs.declared.command.Command.TheVariants.{Add, Wire}
+use Rattle.cosmos_session.specs.declared.edits.SwitchEdit.{SwitchEdit}
+use Rattle.cosmos_session.specs.declared.edits.SwitchEdit.TheVariants.{Removal, Strength, Kind}
 use Rattle.cosmos_session.specs.declared.fault.Refusal.TheVariants.{Rail}
 use Rattle.cosmos_session.specs.Sessions.{SessionData, HeldSession, IsReady, IsSession}
-use Rattle.cosmos_session.specs.Refusals.{making_refusal, edit_refusal, rail_refusal, strength_for}
-use Rattle.cosmos_session.specs.Effects.{with_circuit}
-use Rattle.cosmos_session.specs.Machines.{Serves, Survives, IsHeldSession}
-use Rattle.cosmos_session.specs.Outcomes.{Does}
+use Rattle.cosmos_session.specs.Refusals.{refusal_of, making_refusal, edit_refusal, rail_refusal, strength_for}
+use Rattle.cosmos_session.specs.Effects.{Effect, with_circuit}
+use Rattle.cosmos_session.specs.Preparing.{fault_of_edit}
+use Rattle.cosmos_session.specs.Switches.{place_after, edit_fault, command_of}
+use Rattle.cosmos_session.specs.Machines.{Serves, Survives, IsHeldSession, kept_in}
+use Rattle.cosmos_session.specs.Outcomes.{Does, Quietly}
 use Rattle.cosmos_session.specs.Stages.{StageData, EditsFrom}
 use Rattle.cosmos_session.proofs.UndoLemmas.{Undoes}
+use Rattle.cosmos_session.proofs.StateLemmas.{past_rails}
+use Rattle.cosmos_session.proofs.StayingLemmas.{bounding, keeps_bound}
 
 -- ---- nodes
 
@@ -110,7 +119,7 @@ module _ (session : HeldSession) (c : CircuitData) (change : Change) (undoes : U
       by None serves = tt
       by (Some machine) serves = undoes.covers machine serves.covers
 
-  module _ (stage : StageData) (is_circuit : IsCircuit c) (more : nodes session.core.circuit.graph ≤ nodes c.graph)
+  module _ (stage : StageData) (is_circuit : IsCircuit c)
       (grown : stage.state ≡ with_new_nodes session.core.state (nodes c.graph))
       (edits : IfSome stage.machine (EditsFrom c.graph change session.machine)) where
     -- a machine that is there serves
@@ -129,7 +138,7 @@ module _ (session : HeldSession) (c : CircuitData) (change : Change) (undoes : U
     pub held-edited : IsHeldSession (edited session c stage)
     held-edited = record {
       core = subst (λ (state : List Tern). IsSession (record session.core { circuit = c; state = state })) (sym grown)
-          (IsSession-grown session.core c is_circuit more held.core);
+          (IsSession-grown session.core c is_circuit undoes.more held.core);
       machine = IfSome-weaker stage.machine serves-edited edits;
     }
 
@@ -137,6 +146,43 @@ module _ (session : HeldSession) (c : CircuitData) (change : Change) (undoes : U
     pub survives-edited : IfSome stage.machine (Survives session.machine)
     survives-edited = IfSome-weaker stage.machine
         (λ machine from. record { before = from.before; was = from.was; moves = from.edits.moves; placed = from.edits.placed }) edits
+
+-- what is kept is as before where the stage and the table of the session say so, whose machine was its own
+kept-told : (session : HeldSession) (machine : Option MachineData) (table kept : List GroupTextData) → machine ≡ session.machine →
+    session.core.kept ≡ kept_in session.machine table → kept ≡ kept_in machine table → kept ≡ session.core.kept
+kept-told session machine table kept same stood keeps = keeps ∙ ap (λ (m : Option MachineData). kept_in m table) same ∙ sym stood
+
+-- so a command that edits does what it does
+pub does-told : (session : HeldSession) (c : CircuitData) (old : Option MachineData) (new : StageData) (bound : Option ℕ) (table kept : List GroupTextData) →
+    old ≡ session.machine → bound ≡ session.core.bound → session.core.kept ≡ kept_in session.machine table → kept ≡ kept_in old table →
+    (command : Command) → Does session.core command (edited session c new).core [] →
+    Does session.core command (bounding (edited session c new) bound kept).core []
+does-told session c old new bound table kept machine limit stood keeps command does =
+    keeps_bound (λ (s : HeldSession). Does session.core command s.core []) (edited session c new) bound kept limit
+    (kept-told session old table kept machine stood keeps) does
+
+-- what was told of an edit to the stage of a session, which was as the session has it
+module _ (session : HeldSession) (c : CircuitData) (change : Change) (undoes : Undoes c.graph session.core.circuit.graph change)
+    (held : IsHeldSession session) (graph : GraphData) (told : graph ≡ c.graph) (is_circuit : IsCircuit c)
+    (old new : StageData) (state : old.state ≡ session.core.state)
+    (machine : old.machine ≡ session.machine) (grown : new.state ≡ with_new_nodes old.state (nodes graph))
+    (edits : IfSome new.machine (EditsFrom graph change old.machine)) where
+  grown-told : new.state ≡ with_new_nodes session.core.state (nodes c.graph)
+  grown-told = rw (← told, ← state) grown
+
+  edits-told : IfSome new.machine (EditsFrom c.graph change session.machine)
+  edits-told = rw (← told, ← machine) edits
+
+  -- the machine that is there was there before
+  pub survives-told : IfSome new.machine (Survives session.machine)
+  survives-told = survives-edited session c change undoes held new is_circuit grown-told edits-told
+
+  -- the session is one still
+  pub held-told : (bound : Option ℕ) (table kept : List GroupTextData) → bound ≡ session.core.bound → session.core.kept ≡ kept_in session.machine table →
+      kept ≡ kept_in old.machine table → IsHeldSession (bounding (edited session c new) bound kept)
+  held-told bound table kept limit stood keeps =
+      keeps_bound IsHeldSession (edited session c new) bound kept limit (kept-told session old.machine table kept machine stood keeps)
+      (held-edited session c change undoes held new is_circuit grown-told edits-told)
 
 -- what no command did to the machine, no edit did
 pub survives-same : (found : Option MachineData) → IfSome found (Survives found)
@@ -184,14 +230,77 @@ unrefused_strength c number strength none = by (is_some (switch_numbered c numbe
     by true false none = absurd (cc)
     by false accepted none = absurd (cc)
 
--- a node that may be edited is made an input node
-pub input_made : (found : Option ℕ) (node : ℕ) (answer : Result (Unit {0}) EditFault) (Made : Type 0) → rail_refusal found ≡ None → found ≡ Some node →
-    answer ≡ answer_of (rail_fault node) → OnOk answer Made → Made
-input_made found node answer Made none there answered made = by (nat_lt node RAILS) (subst (λ (f : Option ℕ). rail_refusal f ≡ None) there none) answered
+-- an edit that was done has no fault
+no_fault : (found : Option EditFault) → Ok tt ≡ answer_of found → found ≡ None
+no_fault None answered = refl
+no_fault (Some fault) answered = absurd (cc)
+
+-- and one that wasn't has this
+pub the_fault : (found : Option EditFault) (fault : EditFault) → Err fault ≡ answer_of found → found ≡ Some fault
+the_fault None fault answered = absurd (cc)
+the_fault (Some other) fault answered = cc
+
+-- which refuses its command, or is want of memory
+pub refused_quietly : (old new : HeldSession) (command : Command) (found : Option EditFault) (fault : EditFault) →
+    refusal_of old.core command ≡ edit_refusal found → found ≡ Some fault → new ≡ old → Quietly old command new (Err (fault_of_edit fault))
+refused_quietly old new command found edit.NoSuchSwitch is there same = (is ∙ ap edit_refusal there, same)
+refused_quietly old new command found edit.Rail is there same = (is ∙ ap edit_refusal there, same)
+refused_quietly old new command found edit.BadStrength is there same = (is ∙ ap edit_refusal there, same)
+refused_quietly old new command found edit.BadSize is there same = (is ∙ ap edit_refusal there, same)
+refused_quietly old new command found edit.AliasTaken is there same = same
+refused_quietly old new command found edit.TooManyNodes is there same = (is ∙ ap edit_refusal there, same)
+refused_quietly old new command found edit.TooManySwitches is there same = (is ∙ ap edit_refusal there, same)
+refused_quietly old new command found edit.NoMemory is there same = same
+
+-- ---- edits of a transistor that leave its terminals
+
+-- the refusal of such an edit's command is the edit's
+pub refusal_of-switch : (session : SessionData) (number : ℕ) (edit : SwitchEdit) →
+    refusal_of session (command_of number edit) ≡ edit_refusal (edit_fault session.circuit number edit)
+refusal_of-switch session number Removal = refl
+refusal_of-switch session number (Strength strength) = refl
+refusal_of-switch session number (Kind kind) = refl
+
+-- and so is its effect
+effect-switch : (session : SessionData) (number : ℕ) (edit : SwitchEdit) →
+    Effect session (command_of number edit) (record session { circuit = with_place session.circuit number (place_after session.circuit number edit) }) []
+effect-switch session number Removal = (refl, refl)
+effect-switch session number (Strength strength) = (refl, refl)
+effect-switch session number (Kind kind) = (refl, refl)
+
+-- a transistor that is edited so: what its command does
+pub switched_does : (session : SessionData) (c : CircuitData) (stage : StageData) (number : ℕ) (edit : SwitchEdit) →
+    length session.state ≡ nodes session.circuit.graph → Ok tt ≡ answer_of (edit_fault session.circuit number edit) →
+    c ≡ with_place session.circuit number (place_after session.circuit number edit) → stage.state ≡ with_new_nodes session.state (nodes c.graph) →
+    Does session (command_of number edit) (record session { circuit = c; state = stage.state }) []
+switched_does session c stage number edit states answered is grown =
+    let stays : stage.state ≡ session.state =
+    grown ∙ ap (λ (after : CircuitData). with_new_nodes session.state (nodes after.graph)) is
+    ∙ same_states session.state (nodes session.circuit.graph) (omega (arith, states)) in
+    let moved : (record session { circuit = c; state = stage.state })
+        ≡ record session { circuit = with_place session.circuit number (place_after session.circuit number edit) } =
+    λ i. record session { circuit = is i; state = stays i } in
+    record {
+      allowed = refusal_of-switch session number edit ∙ ap edit_refusal (no_fault (edit_fault session.circuit number edit) answered);
+      lines = [];
+      effect = subst (λ (new : SessionData). Effect session (command_of number edit) new []) (sym moved) (effect-switch session number edit);
+      text_is = refl;
+    }
+
+-- ---- other edits
+
+-- a node that may be edited is past the rails
+pub past_edited : (found : Option ℕ) (node : ℕ) → rail_refusal found ≡ None → found ≡ Some node → RAILS ≤ node
+past_edited found node none there = past_rails node None (subst (λ (f : Option ℕ). rail_refusal f ≡ None) there none)
+
+-- it is made an input node
+pub input_made : (node : ℕ) (answer : Result (Unit {0}) EditFault) (Made : Type 0) → RAILS ≤ node → answer ≡ answer_of (rail_fault node) →
+    OnOk answer Made → Made
+input_made node answer Made past answered made = by (nat_lt node RAILS) refl answered
   where
-    by : (rail : Bool) → (if rail then Some Rail else None) ≡ None → answer ≡ answer_of (if rail then Some edit.Rail else None) → Made
-    by true refused is = absurd (cc)
-    by false allowed is = subst (λ (other : Result (Unit {0}) EditFault). OnOk other Made) is made
+    by : (rail : Bool) → nat_lt node RAILS ≡ rail → answer ≡ answer_of (if rail then Some edit.Rail else None) → Made
+    by true is refused = absurd (grind (arith, nat_tests))
+    by false is allowed = subst (λ (other : Result (Unit {0}) EditFault). OnOk other Made) allowed made
 
 -- a transistor that is added: what its command does
 pub added_does : (session : SessionData) (c : CircuitData) (stage : StageData) (kind : SwitchKind) (strength : Option ℕ) (given : ℕ)

@@ -6,11 +6,12 @@ use Rattle.ternary.specs.Counts.{raised}
 use Rattle.ternary.proofs.CountsLemmas.{raised-more, raised-none}
 use Rattle.unit_step.specs.Machines.{MachineData, IsMarked}
 use Rattle.unit_step.specs.Stepping.{ReadsChange}
+use Rattle.script_lang.specs.declared.command.Command.{Command}
 use Rattle.script_lang.specs.declared.command.Command.TheVariants.{Phase, Cycle}
 use Rattle.group_text.specs.Texts.{GroupTextData}
 use Rattle.cosmos_session.specs.Sessions.{SessionData, HeldSession, places_of}
 use Rattle.cosmos_session.specs.Lines.{Line, Wave, Unmet, Reported}
-use Rattle.cosmos_session.specs.Effects.{IsPhase, AreBeats, with_beat, wave_by, places_in}
+use Rattle.cosmos_session.specs.Effects.{Effect, IsPhase, AreBeats, with_beat, wave_by, places_in}
 use Rattle.cosmos_session.specs.Machines.{FitsIn, IsBuilt, EndsAtRest, MovesMachine, StepsMachine, SettlesMachine, moves_of, placed_of, steps_in}
 use Rattle.cosmos_session.specs.Stages.{Readied, IsSettled, PhaseMoves, BeatsMove, BeatsMoveOn}
 use Rattle.cosmos_session.proofs.MachineLemmas.{StaysPut}
@@ -205,27 +206,24 @@ module _ (old mid new : HeldSession) (asked told : List GroupTextData) (ready : 
         marks = λ k marked. subst (λ (before : List Tern). ReadsChange steps.machine.parts before new.core.state k) state (steps.marks k marked);
       }
 
-  -- a phase after it
-  pub phase-readied : PhaseMoves mid new → IsBuilt new → SettlesMachine old Phase new
-  phase-readied phase built = record {
+  -- phases of a command after it
+  settles-readied : (command : Command) (lines : List Line) → Effect mid.core command new.core lines → IsBuilt new →
+      MovesMachine mid.core.limit mid.machine new.machine lines → SettlesMachine old command new
+  settles-readied command lines effect built moved = record {
     mid = mid.core;
     same = built_same;
-    lines = phase.lines;
-    effect = phase.phase;
+    lines = lines;
+    effect = effect;
     built = built;
-    moves = moves-from mid.core.limit old.core.limit old.machine mid.machine new.machine phase.lines
-        (ap (λ (s : SessionData). s.limit) ready.build.used) counts_moves counts_placed phase.moves;
+    moves = moves-from mid.core.limit old.core.limit old.machine mid.machine new.machine lines
+        (ap (λ (s : SessionData). s.limit) ready.build.used) counts_moves counts_placed moved;
   }
 
-  -- cycles after it
+  -- a phase
+  pub phase-readied : PhaseMoves mid new → IsBuilt new → SettlesMachine old Phase new
+  phase-readied phase built = settles-readied Phase phase.lines phase.phase built phase.moves
+
+  -- cycles
   pub cycle-readied : (times : ℕ) → IsBuilt new → BeatsMove (places_in (places_of mid.core.clocks) times) mid new →
       SettlesMachine old (Cycle times) new
-  cycle-readied times built beats = record {
-    mid = mid.core;
-    same = built_same;
-    lines = beats.lines;
-    effect = beats.beats;
-    built = built;
-    moves = moves-from mid.core.limit old.core.limit old.machine mid.machine new.machine beats.lines
-        (ap (λ (s : SessionData). s.limit) ready.build.used) counts_moves counts_placed beats.moves;
-  }
+  cycle-readied times built beats = settles-readied (Cycle times) beats.lines beats.beats built beats.moves

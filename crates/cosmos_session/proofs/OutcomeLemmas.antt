@@ -15,8 +15,8 @@ use Rattle.cosmos_session.specs.Refusals.{refusal_of}
 use Rattle.cosmos_session.specs.Preparing.{builds, with_present, IsBuild, BuildsIf, Prepares, NamesNode}
 use Rattle.cosmos_session.specs.Lines.{Line, line_text, text_of}
 use Rattle.cosmos_session.specs.Effects.{Effect, places_in}
-use Rattle.cosmos_session.specs.Sinks.{IsSinkFault, refusals_sent}
-use Rattle.cosmos_session.specs.Outcomes.{Does, Performs, DoesPart, Obeys, Sent, TakesBeats}
+use Rattle.cosmos_session.specs.Sinks.{IsSinkFault, refusals_sent, refusals_with}
+use Rattle.cosmos_session.specs.Outcomes.{Does, Performs, DoesPart, Begins, Obeys, Sent, TakesBeats}
 use Rattle.cosmos_session.specs.Stages.{Readied}
 use Rattle.cosmos_session.proofs.SizeLemmas.{told_node}
 
@@ -98,6 +98,16 @@ still_performs old new command text still does = record { mid = old; prepares = 
 
 -- ---- what is obeyed
 
+-- the sink ended a command that was begun: the command is obeyed
+begun_obeys : (old new : HeldSession) (command : Command) (before after : Option (List ℕ)) (asked told : List GroupTextData) (refusals now : ℕ)
+    (fault : ApplyFault) → Begins old command new before after asked told → IsSinkFault fault → now ≡ refusals_with refusals fault →
+    Obeys old command new before after asked told refusals now (Err fault)
+begun_obeys old new command before after asked told refusals now (Refused refusal) begun cause counted = absurd cause
+begun_obeys old new command before after asked told refusals now (GroupNodes node count) begun cause counted = absurd cause
+begun_obeys old new command before after asked told refusals now (GroupSwitches node count) begun cause counted = absurd cause
+begun_obeys old new command before after asked told refusals now WriteFault begun cause counted = (begun, counted)
+begun_obeys old new command before after asked told refusals now NoMemory begun cause counted = inr (begun, counted)
+
 -- the effect of a command was done and its lines were sent, or the sink ended that: the command is obeyed
 sent_obeys : (old new : HeldSession) (mid : SessionData) (command : Command) (lines : List Line) (texts : List GroupTextData) (before after : Option (List ℕ))
     (asked told : List GroupTextData) (refusals now : ℕ) (result : Result (Unit {0}) ApplyFault) → refusal_of mid command ≡ None →
@@ -114,34 +124,16 @@ sent_obeys old new mid command lines texts before after asked told refusals now 
   },
   counted,
 )
-sent_obeys old new mid command lines texts before after asked told refusals now (Err (Refused refusal)) allowed prepares effect done analysed sent cause counted = absurd cause
-sent_obeys old new mid command lines texts before after asked told refusals now (Err (GroupNodes node count)) allowed prepares effect done analysed sent cause counted = absurd cause
-sent_obeys old new mid command lines texts before after asked told refusals now (Err (GroupSwitches node count)) allowed prepares effect done analysed sent cause counted = absurd cause
-sent_obeys old new mid command lines texts before after asked told refusals now (Err WriteFault) allowed prepares effect done analysed sent cause counted = (
-  record {
-    end = new.core;
-    text = text_of lines;
-    texts = texts;
-    performs = record { mid = mid; prepares = prepares; does = does_effect mid new.core command lines allowed effect };
-    written = sent;
-    done = done;
-    analysed = analysed;
-  },
-  counted,
-)
-sent_obeys old new mid command lines texts before after asked told refusals now (Err NoMemory) allowed prepares effect done analysed sent cause counted =
-    inr (
-      record {
-        end = new.core;
-        text = text_of lines;
-        texts = texts;
-        performs = record { mid = mid; prepares = prepares; does = does_effect mid new.core command lines allowed effect };
-        written = sent;
-        done = done;
-        analysed = analysed;
-      },
-      counted,
-    )
+sent_obeys old new mid command lines texts before after asked told refusals now (Err fault) allowed prepares effect done analysed sent cause counted =
+    begun_obeys old new command before after asked told refusals now fault (record {
+      end = new.core;
+      text = text_of lines;
+      texts = texts;
+      performs = record { mid = mid; prepares = prepares; does = does_effect mid new.core command lines allowed effect };
+      written = sent;
+      done = done;
+      analysed = analysed;
+    }) cause counted
 
 -- so it is where nothing is built before it
 pub still_obeys : (old new : HeldSession) (command : Command) (lines : List Line) (before after : Option (List ℕ)) (texts : List GroupTextData)
@@ -179,44 +171,21 @@ cycle_obeys old mid new times before after asked told refusals now (Ok finished)
   },
   counted,
 )
-cycle_obeys old mid new times before after asked told refusals now (Err (Refused refusal)) allowed ready begun cause counted = absurd cause
-cycle_obeys old mid new times before after asked told refusals now (Err (GroupNodes node count)) allowed ready begun cause counted = absurd cause
-cycle_obeys old mid new times before after asked told refusals now (Err (GroupSwitches node count)) allowed ready begun cause counted = absurd cause
-cycle_obeys old mid new times before after asked told refusals now (Err WriteFault) allowed ready begun cause counted = (
-  record {
-    end = begun.end;
-    text = text_of begun.lines;
-    texts = ready.texts;
-    performs = record {
-      mid = mid.core;
-      prepares = ready.build;
-      does = does_effect mid.core begun.end (Cycle times) begun.lines
-          (refusal_of-built old.core mid.core (Cycle times) ready.texts ready.build ∙ allowed) begun.beats;
-    };
-    written = begun.written;
-    done = begun.done;
-    analysed = ready.analysed;
-  },
-  counted,
-)
-cycle_obeys old mid new times before after asked told refusals now (Err NoMemory) allowed ready begun cause counted =
-    inr (
-      record {
-        end = begun.end;
-        text = text_of begun.lines;
-        texts = ready.texts;
-        performs = record {
-          mid = mid.core;
-          prepares = ready.build;
-          does = does_effect mid.core begun.end (Cycle times) begun.lines
-              (refusal_of-built old.core mid.core (Cycle times) ready.texts ready.build ∙ allowed) begun.beats;
-        };
-        written = begun.written;
-        done = begun.done;
-        analysed = ready.analysed;
-      },
-      counted,
-    )
+cycle_obeys old mid new times before after asked told refusals now (Err fault) allowed ready begun cause counted =
+    begun_obeys old new (Cycle times) before after asked told refusals now fault (record {
+      end = begun.end;
+      text = text_of begun.lines;
+      texts = ready.texts;
+      performs = record {
+        mid = mid.core;
+        prepares = ready.build;
+        does = does_effect mid.core begun.end (Cycle times) begun.lines
+            (refusal_of-built old.core mid.core (Cycle times) ready.texts ready.build ∙ allowed) begun.beats;
+      };
+      written = begun.written;
+      done = begun.done;
+      analysed = ready.analysed;
+    }) cause counted
 
 -- ---- faults
 

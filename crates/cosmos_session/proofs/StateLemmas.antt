@@ -18,6 +18,7 @@ use Rattle.path_meaning.proofs.UniqueSteps.{response_is_unique}
 use Rattle.netlist.specs.Names.{node_of}
 use Rattle.netlist.specs.Circuits.{CircuitData, IsCircuit}
 use Rattle.netlist.specs.Edits.{node_named}
+use Rattle.cosmos_session.specs.declared.fault.Refusal.{Refusal}
 use Rattle.cosmos_session.specs.declared.fault.Refusal.TheVariants.{Rail, NotInput, NotStore}
 use Rattle.cosmos_session.specs.Sessions.{ClockData}
 use Rattle.cosmos_session.specs.Refusals.{first_refusal, set_refusal, charge_refusal, is_input}
@@ -64,23 +65,23 @@ sound-set state node value past sound = record {
   vdd = get_or-set_other state node VDD value Zero (λ same. absurd (omega arith)) ∙ sound.vdd;
 }
 
--- a node that is set isn't a rail
-past_set : (c : CircuitData) (found : Option ℕ) → set_refusal c found ≡ None → RAILS ≤ unwrap_or found 0
-past_set c None none = absurd (cc)
-past_set c (Some node) none = by (nat_lt node RAILS) refl none
+-- a node that isn't refused as a rail is none
+pub past_rails : (node : ℕ) (other : Option Refusal) → (if nat_lt node RAILS then Some Rail else other) ≡ None → RAILS ≤ node
+past_rails node other none = by (nat_lt node RAILS) refl none
   where
-    by : (rail : Bool) → nat_lt node RAILS ≡ rail → (if rail then Some Rail else (if is_input c node then None else Some NotInput)) ≡ None → RAILS ≤ node
+    by : (rail : Bool) → nat_lt node RAILS ≡ rail → (if rail then Some Rail else other) ≡ None → RAILS ≤ node
     by true is none = absurd (cc)
     by false is none = grind (arith, nat_tests)
 
--- nor is one that is charged
+-- nor is one that is set
+past_set : (c : CircuitData) (found : Option ℕ) → set_refusal c found ≡ None → RAILS ≤ unwrap_or found 0
+past_set c None none = absurd (cc)
+past_set c (Some node) none = past_rails node (if is_input c node then None else Some NotInput) none
+
+-- nor one that is charged
 past_charged : (c : CircuitData) (found : Option ℕ) → charge_refusal c found ≡ None → RAILS ≤ unwrap_or found 0
 past_charged c None none = absurd (cc)
-past_charged c (Some node) none = by (nat_lt node RAILS) refl none
-  where
-    by : (rail : Bool) → nat_lt node RAILS ≡ rail → (if rail then Some Rail else (if is_input c node then Some NotStore else None)) ≡ None → RAILS ≤ node
-    by true is none = absurd (cc)
-    by false is none = grind (arith, nat_tests)
+past_charged c (Some node) none = past_rails node (if is_input c node then Some NotStore else None) none
 
 -- so are all of a list that is set
 pub set_past : {V : Type 0} (c : CircuitData) (list : List (List ℕ × V)) → first_refusal (λ item. set_refusal c (node_of c.names item.0)) list ≡ None →

@@ -6,17 +6,8 @@ use Rattle.group_analysis.specs.Using.{used_texts}
 use Rattle.unit_step.specs.Machines.{MachineData}
 use Rattle.netlist.specs.Circuits.{CircuitData}
 use Rattle.cosmos_session.specs.Sessions.{HeldSession, ClockData}
-use Rattle.cosmos_session.specs.Machines.{AreAmong, kept_in, last_in}
+use Rattle.cosmos_session.specs.Machines.{AreAmong, IsHeldSession, kept_in, last_in}
 use Rattle.cosmos_session.specs.Stages.{StageData, AssignsIn, TicksIn, MovesBy}
-
--- what is kept, with the texts of the last build in front, is the same
-pub kept_as_before : (old new : Option MachineData) (kept : List GroupTextData) → last_in new ≡ last_in old → kept_in new kept ≡ kept_in old kept
-kept_as_before old new kept same = ap (λ (last : List GroupTextData). used_texts last kept) same
-
--- and these texts are among it
-pub among_as_before : (old new : Option MachineData) (kept : List GroupTextData) → last_in new ≡ last_in old → AreAmong (last_in old) kept →
-    AreAmong (last_in new) kept
-among_as_before old new kept same among = subst (λ (last : List GroupTextData). AreAmong last kept) (sym same) among
 
 -- the session that keeps these texts
 abbrev pub keeping : HeldSession → List GroupTextData → HeldSession
@@ -36,6 +27,22 @@ pub keeps_bound : (P : HeldSession → Type 0) (session : HeldSession) (bound : 
     kept ≡ session.core.kept → P session → P (bounding session bound kept)
 keeps_bound P session bound kept limit same holds =
     subst (λ (b : Option ℕ). P (bounding session b kept)) (sym limit) (keeps_same P session kept same holds)
+
+-- a session whose machine's last build is the one from before, and which keeps what its table had in front of which these texts stood
+module _ (session : HeldSession) (old : Option MachineData) (table : List GroupTextData) (same : last_in session.machine ≡ last_in old)
+    (stood : session.core.kept ≡ kept_in old table) where
+  -- what holds of it holds where its table is read anew
+  pub staying : (P : HeldSession → Type 0) → P session → P (keeping session (kept_in session.machine table))
+  staying P holds =
+      keeps_same P session (kept_in session.machine table) (ap (λ (last : List GroupTextData). used_texts last table) same ∙ sym stood) holds
+
+  -- and the texts are among it still
+  pub held-staying : AreAmong (last_in old) table → IsHeldSession session →
+      IsHeldSession (keeping session (kept_in session.machine table)) × AreAmong (last_in session.machine) table
+  held-staying among held = (
+    staying IsHeldSession held,
+    subst (λ (last : List GroupTextData). AreAmong last table) (sym same) among,
+  )
 
 -- the texts of the last build stay where the machine moves
 pub last-moved : (Leads : MachineData → MachineData → Type 0) (old new : StageData) (moves : MovesBy Leads old new) →

@@ -4,6 +4,7 @@ pub mod Preparing
 pub mod Lines
 pub mod Effects
 pub mod Sinks
+pub mod Switches
 pub mod Machines
 pub mod Outcomes
 pub mod Stages

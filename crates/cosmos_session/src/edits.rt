@@ -1,16 +1,25 @@
 //! Edits of the circuit's transistors.
 
-ghost use Rattle.std.specs.Prelude.{OnOk};
+ghost use Rattle.std.specs.Prelude.{◌≡◌, OnOk, OnErr};
+ghost use Rattle.netlist.specs.Edits.{answer_of, with_place};
 ghost use Rattle.script_lang.specs.declared.command.Command.TheVariants as asked;
 ghost use Rattle.cosmos_session.specs.Machines.{EditsMachine};
 ghost use Rattle.cosmos_session.specs.Outcomes.{Quietly};
+ghost use Rattle.cosmos_session.specs.Switches.{place_after, edit_fault, command_of};
 
 use crate::fault::ApplyFault;
 use crate::regrouping::{change_at, change_of};
 use crate::session::Session;
-use netlist::usual_strength;
+use netlist::{Circuit, EditFault, usual_strength};
 use path_meaning::SwitchKind;
 use script_lang::Name;
+
+// An edit of a transistor that leaves its terminals: it is removed, or gets a strength or a kind.
+pub(crate) enum SwitchEdit {
+    Removal,
+    Strength(u64),
+    Kind(SwitchKind),
+}
 
 impl Session {
     /// `add`: adds a transistor; each node that its names make is X.
@@ -44,15 +53,7 @@ impl Session {
         ensures quiet { Quietly self.old (asked.Del number) self.new result }
         ensures machine { OnOk result (EditsMachine self.old self.new) }
     {
-        let change = change_of(self.circuit.graph(), number);
-        match self.circuit.del(number) {
-            Ok(()) => {
-                self.stage
-                    .edit(self.alloc, self.circuit.graph(), &change, &mut self.kept);
-                Ok(())
-            }
-            Err(fault) => Err(ApplyFault::of_edit(fault)),
-        }
+        self.edit_switch(number, SwitchEdit::Removal)
     }
 
     /// `strength`: sets the strength of the transistor with this number.
@@ -60,15 +61,7 @@ impl Session {
         ensures quiet { Quietly self.old (asked.Strength number strength) self.new result }
         ensures machine { OnOk result (EditsMachine self.old self.new) }
     {
-        let change = change_of(self.circuit.graph(), number);
-        match self.circuit.set_strength(number, strength) {
-            Ok(()) => {
-                self.stage
-                    .edit(self.alloc, self.circuit.graph(), &change, &mut self.kept);
-                Ok(())
-            }
-            Err(fault) => Err(ApplyFault::of_edit(fault)),
-        }
+        self.edit_switch(number, SwitchEdit::Strength(strength))
     }
 
     /// `type`: sets the kind of the transistor with this number.
@@ -76,8 +69,16 @@ impl Session {
         ensures quiet { Quietly self.old (asked.Kind number kind) self.new result }
         ensures machine { OnOk result (EditsMachine self.old self.new) }
     {
+        self.edit_switch(number, SwitchEdit::Kind(kind))
+    }
+
+    // Does an edit of the transistor with this number that leaves its terminals.
+    fn edit_switch(&mut self, number: u64, edit: SwitchEdit) -> Result<(), ApplyFault>
+        ensures quiet { Quietly self.old (command_of number edit) self.new result }
+        ensures machine { OnOk result (EditsMachine self.old self.new) }
+    {
         let change = change_of(self.circuit.graph(), number);
-        match self.circuit.set_kind(number, kind) {
+        match edited(&mut self.circuit, number, edit) {
             Ok(()) => {
                 self.stage
                     .edit(self.alloc, self.circuit.graph(), &change, &mut self.kept);
@@ -110,5 +111,18 @@ impl Session {
             }
             Err(fault) => Err(ApplyFault::of_edit(fault)),
         }
+    }
+}
+
+// Does an edit of a circuit's transistor with this number.
+fn edited(circuit: &mut Circuit, number: u64, edit: SwitchEdit) -> Result<(), EditFault>
+    ensures answer { result ≡ answer_of (edit_fault circuit.old number edit) }
+    ensures ok { OnOk result (circuit.new ≡ with_place circuit.old number (place_after circuit.old number edit)) }
+    ensures err { OnErr result (circuit.new ≡ circuit.old) }
+{
+    match edit {
+        SwitchEdit::Removal => circuit.del(number),
+        SwitchEdit::Strength(strength) => circuit.set_strength(number, strength),
+        SwitchEdit::Kind(kind) => circuit.set_kind(number, kind),
     }
 }

@@ -1,7 +1,7 @@
 //! The commands that write nothing.
 
 ghost use Rattle.std.specs.Prelude.{◌≡◌, ◌<◌, ◌≤◌, ◌++◌, None, is_some, true, map, length, slice_set, vec_len, vec_capacity, ◌+◌, All, IfOk, IfSome, OnOk};
-ghost use Rattle.path_meaning.specs.Graphs.{nodes};
+ghost use Rattle.path_meaning.specs.Graphs.{nodes, level_of};
 ghost use Rattle.netlist.specs.Names.{node_of};
 ghost use Rattle.netlist.specs.Circuits.{IsCircuit};
 ghost use Rattle.netlist.specs.Edits.{node_named, with_input};
@@ -10,7 +10,7 @@ ghost use Rattle.path_meaning.specs.declared.TheConstants.{RAILS};
 ghost use Rattle.script_lang.specs.Forms.{AreBeats, IsTimes};
 ghost use Rattle.cosmos_session.specs.Refusals as refusal;
 ghost use Rattle.cosmos_session.specs.Effects as effect;
-ghost use Rattle.cosmos_session.specs.Machines.{EditsMachine, IsMachineAfter};
+ghost use Rattle.cosmos_session.specs.Machines.{EditsMachine, IsMachineAfter, PlacesIn, placed_of};
 ghost use Rattle.cosmos_session.specs.Stages.{PutsIn, AssignsIn};
 ghost use Rattle.cosmos_session.specs.Outcomes.{Quietly};
 
@@ -23,6 +23,7 @@ use crate::{MOST_WATCHED, refusals};
 use netlist::{Circuit, RAILS};
 use script_lang::{AssignList, ClockList, Name, NameList, StateList};
 use std::alloc::Global;
+use strength_order::INPUT_LEVEL;
 use ternary::{NoMemory, Tern};
 
 impl Session {
@@ -55,9 +56,9 @@ impl Session {
         ensures made { self.new.core ≡ record self.old.core { circuit = with_input self.old.core.circuit (node_named self.old.core.circuit name.now) } }
         ensures machine { EditsMachine self.old self.new }
     {
-        let node = self.circuit.find(name).unwrap();
+        let node = found_past_rails(&self.circuit, name);
         let change = change_of_level(self.circuit.graph(), node);
-        let _made = self.circuit.make_input(node);
+        put_input(&mut self.circuit, node);
         self.stage
             .edit(self.alloc, self.circuit.graph(), &change, &mut self.kept);
     }
@@ -90,7 +91,7 @@ impl Session {
         if let Some(refusal) = refusals::set_refusal(&self.circuit, list.items()) {
             return Err(ApplyFault::Refused(refusal));
         }
-        assign(&self.circuit, list.items(), &mut self.stage);
+        self.put_assigned(list.items());
         Ok(())
     }
 
@@ -102,8 +103,20 @@ impl Session {
         if let Some(refusal) = refusals::charge_refusal(&self.circuit, list.items()) {
             return Err(ApplyFault::Refused(refusal));
         }
-        assign(&self.circuit, list.items(), &mut self.stage);
+        self.put_assigned(list.items());
         Ok(())
+    }
+
+    // Gives these named nodes, which are in use and no rails, their states, from left to right.
+    fn put_assigned(&mut self, list: &[(Name, Tern)])
+        requires known { All (λ item. is_some (node_of self.old.core.circuit.names item.0) ≡ true) list.now }
+        requires past { All (λ item. RAILS ≤ node_named self.old.core.circuit item.0) list.now }
+        ensures state { self.new.core ≡ record self.old.core { state = effect.assigned self.old.core.circuit self.old.core.state list.now } }
+        ensures machine { PlacesIn self.old.core.circuit (map (λ item. item.0) list.now) self.old.machine self.new.machine }
+        ensures unplaced { All (λ name. level_of self.old.core.circuit.graph (node_named self.old.core.circuit name) ≡ INPUT_LEVEL) (map (λ item. item.0) list.now)
+            → placed_of self.new.machine ≡ placed_of self.old.machine }
+    {
+        assign(&self.circuit, list, &mut self.stage);
     }
 
     /// `watch`: appends the named nodes to the watch list.
@@ -153,6 +166,25 @@ impl Session {
         self.clocks = named_clocks(self.alloc, &self.circuit, list.items())?;
         Ok(())
     }
+}
+
+// The node of a name, which is in use and no rail's.
+fn found_past_rails(circuit: &Circuit, name: &[u8]) -> usize
+    requires { refusal.rail_refusal (node_of circuit.now.names name.now) ≡ None }
+    ensures node { result ≡ node_named circuit.now name.now }
+    ensures past { RAILS ≤ result }
+    ensures within { result < nodes circuit.now.graph }
+{
+    circuit.find(name).unwrap()
+}
+
+// Makes a node, which is no rail, an input node.
+fn put_input(circuit: &mut Circuit, node: usize)
+    requires within { node < nodes circuit.old.graph }
+    requires past { RAILS ≤ node }
+    ensures { circuit.new ≡ with_input circuit.old node }
+{
+    let _made = circuit.make_input(node);
 }
 
 // Gives these named nodes, which are in use and no rails, their states, from left to right.

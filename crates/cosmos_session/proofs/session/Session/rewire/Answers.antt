@@ -1,56 +1,41 @@
-use Rattle.std.proofs.Common.{◌-◌, [], ap, ◌∙◌}
-use Rattle.path_meaning.specs.Graphs.{GraphData}
+use Rattle.std.proofs.Common.{refl}
 use Rattle.netlist.specs.Circuits.{CircuitData}
 use Rattle.analysis_cache.specs.Keeping.{texts_of}
-use Rattle.netlist.proofs.EditLemmas.{nodes-with_wires}
 use Rattle.script_lang.specs.declared.command.Command.TheVariants.{Wire}
-use Rattle.cosmos_session.specs.Sessions.{HeldSession}
-use Rattle.cosmos_session.specs.Machines.{IsHeldSession, kept_in}
-use Rattle.cosmos_session.specs.Outcomes.{Does}
-use Rattle.cosmos_session.specs.Stages.{before_place}
+use Rattle.cosmos_session.specs.Machines.{kept_in}
 use Rattle.cosmos_session.specs.contracts.session.Session.{the_view}
-use Rattle.cosmos_session.proofs.StayingLemmas.{keeps_bound}
-use Rattle.cosmos_session.proofs.UndoLemmas.{Undoes, undoes-by, undoes-with_wires}
-use Rattle.cosmos_session.proofs.EditLemmas.{edited, covers-before, held-edited, rewired_does}
+use Rattle.cosmos_session.proofs.UndoLemmas.{undoes-wires}
+use Rattle.cosmos_session.proofs.EditLemmas.{covers-before, held-told, does-told, rewired_does}
 use Rattle.cosmos_session.proofs.session.Session.rewire.Goals as goal
 
 pub edit-requires-clause-covers : goal.edit-requires-clause-covers
 edit-requires-clause-covers c =
     let session = the_view c.self.inside in
     let circuit : CircuitData = c.rewire.new.self in
-    let change = c.change_of-change.result in
-    let undoes : Undoes circuit.graph session.core.circuit.graph change =
-    undoes-by session.core.circuit circuit change c.in-Ok.ensures.ok
-    (c.change_of-change.ensures ∙ ap (λ (g : GraphData). before_place g (c.args.number - 1)) c.graph.ensures.value)
-    (undoes-with_wires session.core.circuit c.args.number c.items-gate.result.now c.items-source.result.now c.items-drain.result.now c.self.invariant.0.core.ready.netlist) in
-    rw (c.graph-in-Ok.ensures.value, c.reserve.ensures.machine) (covers-before session circuit change undoes c.self.invariant.0)
+    rw (c.graph-in-Ok.ensures.value, c.reserve.ensures.machine) (covers-before session circuit c.change_of-change.result
+    (undoes-wires session.core.circuit circuit _ _ c.self.invariant.0.core.ready.netlist c.graph.ensures.value c.args.number
+    c.items-gate.result.now c.items-source.result.now c.items-drain.result.now c.change_of-change.ensures c.in-Ok.ensures.ok)
+    c.self.invariant.0)
 
 pub edit-requires-clause-wired : goal.edit-requires-clause-wired
 edit-requires-clause-wired c =
     let session = the_view c.self.inside in
-    let circuit : CircuitData = c.rewire.new.self in
-    let change = c.change_of-change.result in
-    let undoes : Undoes circuit.graph session.core.circuit.graph change =
-    undoes-by session.core.circuit circuit change c.in-Ok.ensures.ok
-    (c.change_of-change.ensures ∙ ap (λ (g : GraphData). before_place g (c.args.number - 1)) c.graph.ensures.value)
-    (undoes-with_wires session.core.circuit c.args.number c.items-gate.result.now c.items-source.result.now c.items-drain.result.now c.self.invariant.0.core.ready.netlist) in
+    let undoes =
+    undoes-wires session.core.circuit c.rewire.new.self _ _ c.self.invariant.0.core.ready.netlist c.graph.ensures.value c.args.number
+    c.items-gate.result.now c.items-source.result.now c.items-drain.result.now c.change_of-change.ensures c.in-Ok.ensures.ok in
     rw c.graph-in-Ok.ensures.value undoes.wired
 
 pub invariant_of-self-in-Ok : goal.invariant_of-self-in-Ok
 invariant_of-self-in-Ok c =
     let session = the_view c.self.inside in
     let circuit : CircuitData = c.rewire.new.self in
-    let change = c.change_of-change.result in
-    let undoes : Undoes circuit.graph session.core.circuit.graph change =
-    undoes-by session.core.circuit circuit change c.in-Ok.ensures.ok
-    (c.change_of-change.ensures ∙ ap (λ (g : GraphData). before_place g (c.args.number - 1)) c.graph.ensures.value)
-    (undoes-with_wires session.core.circuit c.args.number c.items-gate.result.now c.items-source.result.now c.items-drain.result.now c.self.invariant.0.core.ready.netlist) in (
-      keeps_bound IsHeldSession (edited session circuit c.edit.new.self) c.edit.new.kept.bound
-          (kept_in c.edit.new.self.machine (texts_of c.edit.new.kept)) c.edit.ensures.bound (rw c.reserve.ensures.machine at c.edit.ensures.kept)
-          (held-edited session circuit change undoes c.self.invariant.0 c.edit.new.self c.graph-in-Ok.ensures.netlist
-          (rw c.in-Ok.ensures.ok (nodes-with_wires session.core.circuit c.args.number c.items-gate.result.now c.items-source.result.now c.items-drain.result.now))
-          (rw (c.graph-in-Ok.ensures.value, c.reserve.ensures.state) at c.edit.ensures.state)
-          (rw (c.graph-in-Ok.ensures.value, c.reserve.ensures.machine) at c.edit.ensures.machine)),
+    let undoes =
+    undoes-wires session.core.circuit circuit _ _ c.self.invariant.0.core.ready.netlist c.graph.ensures.value c.args.number
+    c.items-gate.result.now c.items-source.result.now c.items-drain.result.now c.change_of-change.ensures c.in-Ok.ensures.ok in (
+      held-told session circuit c.change_of-change.result undoes c.self.invariant.0 _ c.graph-in-Ok.ensures.value c.graph-in-Ok.ensures.netlist
+          c.reserve.new.self c.edit.new.self c.reserve.ensures.state c.reserve.ensures.machine c.edit.ensures.state c.edit.ensures.machine
+          c.edit.new.kept.bound (texts_of c.self.inside.kept) (kept_in c.edit.new.self.machine (texts_of c.edit.new.kept)) c.edit.ensures.bound refl
+          c.edit.ensures.kept,
       c.edit.ensures.last,
     )
 
@@ -59,9 +44,9 @@ returns-in-Ok-clause-quiet c =
     let session = the_view c.self.inside in
     let circuit : CircuitData = c.rewire.new.self in
     rw (← c.self.view_is)
-    (keeps_bound (λ (new : HeldSession). Does session.core (Wire c.args.number c.args.gate.now c.args.source.now c.args.drain.now) new.core [])
-    (edited session circuit c.edit.new.self) c.edit.new.kept.bound (kept_in c.edit.new.self.machine (texts_of c.edit.new.kept)) c.edit.ensures.bound
-    (rw c.reserve.ensures.machine at c.edit.ensures.kept)
+    (does-told session circuit c.reserve.new.self.machine c.edit.new.self c.edit.new.kept.bound (texts_of c.self.inside.kept)
+    (kept_in c.edit.new.self.machine (texts_of c.edit.new.kept)) c.reserve.ensures.machine c.edit.ensures.bound refl c.edit.ensures.kept
+    (Wire c.args.number c.args.gate.now c.args.source.now c.args.drain.now)
     (rewired_does session.core circuit c.edit.new.self c.args.number c.args.gate.now c.args.source.now c.args.drain.now
     (rw (c.items-gate.ensures, c.items-source.ensures, c.items-drain.ensures) at c.in-Ok.ensures.allowed)
     (rw (c.items-gate.ensures, c.items-source.ensures, c.items-drain.ensures) at c.in-Ok.ensures.ok)

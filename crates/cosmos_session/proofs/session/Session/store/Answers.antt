@@ -1,50 +1,39 @@
-use Rattle.std.proofs.Common.{ap, ◌∙◌}
-use Rattle.path_meaning.specs.Graphs.{GraphData}
+use Rattle.std.proofs.Common.{refl}
 use Rattle.netlist.specs.Circuits.{CircuitData}
 use Rattle.analysis_cache.specs.Keeping.{texts_of}
-use Rattle.cosmos_session.specs.Machines.{IsHeldSession, kept_in}
-use Rattle.cosmos_session.specs.Stages.{before_level}
+use Rattle.cosmos_session.specs.Machines.{kept_in}
 use Rattle.cosmos_session.specs.contracts.session.Session.{the_view}
-use Rattle.cosmos_session.proofs.StayingLemmas.{keeps_bound}
-use Rattle.cosmos_session.proofs.UndoLemmas.{Undoes, undoes-by, undoes-with_level, nodes-with_level}
-use Rattle.cosmos_session.proofs.EditLemmas.{edited, covers-before, held-edited}
+use Rattle.cosmos_session.proofs.UndoLemmas.{undoes-level}
+use Rattle.cosmos_session.proofs.EditLemmas.{covers-before, held-told}
 use Rattle.cosmos_session.proofs.session.Session.store.Goals as goal
 
 pub edit-requires-clause-covers : goal.edit-requires-clause-covers
 edit-requires-clause-covers c =
     let session = the_view c.self.inside in
     let circuit : CircuitData = c.make_store.new.self in
-    let change = c.change_of_level-change.result in
-    let undoes : Undoes circuit.graph session.core.circuit.graph change =
-    undoes-by session.core.circuit circuit change c.in-Ok.ensures.ok
-    (c.change_of_level-change.ensures ∙ ap (λ (g : GraphData). before_level g c.in-Some.node) c.graph.ensures.value)
-    (undoes-with_level session.core.circuit c.in-Some.node _ c.self.invariant.0.core.ready.netlist) in
-    rw c.graph-in-Ok.ensures.value (covers-before session circuit change undoes c.self.invariant.0)
+    rw c.graph-in-Ok.ensures.value (covers-before session circuit c.change_of_level-change.result
+    (undoes-level session.core.circuit circuit _ _ c.self.invariant.0.core.ready.netlist c.graph.ensures.value c.in-Some.node _ c.change_of_level-change.ensures
+    c.in-Ok.ensures.ok)
+    c.self.invariant.0)
 
 pub edit-requires-clause-wired : goal.edit-requires-clause-wired
 edit-requires-clause-wired c =
     let session = the_view c.self.inside in
-    let circuit : CircuitData = c.make_store.new.self in
-    let change = c.change_of_level-change.result in
-    let undoes : Undoes circuit.graph session.core.circuit.graph change =
-    undoes-by session.core.circuit circuit change c.in-Ok.ensures.ok
-    (c.change_of_level-change.ensures ∙ ap (λ (g : GraphData). before_level g c.in-Some.node) c.graph.ensures.value)
-    (undoes-with_level session.core.circuit c.in-Some.node _ c.self.invariant.0.core.ready.netlist) in
+    let undoes =
+    undoes-level session.core.circuit c.make_store.new.self _ _ c.self.invariant.0.core.ready.netlist c.graph.ensures.value c.in-Some.node _ c.change_of_level-change.ensures
+    c.in-Ok.ensures.ok in
     rw c.graph-in-Ok.ensures.value undoes.wired
 
 pub invariant_of-self : goal.invariant_of-self
 invariant_of-self c =
     let session = the_view c.self.inside in
     let circuit : CircuitData = c.make_store.new.self in
-    let change = c.change_of_level-change.result in
-    let undoes : Undoes circuit.graph session.core.circuit.graph change =
-    undoes-by session.core.circuit circuit change c.in-Ok.ensures.ok
-    (c.change_of_level-change.ensures ∙ ap (λ (g : GraphData). before_level g c.in-Some.node) c.graph.ensures.value)
-    (undoes-with_level session.core.circuit c.in-Some.node _ c.self.invariant.0.core.ready.netlist) in (
-      keeps_bound IsHeldSession (edited session circuit c.edit.new.self) c.edit.new.kept.bound
-          (kept_in c.edit.new.self.machine (texts_of c.edit.new.kept)) c.edit.ensures.bound c.edit.ensures.kept
-          (held-edited session circuit change undoes c.self.invariant.0 c.edit.new.self c.graph-in-Ok.ensures.netlist
-          (rw c.in-Ok.ensures.ok (nodes-with_level session.core.circuit c.in-Some.node _)) (rw c.graph-in-Ok.ensures.value at c.edit.ensures.state)
-          (rw c.graph-in-Ok.ensures.value at c.edit.ensures.machine)),
+    let undoes =
+    undoes-level session.core.circuit circuit _ _ c.self.invariant.0.core.ready.netlist c.graph.ensures.value c.in-Some.node _ c.change_of_level-change.ensures
+    c.in-Ok.ensures.ok in (
+      held-told session circuit c.change_of_level-change.result undoes c.self.invariant.0 _ c.graph-in-Ok.ensures.value c.graph-in-Ok.ensures.netlist
+          c.self.inside.stage c.edit.new.self refl refl c.edit.ensures.state c.edit.ensures.machine
+          c.edit.new.kept.bound (texts_of c.self.inside.kept) (kept_in c.edit.new.self.machine (texts_of c.edit.new.kept)) c.edit.ensures.bound refl
+          c.edit.ensures.kept,
       c.edit.ensures.last,
     )

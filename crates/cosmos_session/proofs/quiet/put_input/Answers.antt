@@ -1,0 +1,6 @@
+use Rattle.cosmos_session.proofs.EditLemmas.{input_made}
+use Rattle.cosmos_session.proofs.quiet.put_input.Goals as goal
+
+pub returns : goal.returns
+returns c =
+    input_made c.args.node c.make_input-made.result _ c.requires.past c.make_input-made.ensures.answer c.make_input-made.ensures.ok
