@@ -1,7 +1,7 @@
 -- The lines of a command can be read again, and the data stay bounded.
 -- The plan: a phase has at most as many steps as its limit and the nodes are together, and both stay small: a limit comes from a
 -- formed command, and no edit makes too many nodes.
-use Rattle.std.proofs.Common.{◌≡◌, ℕ, zero, suc, ◌<◌, ◌≤◌, ◌^◌, ◌&&◌, Bool, true, false, List, [], ◌∷◌, length, All, Option, Some, None, if◌then◌else◌, nat_lt, nat_le, is_some, inl, inr, refl, sym, subst, ◌∙◌, arith}
+use Rattle.std.proofs.Common.{◌≡◌, ℕ, zero, suc, ◌<◌, ◌≤◌, ◌^◌, Bool, true, false, List, [], ◌∷◌, length, All, Some, None, if◌then◌else◌, nat_lt, nat_le, is_some, inl, inr, refl, sym, subst, arith}
 use Rattle.std.proofs.lemmas.Bool.Decides.{nat_tests}
 use Rattle.std.proofs.lemmas.List.{length-set}
 use Rattle.std.proofs.lemmas.List.Elements.{All-nil, All-cons, All-head, All-tail, All-append}
@@ -15,9 +15,8 @@ use Rattle.oscillation_x.proofs.KnownStates.{known_storage, known-count_by}
 use Rattle.oscillation_x.proofs.SettlingLemmas.{joined_count, storage-falls}
 use Rattle.line_words.specs.Visible.{IsVisibleName}
 use Rattle.netlist.specs.Circuits.{CircuitData}
-use Rattle.netlist.specs.Edits.{node_named, with_nodes, add_fault, wire_fault, is_strength, switch_numbered, limit_fault, count_fault}
+use Rattle.netlist.specs.Edits.{node_named, with_nodes, add_fault, wire_fault, is_strength, switch_numbered}
 use Rattle.netlist.specs.Faults.{MakingFault as making}
-use Rattle.netlist.specs.declared.fault.EditFault.{EditFault}
 use Rattle.netlist.specs.declared.fault.EditFault.TheVariants as edit
 use Rattle.netlist.specs.declared.TheConstants.{MOST_NODES, MOST_SWITCHES}
 use Rattle.group_text.specs.Texts.{GroupTextData}
@@ -25,10 +24,10 @@ use Rattle.script_lang.specs.declared.TheConstants.{MOST_TIMES}
 use Rattle.script_lang.specs.declared.command.Command.{Command}
 use Rattle.script_lang.specs.declared.command.Command.TheVariants.{Input, Store, Set, Charge, Watch, Limit, Step, Phase, Clock, Cycle, Expect, Add, Del, Strength, Kind, Wire, Report, Keep}
 use Rattle.script_lang.specs.Forms.{IsFormed}
-use Rattle.cosmos_session.specs.Sessions.{SessionData, IsReady, places_of}
+use Rattle.cosmos_session.specs.Sessions.{SessionData, places_of}
 use Rattle.cosmos_session.specs.Refusals.{refusal_of, making_refusal, edit_refusal, strength_for}
 use Rattle.cosmos_session.specs.Lines.{Line}
-use Rattle.cosmos_session.specs.Effects.{Effect, IsPhase, AreBeats, with_beat, with_inputs, is_state, unmet_lines, places_in, one_more}
+use Rattle.cosmos_session.specs.Effects.{Effect, IsPhase, AreBeats, with_beat, is_state, unmet_lines, places_in, one_more}
 use Rattle.cosmos_session.specs.Preparing.{builds, BuildsIf}
 use Rattle.cosmos_session.specs.Outcomes.{Does, Performs}
 use Rattle.cosmos_session.specs.Bounds.{IsBounded, IsReadable}
@@ -64,8 +63,7 @@ phase_small session new lines bounded phase =
     let g = session.circuit.graph in
     let first = stepping_few g session.limit session.state settles.first settles.mid settles.stepping in
     let second = joining_low g bounded.ready.netlist.wired settles.mid settles.second phase.next settles.joining in
-    let small : one_more session.count < 2 ^ 64 = omega arith in
-    (
+    let small : one_more session.count < 2 ^ 64 = omega arith in (
       subst (λ (now : SessionData). now.count < 2 ^ 64) (sym phase.moved) small,
       omega (arith, first, second, bounded.few, bounded.limit, settles.total),
     )

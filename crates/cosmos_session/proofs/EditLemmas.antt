@@ -1,8 +1,8 @@
 -- A session after an edit of its circuit is one still, and the edit is answered by its refusal.
 -- The plan: edits of switches keep the nodes, those that make names add some, whose states are X; so what speaks of nodes holds as before. The
 -- machine covered the graph before, and covers the graph after.
-use Rattle.std.proofs.Common.{◌≡◌, ℕ, ◌+◌, ◌-◌, ◌<◌, ◌≤◌, Bool, true, false, List, [], ◌∷◌, ◌++◌, length, replicate, Option, None, Some, Result, Ok, Err, IfSome, OnOk, is_some, nat_lt, nat_le, refl, sym, ap, subst, ◌∙◌, arith, length-append, append-nil}
-use Rattle.std.specs.Prelude.{if◌then◌else◌}
+use Rattle.std.proofs.Common.{◌≡◌, ℕ, ◌+◌, ◌-◌, ◌<◌, ◌≤◌, Bool, true, false, List, [], ◌∷◌, ◌++◌, length, replicate, Option, None, Some, Result, Ok, Err, IfSome, OnOk, is_some, nat_lt, nat_le, refl, sym, ap, subst, ◌∙◌, inl, inr, arith, length-append, append-nil}
+use Rattle.std.specs.Prelude.{◌⊎◌, if◌then◌else◌}
 use Rattle.std.proofs.lemmas.List.{length-replicate, get_or_append_left}
 use Rattle.std.proofs.lemmas.List.Elements.{All-weaker}
 use Rattle.std.proofs.lemmas.Bool.Decides.{nat_tests}
@@ -22,7 +22,7 @@ use Rattle.unit_step.proofs.KeptLemmas.{edits_keep_texts}
 use Rattle.netlist.specs.declared.TheConstants.{MOST_NODES, MOST_SWITCHES}
 use Rattle.netlist.specs.declared.fault.EditFault.{EditFault}
 use Rattle.netlist.specs.declared.fault.EditFault.TheVariants as edit
-use Rattle.netlist.specs.Faults.{MakingFault}
+use Rattle.netlist.specs.Faults.{MakingFault, IsAnswered}
 use Rattle.netlist.specs.Names.{node_of}
 use Rattle.netlist.specs.Circuits.{CircuitData, IsCircuit}
 use Rattle.netlist.specs.Edits.{answer_of, is_strength, add_fault, rail_fault, strength_fault, switch_numbered, wire_fault, with_node, with_nodes, with_new_node, with_transistor, with_wires, with_place}
@@ -30,7 +30,7 @@ use Rattle.script_lang.specs.declared.command.Command.{Command}
 use Rattle.script_lang.specs.declared.command.Command.TheVariants.{Add, Wire}
 use Rattle.cosmos_session.specs.declared.edits.SwitchEdit.{SwitchEdit}
 use Rattle.cosmos_session.specs.declared.edits.SwitchEdit.TheVariants.{Removal, Strength, Kind}
-use Rattle.cosmos_session.specs.declared.fault.Refusal.TheVariants.{Rail}
+use Rattle.cosmos_session.specs.declared.fault.ApplyFault.{ApplyFault}
 use Rattle.cosmos_session.specs.Sessions.{SessionData, HeldSession, IsReady, IsSession}
 use Rattle.cosmos_session.specs.Refusals.{refusal_of, making_refusal, edit_refusal, rail_refusal, strength_for}
 use Rattle.cosmos_session.specs.Effects.{Effect, with_circuit}
@@ -252,6 +252,46 @@ refused_quietly old new command found edit.TooManyNodes is there same = (is ∙ 
 refused_quietly old new command found edit.TooManySwitches is there same = (is ∙ ap edit_refusal there, same)
 refused_quietly old new command found edit.NoMemory is there same = same
 
+-- so does one that lacked memory or has this
+pub lacking_quietly : (old new : HeldSession) (command : Command) (found : Option EditFault) (fault : EditFault) →
+    refusal_of old.core command ≡ edit_refusal found → (fault ≡ edit.NoMemory) ⊎ (found ≡ Some fault) → new ≡ old →
+    Quietly old command new (Err (fault_of_edit fault))
+lacking_quietly old new command found fault is (inl lacks) same =
+    subst (λ (other : EditFault). Quietly old command new (Err (fault_of_edit other))) (sym lacks) same
+lacking_quietly old new command found fault is (inr there) same = refused_quietly old new command found fault is there same
+
+-- and one that makes names or a transistor
+pub making_quietly : (old new : HeldSession) (command : Command) (found : Option MakingFault) (fault : EditFault) →
+    refusal_of old.core command ≡ making_refusal found → IsAnswered found fault → new ≡ old → Quietly old command new (Err (fault_of_edit fault))
+making_quietly old new command found edit.NoSuchSwitch is answered same = absurd answered
+making_quietly old new command found edit.Rail is answered same = absurd answered
+making_quietly old new command found edit.BadStrength is answered same = (is ∙ ap making_refusal answered, same)
+making_quietly old new command found edit.BadSize is answered same = absurd answered
+making_quietly old new command found edit.AliasTaken is answered same = same
+making_quietly old new command found edit.TooManyNodes is answered same = (is ∙ ap making_refusal answered, same)
+making_quietly old new command found edit.TooManySwitches is answered same = (is ∙ ap making_refusal answered, same)
+making_quietly old new command found edit.NoMemory is answered same = same
+
+-- by what is known of the session and of the fault that is told
+pub quietly_as : (session old new : HeldSession) (command : Command) (fault : EditFault) (told : ApplyFault) → session ≡ old →
+    told ≡ fault_of_edit fault → Quietly session command new (Err (fault_of_edit fault)) → Quietly old command new (Err told)
+quietly_as session old new command fault told is tells quiet =
+    subst (λ (other : ApplyFault). Quietly old command new (Err other)) (sym tells)
+    (subst (λ (other : HeldSession). Quietly other command new (Err (fault_of_edit fault))) is quiet)
+
+-- the session with this circuit and this stage, where its table stays
+abbrev pub halted : HeldSession → CircuitData → StageData → List GroupTextData → HeldSession
+halted session c stage table =
+    record { core = record session.core { circuit = c; state = stage.state; kept = kept_in stage.machine table }; machine = stage.machine }
+
+-- is the one from before where they are
+pub same-halted : (session : HeldSession) (c : CircuitData) (stage : StageData) (table : List GroupTextData) → c ≡ session.core.circuit →
+    stage.state ≡ session.core.state → stage.machine ≡ session.machine → session.core.kept ≡ kept_in session.machine table →
+    halted session c stage table ≡ session
+same-halted session c stage table is state machine stood =
+    let kept : kept_in stage.machine table ≡ session.core.kept = ap (λ (m : Option MachineData). kept_in m table) machine ∙ sym stood in
+    λ i. record { core = record session.core { circuit = is i; state = state i; kept = kept i }; machine = machine i }
+
 -- ---- edits of a transistor that leave its terminals
 
 -- the refusal of such an edit's command is the edit's
@@ -278,7 +318,7 @@ switched_does session c stage number edit states answered is grown =
     grown ∙ ap (λ (after : CircuitData). with_new_nodes session.state (nodes after.graph)) is
     ∙ same_states session.state (nodes session.circuit.graph) (omega (arith, states)) in
     let moved : (record session { circuit = c; state = stage.state })
-        ≡ record session { circuit = with_place session.circuit number (place_after session.circuit number edit) } =
+    ≡ record session { circuit = with_place session.circuit number (place_after session.circuit number edit) } =
     λ i. record session { circuit = is i; state = stays i } in
     record {
       allowed = refusal_of-switch session number edit ∙ ap edit_refusal (no_fault (edit_fault session.circuit number edit) answered);

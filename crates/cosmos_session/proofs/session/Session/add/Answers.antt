@@ -1,12 +1,15 @@
-use Rattle.std.proofs.Common.{length, refl, ap, ◌∙◌, rules}
+use Rattle.std.proofs.Common.{◌≡◌, ℕ, length, Option, refl, sym, ap, ◌∙◌, rules}
 use Rattle.netlist.specs.Circuits.{CircuitData}
+use Rattle.netlist.specs.Edits.{add_fault}
 use Rattle.analysis_cache.specs.Keeping.{texts_of}
 use Rattle.path_meaning.specs.Graphs.{GraphData}
 use Rattle.script_lang.specs.declared.command.Command.TheVariants.{Add}
+use Rattle.cosmos_session.specs.declared.fault.Refusal.{Refusal}
+use Rattle.cosmos_session.specs.Refusals.{making_refusal, strength_for}
 use Rattle.cosmos_session.specs.Machines.{kept_in}
 use Rattle.cosmos_session.specs.contracts.session.Session.{the_view}
 use Rattle.cosmos_session.proofs.UndoLemmas.{undoes-transistor}
-use Rattle.cosmos_session.proofs.EditLemmas.{covers-before, held-told, does-told, added_does}
+use Rattle.cosmos_session.proofs.EditLemmas.{covers-before, held-told, does-told, added_does, making_quietly, quietly_as, halted, same-halted}
 use Rattle.cosmos_session.proofs.session.Session.add.Goals as goal
 
 pub edit-requires-clause-covers : goal.edit-requires-clause-covers
@@ -14,18 +17,18 @@ edit-requires-clause-covers c =
     let session = the_view c.self.inside in
     let circuit : CircuitData = c.add_switch.new.self in
     rw (c.graph-in-Ok.ensures.value, c.reserve.ensures.machine) (covers-before session circuit c.change_at-change.result
-    (undoes-transistor session.core.circuit circuit _ _ c.self.invariant.0.core.ready.netlist c.graph.ensures.value c.args.kind c.unwrap_or-strength.result c.places.result
-    c.items-gate.result.now c.items-source.result.now c.items-drain.result.now (c.places.ensures ∙ ap (λ (g : GraphData). length g.places) c.graph-2.ensures.value) c.change_at-change.ensures
-    c.in-Ok.ensures.ok)
+    (undoes-transistor session.core.circuit circuit _ _ c.self.invariant.0.core.ready.netlist c.graph.ensures.value
+    c.args.kind c.unwrap_or-strength.result c.places.result c.items-gate.result.now c.items-source.result.now c.items-drain.result.now
+    (c.places.ensures ∙ ap (λ (g : GraphData). length g.places) c.graph-2.ensures.value) c.change_at-change.ensures c.in-Ok.ensures.ok)
     c.self.invariant.0)
 
 pub edit-requires-clause-wired : goal.edit-requires-clause-wired
 edit-requires-clause-wired c =
     let session = the_view c.self.inside in
     let undoes =
-    undoes-transistor session.core.circuit c.add_switch.new.self _ _ c.self.invariant.0.core.ready.netlist c.graph.ensures.value c.args.kind c.unwrap_or-strength.result c.places.result
-    c.items-gate.result.now c.items-source.result.now c.items-drain.result.now (c.places.ensures ∙ ap (λ (g : GraphData). length g.places) c.graph-2.ensures.value) c.change_at-change.ensures
-    c.in-Ok.ensures.ok in
+    undoes-transistor session.core.circuit c.add_switch.new.self _ _ c.self.invariant.0.core.ready.netlist c.graph.ensures.value
+    c.args.kind c.unwrap_or-strength.result c.places.result c.items-gate.result.now c.items-source.result.now c.items-drain.result.now
+    (c.places.ensures ∙ ap (λ (g : GraphData). length g.places) c.graph-2.ensures.value) c.change_at-change.ensures c.in-Ok.ensures.ok in
     rw c.graph-in-Ok.ensures.value undoes.wired
 
 pub invariant_of-self-in-Ok : goal.invariant_of-self-in-Ok
@@ -33,9 +36,9 @@ invariant_of-self-in-Ok c =
     let session = the_view c.self.inside in
     let circuit : CircuitData = c.add_switch.new.self in
     let undoes =
-    undoes-transistor session.core.circuit circuit _ _ c.self.invariant.0.core.ready.netlist c.graph.ensures.value c.args.kind c.unwrap_or-strength.result c.places.result
-    c.items-gate.result.now c.items-source.result.now c.items-drain.result.now (c.places.ensures ∙ ap (λ (g : GraphData). length g.places) c.graph-2.ensures.value) c.change_at-change.ensures
-    c.in-Ok.ensures.ok in (
+    undoes-transistor session.core.circuit circuit _ _ c.self.invariant.0.core.ready.netlist c.graph.ensures.value
+    c.args.kind c.unwrap_or-strength.result c.places.result c.items-gate.result.now c.items-source.result.now c.items-drain.result.now
+    (c.places.ensures ∙ ap (λ (g : GraphData). length g.places) c.graph-2.ensures.value) c.change_at-change.ensures c.in-Ok.ensures.ok in (
       held-told session circuit c.change_at-change.result undoes c.self.invariant.0 _ c.graph-in-Ok.ensures.value c.graph-in-Ok.ensures.netlist
           c.reserve.new.self c.edit.new.self c.reserve.ensures.state c.reserve.ensures.machine c.edit.ensures.state c.edit.ensures.machine
           c.edit.new.kept.bound (texts_of c.self.inside.kept) (kept_in c.edit.new.self.machine (texts_of c.edit.new.kept)) c.edit.ensures.bound refl
@@ -51,8 +54,24 @@ returns-in-Ok-clause-quiet c =
     (does-told session circuit c.reserve.new.self.machine c.edit.new.self c.edit.new.kept.bound (texts_of c.self.inside.kept)
     (kept_in c.edit.new.self.machine (texts_of c.edit.new.kept)) c.reserve.ensures.machine c.edit.ensures.bound refl c.edit.ensures.kept
     (Add c.args.kind c.args.gate.now c.args.source.now c.args.drain.now c.args.strength)
-    (added_does session.core circuit c.edit.new.self c.args.kind c.args.strength c.unwrap_or-strength.result c.args.gate.now c.args.source.now c.args.drain.now
-    (search rules)
+    (added_does session.core circuit c.edit.new.self c.args.kind c.args.strength c.unwrap_or-strength.result
+    c.args.gate.now c.args.source.now c.args.drain.now (search rules)
     (rw (c.items-gate.ensures, c.items-source.ensures, c.items-drain.ensures) at c.in-Ok.ensures.allowed)
     (rw (c.items-gate.ensures, c.items-source.ensures, c.items-drain.ensures) at c.in-Ok.ensures.ok)
     (rw (c.graph-in-Ok.ensures.value, c.reserve.ensures.state) at c.edit.ensures.state)))
+
+pub returns-in-Err-clause-quiet : goal.returns-in-Err-clause-quiet
+returns-in-Err-clause-quiet c =
+    let session = the_view c.self.inside in
+    let new = halted session c.add_switch.new.self c.reserve.new.self (texts_of c.self.inside.kept) in
+    let command = Add c.args.kind c.args.gate.now c.args.source.now c.args.drain.now c.args.strength in
+    let refusal : ℕ → Option Refusal =
+    λ strength. making_refusal (add_fault session.core.circuit strength c.args.gate.now c.args.source.now c.args.drain.now) in
+    let given : c.unwrap_or-strength.result ≡ strength_for c.args.kind c.args.strength = search rules in
+    quietly_as session c.args.self.now new command c.in-Err.fault c.of_edit.result c.self.view_is c.of_edit.ensures
+    (making_quietly session new command
+    (add_fault session.core.circuit c.unwrap_or-strength.result c.args.gate.now c.args.source.now c.args.drain.now) c.in-Err.fault
+    (ap refusal (sym given))
+    (rw (c.items-gate.ensures, c.items-source.ensures, c.items-drain.ensures) at c.in-Err.ensures.refused)
+    (same-halted session c.add_switch.new.self c.reserve.new.self (texts_of c.self.inside.kept) c.in-Err.ensures.err c.reserve.ensures.state
+    c.reserve.ensures.machine refl))

@@ -12,16 +12,16 @@ edit-requires-clause-covers c =
     let session = the_view c.self.inside in
     let circuit : CircuitData = c.put_input.new.circuit in
     rw c.graph-2.ensures.value (covers-before session circuit c.change_of_level-change.result
-    (undoes-level session.core.circuit circuit _ _ c.self.invariant.0.core.ready.netlist c.graph.ensures.value c.found_past_rails-node.result _ c.change_of_level-change.ensures
-    c.put_input.ensures)
+    (undoes-level session.core.circuit circuit _ _ c.self.invariant.0.core.ready.netlist c.graph.ensures.value
+    c.found_past_rails-node.result _ c.change_of_level-change.ensures c.put_input.ensures)
     c.self.invariant.0)
 
 pub edit-requires-clause-wired : goal.edit-requires-clause-wired
 edit-requires-clause-wired c =
     let session = the_view c.self.inside in
     let undoes =
-    undoes-level session.core.circuit c.put_input.new.circuit _ _ c.self.invariant.0.core.ready.netlist c.graph.ensures.value c.found_past_rails-node.result _ c.change_of_level-change.ensures
-    c.put_input.ensures in
+    undoes-level session.core.circuit c.put_input.new.circuit _ _ c.self.invariant.0.core.ready.netlist c.graph.ensures.value
+    c.found_past_rails-node.result _ c.change_of_level-change.ensures c.put_input.ensures in
     rw c.graph-2.ensures.value undoes.wired
 
 pub invariant_of-self : goal.invariant_of-self
@@ -29,8 +29,8 @@ invariant_of-self c =
     let session = the_view c.self.inside in
     let circuit : CircuitData = c.put_input.new.circuit in
     let undoes =
-    undoes-level session.core.circuit circuit _ _ c.self.invariant.0.core.ready.netlist c.graph.ensures.value c.found_past_rails-node.result _ c.change_of_level-change.ensures
-    c.put_input.ensures in (
+    undoes-level session.core.circuit circuit _ _ c.self.invariant.0.core.ready.netlist c.graph.ensures.value
+    c.found_past_rails-node.result _ c.change_of_level-change.ensures c.put_input.ensures in (
       held-told session circuit c.change_of_level-change.result undoes c.self.invariant.0 _ c.graph-2.ensures.value c.graph-2.ensures.netlist
           c.self.inside.stage c.edit.new.self refl refl c.edit.ensures.state c.edit.ensures.machine
           c.edit.new.kept.bound (texts_of c.self.inside.kept) (kept_in c.edit.new.self.machine (texts_of c.edit.new.kept)) c.edit.ensures.bound refl

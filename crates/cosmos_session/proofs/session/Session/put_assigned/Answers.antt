@@ -27,7 +27,8 @@ invariant_of-self c =
     let stage = c.assign.new.stage in
     let past = subst (λ (s : HeldSession). All (λ (item : List ℕ × Tern). RAILS ≤ node_named s.core.circuit item.0) c.args.list.now)
     (sym c.self.view_is) c.requires.past in
-    let last = last-assigned session.core.circuit (map (λ (item : List ℕ × Tern). item.0) c.args.list.now) session.machine stage.machine c.assign.ensures.machine in
+    let names : List (List ℕ) = map (λ (item : List ℕ × Tern). item.0) c.args.list.now in
+    let last = last-assigned session.core.circuit names session.machine stage.machine c.assign.ensures.machine in
     held-staying (placed_on session stage) session.machine (texts_of c.self.inside.kept) last refl c.self.invariant.1
     (held-assigned session c.args.list.now stage past c.assign.ensures.state c.assign.ensures.machine c.assign.ensures.same c.self.invariant.0)
 
@@ -35,7 +36,8 @@ pub returns-clause-state : goal.returns-clause-state
 returns-clause-state c =
     let session = the_view c.self.inside in
     let stage = c.assign.new.stage in
-    let last = last-assigned session.core.circuit (map (λ (item : List ℕ × Tern). item.0) c.args.list.now) session.machine stage.machine c.assign.ensures.machine in
+    let names : List (List ℕ) = map (λ (item : List ℕ × Tern). item.0) c.args.list.now in
+    let last = last-assigned session.core.circuit names session.machine stage.machine c.assign.ensures.machine in
     rw (← c.self.view_is)
     (staying (placed_on session stage) session.machine (texts_of c.self.inside.kept) last refl
     (λ (new : HeldSession). new.core ≡ record session.core { state = assigned session.core.circuit session.core.state c.args.list.now })
@@ -52,5 +54,6 @@ pub returns-clause-unplaced : goal.returns-clause-unplaced
 returns-clause-unplaced c =
     let session = the_view c.self.inside in
     rw (← c.self.view_is)
-    (unplaced-assigned session.core.circuit (map (λ (item : List ℕ × Tern). item.0) c.args.list.now) session.machine c.assign.new.stage.machine
+    (unplaced-assigned session.core.circuit (map (λ (item : List ℕ × Tern). item.0) c.args.list.now) session.machine
+    c.assign.new.stage.machine
     (covers-serves session.core.circuit.graph session.core.state session.core.kept session.machine c.self.invariant.0.machine) c.assign.ensures.machine)

@@ -26,7 +26,8 @@ invariant_of-self c =
     rw (c.graph.ensures.value, c.deref.ensures.value) at c.put_states.ensures.machine in
     held-staying (placed_on session stage) session.machine (texts_of c.self.inside.kept)
     (last-ticked session.core.circuit.graph session.core.clocks session.machine stage.machine ticks) refl c.self.invariant.1
-    (held-ticked session c.args.place stage (subst HasInputs (sym c.self.view_is) c.requires.inputs) (subst IsBuilt (sym c.self.view_is) c.requires.built)
+    (held-ticked session c.args.place stage (subst HasInputs (sym c.self.view_is) c.requires.inputs)
+    (subst IsBuilt (sym c.self.view_is) c.requires.built)
     (rw c.deref.ensures.value at c.put_states.ensures.state) ticks c.put_states.ensures.same c.self.invariant.0)
 
 pub returns-clause-beat : goal.returns-clause-beat
@@ -35,7 +36,8 @@ returns-clause-beat c =
     let stage = c.put_states.new.stage in
     let ticks : TicksIn session.core.circuit.graph session.core.clocks session.machine stage.machine =
     rw (c.graph.ensures.value, c.deref.ensures.value) at c.put_states.ensures.machine in
-    let states : stage.state ≡ states_with session.core.clocks c.args.place session.core.state = rw c.deref.ensures.value at c.put_states.ensures.state in
+    let states : stage.state ≡ states_with session.core.clocks c.args.place session.core.state =
+    rw c.deref.ensures.value at c.put_states.ensures.state in
     rw (← c.self.view_is)
     (staying (placed_on session stage) session.machine (texts_of c.self.inside.kept)
     (last-ticked session.core.circuit.graph session.core.clocks session.machine stage.machine ticks) refl

@@ -1,11 +1,12 @@
 use Rattle.std.proofs.Common.{refl}
 use Rattle.netlist.specs.Circuits.{CircuitData}
+use Rattle.netlist.specs.Edits.{wire_fault}
 use Rattle.analysis_cache.specs.Keeping.{texts_of}
 use Rattle.script_lang.specs.declared.command.Command.TheVariants.{Wire}
 use Rattle.cosmos_session.specs.Machines.{kept_in}
 use Rattle.cosmos_session.specs.contracts.session.Session.{the_view}
 use Rattle.cosmos_session.proofs.UndoLemmas.{undoes-wires}
-use Rattle.cosmos_session.proofs.EditLemmas.{covers-before, held-told, does-told, rewired_does}
+use Rattle.cosmos_session.proofs.EditLemmas.{covers-before, held-told, does-told, rewired_does, lacking_quietly, quietly_as, halted, same-halted}
 use Rattle.cosmos_session.proofs.session.Session.rewire.Goals as goal
 
 pub edit-requires-clause-covers : goal.edit-requires-clause-covers
@@ -51,3 +52,15 @@ returns-in-Ok-clause-quiet c =
     (rw (c.items-gate.ensures, c.items-source.ensures, c.items-drain.ensures) at c.in-Ok.ensures.allowed)
     (rw (c.items-gate.ensures, c.items-source.ensures, c.items-drain.ensures) at c.in-Ok.ensures.ok)
     (rw (c.graph-in-Ok.ensures.value, c.reserve.ensures.state) at c.edit.ensures.state)))
+
+pub returns-in-Err-clause-quiet : goal.returns-in-Err-clause-quiet
+returns-in-Err-clause-quiet c =
+    let session = the_view c.self.inside in
+    let new = halted session c.rewire.new.self c.reserve.new.self (texts_of c.self.inside.kept) in
+    let command = Wire c.args.number c.args.gate.now c.args.source.now c.args.drain.now in
+    let found = wire_fault session.core.circuit c.args.number c.args.gate.now c.args.source.now c.args.drain.now in
+    quietly_as session c.args.self.now new command c.in-Err.fault c.of_edit.result c.self.view_is c.of_edit.ensures
+    (lacking_quietly session new command found c.in-Err.fault refl
+    (rw (c.items-gate.ensures, c.items-source.ensures, c.items-drain.ensures) at c.in-Err.ensures.refused)
+    (same-halted session c.rewire.new.self c.reserve.new.self (texts_of c.self.inside.kept) c.in-Err.ensures.err c.reserve.ensures.state
+    c.reserve.ensures.machine refl))
