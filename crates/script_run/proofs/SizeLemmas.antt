@@ -1,15 +1,13 @@
 -- The first group of a circuit that is too large: it has a cause that its line tells, its line is written, and the circuit's groups have no texts.
 use Rattle.std.proofs.Common.{◌≡◌, ℕ, ◌<◌, ◌⊎◌, inl, inr, Bool, true, false, List, [], Option, None, Some, Result, slice_get, unwrap_or, refl, sym, ap, subst, ◌∙◌}
 use Rattle.std.specs.Prelude.{if◌then◌else◌}
-use Rattle.std.proofs.lemmas.List.Elements.{All-contains_itself}
 use Rattle.std.proofs.lemmas.Option.{slice_get_within, get_or_from_slice_get}
-use Rattle.path_meaning.specs.Graphs.{GraphData, nodes, IsStorage}
+use Rattle.path_meaning.specs.Graphs.{GraphData, nodes}
 use Rattle.netlist.specs.Names.{name_at}
 use Rattle.netlist.specs.Circuits.{CircuitData}
 use Rattle.wave_print.specs.declared.faults.FaultPlace.{FaultPlace}
 use Rattle.wave_print.specs.declared.faults.FaultCode.TheVariants.{G1GroupNodes, G2GroupSwitches}
-use Rattle.group_meaning.specs.Groups.{Group, IsGroup, id_of}
-use Rattle.group_meaning.proofs.GroupLemmas.{member_storage}
+use Rattle.group_meaning.specs.Groups.{id_of}
 use Rattle.group_meaning.proofs.UniqueGroups.{unique}
 use Rattle.group_text.specs.declared.text.TextFault.{TextFault}
 use Rattle.group_text.specs.declared.text.TextFault.TheVariants as text
@@ -24,6 +22,7 @@ use Rattle.script_run.specs.declared.status.Status.{Status}
 use Rattle.script_run.specs.Codes.{Cause, size_cause}
 use Rattle.script_run.specs.Answers.{IsTooLarge, IsRefusalFor}
 use Rattle.script_run.specs.Ends.{IsTold}
+use Rattle.cosmos_session.proofs.SizeLemmas.{told_node}
 use Rattle.script_run.proofs.EndLemmas.{told_as}
 
 -- a graph whose groups have texts has no group that is too large
@@ -59,29 +58,6 @@ told_size : (c : CircuitData) (place : FaultPlace) (ended : Status) (fault : Bui
 told_size c place ended fault cause old new result first named told =
     told_as (IsRefusalFor place cause ended) (IsTooLarge c place ended) old new result
     (λ answer right. record { fault = fault; first = first; cause = cause; named = named; told = right }) told
-
--- the node that a too large group's fault tells of is the group's least one
-node_is : (node id count : ℕ) (cause : TextFault) (fault : BuildFault) → fault ≡ at_node id cause →
-    (fault ≡ GroupNodes node count) ⊎ (fault ≡ GroupSwitches node count) → node ≡ id
-node_is node id count (text.GroupNodes m) fault named (inl is) = cc
-node_is node id count (text.GroupNodes m) fault named (inr is) = absurd (cc)
-node_is node id count (text.GroupSwitches m) fault named (inl is) = absurd (cc)
-node_is node id count (text.GroupSwitches m) fault named (inr is) = cc
-node_is node id count text.NoMemory fault named (inl is) = absurd (cc)
-node_is node id count text.NoMemory fault named (inr is) = absurd (cc)
-
--- so it is a node of the graph
-told_node : (g : GraphData) (fault : BuildFault) (node count : ℕ) → TellsTooLarge g fault →
-    (fault ≡ GroupNodes node count) ⊎ (fault ≡ GroupSwitches node count) → node < nodes g
-told_node g fault node count told is =
-    let first = told.first in
-    let group = first.group in
-    let inside = slice_get_within told.groups first.k group first.stands in
-    let is_group : IsGroup g group =
-    subst (IsGroup g) (get_or_from_slice_get told.groups first.k group group first.stands) (told.are.each first.k group inside) in
-    let storage : IsStorage g (id_of group) =
-    member_storage g group is_group (id_of group) (All-contains_itself group.members 0 0 is_group.some) in
-    subst (λ n. n < nodes g) (sym (node_is node (id_of group) count first.cause fault first.named is)) storage.inside
 
 -- a fault that names a group isn't want of memory
 is_too_large : (g : GraphData) (fault : BuildFault) (node count : ℕ) → (fault ≡ NoMemory) ⊎ TellsTooLarge g fault →

@@ -1,17 +1,22 @@
--- Where the lines of a script end when they are obeyed: with what they wrote and which texts of groups were analysed for them.
+-- Where the lines of a script end when they are obeyed: with what they wrote and which texts of groups were analysed for them; and the answer
+-- where they end at a refused line.
 use Rattle.std.specs.Prelude.{◌≡◌, ℕ, ◌⊎◌, List, ◌++◌, Option, None, Some, Result, Ok, Err}
 use Rattle.std.specs.Io.KnownBytes.{append_known}
 use Rattle.port_edge.specs.Sending.{WritesPart}
+use Rattle.netlist.specs.Circuits.{CircuitData}
 use Rattle.group_text.specs.Texts.{GroupTextData}
 use Rattle.circuit_texts.specs.declared.texts.BuildFault.{BuildFault}
 use Rattle.circuit_texts.specs.Sizes.{TellsTooLarge}
 use Rattle.cosmos_session.specs.Sessions.{SessionData}
 use Rattle.cosmos_session.specs.Lines.{text_of}
+use Rattle.wave_print.specs.declared.faults.FaultPlace.TheVariants.{Script}
 use Rattle.script_run.specs.declared.halt.Halt.{Halt}
 use Rattle.script_run.specs.declared.halt.Halt.TheVariants.{End, Refused, TooLarge}
+use Rattle.script_run.specs.declared.status.Status.TheVariants.{ScriptRefused}
 use Rattle.script_run.specs.declared.stop.Stop.{Stop}
 use Rattle.script_run.specs.Codes.{Cause, plain_cause, size_cause}
-use Rattle.script_run.specs.Runs.{Reading, RefusedLine, Outcome, Runs}
+use Rattle.script_run.specs.Runs.{Reading, RefusedLine, Outcome, Runs, Answer}
+use Rattle.script_run.specs.Answers.{IsRefusal, IsTooLarge}
 
 -- the lines of a script were obeyed, to these data and to this refused line, if one ended them: what they tell was written, and their
 -- texts were analysed
@@ -52,3 +57,15 @@ abbrev pub TellsHalt : Reading → Option ℕ → SessionData → List (ℕ × L
 TellsHalt reading cut start lines new before after asked told (Ok halt) = HaltsAt reading cut start lines new before after asked told halt
 TellsHalt reading cut start lines new before after asked told (Err stop) =
     (after ≡ before) ⊎ BreaksOff reading cut start lines before after
+
+-- the lines ended at one that is refused: where a group of the circuit is too large, the first of these is told
+abbrev pub IsCutShort : CircuitData → Halt → Type 0
+IsCutShort circuit End = ⊥
+IsCutShort circuit (Refused number code) = Unit {0}
+IsCutShort circuit (TooLarge number size) = TellsTooLarge circuit.graph size
+
+-- the answer is the line of that refusal
+abbrev pub TellsCutShort : CircuitData → Halt → Answer → Type 0
+TellsCutShort circuit End answer = ⊥
+TellsCutShort circuit (Refused number code) answer = IsRefusal (Script number) code ScriptRefused answer
+TellsCutShort circuit (TooLarge number size) answer = IsTooLarge circuit (Script number) ScriptRefused answer

@@ -4,8 +4,10 @@ ghost use Rattle.std.specs.Prelude.{◌≡◌, ◌≢◌, ◌⊎◌, Err, IfOk, 
 ghost use Rattle.circuit_texts.specs.Sizes.{TellsTooLarge};
 ghost use Rattle.script_run.specs.Answers.{IsRefusal, IsRefusalFor, IsTooLarge};
 ghost use Rattle.script_run.specs.Ends.{IsTold, status_of};
+ghost use Rattle.script_run.specs.Halts.{IsCutShort, TellsCutShort};
 ghost use Rattle.script_run.specs.Stops.{faults_written, IsRefusedOnce};
 
+use crate::halt::Halt;
 use crate::stop::{End, Stop};
 use circuit_texts::BuildFault;
 use netlist::Circuit;
@@ -88,5 +90,31 @@ pub fn refuse_size<S: Sink>(
             refuse_named(alloc, place, code, name, count, end, out)
         }
         BuildFault::NoMemory => Err(Stop::Memory),
+    }
+}
+
+/// Writes the line of the refusal at which the lines of a script ended in a circuit, and ends the run so.
+pub fn refuse_halt<S: Sink>(
+    alloc: Global,
+    circuit: &Circuit,
+    halt: Halt,
+    out: &mut S,
+) -> Result<End, Stop>
+    requires { IsCutShort circuit.now halt }
+    ensures told { IsTold (TellsCutShort circuit.now halt) (S.written out.old) (S.written out.new) result }
+    ensures no_read { IfErr result (λ stop. stop ≢ Stop.Read) }
+    ensures write { S.faults out.new ≡ faults_written (S.faults out.old) result }
+    ensures refused { IsRefusedOnce (S.refusals out.old) (S.refusals out.new) result }
+{
+    match halt {
+        Halt::End => unreachable!(),
+        Halt::Refused(line, code) => {
+            let place = FaultPlace::Script(line);
+            refuse(alloc, place, code, End::ScriptRefused, out)
+        }
+        Halt::TooLarge(line, size) => {
+            let place = FaultPlace::Script(line);
+            refuse_size(alloc, place, circuit, size, End::ScriptRefused, out)
+        }
     }
 }

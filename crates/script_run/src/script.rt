@@ -13,7 +13,7 @@ ghost use Rattle.script_run.specs.Stops.{faults_written, IsRefusedOnce};
 
 use crate::codes::{refusal_code, script_code};
 use crate::halt::Halt;
-use crate::refusal::{refuse, refuse_size};
+use crate::refusal::refuse_halt;
 use crate::stop::{End, Stop};
 use circuit_texts::BuildFault;
 use cosmos_session::{ApplyFault, Session};
@@ -25,7 +25,7 @@ use port_edge::Sink;
 use script_lang::{Command, ScriptFault, read_command};
 use std::alloc::Global;
 use ternary::Tern;
-use wave_print::{FaultCode, FaultPlace};
+use wave_print::FaultCode;
 
 /// What became of a line of the script.
 #[derive(Clone, Copy, Debug, PartialEq, Eq)]
@@ -55,17 +55,10 @@ pub fn run_lines<S: Sink, A: Analyst>(
     ensures write { S.faults out.new ≡ faults_written (S.faults out.old) result }
     ensures refused { IsRefusedOnce (S.refusals out.old) (S.refusals out.new) result }
 {
-    match obey_lines(alloc, session, text, None, out, analyst)? {
+    let halt = obey_lines(alloc, session, text, None, out, analyst)?;
+    match halt {
         Halt::End => Ok(end_of(session)),
-        Halt::Refused(line, code) => {
-            let place = FaultPlace::Script(line);
-            refuse(alloc, place, code, End::ScriptRefused, out)
-        }
-        Halt::TooLarge(line, fault) => {
-            let place = FaultPlace::Script(line);
-            let circuit = session.circuit();
-            refuse_size(alloc, place, circuit, fault, End::ScriptRefused, out)
-        }
+        _ => refuse_halt(alloc, session.circuit(), halt, out),
     }
 }
 
