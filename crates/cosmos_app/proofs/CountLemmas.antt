@@ -9,37 +9,28 @@ use Rattle.script_run.specs.Ends.{status_after}
 use Rattle.script_run.specs.Stops.{faults_read, faults_written, IsRefusedOnce}
 use Rattle.cosmos_app.specs.Counts.{files_count, sink_count, HasRefused}
 
--- by the status of the end
+-- the counts by the status of the end
+record AreCounted (result : Result end.End Stop) (status : Status) : Type 0 where
+  pub files : (faults : ℕ) → faults_read faults result ≡ files_count faults status
+  pub sink : (faults : ℕ) → faults_written faults result ≡ sink_count faults status
+  pub refused : (before now : ℕ) → IsRefusedOnce before now result → HasRefused before now status
+
+counted : (result : Result end.End Stop) → AreCounted result (status_after result)
+counted (Ok ended.Done) = record { files = λ faults. refl; sink = λ faults. refl; refused = λ before now is. is }
+counted (Ok ended.Mismatch) = record { files = λ faults. refl; sink = λ faults. refl; refused = λ before now is. is }
+counted (Ok ended.Usage) = record { files = λ faults. refl; sink = λ faults. refl; refused = λ before now is. is }
+counted (Ok ended.NetRefused) = record { files = λ faults. refl; sink = λ faults. refl; refused = λ before now is. is }
+counted (Ok ended.ScriptRefused) = record { files = λ faults. refl; sink = λ faults. refl; refused = λ before now is. is }
+counted (Err Read) = record { files = λ faults. refl; sink = λ faults. refl; refused = λ before now is. is }
+counted (Err Write) = record { files = λ faults. refl; sink = λ faults. refl; refused = λ before now is. is }
+counted (Err Memory) = record { files = λ faults. refl; sink = λ faults. refl; refused = λ before now is. is }
+
 pub files_counted : (faults : ℕ) (result : Result end.End Stop) → faults_read faults result ≡ files_count faults (status_after result)
-files_counted faults (Ok ended.Done) = refl
-files_counted faults (Ok ended.Mismatch) = refl
-files_counted faults (Ok ended.Usage) = refl
-files_counted faults (Ok ended.NetRefused) = refl
-files_counted faults (Ok ended.ScriptRefused) = refl
-files_counted faults (Err Read) = refl
-files_counted faults (Err Write) = refl
-files_counted faults (Err Memory) = refl
+files_counted faults result = (counted result).files faults
 
 pub sink_counted : (faults : ℕ) (result : Result end.End Stop) → faults_written faults result ≡ sink_count faults (status_after result)
-sink_counted faults (Ok ended.Done) = refl
-sink_counted faults (Ok ended.Mismatch) = refl
-sink_counted faults (Ok ended.Usage) = refl
-sink_counted faults (Ok ended.NetRefused) = refl
-sink_counted faults (Ok ended.ScriptRefused) = refl
-sink_counted faults (Err Read) = refl
-sink_counted faults (Err Write) = refl
-sink_counted faults (Err Memory) = refl
-
-refused_ended : (before now : ℕ) (result : Result end.End Stop) → IsRefusedOnce before now result → HasRefused before now (status_after result)
-refused_ended before now (Ok ended.Done) same = same
-refused_ended before now (Ok ended.Mismatch) same = same
-refused_ended before now (Ok ended.Usage) same = same
-refused_ended before now (Ok ended.NetRefused) same = same
-refused_ended before now (Ok ended.ScriptRefused) same = same
-refused_ended before now (Err Read) same = same
-refused_ended before now (Err Write) same = same
-refused_ended before now (Err Memory) once = once
+sink_counted faults result = (counted result).sink faults
 
 pub refused_counted : (before now : ℕ) (result : Result end.End Stop) (status : Status) → status ≡ status_after result →
     IsRefusedOnce before now result → HasRefused before now status
-refused_counted before now result status same once = subst (HasRefused before now) (sym same) (refused_ended before now result once)
+refused_counted before now result status same once = subst (HasRefused before now) (sym same) ((counted result).refused before now once)

@@ -1,7 +1,8 @@
 -- How far a script has come whose lines are counted: as in `RunLemmas`, with the counts in place of the bytes written.
-use Rattle.std.proofs.Common.{◌≡◌, ◌≢◌, ℕ, inl, inr, List, [], ◌∷◌, ◌++◌, Option, Some, Result, Ok, Err, refl, sym, ap, subst, ◌∙◌, append_assoc, append-nil, arith}
+use Rattle.std.proofs.Common.{◌≡◌, ◌≢◌, ℕ, inl, inr, List, [], ◌∷◌, ◌++◌, Option, None, Some, Result, Ok, Err, refl, sym, ap, subst, ◌∙◌, append_assoc, append-nil, arith}
 use Rattle.std.proofs.lemmas.List.Elements.{All-nil}
 use Rattle.std.specs.Io.KnownBytes.{append_known}
+use Rattle.port_edge.specs.HonestPorts.{HonestSinkData, unwritten}
 use Rattle.port_edge.specs.Sending.{WritesPart}
 use Rattle.group_text.specs.Texts.{GroupTextData}
 use Rattle.circuit_texts.specs.declared.texts.BuildFault.{BuildFault}
@@ -10,23 +11,28 @@ use Rattle.wave_print.specs.declared.faults.FaultCode.{FaultCode}
 use Rattle.wave_print.specs.declared.faults.FaultPlace.TheVariants.{Script}
 use Rattle.wave_print.specs.declared.lines.Summary.{Summary}
 use Rattle.wave_print.specs.Lines.{summary_line_of}
+use Rattle.script_lang.proofs.ReadingLemmas.{reading-formed}
+use Rattle.fault_sim.specs.Masks.{masked_reading}
+use Rattle.cosmos_session.specs.Bounds.{IsBounded}
 use Rattle.cosmos_session.specs.Sessions.{SessionData, HeldSession}
 use Rattle.cosmos_session.specs.Lines.{Line, text_of}
 use Rattle.script_run.specs.declared.status.Status.TheVariants.{Done, ScriptRefused}
 use Rattle.script_run.specs.declared.stop.Stop.{Stop}
 use Rattle.script_run.specs.declared.stop.Stop.TheVariants.{Read, Write, Memory}
 use Rattle.script_run.specs.declared.stop.End as end
+use Rattle.script_run.specs.declared.script.Turn.{Turn}
 use Rattle.script_run.specs.declared.script.Turn.TheVariants.{Accepted, Refused, TooLarge}
 use Rattle.script_run.specs.Codes.{Cause, plain_cause, size_cause, cause_line}
 use Rattle.script_run.specs.Stops.{written_at}
-use Rattle.script_run.specs.Runs.{Answer, plain_answer, Runs, ends, passes, obeys, refuses, plain_reading, too_large, at_end, refused_at, after_command, Outcome}
+use Rattle.script_run.specs.Runs.{Answer, plain_answer, Reading, Runs, ends, passes, obeys, refuses, plain_reading, too_large, at_end, refused_at, after_command, Outcome}
 use Rattle.script_run.specs.Answers.{IsTooLarge}
 use Rattle.cosmos_app.specs.Summaries.{summary_of, summed_up, IsSummedUp}
-use Rattle.cosmos_app.specs.Countings.{AreAlike, IsBounded, HasCounted, HasHalted, HasOutgrown}
+use Rattle.cosmos_app.specs.Countings.{AreAlike, HasCounted, HasHalted, HasOutgrown}
 use Rattle.script_run.specs.Turns.{TakesTurn, Follows}
 use Rattle.script_run.specs.Ends.{IsTold, IsToldBy}
 use Rattle.cosmos_app.proofs.AlikeLemmas.{performs_alike}
 use Rattle.script_run.proofs.FirstRefusedLemmas.{after_command-twice}
+use Rattle.script_run.proofs.ReadingLemmas.{masked-plain}
 
 -- the lines since the start, as they were counted, and the texts that were analysed, which each outcome from here goes on from
 pub record HasTallied (nodes switches : ℕ) (cut : Option ℕ) (start : SessionData) (all : List (ℕ × List ℕ)) (asked : List GroupTextData)
@@ -37,15 +43,26 @@ pub record HasTallied (nodes switches : ℕ) (cut : Option ℕ) (start : Session
   pub analysed : told ≡ asked ++ texts
   pub goes_on : (rest : Outcome) → Runs plain_reading cut now left rest → Runs plain_reading cut start all (after_command lines texts rest)
 
-pub tallies_first : (nodes switches : ℕ) (cut : Option ℕ) (start : SessionData) (all : List (ℕ × List ℕ)) (asked : List GroupTextData) (summary : Summary) →
-    summary ≡ summary_of nodes switches [] → HasTallied nodes switches cut start all asked start all asked summary
-tallies_first nodes switches cut start all asked summary none = record {
+pub tallies_first : (nodes switches : ℕ) (cut : Option ℕ) (start : SessionData) (all items : List (ℕ × List ℕ)) (asked : List GroupTextData) (summary : Summary) →
+    items ≡ all → summary ≡ summary_of nodes switches [] → HasTallied nodes switches cut start all asked start items asked summary
+tallies_first nodes switches cut start all items asked summary first none = record {
   lines = [];
   texts = [];
   counted = none;
   analysed = sym (append-nil asked);
-  goes_on = λ rest runs. runs;
+  goes_on = λ rest runs. subst (λ lines. Runs plain_reading cut start lines rest) first runs;
 }
+
+-- what a line comes to over a new sink, where lines are read as ever
+pub turn_plain : (seen cut : Option ℕ) (line : ℕ × List ℕ) (now new : HeldSession) (sink : HonestSinkData) (more : Option (List ℕ))
+    (told further : List GroupTextData) (read turn : Turn) → seen ≡ cut → sink ≡ unwritten → read ≡ turn →
+    TakesTurn (masked_reading None) seen line now new (Some sink.written) more told further (Ok read) →
+    TakesTurn plain_reading cut line now new (Some []) more told further (Ok turn)
+turn_plain seen cut line now new sink more told further read turn same fresh is taken =
+    subst (λ (turn : Turn). TakesTurn plain_reading cut line now new (Some []) more told further (Ok turn)) is
+    (subst (λ (sink : HonestSinkData). TakesTurn plain_reading cut line now new (Some sink.written) more told further (Ok read)) fresh
+    (subst (λ (cut : Option ℕ). TakesTurn plain_reading cut line now new (Some sink.written) more told further (Ok read)) same
+    (subst (λ (reading : Reading). TakesTurn reading seen line now new (Some sink.written) more told further (Ok read)) masked-plain taken)))
 
 -- the counts went on by the lines of one command, whatever came before
 abbrev pub CountsText : Summary → List ℕ → Summary → Type 0
@@ -53,7 +70,10 @@ CountsText old text new =
     (nodes switches : ℕ) (before some : List Line) → old ≡ summary_of nodes switches before → text ≡ text_of some → AreAlike some →
     new ≡ summary_of nodes switches (before ++ some)
 
-module _ (nodes switches : ℕ) (cut : Option ℕ) (start : SessionData) (all : List (ℕ × List ℕ)) (asked : List GroupTextData) (now : HeldSession) (line : ℕ × List ℕ) (left : List (ℕ × List ℕ)) (told : List GroupTextData) (summary : Summary) (come : HasTallied nodes switches cut start all asked now.core (line ∷ left) told summary) where
+module _ (nodes switches : ℕ) (cut : Option ℕ) (start : SessionData) (all : List (ℕ × List ℕ)) (asked : List GroupTextData) (now : HeldSession) (line : ℕ × List ℕ) (items left : List (ℕ × List ℕ)) (told : List GroupTextData) (summary : Summary) (steps : items ≡ line ∷ left) (since : HasTallied nodes switches cut start all asked now.core items told summary) where
+  come : HasTallied nodes switches cut start all asked now.core (line ∷ left) told summary
+  come = subst (λ lines. HasTallied nodes switches cut start all asked now.core lines told summary) steps since
+
   -- past the line of a command
   tallies_by : (new : HeldSession) (text : List ℕ) (further : List GroupTextData) (next : Summary) → Follows plain_reading cut line now new (Some []) (Some text) told further →
       IsBounded now.core → CountsText summary text next → HasTallied nodes switches cut start all asked new.core left further next
@@ -65,7 +85,8 @@ module _ (nodes switches : ℕ) (cut : Option ℕ) (start : SessionData) (all : 
         lines = come.lines ++ does.lines;
         texts = come.texts ++ accepts.texts;
         counted = counts nodes switches come.lines does.lines come.counted (same ∙ does.text_is)
-            (performs_alike now.core new.core follows.command accepts.text accepts.texts bounded accepts.performs);
+            (performs_alike now.core new.core follows.command accepts.text accepts.texts bounded
+            (reading-formed line.1 follows.command follows.asks.asked) accepts.performs);
         analysed = accepts.analysed ∙ ap (λ (texts : List GroupTextData). texts ++ accepts.texts) come.analysed
             ∙ append_assoc asked come.texts accepts.texts;
         goes_on = λ rest runs. subst (Runs plain_reading cut start all) (after_command-twice come.lines does.lines come.texts accepts.texts rest)
@@ -121,11 +142,11 @@ module _ (nodes switches : ℕ) (cut : Option ℕ) (start : SessionData) (all : 
       }
 
 -- to the end
-pub tallies_all : (nodes switches : ℕ) (cut : Option ℕ) (start : SessionData) (all : List (ℕ × List ℕ)) (asked : List GroupTextData) (now : SessionData) (told : List GroupTextData) (summary : Summary) →
-    HasTallied nodes switches cut start all asked now [] told summary → HasCounted nodes switches cut start all summary asked told
-tallies_all nodes switches cut start all asked now told summary come = record {
+pub tallies_all : (nodes switches : ℕ) (cut : Option ℕ) (start : SessionData) (all items : List (ℕ × List ℕ)) (asked : List GroupTextData) (now : SessionData) (told : List GroupTextData) (summary : Summary) →
+    items ≡ [] → HasTallied nodes switches cut start all asked now items told summary → HasCounted nodes switches cut start all summary asked told
+tallies_all nodes switches cut start all items asked now told summary none come = record {
   outcome = after_command come.lines come.texts (at_end now);
-  runs = come.goes_on (at_end now) (ends now);
+  runs = come.goes_on (at_end now) (subst (λ lines. Runs plain_reading cut now lines (at_end now)) (sym none) (ends now));
   whole = refl;
   counted = come.counted ∙ ap (summary_of nodes switches) (sym (append-nil come.lines));
   analysed = come.analysed ∙ ap (λ (texts : List GroupTextData). asked ++ texts) (sym (append-nil come.texts));

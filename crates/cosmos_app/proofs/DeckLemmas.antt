@@ -30,6 +30,12 @@ means_deck None deck text seen meaning front same means = tt
 means_deck (Some holds) deck text seen meaning front same means =
     sym (circuit_of-front_of (holds deck)) ∙ ap circuit_of (sym (same ∙ front)) ∙ means
 
+-- and that which it is found to be
+pub deck_means_as : (known : Option (List ℕ → List ℕ)) (deck : List ℕ) (meaning what : Result CircuitData DeckRefusal) → meaning ≡ what →
+    IfSome known (λ holds. circuit_of (holds deck) ≡ deck_meant meaning) → IfSome known (λ holds. circuit_of (holds deck) ≡ deck_meant what)
+deck_means_as known deck meaning what is means =
+    subst (λ (found : Result CircuitData DeckRefusal). IfSome known (λ holds. circuit_of (holds deck) ≡ deck_meant found)) is means
+
 -- what was told of the meaning of a deck is told of the deck
 pub told_deck : (known later : Option (List ℕ → List ℕ)) (deck script : List ℕ) (meaning : Result CircuitData DeckFault) (old new : Option (List ℕ)) (before after : List GroupTextData) (result : Result end.End Stop) →
     IfSome known (λ holds. circuit_of (holds deck) ≡ meaning) → later ≡ known →

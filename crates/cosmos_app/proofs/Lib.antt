@@ -2,7 +2,6 @@ pub mod LowerLemmas
 pub mod EndLemmas
 pub mod NetLemmas
 pub mod DeckLemmas
-pub mod ColumnLemmas
 pub mod StartLemmas
 pub mod GroupsLemmas
 pub mod ListLemmas
@@ -15,3 +14,5 @@ mod WaveLemmas
 mod AlikeLemmas
 mod CountingLemmas
 mod ReasonedLemmas
+mod PurposeLemmas
+mod AskedLemmas

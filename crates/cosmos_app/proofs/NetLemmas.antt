@@ -1,18 +1,16 @@
--- What is told of the text that was read of a netlist or a script is told of the file.
-use Rattle.std.proofs.Common.{◌≡◌, ℕ, List, Option, None, Some, IfSome, Result, Ok, Err, refl, sym, ap, subst, ◌∙◌}
-use Rattle.line_words.specs.Files.{front_of, lines_in, cut_line}
-use Rattle.line_words.proofs.FileLemmas.{cut_line-front_of, lines_in-front_of}
+-- What is told of the text that was read of a netlist is told of the file.
+use Rattle.std.proofs.Common.{◌≡◌, ℕ, List, Option, None, Some, IfSome, Result, Err, sym, ap, subst, ◌∙◌}
+use Rattle.line_words.specs.Files.{front_of}
 use Rattle.netlist.specs.Circuits.{CircuitData}
 use Rattle.sim_read.specs.declared.fault.NetRefusal.{NetRefusal}
 use Rattle.sim_read.specs.Meaning.{netlist_of}
-use Rattle.cosmos_session.specs.Sessions.{SessionData, start_of}
 use Rattle.group_text.specs.Texts.{GroupTextData}
 use Rattle.script_run.specs.declared.stop.Stop.{Stop}
 use Rattle.script_run.specs.declared.stop.End as end
-use Rattle.script_run.specs.Runs.{Answer, plain_reading, answer_told, IsScriptAnswer}
+use Rattle.script_run.specs.Runs.{Answer}
 use Rattle.cosmos_app.specs.Requests.{Question}
-use Rattle.cosmos_app.specs.Answers.{IsOver, IsNetRefusal, IsSimulation, IsAnswerIn}
-use Rattle.script_run.specs.Ends.{IsTold, IsToldBy, TellsRun}
+use Rattle.cosmos_app.specs.Answers.{IsOver, IsNetRefusal, IsAnswerIn}
+use Rattle.script_run.specs.Ends.{IsTold, IsToldBy}
 use Rattle.cosmos_app.proofs.LowerLemmas.{netlist_of-front_of}
 use Rattle.script_run.proofs.EndLemmas.{told_by_none}
 
@@ -26,6 +24,12 @@ pub means_netlist : (known : Option (List ℕ → List ℕ)) (net text seen : Li
     IfSome known (λ holds. netlist_of (holds net) ≡ meaning)
 means_netlist None net text seen meaning front same means = tt
 means_netlist (Some holds) net text seen meaning front same means = netlist_of-read (holds net) text seen front same ∙ means
+
+-- and that which it is found to be
+pub means_as : (known : Option (List ℕ → List ℕ)) (net : List ℕ) (meaning what : Result CircuitData NetRefusal) → meaning ≡ what →
+    IfSome known (λ holds. netlist_of (holds net) ≡ meaning) → IfSome known (λ holds. netlist_of (holds net) ≡ what)
+means_as known net meaning what is means =
+    subst (λ (found : Result CircuitData NetRefusal). IfSome known (λ holds. netlist_of (holds net) ≡ found)) is means
 
 -- what was told of the meaning of a netlist is told of the netlist
 pub told_over : (known later : Option (List ℕ → List ℕ)) (question : Question) (net : List ℕ) (meaning : Result CircuitData NetRefusal) (old new : Option (List ℕ)) (before after : List GroupTextData) (result : Result end.End Stop) →
@@ -46,30 +50,3 @@ told_refusal None question net refusal old new analysed result means told = tt
 told_refusal (Some holds) question net refusal old new analysed result means told =
     subst (λ what. IsToldBy (IsOver (IsAnswerIn question holds) what) old new analysed analysed result) (sym means)
     (told_by_none (IsNetRefusal refusal) (IsNetRefusal refusal) old new analysed result (λ answer right. (right, ap (λ (told : Answer). told.texts) right)) told)
-
--- what ran is told by its answer
-told_run : (cut : Option ℕ) (start : SessionData) (lines : List (ℕ × List ℕ)) (new : SessionData) (before after : Option (List ℕ)) (asked told : List GroupTextData) (result : Result end.End Stop) →
-    TellsRun plain_reading cut start lines new before after asked told result → IsToldBy (IsScriptAnswer plain_reading cut start lines) before after asked told result
-told_run cut start lines new before after asked told (Ok ending) run = record {
-  answer = answer_told run.outcome;
-  right = (record { outcome = run.outcome; runs = run.runs; told = refl }, run.analysed);
-  ended = run.ended;
-  grew = run.grew;
-}
-told_run cut start lines new before after asked told (Err stop) stopped = stopped
-
--- what was told of the lines that were read is told of the script
-pub told_script : (known : Option (List ℕ → List ℕ)) (name : List ℕ) (circuit : CircuitData) (start new : SessionData) (text seen : List ℕ) (before after : Option (List ℕ)) (asked told : List GroupTextData) (result : Result end.End Stop) →
-    IfSome known (λ holds. text ≡ front_of (holds name)) → seen ≡ text → start ≡ start_of circuit →
-    TellsRun plain_reading (cut_line seen) start (lines_in seen) new before after asked told result →
-    IfSome known (λ holds. IsToldBy (IsSimulation (holds name) circuit) before after asked told result)
-told_script None name circuit start new text seen before after asked told result front same first run = tt
-told_script (Some holds) name circuit start new text seen before after asked told result front same first run =
-    let script = holds name in
-    let cut : cut_line seen ≡ cut_line script = ap cut_line (same ∙ front) ∙ cut_line-front_of script in
-    let lines : lines_in seen ≡ lines_in script = ap lines_in (same ∙ front) ∙ lines_in-front_of script in
-    let Tells : Option ℕ → SessionData → List (ℕ × List ℕ) → Type 0 =
-    λ line from left. IsToldBy (IsScriptAnswer plain_reading line from left) before after asked told result in
-    subst (λ line. Tells line (start_of circuit) (lines_in script)) cut
-    (subst (λ from. Tells (cut_line seen) from (lines_in script)) first
-    (subst (λ left. Tells (cut_line seen) start left) lines (told_run (cut_line seen) start (lines_in seen) new before after asked told result run)))

@@ -1,16 +1,14 @@
 -- Inside the program: counting what the waveform lines of commands tell, from their texts.
-use Rattle.std.specs.Prelude.{◌≡◌, ℕ, ◌-◌, ◌<◌, ◌≤◌, ◌^◌, ◌==◌, ◌⊎◌, Bool, false, List, [], ◌∷◌, ◌++◌, length, take, slice_index, count_by, unwrap_or, if◌then◌else◌, All, Option, None, Some}
+use Rattle.std.specs.Prelude.{◌≡◌, ℕ, ◌-◌, ◌<◌, ◌^◌, ◌==◌, ◌⊎◌, Bool, false, List, [], ◌∷◌, ◌++◌, length, take, slice_index, count_by, unwrap_or, if◌then◌else◌, All, Option, None, Some}
 use Rattle.std.specs.Char.{is_ascii_digit}
 use Rattle.ternary.specs.Counts.{raised}
-use Rattle.path_meaning.specs.Graphs.{nodes}
 use Rattle.line_words.specs.Words.{words_of}
 use Rattle.line_words.specs.Decimals.{decimal_of}
 use Rattle.group_text.specs.Texts.{GroupTextData}
 use Rattle.circuit_texts.specs.declared.texts.BuildFault.{BuildFault}
 use Rattle.circuit_texts.specs.Sizes.{TellsTooLarge}
-use Rattle.script_lang.specs.declared.TheConstants.{MOST_TIMES}
 use Rattle.wave_print.specs.declared.lines.Summary.{Summary}
-use Rattle.cosmos_session.specs.Sessions.{SessionData, IsReady}
+use Rattle.cosmos_session.specs.Sessions.{SessionData}
 use Rattle.cosmos_session.specs.Lines.{Line, Wave, Unmet, Reported}
 use Rattle.script_run.specs.declared.halt.Halt.{Halt}
 use Rattle.script_run.specs.declared.halt.Halt.TheVariants.{End, Refused, TooLarge}
@@ -77,12 +75,6 @@ IsOther (Reported groups texts new) = Unit {0}
 -- the lines are all waveform lines, or none of them is one
 abbrev pub AreAlike : List Line → Type 0
 AreAlike lines = All IsWave lines ⊎ All IsOther lines
-
--- the data are ready, with a limit and a number of nodes by which each count of steps is a u64
-pub record IsBounded (session : SessionData) : Type 0 where
-  pub ready : IsReady session
-  pub few : nodes session.circuit.graph < 2 ^ 63
-  pub limit : session.limit ≤ MOST_TIMES
 
 -- a script has run to its end, and its lines were counted
 pub record HasCounted (nodes switches : ℕ) (cut : Option ℕ) (start : SessionData) (lines : List (ℕ × List ℕ)) (summary : Summary)

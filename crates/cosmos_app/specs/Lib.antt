@@ -7,6 +7,7 @@ pub mod Countings
 pub mod Reasoned
 pub mod Explaining
 pub mod Answers
+pub mod Purposes
 pub mod Feeding
 pub mod Decks
 pub mod Starts

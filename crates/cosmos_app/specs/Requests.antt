@@ -2,8 +2,14 @@
 use Rattle.std.specs.Prelude.{ℕ, List, [], ◌∷◌, map, codes, bytes_eq, if◌then◌else◌, Option, Some, None, String, string_bytes}
 use Rattle.std.specs.declared.alloc.Global.{Global}
 use Rattle.net_gen.specs.declared.families.GenPart.{GenPart}
+use Rattle.cosmos_app.specs.declared.request.Alone as code_alone
+use Rattle.cosmos_app.specs.declared.request.Alone.TheVariants as code_alone_is
+use Rattle.cosmos_app.specs.declared.request.Purpose as code_purpose
+use Rattle.cosmos_app.specs.declared.request.Purpose.TheVariants as code_purpose_is
 use Rattle.cosmos_app.specs.declared.request.Question as code_question
 use Rattle.cosmos_app.specs.declared.request.Question.TheVariants as code_question_is
+use Rattle.cosmos_app.specs.declared.request.Report as code_report
+use Rattle.cosmos_app.specs.declared.request.Report.TheVariants as code_report_is
 use Rattle.cosmos_app.specs.declared.request.Request as code_request
 use Rattle.cosmos_app.specs.declared.request.Request.TheVariants as code_request_is
 use Rattle.cosmos_app.specs.Batching.{lanes_of, lanes_seen}
@@ -86,23 +92,35 @@ request_of (command ∷ part ∷ kind ∷ seed ∷ rows ∷ []) = generation com
 request_of (command ∷ first ∷ second ∷ third ∷ []) = by_four command first second third
 request_of _ = Unclear
 
+-- the question for a run of the script with this name for a purpose of the code
+abbrev pub run_seen : code_purpose.Purpose → List ℕ → Question
+run_seen code_purpose_is.Lines script = Simulate script
+run_seen (code_purpose_is.Columns lanes) script = Batch (lanes_seen lanes) script
+run_seen (code_purpose_is.Reasons node) script = Explain script node.now
+
+-- the question for what is told of a circuit alone
+abbrev pub report_seen : code_report.Report → Question
+report_seen code_report_is.Check = Check
+report_seen code_report_is.Groups = Groups
+report_seen code_report_is.Compile = Compile
+
 -- a question of the code, as it is meant here
 abbrev pub question_seen : code_question.Question → Question
-question_seen (code_question_is.Simulate script) = Simulate script.now
-question_seen (code_question_is.Batch lanes script) = Batch (lanes_seen lanes) script.now
-question_seen code_question_is.Check = Check
-question_seen code_question_is.Groups = Groups
-question_seen code_question_is.Compile = Compile
-question_seen (code_question_is.Explain script node) = Explain script.now node.now
+question_seen (code_question_is.Run script purpose) = run_seen purpose script.now
 question_seen (code_question_is.Judge script list) = Judge script.now list.now
+question_seen (code_question_is.Report report) = report_seen report
 
--- and a request of the code
+-- a request that needs no file
+abbrev pub alone_seen : code_alone.Alone → Request
+alone_seen (code_alone_is.Generate part sample) = Generate part (sample_seen sample)
+alone_seen (code_alone_is.SumUp sample) = SumUp (sample_seen sample)
+alone_seen code_alone_is.Unclear = Unclear
+
+-- and each request of the code
 abbrev pub request_seen : code_request.Request → Request
 request_seen (code_request_is.About net question) = About net.now (question_seen question)
-request_seen (code_request_is.Generate part sample) = Generate part (sample_seen sample)
-request_seen (code_request_is.SumUp sample) = SumUp (sample_seen sample)
 request_seen (code_request_is.OverDeck deck script) = OverDeck deck.now script.now
-request_seen code_request_is.Unclear = Unclear
+request_seen (code_request_is.Alone alone) = alone_seen alone
 
 -- the bytes of the words
 abbrev pub names_of : List (String Global) → List (List ℕ)

@@ -7,7 +7,7 @@ ghost use Rattle.line_words.specs.Lines.{lines_of};
 ghost use Rattle.line_words.specs.Words.{words_of};
 ghost use Rattle.std.specs.List.{enumerate_from};
 ghost use Rattle.cosmos_session.specs.Lines.{Line, text_of};
-ghost use Rattle.cosmos_session.specs.Sessions.{IsReady};
+ghost use Rattle.cosmos_session.specs.Bounds.{IsBounded};
 ghost use Rattle.cosmos_app.specs.Summaries.{summary_of};
 ghost use Rattle.cosmos_app.specs.Countings as spec;
 
@@ -48,7 +48,7 @@ pub(crate) fn count_lines<A: Analyst>(
 
 // Each session's data are bounded: a call of this is for its contract alone.
 fn are_bounded(session: &Session)
-    ensures { spec.IsBounded session.now.core }
+    ensures { IsBounded session.now.core }
 {
     let _circuit = session.circuit();
     let _nodes = session.state().len();

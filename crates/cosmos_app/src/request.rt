@@ -20,18 +20,22 @@ pub(crate) enum Request<'a> {
         net: &'a str,
         question: Question<'a>,
     },
-    /// A part of a sample.
-    Generate {
-        part: GenPart,
-        sample: Sample,
-    },
-    /// The run of a sample's script in its netlist's circuit, summed up.
-    SumUp(Sample),
     /// The run of the script with this name in the circuit of the deck with that name.
     OverDeck {
         deck: &'a str,
         script: &'a str,
     },
+    /// What needs no file.
+    Alone(Alone),
+}
+
+/// What words ask for that needs no file.
+#[derive(Clone, Copy)]
+pub(crate) enum Alone {
+    /// A part of a sample.
+    Generate { part: GenPart, sample: Sample },
+    /// The run of a sample's script in its netlist's circuit, summed up.
+    SumUp(Sample),
     /// Nothing that there is.
     Unclear,
 }
@@ -39,20 +43,40 @@ pub(crate) enum Request<'a> {
 /// What may be asked about a netlist.
 #[derive(Clone, Copy)]
 pub(crate) enum Question<'a> {
-    /// The run of the script with this name in its circuit.
-    Simulate(&'a str),
-    /// The run of the script with this name in so many columns of its circuit.
-    Batch(Lanes, &'a str),
+    /// The run of the script with this name in its circuit, for a purpose.
+    Run {
+        script: &'a str,
+        purpose: Purpose<'a>,
+    },
+    /// The verdicts on the faults of the list with this name, beside the run of the script with that one.
+    Judge {
+        script: &'a str,
+        list: &'a str,
+    },
+    /// What is told of its circuit alone.
+    Report(Report),
+}
+
+/// What the lines of a script are run for.
+#[derive(Clone, Copy)]
+pub(crate) enum Purpose<'a> {
+    /// What they write.
+    Lines,
+    /// What they write in so many columns of the circuit.
+    Columns(Lanes),
+    /// The reasons of the node with this name at their end.
+    Reasons(&'a str),
+}
+
+/// What is told of a circuit alone.
+#[derive(Clone, Copy)]
+pub(crate) enum Report {
     /// How many nodes, transistors and names it has.
     Check,
     /// Its channel-connected groups.
     Groups,
-    /// The listing of its circuit.
+    /// Its listing.
     Compile,
-    /// The reasons of the node with this name, at the end of the script with that one.
-    Explain { script: &'a str, node: &'a str },
-    /// The verdicts on the faults of the list with this name, beside the run of the script with that one.
-    Judge { script: &'a str, list: &'a str },
 }
 
 /// What the words of a command line ask for: `sim NET SCRIPT`, `sim-spice DECK SCRIPT`, `check NET`, `groups NET`,
@@ -70,7 +94,7 @@ pub(crate) fn request_of(words: &[String]) -> Request<'_>
     } else if let [command, first, second, third] = words {
         by_four(command, first, second, third)
     } else {
-        Request::Unclear
+        Request::Alone(Alone::Unclear)
     }
 }
 
@@ -79,18 +103,14 @@ fn simulation<'a>(command: &str, circuit: &'a str, script: &'a str) -> Request<'
     ensures { spec.request_seen result ≡ spec.simulation command.now circuit.now script.now }
 {
     if command == "sim" {
-        let question = Question::Simulate(script);
-        Request::About {
-            net: circuit,
-            question,
-        }
+        run_for(circuit, script, Purpose::Lines)
     } else if command == "sim-spice" {
         Request::OverDeck {
             deck: circuit,
             script,
         }
     } else {
-        Request::Unclear
+        Request::Alone(Alone::Unclear)
     }
 }
 
@@ -101,7 +121,7 @@ fn generation<'a>(command: &str, part: &str, kind: &str, seed: &str, rows: &str)
     if command == "gen" {
         generate(part_of(part), sample_of(kind, seed, rows))
     } else {
-        Request::Unclear
+        Request::Alone(Alone::Unclear)
     }
 }
 
@@ -112,21 +132,21 @@ fn by_four<'a>(command: &str, first: &'a str, second: &'a str, third: &'a str) -
     if command == "large" {
         sum_up(sample_of(first, second, third))
     } else if command == "why" {
-        explanation(first, second, third)
+        run_for(first, second, Purpose::Reasons(third))
     } else if command == "faults" {
         judgement(first, second, third)
     } else if command == "batch" {
         in_columns(first, lanes_of(second), third)
     } else {
-        Request::Unclear
+        Request::Alone(Alone::Unclear)
     }
 }
 
-// The question for the reasons of a node.
-fn explanation<'a>(net: &'a str, script: &'a str, node: &'a str) -> Request<'a>
-    ensures { spec.request_seen result ≡ spec.About net.now (spec.Explain script.now node.now) }
+// The question for the run of a script for a purpose.
+fn run_for<'a>(net: &'a str, script: &'a str, purpose: Purpose<'a>) -> Request<'a>
+    ensures { spec.request_seen result ≡ spec.About net.now (spec.run_seen purpose.entry script.now) }
 {
-    let question = Question::Explain { script, node };
+    let question = Question::Run { script, purpose };
     Request::About { net, question }
 }
 
@@ -143,11 +163,8 @@ fn in_columns<'a>(net: &'a str, lanes: Option<Lanes>, script: &'a str) -> Reques
     ensures { spec.request_seen result ≡ spec.in_columns net.now (option_map batch.lanes_seen lanes) script.now }
 {
     match lanes {
-        Some(lanes) => {
-            let question = Question::Batch(lanes, script);
-            Request::About { net, question }
-        }
-        None => Request::Unclear,
+        Some(lanes) => run_for(net, script, Purpose::Columns(lanes)),
+        None => Request::Alone(Alone::Unclear),
     }
 }
 
@@ -156,8 +173,8 @@ fn sum_up<'a>(sample: Option<Sample>) -> Request<'a>
     ensures { spec.request_seen result ≡ spec.sum_up (option_map samples.sample_seen sample) }
 {
     match sample {
-        Some(sample) => Request::SumUp(sample),
-        None => Request::Unclear,
+        Some(sample) => Request::Alone(Alone::SumUp(sample)),
+        None => Request::Alone(Alone::Unclear),
     }
 }
 
@@ -167,7 +184,7 @@ fn about<'a>(net: &'a str, question: Option<Question<'a>>) -> Request<'a>
 {
     match question {
         Some(question) => Request::About { net, question },
-        None => Request::Unclear,
+        None => Request::Alone(Alone::Unclear),
     }
 }
 
@@ -176,8 +193,8 @@ fn generate<'a>(part: Option<GenPart>, sample: Option<Sample>) -> Request<'a>
     ensures { spec.request_seen result ≡ spec.generate part (option_map samples.sample_seen sample) }
 {
     match (part, sample) {
-        (Some(part), Some(sample)) => Request::Generate { part, sample },
-        _ => Request::Unclear,
+        (Some(part), Some(sample)) => Request::Alone(Alone::Generate { part, sample }),
+        _ => Request::Alone(Alone::Unclear),
     }
 }
 
@@ -186,11 +203,11 @@ fn question_of(command: &str) -> Option<Question<'_>>
     ensures { option_map spec.question_seen result ≡ spec.question_of command.now }
 {
     if command == "check" {
-        Some(Question::Check)
+        Some(Question::Report(Report::Check))
     } else if command == "groups" {
-        Some(Question::Groups)
+        Some(Question::Report(Report::Groups))
     } else if command == "compile" {
-        Some(Question::Compile)
+        Some(Question::Report(Report::Compile))
     } else {
         None
     }

@@ -1,12 +1,12 @@
 //! The top call.
 
-ghost use Rattle.std.specs.Prelude.{◌≡◌, ◌+◌, [], ◌∷◌, IfSome, IfOk};
+ghost use Rattle.std.specs.Prelude.{◌≡◌, ◌≢◌, ◌+◌, ℕ, List, [], ◌∷◌, IfSome, IfOk, IfErr};
 ghost use Rattle.port_edge.specs.Taken.{TakesFiles};
 ghost use Rattle.netlist.specs.Circuits.{IsCircuit, HasVisibleNames};
-ghost use Rattle.cosmos_app.specs.Requests.{names_of, question_seen};
+ghost use Rattle.cosmos_app.specs.Requests.{alone_seen, names_of, question_seen};
 ghost use Rattle.cosmos_app.specs.Requests as spec;
-ghost use Rattle.cosmos_app.specs.Answers.{IsAnswer, IsAnswered, IsAnswerIn, IsDeckSimulation, IsOver, IsSimulation};
-ghost use Rattle.cosmos_app.specs.Reasoned.{IsReasoned};
+ghost use Rattle.cosmos_app.specs.Answers.{IsAnswer, IsAnswered, IsAnswerIn, IsAnswerTo, IsDeckSimulation, IsOver, IsSimulation};
+ghost use Rattle.cosmos_app.specs.Purposes.{IsRunFor};
 ghost use Rattle.sim_read.specs.Meaning.{netlist_of};
 ghost use Rattle.spice_read.specs.Making.{circuit_of};
 ghost use Rattle.script_run.specs.Stops.{faults_read, faults_written, IsRefusedOnce};
@@ -16,14 +16,13 @@ ghost use Rattle.cosmos_app.specs.Starts.{DeckStarts, QuestionStarts, RequestSta
 ghost use Rattle.script_run.specs.Ends.{IsToldBy, IsUntouched, status_after};
 
 use crate::batch::run_columns;
-use crate::compile::write_listing;
 use crate::explain::explain;
 use crate::faults::judge_list;
 use crate::generated::write_part;
 use crate::reading::{read_circuit, read_deck_file, read_file};
 use crate::refusal::{refuse_deck, refuse_net, refuse_words};
-use crate::reports::{list_groups, report_check};
-use crate::request::{Question, Request, request_of};
+use crate::reports::report_on;
+use crate::request::{Alone, Purpose, Question, Request, request_of};
 use crate::summary::sum_up;
 use cosmos_session::Session;
 use group_analysis::Analyst;
@@ -32,6 +31,7 @@ use netlist::Circuit;
 use port_edge::{Files, Sink};
 use script_run::{End, Status, Stop, run_lines};
 use std::alloc::Global;
+use table_keys::TableKeys;
 
 /// Answers the words of a command line, which are those after the program's name.
 ///
@@ -137,12 +137,31 @@ fn answer<F: Files, S: Sink, A: Analyst>(
 {
     match request_of(words) {
         Request::About { net, question } => answer_about(alloc, net, question, files, out, analyst),
-        Request::Generate { part, sample } => write_part(alloc, part, sample, out),
-        Request::SumUp(sample) => sum_up(alloc, files.keys(), sample, out, analyst),
         Request::OverDeck { deck, script } => simulate_deck(
             alloc, deck, script, files, out, analyst,
         ),
-        Request::Unclear => refuse_words(out),
+        Request::Alone(alone) => answer_alone(alloc, files.keys(), alone, out, analyst),
+    }
+}
+
+// Answers what needs no file.
+fn answer_alone<S: Sink, A: Analyst>(
+    alloc: Global,
+    keys: TableKeys,
+    alone: Alone,
+    out: &mut S,
+    analyst: &mut A,
+) -> Result<End, Stop>
+    ensures told { (holds : List ℕ → List ℕ) → IsToldBy (IsAnswerTo (alone_seen alone) holds)
+        (S.written out.old) (S.written out.new) (A.analysed analyst.old) (A.analysed analyst.new) result }
+    ensures no_read { IfErr result (λ stop. stop ≢ Stop.Read) }
+    ensures write { S.faults out.new ≡ faults_written (S.faults out.old) result }
+    ensures refused { IsRefusedOnce (S.refusals out.old) (S.refusals out.new) result }
+{
+    match alone {
+        Alone::Generate { part, sample } => write_part(alloc, part, sample, out),
+        Alone::SumUp(sample) => sum_up(alloc, keys, sample, out, analyst),
+        Alone::Unclear => refuse_words(out),
     }
 }
 
@@ -201,7 +220,10 @@ fn simulate_deck<F: Files, S: Sink, A: Analyst>(
     ensures untouched { IsUntouched out.old out.new result }
 {
     match read_deck_file(alloc, files, deck)? {
-        Ok(circuit) => run_script(alloc, circuit, script, files, out, analyst),
+        Ok(circuit) => {
+            let purpose = Purpose::Lines;
+            run_script(alloc, circuit, script, purpose, files, out, analyst)
+        }
         Err(refusal) => refuse_deck(alloc, refusal.line, refusal.what, out),
     }
 }
@@ -231,33 +253,30 @@ fn answer_in<F: Files, S: Sink, A: Analyst>(
     ensures untouched { IsUntouched out.old out.new result }
 {
     match question {
-        Question::Simulate(script) => run_script(alloc, circuit, script, files, out, analyst),
-        Question::Batch(lanes, script) => {
-            run_columns(alloc, circuit, lanes, script, files, out, analyst)
-        }
-        Question::Check => report_check(alloc, &circuit, out),
-        Question::Groups => list_groups(alloc, files.keys(), &circuit, out),
-        Question::Compile => write_listing(alloc, files.keys(), &circuit, out, analyst),
-        Question::Explain { script, node } => {
-            explain_after(alloc, circuit, script, node, files, out, analyst)
+        Question::Run { script, purpose } => {
+            run_script(alloc, circuit, script, purpose, files, out, analyst)
         }
         Question::Judge { script, list } => {
             judge_list(alloc, circuit, script, list, files, out, analyst)
         }
+        Question::Report(report) => {
+            report_on(alloc, files.keys(), &circuit, report, out, analyst)
+        }
     }
 }
 
-// Reads the script and runs it in the circuit.
+// Reads the script and runs it in the circuit, for a purpose.
 fn run_script<F: Files, S: Sink, A: Analyst>(
     alloc: Global,
     circuit: Circuit,
     script: &str,
+    purpose: Purpose<'_>,
     files: &mut F,
     out: &mut S,
     analyst: &mut A,
 ) -> Result<End, Stop>
     requires { IsCircuit circuit }
-    ensures told { IfSome (F.holds files.old) (λ holds. IsToldBy (IsSimulation (holds script.now) circuit)
+    ensures told { IfSome (F.holds files.old) (λ holds. IsToldBy (IsRunFor purpose.entry (holds script.now) circuit)
         (S.written out.old) (S.written out.new) (A.analysed analyst.old) (A.analysed analyst.new) result) }
     ensures started { StartsAtMost (F.started files.old) (F.started files.new) script.now }
     ensures taken { TakesFiles (F.taken files.old) (F.taken files.new) (MOST_FILE_BYTES + 1) }
@@ -269,32 +288,47 @@ fn run_script<F: Files, S: Sink, A: Analyst>(
     ensures untouched { IsUntouched out.old out.new result }
 {
     let text = read_file(alloc, files, script)?;
-    let mut session = Session::new(alloc, circuit)?;
-    run_lines(alloc, &mut session, &text, out, analyst)
+    run_text(alloc, circuit, &text, purpose, out, analyst)
 }
 
-// Reads the script, runs it in the circuit, and explains the node of this name where it ends.
-fn explain_after<F: Files, S: Sink, A: Analyst>(
+// Runs the lines of a script from the start in the circuit, for a purpose.
+fn run_text<S: Sink, A: Analyst>(
     alloc: Global,
     circuit: Circuit,
-    script: &str,
-    node: &str,
-    files: &mut F,
+    text: &[u8],
+    purpose: Purpose<'_>,
     out: &mut S,
     analyst: &mut A,
 ) -> Result<End, Stop>
     requires { IsCircuit circuit }
-    ensures told { IfSome (F.holds files.old) (λ holds. IsToldBy (IsReasoned (holds script.now) node.now circuit)
-        (S.written out.old) (S.written out.new) (A.analysed analyst.old) (A.analysed analyst.new) result) }
-    ensures started { StartsAtMost (F.started files.old) (F.started files.new) script.now }
-    ensures taken { TakesFiles (F.taken files.old) (F.taken files.new) (MOST_FILE_BYTES + 1) }
-    ensures whole { IfOk result (λ _. IfSome (F.holds files.old) (λ holds.
-        ReadsWhole (F.taken files.old) (F.taken files.new) holds (script.now ∷ []))) }
-    ensures read { F.faults files.new ≡ faults_read (F.faults files.old) result }
+    ensures told { IsToldBy (IsRunFor purpose.entry text.now circuit)
+        (S.written out.old) (S.written out.new) (A.analysed analyst.old) (A.analysed analyst.new) result }
+    ensures no_read { IfErr result (λ stop. stop ≢ Stop.Read) }
     ensures write { S.faults out.new ≡ faults_written (S.faults out.old) result }
     ensures refused { IsRefusedOnce (S.refusals out.old) (S.refusals out.new) result }
-    ensures untouched { IsUntouched out.old out.new result }
 {
-    let text = read_file(alloc, files, script)?;
-    explain(alloc, circuit, &text, node, out, analyst)
+    match purpose {
+        Purpose::Lines => simulate(alloc, circuit, text, out, analyst),
+        Purpose::Columns(lanes) => run_columns(alloc, circuit, lanes, text, out, analyst),
+        Purpose::Reasons(node) => explain(alloc, circuit, text, node, out, analyst),
+    }
+}
+
+// Runs the lines of a script from the start in the circuit.
+fn simulate<S: Sink, A: Analyst>(
+    alloc: Global,
+    circuit: Circuit,
+    text: &[u8],
+    out: &mut S,
+    analyst: &mut A,
+) -> Result<End, Stop>
+    requires { IsCircuit circuit }
+    ensures told { IsToldBy (IsSimulation text.now circuit)
+        (S.written out.old) (S.written out.new) (A.analysed analyst.old) (A.analysed analyst.new) result }
+    ensures no_read { IfErr result (λ stop. stop ≢ Stop.Read) }
+    ensures write { S.faults out.new ≡ faults_written (S.faults out.old) result }
+    ensures refused { IsRefusedOnce (S.refusals out.old) (S.refusals out.new) result }
+{
+    let mut session = Session::new(alloc, circuit)?;
+    run_lines(alloc, &mut session, text, out, analyst)
 }

@@ -1,25 +1,87 @@
--- Words that ask about no netlist need no file.
-use Rattle.std.proofs.Common.{sym, ap, ◌∙◌}
-use Rattle.port_edge.proofs.ResultLemmas.{at_ok}
-use Rattle.cosmos_app.specs.Requests.{names_of, request_of, request_seen}
-use Rattle.cosmos_app.specs.Wholes.{files_of}
+-- What was told of the case of the request is told of the request; where no file is needed, none is started or read.
+use Rattle.std.proofs.Common.{◌+◌, sym, ap, ◌∙◌}
+use Rattle.port_edge.proofs.ResultLemmas.{at_known, at_ok}
+use Rattle.port_edge.proofs.TakenLemmas.{files_none}
+use Rattle.line_words.specs.declared.files.TheConstants.{MOST_FILE_BYTES}
+use Rattle.script_run.proofs.EndLemmas.{read_none}
+use Rattle.cosmos_app.specs.Requests.{About, OverDeck, alone_seen, names_of, question_seen, request_of, request_seen}
+use Rattle.cosmos_app.proofs.AskedLemmas.{told_request, starts_request, whole_request, starts_alone, files_alone}
+use Rattle.cosmos_app.proofs.EndLemmas.{untouched_none}
 use Rattle.cosmos_app.proofs.WholeLemmas.{whole_unasked}
 use Rattle.cosmos_app.proofs.top.answer.Goals as goal
 
-pub returns-in-Generate-clause-whole : goal.returns-in-Generate-clause-whole
-returns-in-Generate-clause-whole g c =
-    at_ok c.write_part.result
-    (whole_unasked (g.F.Files.holds c.args.files.now) (request_of (names_of c.args.words.now)) (g.F.Files.taken c.args.files.now)
-    (λ holds. ap (λ asked. files_of asked holds) (sym c.request_of.ensures ∙ ap request_seen c.in-Generate.is)))
+pub returns-in-About-clause-told : goal.returns-in-About-clause-told
+returns-in-About-clause-told g c =
+    told_request (About c.in-About.net.now (question_seen c.in-About.question)) (request_of (names_of c.args.words.now))
+    (sym (ap request_seen c.in-About.is) ∙ c.request_of.ensures)
+    (g.F.Files.holds c.args.files.now) (g.S.Sink.written c.args.out.now) (g.S.Sink.written c.answer_about.new.out)
+    (g.A.Analyst.analysed c.args.analyst.now)
+    (g.A.Analyst.analysed c.answer_about.new.analyst) c.answer_about.result c.answer_about.ensures.told
 
-pub returns-in-Unclear-clause-whole : goal.returns-in-Unclear-clause-whole
-returns-in-Unclear-clause-whole g c =
-    at_ok c.refuse_words.result
-    (whole_unasked (g.F.Files.holds c.args.files.now) (request_of (names_of c.args.words.now)) (g.F.Files.taken c.args.files.now)
-    (λ holds. ap (λ asked. files_of asked holds) (sym c.request_of.ensures ∙ ap request_seen c.in-Unclear.is)))
+pub returns-in-About-clause-started : goal.returns-in-About-clause-started
+returns-in-About-clause-started g c =
+    starts_request (About c.in-About.net.now (question_seen c.in-About.question)) (request_of (names_of c.args.words.now))
+    (sym (ap request_seen c.in-About.is) ∙ c.request_of.ensures)
+    (g.F.Files.holds c.args.files.now) (g.F.Files.started c.args.files.now) (g.F.Files.started c.answer_about.new.files)
+    c.answer_about.ensures.started
 
-pub returns-in-SumUp-clause-whole : goal.returns-in-SumUp-clause-whole
-returns-in-SumUp-clause-whole g c =
-    at_ok c.sum_up.result
-    (whole_unasked (g.F.Files.holds c.args.files.now) (request_of (names_of c.args.words.now)) (g.F.Files.taken c.args.files.now)
-    (λ holds. ap (λ asked. files_of asked holds) (sym c.request_of.ensures ∙ ap request_seen c.in-SumUp.is)))
+pub returns-in-About-clause-whole : goal.returns-in-About-clause-whole
+returns-in-About-clause-whole g c =
+    whole_request (About c.in-About.net.now (question_seen c.in-About.question)) (request_of (names_of c.args.words.now))
+    (sym (ap request_seen c.in-About.is) ∙ c.request_of.ensures)
+    (g.F.Files.holds c.args.files.now) (g.F.Files.taken c.args.files.now) (g.F.Files.taken c.answer_about.new.files) c.answer_about.result
+    c.answer_about.ensures.whole
+
+pub returns-in-OverDeck-clause-told : goal.returns-in-OverDeck-clause-told
+returns-in-OverDeck-clause-told g c =
+    told_request (OverDeck c.in-OverDeck.deck.now c.in-OverDeck.script.now) (request_of (names_of c.args.words.now))
+    (sym (ap request_seen c.in-OverDeck.is) ∙ c.request_of.ensures)
+    (g.F.Files.holds c.args.files.now) (g.S.Sink.written c.args.out.now) (g.S.Sink.written c.simulate_deck.new.out)
+    (g.A.Analyst.analysed c.args.analyst.now)
+    (g.A.Analyst.analysed c.simulate_deck.new.analyst) c.simulate_deck.result c.simulate_deck.ensures.told
+
+pub returns-in-OverDeck-clause-started : goal.returns-in-OverDeck-clause-started
+returns-in-OverDeck-clause-started g c =
+    starts_request (OverDeck c.in-OverDeck.deck.now c.in-OverDeck.script.now) (request_of (names_of c.args.words.now))
+    (sym (ap request_seen c.in-OverDeck.is) ∙ c.request_of.ensures)
+    (g.F.Files.holds c.args.files.now) (g.F.Files.started c.args.files.now) (g.F.Files.started c.simulate_deck.new.files)
+    c.simulate_deck.ensures.started
+
+pub returns-in-OverDeck-clause-whole : goal.returns-in-OverDeck-clause-whole
+returns-in-OverDeck-clause-whole g c =
+    whole_request (OverDeck c.in-OverDeck.deck.now c.in-OverDeck.script.now) (request_of (names_of c.args.words.now))
+    (sym (ap request_seen c.in-OverDeck.is) ∙ c.request_of.ensures)
+    (g.F.Files.holds c.args.files.now) (g.F.Files.taken c.args.files.now) (g.F.Files.taken c.simulate_deck.new.files) c.simulate_deck.result
+    c.simulate_deck.ensures.whole
+
+pub returns-in-Alone-clause-told : goal.returns-in-Alone-clause-told
+returns-in-Alone-clause-told g c =
+    told_request (alone_seen c.in-Alone.alone) (request_of (names_of c.args.words.now)) (sym (ap request_seen c.in-Alone.is) ∙ c.request_of.ensures)
+    (g.F.Files.holds c.args.files.now) (g.S.Sink.written c.args.out.now) (g.S.Sink.written c.answer_alone.new.out)
+    (g.A.Analyst.analysed c.args.analyst.now)
+    (g.A.Analyst.analysed c.answer_alone.new.analyst) c.answer_alone.result
+    (at_known (g.F.Files.holds c.args.files.now) _ c.answer_alone.ensures.told)
+
+pub returns-in-Alone-clause-started : goal.returns-in-Alone-clause-started
+returns-in-Alone-clause-started g c =
+    starts_request (alone_seen c.in-Alone.alone) (request_of (names_of c.args.words.now)) (sym (ap request_seen c.in-Alone.is) ∙ c.request_of.ensures)
+    (g.F.Files.holds c.args.files.now) (g.F.Files.started c.args.files.now) (g.F.Files.started c.args.files.now)
+    (starts_alone c.in-Alone.alone (g.F.Files.holds c.args.files.now) (g.F.Files.started c.args.files.now))
+
+pub returns-in-Alone-clause-taken : goal.returns-in-Alone-clause-taken
+returns-in-Alone-clause-taken g c = files_none (g.F.Files.taken c.args.files.now) (MOST_FILE_BYTES + 1)
+
+pub returns-in-Alone-clause-whole : goal.returns-in-Alone-clause-whole
+returns-in-Alone-clause-whole g c =
+    whole_request (alone_seen c.in-Alone.alone) (request_of (names_of c.args.words.now)) (sym (ap request_seen c.in-Alone.is) ∙ c.request_of.ensures)
+    (g.F.Files.holds c.args.files.now) (g.F.Files.taken c.args.files.now) (g.F.Files.taken c.args.files.now) c.answer_alone.result
+    (at_ok c.answer_alone.result
+    (whole_unasked (g.F.Files.holds c.args.files.now) (alone_seen c.in-Alone.alone) (g.F.Files.taken c.args.files.now)
+    (files_alone c.in-Alone.alone)))
+
+pub returns-in-Alone-clause-read : goal.returns-in-Alone-clause-read
+returns-in-Alone-clause-read g c = read_none (g.F.Files.faults c.args.files.now) c.answer_alone.result c.answer_alone.ensures.no_read
+
+pub returns-in-Alone-clause-untouched : goal.returns-in-Alone-clause-untouched
+returns-in-Alone-clause-untouched g c =
+    untouched_none c.args.out.now c.answer_alone.new.out c.answer_alone.result c.answer_alone.ensures.no_read

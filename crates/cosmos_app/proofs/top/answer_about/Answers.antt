@@ -1,7 +1,78 @@
+-- What was told of the circuit that was read, or of its refusal, is told of the netlist.
+use Rattle.std.proofs.Common.{Ok, Err, ap, inl, inr, ◌∙◌}
+use Rattle.port_edge.proofs.ResultLemmas.{at_ok}
 use Rattle.port_edge.proofs.TakenLemmas.{files_both}
+use Rattle.script_run.specs.Stops.{faults_read}
+use Rattle.script_run.proofs.EndLemmas.{read_none}
+use Rattle.cosmos_app.specs.Requests.{question_seen}
+use Rattle.cosmos_app.proofs.EndLemmas.{untouched_none}
+use Rattle.cosmos_app.proofs.FeedingLemmas.{at_each}
+use Rattle.cosmos_app.proofs.NetLemmas.{means_as, told_over, told_refusal}
+use Rattle.cosmos_app.proofs.StartLemmas.{starts_beside}
+use Rattle.cosmos_app.proofs.WholeLemmas.{whole_beside, whole_refused}
 use Rattle.cosmos_app.proofs.top.answer_about.Goals as goal
+
+pub returns-in-Ok-clause-told : goal.returns-in-Ok-clause-told
+returns-in-Ok-clause-told g c =
+    told_over (g.F.Files.holds c.args.files.now) (g.F.Files.holds c.read_circuit.new.files) (question_seen c.args.question) c.args.net.now
+    (Ok c.in-Ok.circuit)
+    (g.S.Sink.written c.args.out.now) (g.S.Sink.written c.answer_in.new.out) (g.A.Analyst.analysed c.args.analyst.now)
+    (g.A.Analyst.analysed c.answer_in.new.analyst)
+    c.answer_in.result
+    (means_as (g.F.Files.holds c.args.files.now) c.args.net.now _ (Ok c.in-Ok.circuit) c.in-Ok.is c.in_ok-circuit.ensures.means)
+    c.in_ok-circuit.ensures.holds c.answer_in.ensures.told
+
+pub returns-in-Ok-clause-started : goal.returns-in-Ok-clause-started
+returns-in-Ok-clause-started g c =
+    starts_beside (g.F.Files.holds c.args.files.now) c.args.net.now (question_seen c.args.question) c.in-Ok.circuit
+    (g.F.Files.started c.args.files.now)
+    (g.F.Files.started c.read_circuit.new.files) (g.F.Files.started c.answer_in.new.files)
+    (means_as (g.F.Files.holds c.args.files.now) c.args.net.now _ (Ok c.in-Ok.circuit) c.in-Ok.is c.in_ok-circuit.ensures.means)
+    c.in_ok-circuit.ensures.started c.answer_in.ensures.started
+
+pub returns-in-Ok-clause-whole : goal.returns-in-Ok-clause-whole
+returns-in-Ok-clause-whole g c =
+    at_each c.answer_in.result
+    (λ ended after. whole_beside (g.F.Files.holds c.args.files.now) (g.F.Files.holds c.read_circuit.new.files) c.args.net.now
+    (question_seen c.args.question) c.in-Ok.circuit
+    (g.F.Files.taken c.args.files.now) (g.F.Files.taken c.read_circuit.new.files) (g.F.Files.taken c.answer_in.new.files)
+    (means_as (g.F.Files.holds c.args.files.now) c.args.net.now _ (Ok c.in-Ok.circuit) c.in-Ok.is c.in_ok-circuit.ensures.means)
+    c.in_ok-circuit.ensures.holds c.in_ok-circuit.ensures.whole after)
+    c.answer_in.ensures.whole
+
+pub returns-in-Err-clause-told : goal.returns-in-Err-clause-told
+returns-in-Err-clause-told g c =
+    told_refusal (g.F.Files.holds c.args.files.now) (question_seen c.args.question) c.args.net.now c.in-Err.refusal (g.S.Sink.written c.args.out.now)
+    (g.S.Sink.written c.refuse_net.new.out)
+    (g.A.Analyst.analysed c.args.analyst.now) c.refuse_net.result
+    (means_as (g.F.Files.holds c.args.files.now) c.args.net.now _ (Err c.in-Err.refusal) c.in-Err.is c.in_ok-circuit.ensures.means)
+    c.refuse_net.ensures.told
+
+pub returns-in-Err-clause-whole : goal.returns-in-Err-clause-whole
+returns-in-Err-clause-whole g c =
+    at_ok c.refuse_net.result
+    (whole_refused (g.F.Files.holds c.args.files.now) c.args.net.now (question_seen c.args.question) c.in-Err.refusal
+    (g.F.Files.taken c.args.files.now) (g.F.Files.taken c.read_circuit.new.files)
+    (means_as (g.F.Files.holds c.args.files.now) c.args.net.now _ (Err c.in-Err.refusal) c.in-Err.is c.in_ok-circuit.ensures.means)
+    c.in_ok-circuit.ensures.whole)
 
 pub returns-in-Ok-clause-taken : goal.returns-in-Ok-clause-taken
 returns-in-Ok-clause-taken g c =
     files_both (g.F.Files.taken c.args.files.now) (g.F.Files.taken c.read_circuit.new.files) (g.F.Files.taken c.answer_in.new.files) _
     c.in_ok-circuit.ensures.taken c.answer_in.ensures.taken
+
+pub returns-in-Ok-clause-read : goal.returns-in-Ok-clause-read
+returns-in-Ok-clause-read g c =
+    c.answer_in.ensures.read ∙ ap (λ n. faults_read n c.answer_in.result) c.in_ok-circuit.ensures.read
+
+pub returns-in-Err-clause-started : goal.returns-in-Err-clause-started
+returns-in-Err-clause-started g c =
+    inl (inr c.in_ok-circuit.ensures.started)
+
+pub returns-in-Err-clause-read : goal.returns-in-Err-clause-read
+returns-in-Err-clause-read g c =
+    c.in_ok-circuit.ensures.read ∙ read_none (g.F.Files.faults c.args.files.now) c.refuse_net.result c.refuse_net.ensures.no_read
+
+pub returns-in-Err-clause-untouched : goal.returns-in-Err-clause-untouched
+returns-in-Err-clause-untouched g c =
+    untouched_none c.args.out.now c.refuse_net.new.out c.refuse_net.result c.refuse_net.ensures.no_read

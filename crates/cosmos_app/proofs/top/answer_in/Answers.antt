@@ -1,41 +1,78 @@
--- What was told of the reasons, of the verdicts or of the run of columns is told of the question for them.
-use Rattle.std.proofs.Common.{sym, subst, IfSome, IfOk}
-use Rattle.cosmos_app.specs.declared.request.Question.{Question}
-use Rattle.cosmos_app.specs.Requests.{question_seen}
-use Rattle.cosmos_app.specs.Answers.{IsAnswerIn}
-use Rattle.cosmos_app.specs.Wholes.{scripts_of, ReadsWhole}
-use Rattle.script_run.specs.Ends.{IsToldBy}
+-- What was told of the case of the question is told of the question; what is told of the circuit alone starts and reads no further file.
+use Rattle.std.proofs.Common.{◌+◌, refl}
+use Rattle.port_edge.proofs.ResultLemmas.{at_known, at_ok}
+use Rattle.port_edge.proofs.TakenLemmas.{files_none}
+use Rattle.line_words.specs.declared.files.TheConstants.{MOST_FILE_BYTES}
+use Rattle.script_run.proofs.EndLemmas.{read_none}
+use Rattle.cosmos_app.proofs.AskedLemmas.{told_question, starts_question, whole_question, starts_reported, scripts_reported}
+use Rattle.cosmos_app.proofs.EndLemmas.{untouched_none}
+use Rattle.cosmos_app.proofs.PurposeLemmas.{told_asked, starts_asked, scripts_asked}
+use Rattle.cosmos_app.proofs.WholeLemmas.{whole_none}
 use Rattle.cosmos_app.proofs.top.answer_in.Goals as goal
 
-pub returns-in-Explain-clause-told : goal.returns-in-Explain-clause-told
-returns-in-Explain-clause-told g c =
-    subst (λ (question : Question). IfSome (g.F.Files.holds c.args.files.now) (λ holds. IsToldBy (IsAnswerIn (question_seen question) holds c.args.circuit)
-    (g.S.Sink.written c.args.out.now) (g.S.Sink.written c.explain_after.new.out)
-    (g.A.Analyst.analysed c.args.analyst.now) (g.A.Analyst.analysed c.explain_after.new.analyst) c.explain_after.result))
-    (sym c.in-Explain.is) c.explain_after.ensures.told
+pub returns-in-Run-clause-told : goal.returns-in-Run-clause-told
+returns-in-Run-clause-told g c =
+    told_question c.args.question _ c.in-Run.is (g.F.Files.holds c.args.files.now) c.args.circuit (g.S.Sink.written c.args.out.now)
+    (g.S.Sink.written c.run_script.new.out)
+    (g.A.Analyst.analysed c.args.analyst.now) (g.A.Analyst.analysed c.run_script.new.analyst) c.run_script.result
+    (told_asked (g.F.Files.holds c.args.files.now) c.in-Run.script.now c.in-Run.purpose c.args.circuit (g.S.Sink.written c.args.out.now)
+    (g.S.Sink.written c.run_script.new.out)
+    (g.A.Analyst.analysed c.args.analyst.now) (g.A.Analyst.analysed c.run_script.new.analyst) c.run_script.result c.run_script.ensures.told)
+
+pub returns-in-Run-clause-started : goal.returns-in-Run-clause-started
+returns-in-Run-clause-started g c =
+    starts_question c.args.question _ c.in-Run.is (g.F.Files.started c.args.files.now) (g.F.Files.started c.run_script.new.files)
+    (starts_asked c.in-Run.script.now c.in-Run.purpose (g.F.Files.started c.args.files.now) (g.F.Files.started c.run_script.new.files)
+    c.run_script.ensures.started)
+
+pub returns-in-Run-clause-whole : goal.returns-in-Run-clause-whole
+returns-in-Run-clause-whole g c =
+    whole_question c.args.question _ c.in-Run.is (g.F.Files.holds c.args.files.now) _ (g.F.Files.taken c.args.files.now)
+    (g.F.Files.taken c.run_script.new.files)
+    c.run_script.result (scripts_asked c.in-Run.script.now c.in-Run.purpose) c.run_script.ensures.whole
 
 pub returns-in-Judge-clause-told : goal.returns-in-Judge-clause-told
 returns-in-Judge-clause-told g c =
-    subst (λ (question : Question). IfSome (g.F.Files.holds c.args.files.now) (λ holds. IsToldBy (IsAnswerIn (question_seen question) holds c.args.circuit)
-    (g.S.Sink.written c.args.out.now) (g.S.Sink.written c.judge_list.new.out)
-    (g.A.Analyst.analysed c.args.analyst.now) (g.A.Analyst.analysed c.judge_list.new.analyst) c.judge_list.result))
-    (sym c.in-Judge.is) c.judge_list.ensures.told
+    told_question c.args.question _ c.in-Judge.is (g.F.Files.holds c.args.files.now) c.args.circuit (g.S.Sink.written c.args.out.now)
+    (g.S.Sink.written c.judge_list.new.out)
+    (g.A.Analyst.analysed c.args.analyst.now) (g.A.Analyst.analysed c.judge_list.new.analyst) c.judge_list.result
+    c.judge_list.ensures.told
+
+pub returns-in-Judge-clause-started : goal.returns-in-Judge-clause-started
+returns-in-Judge-clause-started g c =
+    starts_question c.args.question _ c.in-Judge.is (g.F.Files.started c.args.files.now) (g.F.Files.started c.judge_list.new.files)
+    c.judge_list.ensures.started
 
 pub returns-in-Judge-clause-whole : goal.returns-in-Judge-clause-whole
 returns-in-Judge-clause-whole g c =
-    subst (λ (question : Question). IfOk c.judge_list.result (λ _. IfSome (g.F.Files.holds c.args.files.now) (λ holds.
-    ReadsWhole (g.F.Files.taken c.args.files.now) (g.F.Files.taken c.judge_list.new.files) holds (scripts_of (question_seen question)))))
-    (sym c.in-Judge.is) c.judge_list.ensures.whole
+    whole_question c.args.question _ c.in-Judge.is (g.F.Files.holds c.args.files.now) _ (g.F.Files.taken c.args.files.now)
+    (g.F.Files.taken c.judge_list.new.files)
+    c.judge_list.result refl c.judge_list.ensures.whole
 
-pub returns-in-Batch-clause-told : goal.returns-in-Batch-clause-told
-returns-in-Batch-clause-told g c =
-    subst (λ (question : Question). IfSome (g.F.Files.holds c.args.files.now) (λ holds. IsToldBy (IsAnswerIn (question_seen question) holds c.args.circuit)
-    (g.S.Sink.written c.args.out.now) (g.S.Sink.written c.run_columns.new.out)
-    (g.A.Analyst.analysed c.args.analyst.now) (g.A.Analyst.analysed c.run_columns.new.analyst) c.run_columns.result))
-    (sym c.in-Batch.is) c.run_columns.ensures.told
+pub returns-in-Report-clause-told : goal.returns-in-Report-clause-told
+returns-in-Report-clause-told g c =
+    told_question c.args.question _ c.in-Report.is (g.F.Files.holds c.args.files.now) c.args.circuit (g.S.Sink.written c.args.out.now)
+    (g.S.Sink.written c.report_on.new.out)
+    (g.A.Analyst.analysed c.args.analyst.now) (g.A.Analyst.analysed c.report_on.new.analyst) c.report_on.result
+    (at_known (g.F.Files.holds c.args.files.now) _ c.report_on.ensures.told)
 
-pub returns-in-Batch-clause-whole : goal.returns-in-Batch-clause-whole
-returns-in-Batch-clause-whole g c =
-    subst (λ (question : Question). IfOk c.run_columns.result (λ _. IfSome (g.F.Files.holds c.args.files.now) (λ holds.
-    ReadsWhole (g.F.Files.taken c.args.files.now) (g.F.Files.taken c.run_columns.new.files) holds (scripts_of (question_seen question)))))
-    (sym c.in-Batch.is) c.run_columns.ensures.whole
+pub returns-in-Report-clause-started : goal.returns-in-Report-clause-started
+returns-in-Report-clause-started g c =
+    starts_question c.args.question _ c.in-Report.is (g.F.Files.started c.args.files.now) (g.F.Files.started c.args.files.now)
+    (starts_reported c.in-Report.report (g.F.Files.started c.args.files.now))
+
+pub returns-in-Report-clause-whole : goal.returns-in-Report-clause-whole
+returns-in-Report-clause-whole g c =
+    whole_question c.args.question _ c.in-Report.is (g.F.Files.holds c.args.files.now) _ (g.F.Files.taken c.args.files.now)
+    (g.F.Files.taken c.args.files.now)
+    c.report_on.result (scripts_reported c.in-Report.report)
+    (at_ok c.report_on.result (at_known (g.F.Files.holds c.args.files.now) _ (λ holds. whole_none (g.F.Files.taken c.args.files.now))))
+
+pub returns-in-Report-clause-taken : goal.returns-in-Report-clause-taken
+returns-in-Report-clause-taken g c = files_none (g.F.Files.taken c.args.files.now) (MOST_FILE_BYTES + 1)
+
+pub returns-in-Report-clause-read : goal.returns-in-Report-clause-read
+returns-in-Report-clause-read g c = read_none (g.F.Files.faults c.args.files.now) c.report_on.result c.report_on.ensures.no_read
+
+pub returns-in-Report-clause-untouched : goal.returns-in-Report-clause-untouched
+returns-in-Report-clause-untouched g c = untouched_none c.args.out.now c.report_on.new.out c.report_on.result c.report_on.ensures.no_read

@@ -1,0 +1,119 @@
+-- The run of a script for a purpose: what is told of the text that was read is told of the file, and of the question for the run.
+use Rattle.std.proofs.Common.{◌≡◌, ℕ, List, [], ◌∷◌, Option, None, Some, IfSome, Result, Ok, Err, refl, subst, ◌∙◌}
+use Rattle.line_words.specs.Files.{front_of, lines_in, cut_line}
+use Rattle.line_words.proofs.FileLemmas.{cut_line-front_of, lines_in-front_of}
+use Rattle.netlist.specs.Circuits.{CircuitData}
+use Rattle.group_text.specs.Texts.{GroupTextData}
+use Rattle.cosmos_session.specs.Sessions.{SessionData, start_of}
+use Rattle.lane_session.specs.LaneSessions.{LaneSessionData, session_in, IsStart}
+use Rattle.lane_run.specs.Batches.{IsBatchAnswer}
+use Rattle.lane_run.proofs.RunLemmas.{together-same}
+use Rattle.script_run.specs.declared.stop.Stop.{Stop}
+use Rattle.script_run.specs.declared.stop.End as end
+use Rattle.script_run.specs.Runs.{Answer, Runs, plain_reading, answer_told, IsScriptAnswer}
+use Rattle.script_run.specs.Ends.{IsToldBy, TellsRun}
+use Rattle.cosmos_app.specs.declared.request.Purpose.{Purpose}
+use Rattle.cosmos_app.specs.declared.request.Purpose.TheVariants.{Lines, Columns, Reasons}
+use Rattle.cosmos_app.specs.Requests.{run_seen}
+use Rattle.cosmos_app.specs.Batching.{IsBatch, lanes_seen}
+use Rattle.cosmos_app.specs.Answers.{IsSimulation, IsAnswerIn}
+use Rattle.cosmos_app.specs.Purposes.{IsRunFor}
+use Rattle.cosmos_app.specs.Starts.{Started, StartsAtMost, ScriptStarts}
+use Rattle.cosmos_app.specs.Wholes.{scripts_of}
+use Rattle.cosmos_app.proofs.EndLemmas.{told_by_as}
+
+-- ---- each purpose
+
+-- what ran is told by its answer
+told_run : (cut : Option ℕ) (start : SessionData) (lines : List (ℕ × List ℕ)) (new : SessionData) (before after : Option (List ℕ)) (asked told : List GroupTextData) (result : Result end.End Stop) →
+    TellsRun plain_reading cut start lines new before after asked told result → IsToldBy (IsScriptAnswer plain_reading cut start lines) before after asked told result
+told_run cut start lines new before after asked told (Ok ending) run = record {
+  answer = answer_told run.outcome;
+  right = (record { outcome = run.outcome; runs = run.runs; told = refl }, run.analysed);
+  ended = run.ended;
+  grew = run.grew;
+}
+told_run cut start lines new before after asked told (Err stop) stopped = stopped
+
+-- the run of a session at its start is the simulation
+pub told_lines : (circuit : CircuitData) (start new : SessionData) (text : List ℕ) (before after : Option (List ℕ)) (asked told : List GroupTextData) (result : Result end.End Stop) →
+    start ≡ start_of circuit → TellsRun plain_reading (cut_line text) start (lines_in text) new before after asked told result →
+    IsToldBy (IsSimulation text circuit) before after asked told result
+told_lines circuit start new text before after asked told result first run =
+    subst (λ (from : SessionData). IsToldBy (IsScriptAnswer plain_reading (cut_line text) from (lines_in text)) before after asked told result) first
+    (told_run (cut_line text) start (lines_in text) new before after asked told result run)
+
+-- the answer of columns at their start is that in so many columns
+answers_columns : (lanes : ℕ) (circuit : CircuitData) (session : LaneSessionData) (text : List ℕ) (answer : Answer) → session.lanes ≡ lanes →
+    IsStart circuit session → IsBatchAnswer session.lanes (cut_line text) (session_in session) (lines_in text) answer → IsBatch lanes text circuit answer
+answers_columns lanes circuit session text answer same start right =
+    subst (λ (n : ℕ). IsBatch n text circuit answer) same
+    (record {
+      text = right.text;
+      refused = right.refused;
+      runs = together-same session.lanes (cut_line text) (λ lane. start_of circuit) (session_in session) (lines_in text) right.text answer.texts
+          right.refused start right.runs;
+      told = right.told;
+    })
+
+pub told_columns : (lanes : ℕ) (circuit : CircuitData) (session : LaneSessionData) (text : List ℕ) (before after : Option (List ℕ)) (asked told : List GroupTextData) (result : Result end.End Stop) →
+    session.lanes ≡ lanes → IsStart circuit session →
+    IsToldBy (IsBatchAnswer session.lanes (cut_line text) (session_in session) (lines_in text)) before after asked told result →
+    IsToldBy (IsBatch lanes text circuit) before after asked told result
+told_columns lanes circuit session text before after asked told result same start run =
+    told_by_as (IsBatchAnswer session.lanes (cut_line text) (session_in session) (lines_in text)) (IsBatch lanes text circuit) before after asked told result
+    (λ answer right. answers_columns lanes circuit session text answer same start right) run
+
+-- ---- the text that was read
+
+-- what is so of the lines of a script's front is so of its lines
+at_front : (P : Option ℕ → List (ℕ × List ℕ) → Type 0) (script : List ℕ) → P (cut_line (front_of script)) (lines_in (front_of script)) →
+    P (cut_line script) (lines_in script)
+at_front P script is =
+    subst (λ cut. P cut (lines_in script)) (cut_line-front_of script)
+    (subst (λ lines. P (cut_line (front_of script)) lines) (lines_in-front_of script) is)
+
+-- the answer of a script's front is that of the script
+run_for-front : (purpose : Purpose) (script : List ℕ) (circuit : CircuitData) (answer : Answer) → IsRunFor purpose (front_of script) circuit answer →
+    IsRunFor purpose script circuit answer
+run_for-front Lines script circuit answer right =
+    at_front (λ cut lines. IsScriptAnswer plain_reading cut (start_of circuit) lines answer) script right
+run_for-front (Columns lanes) script circuit answer right =
+    at_front (λ cut lines. IsBatchAnswer (lanes_seen lanes) cut (λ lane. start_of circuit) lines answer) script right
+run_for-front (Reasons node) script circuit answer right = record {
+  outcome = right.outcome;
+  runs = at_front (λ cut lines. Runs plain_reading cut (start_of circuit) lines right.outcome) script right.runs;
+  explained = right.explained;
+  texts = right.texts;
+}
+
+-- what was told of the text that was read is told of the script
+pub told_run_for : (known : Option (List ℕ → List ℕ)) (name : List ℕ) (purpose : Purpose) (circuit : CircuitData) (text seen : List ℕ) (old new : Option (List ℕ))
+    (before after : List GroupTextData) (result : Result end.End Stop) → IfSome known (λ holds. text ≡ front_of (holds name)) → seen ≡ text →
+    IsToldBy (IsRunFor purpose seen circuit) old new before after result →
+    IfSome known (λ holds. IsToldBy (IsRunFor purpose (holds name) circuit) old new before after result)
+told_run_for None name purpose circuit text seen old new before after result front same told = tt
+told_run_for (Some holds) name purpose circuit text seen old new before after result front same told =
+    told_by_as (IsRunFor purpose seen circuit) (IsRunFor purpose (holds name) circuit) old new before after result
+    (λ answer right. run_for-front purpose (holds name) circuit answer
+    (subst (λ (bytes : List ℕ). IsRunFor purpose bytes circuit answer) (same ∙ front) right)) told
+
+-- ---- the question for the run
+
+pub told_asked : (known : Option (List ℕ → List ℕ)) (script : List ℕ) (purpose : Purpose) (circuit : CircuitData) (old new : Option (List ℕ))
+    (before after : List GroupTextData) (result : Result end.End Stop) →
+    IfSome known (λ holds. IsToldBy (IsRunFor purpose (holds script) circuit) old new before after result) →
+    IfSome known (λ holds. IsToldBy (IsAnswerIn (run_seen purpose script) holds circuit) old new before after result)
+told_asked known script Lines circuit old new before after result told = told
+told_asked known script (Columns lanes) circuit old new before after result told = told
+told_asked known script (Reasons node) circuit old new before after result told = told
+
+pub starts_asked : (script : List ℕ) (purpose : Purpose) (old new : Started) → StartsAtMost old new script → ScriptStarts (run_seen purpose script) old new
+starts_asked script Lines old new starts = starts
+starts_asked script (Columns lanes) old new starts = starts
+starts_asked script (Reasons node) old new starts = starts
+
+pub scripts_asked : (script : List ℕ) (purpose : Purpose) → script ∷ [] ≡ scripts_of (run_seen purpose script)
+scripts_asked script Lines = refl
+scripts_asked script (Columns lanes) = refl
+scripts_asked script (Reasons node) = refl

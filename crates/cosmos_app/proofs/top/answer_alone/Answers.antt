@@ -1,0 +1,36 @@
+-- What was told of the case is told of what is asked.
+use Rattle.std.proofs.Common.{sym, ap, subst}
+use Rattle.script_run.specs.Runs.{Answer}
+use Rattle.script_run.specs.Ends.{IsToldBy}
+use Rattle.script_run.proofs.EndLemmas.{told_by_none}
+use Rattle.cosmos_app.specs.declared.request.Alone.{Alone}
+use Rattle.cosmos_app.specs.Requests.{alone_seen}
+use Rattle.cosmos_app.specs.Samples.{sample_seen}
+use Rattle.cosmos_app.specs.Answers.{IsAnswerTo, IsGenerated, IsUsage}
+use Rattle.cosmos_app.proofs.top.answer_alone.Goals as goal
+
+pub returns-in-Generate-clause-told : goal.returns-in-Generate-clause-told
+returns-in-Generate-clause-told g c = λ holds.
+    subst (λ (alone : Alone). IsToldBy (IsAnswerTo (alone_seen alone) holds) (g.S.Sink.written c.args.out.now) (g.S.Sink.written c.write_part.new.out)
+    (g.A.Analyst.analysed c.args.analyst.now) (g.A.Analyst.analysed c.args.analyst.now) c.write_part.result)
+    (sym c.in-Generate.is)
+    (told_by_none (IsGenerated c.in-Generate.part (sample_seen c.in-Generate.sample))
+    (IsGenerated c.in-Generate.part (sample_seen c.in-Generate.sample)) (g.S.Sink.written c.args.out.now) (g.S.Sink.written c.write_part.new.out)
+    (g.A.Analyst.analysed c.args.analyst.now) c.write_part.result
+    (λ answer is. (is, ap (λ (told : Answer). told.texts) is)) c.write_part.ensures.told)
+
+pub returns-in-SumUp-clause-told : goal.returns-in-SumUp-clause-told
+returns-in-SumUp-clause-told g c = λ holds.
+    subst (λ (alone : Alone). IsToldBy (IsAnswerTo (alone_seen alone) holds) (g.S.Sink.written c.args.out.now) (g.S.Sink.written c.sum_up.new.out)
+    (g.A.Analyst.analysed c.args.analyst.now) (g.A.Analyst.analysed c.sum_up.new.analyst) c.sum_up.result)
+    (sym c.in-SumUp.is) c.sum_up.ensures.told
+
+pub returns-in-Unclear-clause-told : goal.returns-in-Unclear-clause-told
+returns-in-Unclear-clause-told g c = λ holds.
+    subst
+    (λ (alone : Alone). IsToldBy (IsAnswerTo (alone_seen alone) holds) (g.S.Sink.written c.args.out.now) (g.S.Sink.written c.refuse_words.new.out)
+    (g.A.Analyst.analysed c.args.analyst.now) (g.A.Analyst.analysed c.args.analyst.now) c.refuse_words.result)
+    (sym c.in-Unclear.is)
+    (told_by_none IsUsage IsUsage (g.S.Sink.written c.args.out.now) (g.S.Sink.written c.refuse_words.new.out)
+    (g.A.Analyst.analysed c.args.analyst.now) c.refuse_words.result
+    (λ answer is. (is, ap (λ (told : Answer). told.texts) is)) c.refuse_words.ensures.told)

@@ -1,0 +1,15 @@
+-- Inside the program: what the lines of a script are run for.
+use Rattle.std.specs.Prelude.{ℕ, List}
+use Rattle.netlist.specs.Circuits.{CircuitData}
+use Rattle.script_run.specs.Runs.{Answer}
+use Rattle.cosmos_app.specs.declared.request.Purpose.{Purpose}
+use Rattle.cosmos_app.specs.declared.request.Purpose.TheVariants.{Lines, Columns, Reasons}
+use Rattle.cosmos_app.specs.Batching.{IsBatch, lanes_seen}
+use Rattle.cosmos_app.specs.Reasoned.{IsReasoned}
+use Rattle.cosmos_app.specs.Answers.{IsSimulation}
+
+-- the answer of a script that is run for this purpose, from the start in a circuit
+abbrev pub IsRunFor : Purpose → List ℕ → CircuitData → Answer → Type 0
+IsRunFor Lines script = IsSimulation script
+IsRunFor (Columns lanes) script = IsBatch (lanes_seen lanes) script
+IsRunFor (Reasons node) script = IsReasoned script node.now
