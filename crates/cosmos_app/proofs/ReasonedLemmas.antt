@@ -1,7 +1,6 @@
 -- What was told of a node at the end of a script, or of the refusal that ended it, is told of the answer to `why`.
-use Rattle.std.proofs.Common.{◌≡◌, ◌≢◌, ℕ, inl, inr, List, Option, None, Some, IfSome, Result, Ok, Err, IfOk, IfErr, refl, sym, ap, subst, ◌∙◌, arith}
-use Rattle.line_words.specs.Files.{front_of, lines_in, cut_line}
-use Rattle.line_words.proofs.FileLemmas.{cut_line-front_of, lines_in-front_of}
+use Rattle.std.proofs.Common.{◌≡◌, ◌≢◌, ℕ, inl, inr, List, Option, None, Some, Result, Ok, Err, IfOk, IfErr, refl, sym, ap, subst, arith}
+use Rattle.line_words.specs.Files.{lines_in, cut_line}
 use Rattle.netlist.specs.Circuits.{CircuitData}
 use Rattle.netlist.specs.Names.{node_of}
 use Rattle.group_text.specs.Texts.{GroupTextData}
@@ -15,7 +14,7 @@ use Rattle.script_run.specs.declared.stop.End as end
 use Rattle.script_run.specs.declared.stop.Stop.{Stop}
 use Rattle.script_run.specs.declared.stop.Stop.TheVariants.{Read, Write, Memory}
 use Rattle.script_run.specs.Codes.{Cause, plain_cause}
-use Rattle.script_run.specs.Runs.{Reading, Runs, Answer, RefusedLine, plain_answer, plain_reading}
+use Rattle.script_run.specs.Runs.{Reading, Answer, RefusedLine, plain_answer, plain_reading}
 use Rattle.script_run.specs.Answers.{IsRefusalFor, IsTooLarge}
 use Rattle.script_run.specs.Halts.{HasObeyed, HasOutgrown, HaltsAt, TellsHalt}
 use Rattle.script_run.specs.Stops.{faults_written}
@@ -132,32 +131,3 @@ told_known new name node old last result found written =
     told_as (λ (answer : Answer). (answer.status ≡ Done) × ExplainsNode new.circuit new.state node answer.text)
     (λ (answer : Answer). IsExplained new (node_of new.circuit.names name) answer.status answer.text) old last result
     (λ answer is. subst (λ (node : Option ℕ). IsExplained new node answer.status answer.text) (sym found) is) written
-
--- what was told of the script that was read is told of the file
-pub told_read : (known : Option (List ℕ → List ℕ)) (file name : List ℕ) (circuit : CircuitData) (text seen : List ℕ) (old last : Option (List ℕ)) (asked told : List GroupTextData) (result : Result end.End Stop) →
-    IfSome known (λ holds. text ≡ front_of (holds file)) → seen ≡ text → IsToldBy (IsReasoned seen name circuit) old last asked told result →
-    IfSome known (λ holds. IsToldBy (IsReasoned (holds file) name circuit) old last asked told result)
-told_read None file name circuit text seen old last asked told result front same is = tt
-told_read (Some holds) file name circuit text seen old last asked told result front same is =
-    told_mapped (IsReasoned seen name circuit) (IsReasoned (holds file) name circuit) old last asked told result
-    (λ answer right. record {
-      outcome = right.outcome;
-      runs = subst (λ (cut : Option ℕ). Runs plain_reading cut (start_of circuit) (lines_in (holds file)) right.outcome)
-          (ap cut_line (same ∙ front) ∙ cut_line-front_of (holds file))
-          (subst (λ lines. Runs plain_reading (cut_line seen) (start_of circuit) lines right.outcome)
-          (ap lines_in (same ∙ front) ∙ lines_in-front_of (holds file)) right.runs);
-      explained = right.explained;
-      texts = right.texts;
-    }) is
-  where
-    told_mapped : (IsRight IsMeant : Answer → Type 0) (old new : Option (List ℕ)) (before after : List GroupTextData) (result : Result end.End Stop) →
-        ((answer : Answer) → IsRight answer → IsMeant answer) → IsToldBy IsRight old new before after result → IsToldBy IsMeant old new before after result
-    told_mapped IsRight IsMeant old new before after (Ok ending) means told = record {
-      answer = told.answer;
-      right = (means told.answer told.right.0, told.right.1);
-      ended = told.ended;
-      grew = told.grew;
-    }
-    told_mapped IsRight IsMeant old new before after (Err stop) means (inl same) = inl same
-    told_mapped IsRight IsMeant old new before after (Err stop) means (inr begun) =
-        inr (record { answer = begun.answer; right = means begun.answer begun.right; part = begun.part })
