@@ -2,7 +2,7 @@
 -- The plan: at the end, or at a refused line, by what they wrote. Where it ends early something comes of the lines that are left, for which
 -- nothing is analysed, and after which the same is kept: so a strong difference that shows by then is the verdict on the whole, and all else
 -- that is told of it is known.
-use Rattle.std.proofs.Common.{◌≡◌, ℕ, Bool, true, List, [], ◌∷◌, ◌++◌, map, All, Option, None, Some, Result, Ok, Err, IfOk, refl, sym, ap, subst, ◌∙◌, append-nil}
+use Rattle.std.proofs.Common.{◌≡◌, ◌≢◌, ℕ, Bool, true, List, [], ◌∷◌, ◌++◌, map, All, Option, None, Some, Result, Ok, Err, IfOk, IfSome, refl, sym, ap, subst, ◌∙◌, append-nil}
 use Rattle.std.specs.Prelude.{filter_map}
 use Rattle.std.specs.Option.{option_map}
 use Rattle.std.proofs.lemmas.List.Elements.{All-nil, All-cons, All-head, All-tail, filter_map-append}
@@ -12,17 +12,17 @@ use Rattle.line_words.specs.Lines.{lines_of}
 use Rattle.netlist.specs.Circuits.{called}
 use Rattle.group_text.specs.Texts.{GroupTextData}
 use Rattle.circuit_texts.specs.declared.texts.BuildFault.{BuildFault}
-use Rattle.wave_print.specs.declared.faults.FaultCode.{FaultCode}
 use Rattle.cosmos_session.specs.Sessions.{SessionData, HeldSession}
 use Rattle.cosmos_session.specs.Lines.{Line, text_of}
 use Rattle.cosmos_session.specs.Bounds.{IsBounded, IsReadable}
+use Rattle.script_run.specs.declared.script.Turn.{Turn}
 use Rattle.script_run.specs.declared.script.Turn.TheVariants.{Accepted, Refused, TooLarge}
 use Rattle.script_run.specs.Codes.{plain_cause}
 use Rattle.script_run.specs.Runs.{RefusedLine, after_command}
 use Rattle.script_run.specs.Turns.{TakesTurn}
 use Rattle.script_run.specs.Halts.{HasObeyed, HasOutgrown}
 use Rattle.script_run.proofs.ReadingLemmas.{masked-sound}
-use Rattle.script_run.proofs.RunLemmas.{HasCome, comes_on, halts_refused, halts_large, halts_end, outcome_exists}
+use Rattle.script_run.proofs.RunLemmas.{HasCome, comes_to, comes_on, halts_refused, halts_large, halts_end, outcome_exists}
 use Rattle.script_run.proofs.SizeLemmas.{size_caused}
 use Rattle.fault_sim.specs.declared.trace.Trace.{Trace}
 use Rattle.fault_sim.specs.declared.verdicts.Verdict.{Verdict}
@@ -31,13 +31,13 @@ use Rattle.fault_sim.specs.declared.verdicts.Verdict.TheVariants as variant
 use Rattle.fault_sim.specs.Masks.{masked_reading}
 use Rattle.fault_sim.specs.Rows.{AreRows}
 use Rattle.fault_runs.specs.Rows.{row_of}
-use Rattle.fault_runs.specs.Early.{IsCalm, is_from, JudgesText, IsEarly, JudgesLines}
+use Rattle.fault_runs.specs.Early.{IsCalm, is_from, JudgesText, IsEarly, TellsAfter, JudgesLines}
 use Rattle.fault_runs.specs.Judging.{is_detected}
 use Rattle.fault_runs.proofs.TextLemmas.{rows_shown}
 use Rattle.fault_runs.proofs.RunLemmas.{runs-readable, trace_of, shows_so}
 use Rattle.fault_runs.proofs.CalmLemmas.{IsCurrent, runs_calm}
 use Rattle.fault_runs.proofs.DetectedLemmas.{detected_in_all, whatever_names}
-use Rattle.fault_runs.proofs.PlaceLemmas.{IsPlaced, calm_here}
+use Rattle.fault_runs.proofs.PlaceLemmas.{IsPlaced, placed_on, calm_here}
 
 -- what holds of all lines holds of those in front
 all_front : (P : Line → Type 0) (front back : List Line) → All P (front ++ back) → All P front
@@ -115,65 +115,91 @@ module _ (stuck : Option (ℕ × Tern)) (script : List ℕ) (start : SessionData
   judged_so_far current calm Undetected detected judges = absurd (cc)
 
 -- what holds of each value under one fact holds of a result
-ok_weaker : {T E : Type 0} (P Q : T → Type 0) (result : Result T E) → ((value : T) → P value → Q value) → IfOk result P → IfOk result Q
+pub ok_weaker : {T E : Type 0} (P Q : T → Type 0) (result : Result T E) → ((value : T) → P value → Q value) → IfOk result P → IfOk result Q
 ok_weaker P Q (Ok value) weaker is = weaker value is
 ok_weaker P Q (Err fault) weaker is = tt
 
+-- ---- after a line
+
+module _ (good : Trace) (number : ℕ) (text : List ℕ) (calm : Bool) where
+  -- a run that goes on has accepted it
+  still_accepted : (turn : Turn) → TellsAfter good turn number text calm None → turn ≡ Accepted
+  still_accepted Accepted tells = refl
+  still_accepted (Refused code) tells = absurd tells
+  still_accepted (TooLarge size) tells = absurd tells
+
+  -- where it is accepted an early verdict ends the run
+  pub tells_early : {E : Type 0} (turn : Turn) (result : Result (Option Verdict) E) → turn ≡ Accepted →
+      IfOk result (λ found. IfSome found (IsEarly good text calm)) → IfOk result (TellsAfter good turn number text calm)
+  tells_early turn result is early = subst (λ one. IfOk result (TellsAfter good one number text calm)) (sym is) (by result early)
+    where
+      by : {E : Type 0} (result : Result (Option Verdict) E) → IfOk result (λ found. IfSome found (IsEarly good text calm)) →
+          IfOk result (TellsAfter good Accepted number text calm)
+      by (Ok None) early = tt
+      by (Ok (Some verdict)) early = early
+      by (Err fault) early = tt
+
+  -- where it is refused its number is in the verdict
+  pub tells_refused : (turn : Turn) (verdict : Verdict) → turn ≢ Accepted → JudgesText good text (Some number) verdict →
+      TellsAfter good turn number text calm (Some verdict)
+  tells_refused Accepted verdict other judges = absurd (other refl)
+  tells_refused (Refused code) verdict other judges = judges
+  tells_refused (TooLarge size) verdict other judges = judges
+
 -- ---- how a run ends
 
-module _ (stuck : Option (ℕ × Tern)) (script : List ℕ) (cut : Option ℕ) (same_cut : cut ≡ cut_line script) (start : SessionData) (bounded : IsBounded start) (good : Trace) (asked : List GroupTextData) where
+module _ (stuck : Option (ℕ × Tern)) (script : List ℕ) {cut : Option ℕ} (same_cut : cut ≡ cut_line script) {start : SessionData} (bounded : IsBounded start) (good : Trace) {asked : List GroupTextData} where
   -- at a line, after the lines before it
-  module _ (old : HeldSession) (line : ℕ × List ℕ) (left : List (ℕ × List ℕ)) (text : List ℕ) (told : List GroupTextData) (come : HasCome (masked_reading stuck) cut start (lines_in script) (Some []) asked old.core (line ∷ left) (Some text) told) (new : HeldSession) (more : List ℕ) (further : List GroupTextData) where
-    -- that is refused
-    pub ends_refused : {E : Type 0} (code : FaultCode) (result : Result Verdict E) →
-        TakesTurn (masked_reading stuck) cut line old new (Some text) (Some more) told further (Ok (Refused code)) →
-        IfOk result (JudgesText good more (Some line.0)) → IfOk result (JudgesLines stuck script start good new.core asked further)
-    ends_refused code result turn judges =
-        let last : Option RefusedLine = Some (record { line = line.0; cause = plain_cause code }) in
-        let obeyed = halts_refused (masked_reading stuck) cut start (lines_in script) (Some []) asked old line left (Some text) told come new (Some more)
-        further code turn in
-        ok_weaker (JudgesText good more (Some line.0)) (JudgesLines stuck script start good new.core asked further) result
-        (λ verdict is.
-        judged_obeyed stuck script start bounded good new.core more asked further verdict (Some line.0) last refl
-        (subst (λ at. HasObeyed (masked_reading stuck) at start (lines_in script) new.core (Some []) (Some more) asked further last) same_cut obeyed)
-        is)
-        judges
-
-    -- for whose command the circuit is too large
-    pub ends_outgrown : {E : Type 0} (size : BuildFault) (result : Result Verdict E) →
-        TakesTurn (masked_reading stuck) cut line old new (Some text) (Some more) told further (Ok (TooLarge size)) →
-        IfOk result (JudgesText good more (Some line.0)) → IfOk result (JudgesLines stuck script start good new.core asked further)
-    ends_outgrown size result turn judges =
-        let outgrown = halts_large (masked_reading stuck) cut start (lines_in script) (Some []) asked old line left (Some text) told come new (Some more)
-        further size turn in
-        ok_weaker (JudgesText good more (Some line.0)) (JudgesLines stuck script start good new.core asked further) result
-        (λ verdict is.
-        judged_outgrown stuck script start bounded good new.core more asked further verdict line.0 size
-        (subst (λ at. HasOutgrown (masked_reading stuck) at start (lines_in script) new.core (Some []) (Some more) asked further line.0 size) same_cut
-        outgrown)
-        is)
-        judges
-
+  module _ (old : HeldSession) {line : ℕ × List ℕ} {left : List (ℕ × List ℕ)} {text : List ℕ} {told : List GroupTextData} (come : HasCome (masked_reading stuck) cut start (lines_in script) (Some []) asked old.core (line ∷ left) (Some text) told) (new : HeldSession) (more : List ℕ) (further : List GroupTextData) where
     -- that was obeyed, and after which all is calm
-    pub ends_early : (from : Option ℕ) (calm : Bool) (verdict : Verdict) → IsPlaced from (line ∷ left) old.core →
+    ended_early : (from : Option ℕ) (calm : Bool) (verdict : Verdict) → IsPlaced from (line ∷ left) old.core →
         TakesTurn (masked_reading stuck) cut line old new (Some text) (Some more) told further (Ok Accepted) → calm ≡ is_from from line.0 →
         IsEarly good more calm verdict → JudgesLines stuck script start good new.core asked further verdict
-    ends_early from calm verdict placed turn is early =
+    ended_early from calm verdict placed turn is early =
         let here = calm_here stuck cut from old new line left (Some text) (Some more) told further placed turn (sym is ∙ early.still) in
-        let next = comes_on (masked_reading stuck) cut start (lines_in script) (Some []) asked old line left (Some text) told come new (Some more)
-        further turn in
+        let next = comes_on old come new (Some more) further {turn = Accepted} turn refl in
         judged_so_far stuck script start bounded good new.core left more asked further
         (subst (λ at. HasCome (masked_reading stuck) at start (lines_in script) (Some []) asked new.core left (Some more) further) same_cut next)
         here.0 here.1 verdict early.detected early.judges
 
+    -- or that is refused, also since the circuit is too large for its command
+    ended_here : (from : Option ℕ) (calm : Bool) (verdict : Verdict) (turn : Turn) → IsPlaced from (line ∷ left) old.core →
+        TakesTurn (masked_reading stuck) cut line old new (Some text) (Some more) told further (Ok turn) → calm ≡ is_from from line.0 →
+        TellsAfter good turn line.0 more calm (Some verdict) → JudgesLines stuck script start good new.core asked further verdict
+    ended_here from calm verdict Accepted placed turn is tells = ended_early from calm verdict placed turn is tells
+    ended_here from calm verdict (Refused code) placed turn is tells =
+        judged_obeyed stuck script start bounded good new.core more asked further verdict (Some line.0)
+        (Some (record { line = line.0; cause = plain_cause code })) refl
+        (halts_refused old come new (Some more) further {turn = Refused code} turn refl same_cut) tells
+    ended_here from calm verdict (TooLarge size) placed turn is tells =
+        judged_outgrown stuck script start bounded good new.core more asked further verdict line.0 size
+        (halts_large old come new (Some more) further {turn = TooLarge size} turn refl same_cut) tells
+
+  module _ (old : HeldSession) {line : ℕ × List ℕ} {left rest : List (ℕ × List ℕ)} {text : List ℕ} {told : List GroupTextData} (come : HasCome (masked_reading stuck) cut start (lines_in script) (Some []) asked old.core left (Some text) told) (steps : left ≡ line ∷ rest) (new : HeldSession) (more : List ℕ) (further : List GroupTextData) (from : Option ℕ) (placed : IsPlaced from left old.core) (calm : Bool) (turn : Turn) (takes : TakesTurn (masked_reading stuck) cut line old new (Some text) (Some more) told further (Ok turn)) (found : Option Verdict) (tells : TellsAfter good turn line.0 more calm found) where
+    -- it ends with the verdict that was found
+    pub ends_here : (verdict : Verdict) → found ≡ Some verdict → calm ≡ is_from from line.0 →
+        JudgesLines stuck script start good new.core asked further verdict
+    ends_here verdict is at =
+        ended_here old (comes_to come steps) new more further from calm verdict turn
+        (subst (λ lines. IsPlaced from lines old.core) steps placed) takes at
+        (subst (TellsAfter good turn line.0 more calm) is tells)
+
+    -- or goes on
+    pub goes_past : found ≡ None →
+        HasCome (masked_reading stuck) cut start (lines_in script) (Some []) asked new.core rest (Some more) further × IsPlaced from rest new.core
+    goes_past none =
+        let accepted = still_accepted good line.0 more calm turn (subst (TellsAfter good turn line.0 more calm) none tells) in
+        let accepts = subst (λ one. TakesTurn (masked_reading stuck) cut line old new (Some text) (Some more) told further (Ok one)) accepted takes in (
+          comes_on old (comes_to come steps) new (Some more) further {turn = turn} takes accepted,
+          placed_on stuck cut from old new line rest (Some text) (Some more) told further (subst (λ lines. IsPlaced from lines old.core) steps placed) accepts,
+        )
+
   -- after all lines
-  pub ends_whole : {E : Type 0} (now : SessionData) (text : List ℕ) (told : List GroupTextData) (result : Result Verdict E) →
+  pub ends_whole : {E : Type 0} {now : SessionData} {text : List ℕ} {told : List GroupTextData} (result : Result Verdict E) →
       HasCome (masked_reading stuck) cut start (lines_in script) (Some []) asked now [] (Some text) told →
       IfOk result (JudgesText good text None) → IfOk result (JudgesLines stuck script start good now asked told)
-  ends_whole now text told result come judges =
-      let obeyed = halts_end (masked_reading stuck) cut start (lines_in script) (Some []) asked now (Some text) told come in
+  ends_whole {now = now} {text = text} {told = told} result come judges =
       ok_weaker (JudgesText good text None) (JudgesLines stuck script start good now asked told) result
       (λ verdict is.
-      judged_obeyed stuck script start bounded good now text asked told verdict None None refl
-      (subst (λ at. HasObeyed (masked_reading stuck) at start (lines_in script) now (Some []) (Some text) asked told None) same_cut obeyed) is)
+      judged_obeyed stuck script start bounded good now text asked told verdict None None refl (halts_end come same_cut) is)
       judges

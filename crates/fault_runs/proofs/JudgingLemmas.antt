@@ -13,6 +13,7 @@ use Rattle.cosmos_session.specs.Sessions.{SessionData}
 use Rattle.wave_print.specs.Verdicts.{faults_line_of}
 use Rattle.wave_print.specs.declared.faults.FaultPlace.TheVariants.{Script}
 use Rattle.group_text.specs.Texts.{GroupTextData}
+use Rattle.fault_sim.specs.declared.fault.Fault.TheVariants.{Open}
 use Rattle.fault_sim.specs.declared.trace.Trace.{Trace}
 use Rattle.fault_sim.specs.declared.verdicts.Verdict.{Verdict}
 use Rattle.fault_sim.specs.Benches.{JudgesBy}
@@ -26,11 +27,12 @@ use Rattle.script_run.specs.Codes.{Cause, plain_cause, cause_line}
 use Rattle.script_run.specs.Runs.{Answer}
 use Rattle.script_run.specs.Answers.{IsStopped, IsWritten, IsAnalysed, IsRefusalFor, IsTooLarge}
 use Rattle.script_run.specs.Ends.{IsTold, IsToldBy}
+use Rattle.script_run.specs.Halts.{IsCutShort, TellsCutShort}
 use Rattle.fault_runs.specs.declared.list.ListedFault.{ListedFault}
 use Rattle.fault_runs.specs.declared.counts.VerdictCounts.{VerdictCounts}
 use Rattle.fault_runs.specs.Judging.{LineVerdict, verdict_line, verdict_lines, counts_line, AreJudged, no_fault, one_more, IsJudgement}
 use Rattle.fault_runs.specs.Counts.{counts_of, total, with_verdict}
-use Rattle.fault_runs.specs.Runnings.{BenchData, HasTraced, HasRun, HasOutgrown, RunsTo, IsCutShort, TellsCutShort, TellsJudged}
+use Rattle.fault_runs.specs.Runnings.{BenchData, HasTraced, HasRun, HasOutgrown, RunsTo, TellsJudged}
 use Rattle.fault_runs.proofs.CountLemmas.{counts_of-more, total-counts_of}
 use Rattle.fault_runs.proofs.RunLemmas.{judged_exists}
 
@@ -62,11 +64,15 @@ pub record HasJudged (c : CircuitData) (script : List ℕ) (good : Trace) (start
   pub goes_on : (rest : List LineVerdict) (more : List GroupTextData) → AreJudged c script good bench.kept (drop place all) rest more →
       AreJudged c script good start all (judged ++ rest) (texts ++ more)
 
-module _ (c : CircuitData) (script : List ℕ) (good : Trace) (start : List GroupTextData) (all : List ListedFault) (before : Option (List ℕ)) (asked : List GroupTextData) where
+-- the fault at a place of the list
+abbrev pub listed_at : List ListedFault → ℕ → ListedFault
+listed_at all place = get_or all place (record { line = 0; fault = Open 0 })
+
+module _ {c : CircuitData} {script : List ℕ} {good : Trace} {start : List GroupTextData} {all : List ListedFault} {before : Option (List ℕ)} {asked : List GroupTextData} where
   -- at the start
-  pub judged_first : (bench : BenchData) (counts : VerdictCounts) → bench.start ≡ c → bench.script ≡ script → bench.kept ≡ start → counts ≡ counts_of [] →
+  pub judged_first : {bench : BenchData} {counts : VerdictCounts} → bench.start ≡ c → bench.script ≡ script → bench.kept ≡ start → counts ≡ counts_of [] →
       HasJudged c script good start all before asked bench 0 before asked counts
-  judged_first bench counts is_start is_script is_kept none = record {
+  judged_first is_start is_script is_kept none = record {
     same_start = is_start;
     same_script = is_script;
     judged = [];
@@ -78,26 +84,41 @@ module _ (c : CircuitData) (script : List ℕ) (good : Trace) (start : List Grou
     goes_on = λ rest more are. subst (λ kept. AreJudged c script good kept all rest more) is_kept are;
   }
 
-  -- the text of an answer that goes on from what was written
-  module _ (circuit : IsCircuit c) (faulty : All (λ listed. IsFault c listed.fault) all) (bench : BenchData) (place : ℕ) (after : Option (List ℕ)) (told : List GroupTextData) (counts : VerdictCounts) (come : HasJudged c script good start all before asked bench place after told counts) where
-    -- what is written so far is where an answer begins
-    pub stopped_before : (last : Option (List ℕ)) → last ≡ after → IsStopped (TellsJudged c script good start all) before last
-    stopped_before last same =
-        let left = judged_exists c script good (drop place all) bench.kept circuit
-        (All-drop (λ (listed : ListedFault). IsFault c listed.fault) place all faulty) in
-        let judged = come.judged ++ left.0 in
+  -- the text of an answer to the list, by another name, that goes on from what was written
+  module _ (circuit : IsCircuit c) {faults : List ListedFault} (same : all ≡ faults) (faults_are : All (λ listed. IsFault c listed.fault) faults) {bench : BenchData} {place : ℕ} {after : Option (List ℕ)} {told : List GroupTextData} {counts : VerdictCounts} (come : HasJudged c script good start all before asked bench place after told counts) where
+    faulty : All (λ listed. IsFault c listed.fault) all
+    faulty = subst (All (λ (listed : ListedFault). IsFault c listed.fault)) (sym same) faults_are
+
+    -- what was judged so far and what is judged of those that are left make an answer, a part of which was written
+    stopped_in : (front : List LineVerdict) (texts more : List GroupTextData) (rest : List LineVerdict) (last : Option (List ℕ)) →
+        AreJudged c script good start all (front ++ rest) (texts ++ more) → WritesPart before last (verdict_lines good front) →
+        IsStopped (TellsJudged c script good start faults) before last
+    stopped_in front texts more rest last are wrote =
+        let judged = front ++ rest in
         inr (record {
           answer = record {
             status = status.Done;
             text = verdict_lines good judged ++ counts_line judged;
-            texts = come.texts ++ left.1;
+            texts = texts ++ more;
           };
-          right = record { judged = judged; texts = come.texts ++ left.1; are = come.goes_on left.0 left.1 left.2; told = refl };
+          right = record {
+            judged = judged;
+            texts = texts ++ more;
+            are = subst (λ (list : List ListedFault). AreJudged c script good start list judged (texts ++ more)) same are;
+            told = refl;
+          };
           part = part_longer before last (verdict_lines good judged) (counts_line judged)
-              (subst (WritesPart before last) (sym (verdict_lines-append good come.judged left.0))
-              (part_longer before last (verdict_lines good come.judged) (verdict_lines good left.0)
-              (part_whole before last (verdict_lines good come.judged) (same ∙ come.grew))));
+              (subst (WritesPart before last) (sym (verdict_lines-append good front rest))
+              (part_longer before last (verdict_lines good front) (verdict_lines good rest) wrote));
         })
+
+    -- what is written so far is where an answer begins
+    pub stopped_before : {last : Option (List ℕ)} → last ≡ after → IsStopped (TellsJudged c script good start faults) before last
+    stopped_before {last} unwritten =
+        let left = judged_exists c script good (drop place all) bench.kept circuit
+        (All-drop (λ (listed : ListedFault). IsFault c listed.fault) place all faulty) in
+        stopped_in come.judged come.texts left.1 left.0 last (come.goes_on left.0 left.1 left.2)
+        (part_whole before last (verdict_lines good come.judged) (unwritten ∙ come.grew))
 
     -- the counts stay within the list
     pub few_counted : place < length all → total counts + 1 ≤ length all
@@ -106,93 +127,79 @@ module _ (c : CircuitData) (script : List ℕ) (good : Trace) (start : List Grou
         omega (arith, sum, come.long, low)
 
     -- the fault at this place is one of the bench's circuit
-    pub fault_here : (listed : ListedFault) → place < length all → listed ≡ get_or all place listed → IsFault bench.start listed.fault
-    fault_here listed low here =
-        subst (λ (one : CircuitData). IsFault one listed.fault) (sym come.same_start)
-        (subst (λ (one : ListedFault). IsFault c one.fault) (sym here)
-        (All-get_or (λ (one : ListedFault). IsFault c one.fault) all place listed low faulty))
+    pub fault_here : place < length all → IsFault bench.start (listed_at all place).fault
+    fault_here low =
+        subst (λ (one : CircuitData). IsFault one (listed_at all place).fault) (sym come.same_start)
+        (All-get_or (λ (one : ListedFault). IsFault c one.fault) all place (record { line = 0; fault = Open 0 }) low faulty)
 
     -- one more fault was judged
-    module _ (listed : ListedFault) (low : place < length all) (here : listed ≡ get_or all place listed) (new : BenchData) (further : List GroupTextData) (verdict : Verdict) (judges : JudgesBy (λ bad. HasTraced bench told (Some listed.fault) bad new further) good verdict) where
+    module _ (low : place < length all) (new : BenchData) (further : List GroupTextData) {verdict : Verdict} (judges : JudgesBy (λ bad. HasTraced bench told (Some (listed_at all place).fault) bad new further) good verdict) where
       -- the bench as it was is that of the whole run
       goes_further : (rest : List LineVerdict) (more : List GroupTextData) → AreJudged c script good new.kept (drop (place + 1) all) rest more →
-          AreJudged c script good start all ((come.judged ++ record { line = listed.line; verdict = verdict } ∷ []) ++ rest)
+          AreJudged c script good start all ((come.judged ++ record { line = (listed_at all place).line; verdict = verdict } ∷ []) ++ rest)
           ((come.texts ++ judges.given.texts) ++ more)
       goes_further rest more are =
           let given = judges.given in
-          let traced = subst (λ (one : CircuitData). AreJudged one script good bench.kept (listed ∷ drop (place + 1) all)
-          (record { line = listed.line; verdict = verdict } ∷ rest) (given.texts ++ more)) come.same_start
-          (subst (λ (text : List ℕ). AreJudged bench.start text good bench.kept (listed ∷ drop (place + 1) all)
-          (record { line = listed.line; verdict = verdict } ∷ rest) (given.texts ++ more)) come.same_script
-          (one_more bench.kept new.kept listed (drop (place + 1) all) judges.bad verdict rest given.texts more given.is judges.judged
+          let traced = subst (λ (one : CircuitData). AreJudged one script good bench.kept (listed_at all place ∷ drop (place + 1) all)
+          (record { line = (listed_at all place).line; verdict = verdict } ∷ rest) (given.texts ++ more)) come.same_start
+          (subst (λ (text : List ℕ). AreJudged bench.start text good bench.kept (listed_at all place ∷ drop (place + 1) all)
+          (record { line = (listed_at all place).line; verdict = verdict } ∷ rest) (given.texts ++ more)) come.same_script
+          (one_more bench.kept new.kept (listed_at all place) (drop (place + 1) all) judges.bad verdict rest given.texts more given.is judges.judged
           (subst (λ (one : CircuitData). AreJudged one bench.script good new.kept (drop (place + 1) all) rest more) (sym come.same_start)
           (subst (λ (text : List ℕ). AreJudged c text good new.kept (drop (place + 1) all) rest more) (sym come.same_script) are)))) in
-          let split : drop place all ≡ listed ∷ drop (place + 1) all =
-          drop_more all place listed low ∙ ap (λ (one : ListedFault). one ∷ drop (place + 1) all) (sym here) in
-          let whole = come.goes_on (record { line = listed.line; verdict = verdict } ∷ rest) (given.texts ++ more)
-          (subst (λ (faults : List ListedFault). AreJudged c script good bench.kept faults (record { line = listed.line; verdict = verdict } ∷ rest)
+          let split : drop place all ≡ listed_at all place ∷ drop (place + 1) all =
+          drop_more all place (record { line = 0; fault = Open 0 }) low in
+          let whole = come.goes_on (record { line = (listed_at all place).line; verdict = verdict } ∷ rest) (given.texts ++ more)
+          (subst (λ (faults : List ListedFault). AreJudged c script good bench.kept faults (record { line = (listed_at all place).line; verdict = verdict } ∷ rest)
           (given.texts ++ more)) (sym split) traced) in
           subst (λ (judged : List LineVerdict). AreJudged c script good start all judged ((come.texts ++ given.texts) ++ more))
-          (sym (append_assoc come.judged (record { line = listed.line; verdict = verdict } ∷ []) rest))
-          (subst (λ (texts : List GroupTextData). AreJudged c script good start all (come.judged ++ (record { line = listed.line; verdict = verdict } ∷ rest)) texts)
+          (sym (append_assoc come.judged (record { line = (listed_at all place).line; verdict = verdict } ∷ []) rest))
+          (subst (λ (texts : List GroupTextData). AreJudged c script good start all (come.judged ++ (record { line = (listed_at all place).line; verdict = verdict } ∷ rest)) texts)
           (sym (append_assoc come.texts given.texts more)) whole)
 
       -- and its line written
-      pub judged_on : (last : Option (List ℕ)) (next : VerdictCounts) → next ≡ with_verdict counts verdict →
-          last ≡ append_known after (verdict_line good listed.line verdict) →
+      pub judged_on : {last : Option (List ℕ)} {next : VerdictCounts} → next ≡ with_verdict counts verdict →
+          last ≡ append_known after (verdict_line good (listed_at all place).line verdict) →
           HasJudged c script good start all before asked new (place + 1) last further next
-      judged_on last next is_next wrote =
+      judged_on is_next wrote =
           let given = judges.given in
           record {
             same_start = given.start ∙ come.same_start;
             same_script = given.script ∙ come.same_script;
-            judged = come.judged ++ record { line = listed.line; verdict = verdict } ∷ [];
+            judged = come.judged ++ record { line = (listed_at all place).line; verdict = verdict } ∷ [];
             texts = come.texts ++ given.texts;
-            grew = wrote ∙ ap (λ known. append_known known (verdict_line good listed.line verdict)) come.grew
-                ∙ append_known-append before (verdict_lines good come.judged) (verdict_line good listed.line verdict)
-                ∙ ap (append_known before) (sym (lines_more good come.judged listed.line verdict));
-            counted = is_next ∙ ap (λ (now : VerdictCounts). with_verdict now verdict) come.counted ∙ sym (counts_of-more come.judged listed.line verdict);
-            long = length-append come.judged (record { line = listed.line; verdict = verdict } ∷ []) ∙ ap (λ n. n + 1) come.long;
+            grew = wrote ∙ ap (λ known. append_known known (verdict_line good (listed_at all place).line verdict)) come.grew
+                ∙ append_known-append before (verdict_lines good come.judged) (verdict_line good (listed_at all place).line verdict)
+                ∙ ap (append_known before) (sym (lines_more good come.judged (listed_at all place).line verdict));
+            counted = is_next ∙ ap (λ (now : VerdictCounts). with_verdict now verdict) come.counted ∙ sym (counts_of-more come.judged (listed_at all place).line verdict);
+            long = length-append come.judged (record { line = (listed_at all place).line; verdict = verdict } ∷ []) ∙ ap (λ n. n + 1) come.long;
             analysed = given.analysed ∙ ap (λ (texts : List GroupTextData). texts ++ given.texts) come.analysed
                 ∙ append_assoc asked come.texts given.texts;
             goes_on = goes_further;
           }
 
       -- or a part of its line
-      pub stopped_in_line : (last : Option (List ℕ)) → WritesPart after last (verdict_line good listed.line verdict) →
-          IsStopped (TellsJudged c script good start all) before last
+      pub stopped_in_line : (last : Option (List ℕ)) → WritesPart after last (verdict_line good (listed_at all place).line verdict) →
+          IsStopped (TellsJudged c script good start faults) before last
       stopped_in_line last part =
-          let given = judges.given in
           let left = judged_exists c script good (drop (place + 1) all) new.kept circuit
           (All-drop (λ (one : ListedFault). IsFault c one.fault) (place + 1) all faulty) in
-          let front = come.judged ++ record { line = listed.line; verdict = verdict } ∷ [] in
-          let judged = front ++ left.0 in
-          let wrote : WritesPart before last (verdict_lines good front) =
-          sends_part before after last (verdict_lines good front) (verdict_line good listed.line verdict) []
+          let front = come.judged ++ record { line = (listed_at all place).line; verdict = verdict } ∷ [] in
+          stopped_in front (come.texts ++ judges.given.texts) left.1 left.0 last (goes_further left.0 left.1 left.2)
+          (sends_part before after last (verdict_lines good front) (verdict_line good (listed_at all place).line verdict) []
           (record {
             sent = verdict_lines good come.judged;
-            whole = lines_more good come.judged listed.line verdict
-                ∙ ap (λ text. verdict_lines good come.judged ++ text) (sym (append-nil (verdict_line good listed.line verdict)));
+            whole = lines_more good come.judged (listed_at all place).line verdict
+                ∙ ap (λ text. verdict_lines good come.judged ++ text) (sym (append-nil (verdict_line good (listed_at all place).line verdict)));
             grew = come.grew;
-          }) part in
-          inr (record {
-            answer = record {
-              status = status.Done;
-              text = verdict_lines good judged ++ counts_line judged;
-              texts = (come.texts ++ given.texts) ++ left.1;
-            };
-            right = record { judged = judged; texts = (come.texts ++ given.texts) ++ left.1; are = goes_further left.0 left.1 left.2; told = refl };
-            part = part_longer before last (verdict_lines good judged) (counts_line judged)
-                (subst (WritesPart before last) (sym (verdict_lines-append good front left.0))
-                (part_longer before last (verdict_lines good front) (verdict_lines good left.0) wrote));
-          })
+          }) part)
 
   -- all faults were judged
-  module _ (bench : BenchData) (place : ℕ) (after : Option (List ℕ)) (told : List GroupTextData) (counts : VerdictCounts) (come : HasJudged c script good start all before asked bench place after told counts) (past : length all ≤ place) where
+  module _ {faults : List ListedFault} (same : all ≡ faults) {bench : BenchData} {place : ℕ} {after : Option (List ℕ)} {told : List GroupTextData} {counts : VerdictCounts} (come : HasJudged c script good start all before asked bench place after told counts) (past : place ≡ length all) where
     all_judged : AreJudged c script good start all (come.judged ++ []) (come.texts ++ [])
     all_judged =
         come.goes_on [] []
-        (subst (λ (left : List ListedFault). AreJudged c script good bench.kept left [] []) (sym (drop_all place all past)) (no_fault bench.kept))
+        (subst (λ (left : List ListedFault). AreJudged c script good bench.kept left [] []) (sym (drop_all place all (omega (arith, past)))) (no_fault bench.kept))
 
     -- the answer that they make
     abbrev whole : Answer
@@ -202,38 +209,40 @@ module _ (c : CircuitData) (script : List ℕ) (good : Trace) (start : List Grou
       texts = come.texts;
     }
 
-    whole_right : TellsJudged c script good start all whole
+    whole_right : TellsJudged c script good start faults whole
     whole_right = record {
       judged = come.judged;
       texts = come.texts;
-      are = subst (λ (texts : List GroupTextData). AreJudged c script good start all come.judged texts) (append-nil come.texts)
-          (subst (λ (judged : List LineVerdict). AreJudged c script good start all judged (come.texts ++ [])) (append-nil come.judged) all_judged);
+      are = subst (λ (list : List ListedFault). AreJudged c script good start list come.judged come.texts) same
+          (subst (λ (texts : List GroupTextData). AreJudged c script good start all come.judged texts) (append-nil come.texts)
+          (subst (λ (judged : List LineVerdict). AreJudged c script good start all judged (come.texts ++ [])) (append-nil come.judged) all_judged));
       told = refl;
     }
 
     -- the line of the counts is the last
-    last_line : place ≡ length all → counts_line come.judged ≡ faults_line_of (length all) counts.detected counts.possible counts.undetected counts.refused
-    last_line at =
-        ap (λ n. faults_line_of n (counts_of come.judged).detected (counts_of come.judged).possible (counts_of come.judged).undetected
-        (counts_of come.judged).refused) (come.long ∙ at)
-        ∙ ap (λ (now : VerdictCounts). faults_line_of (length all) now.detected now.possible now.undetected now.refused) (sym come.counted)
+    last_line : (n : ℕ) → n ≡ length faults →
+        counts_line come.judged ≡ faults_line_of n counts.detected counts.possible counts.undetected counts.refused
+    last_line n long =
+        ap (λ m. faults_line_of m (counts_of come.judged).detected (counts_of come.judged).possible (counts_of come.judged).undetected
+        (counts_of come.judged).refused) (come.long ∙ past ∙ ap length same ∙ sym long)
+        ∙ ap (λ (now : VerdictCounts). faults_line_of n now.detected now.possible now.undetected now.refused) (sym come.counted)
 
-    pub judged_all : (last : Option (List ℕ)) → place ≡ length all →
-        last ≡ append_known after (faults_line_of (length all) counts.detected counts.possible counts.undetected counts.refused) →
-        IsWritten (IsAnalysed (TellsJudged c script good start all) asked told) before last status.Done
-    judged_all last at wrote = record {
+    pub judged_all : {last : Option (List ℕ)} (n : ℕ) → n ≡ length faults →
+        last ≡ append_known after (faults_line_of n counts.detected counts.possible counts.undetected counts.refused) →
+        IsWritten (IsAnalysed (TellsJudged c script good start faults) asked told) before last status.Done
+    judged_all n long wrote = record {
       answer = whole;
       right = (whole_right, come.analysed);
       ended = refl;
-      grew = wrote ∙ ap (append_known after) (sym (last_line at))
+      grew = wrote ∙ ap (append_known after) (sym (last_line n long))
           ∙ ap (λ known. append_known known (counts_line come.judged)) come.grew
           ∙ append_known-append before (verdict_lines good come.judged) (counts_line come.judged);
     }
 
-    pub stopped_at_counts : (last : Option (List ℕ)) → place ≡ length all →
-        WritesPart after last (faults_line_of (length all) counts.detected counts.possible counts.undetected counts.refused) →
-        IsStopped (TellsJudged c script good start all) before last
-    stopped_at_counts last at part = inr (record {
+    pub stopped_at_counts : (last : Option (List ℕ)) (n : ℕ) → n ≡ length faults →
+        WritesPart after last (faults_line_of n counts.detected counts.possible counts.undetected counts.refused) →
+        IsStopped (TellsJudged c script good start faults) before last
+    stopped_at_counts last n long part = inr (record {
       answer = whole;
       right = whole_right;
       part = sends_part before after last (verdict_lines good come.judged ++ counts_line come.judged) (counts_line come.judged) []
@@ -242,7 +251,7 @@ module _ (c : CircuitData) (script : List ℕ) (good : Trace) (start : List Grou
             whole = ap (λ text. verdict_lines good come.judged ++ text) (sym (append-nil (counts_line come.judged)));
             grew = come.grew;
           })
-          (subst (WritesPart after last) (sym (last_line at)) part);
+          (subst (WritesPart after last) (sym (last_line n long)) part);
     })
 
 -- ---- with the good run before
@@ -269,9 +278,9 @@ module _ (c : CircuitData) (script : List ℕ) (faults : List ListedFault) (new 
   }
 
   -- what is told of the faults beside the good run is the answer
-  pub told_verdicts : (told : List GroupTextData) (result : Result end.End Stop) → HasRun c script [] None new asked mid good None →
+  verdicts_told : (told : List GroupTextData) (result : Result end.End Stop) → HasRun c script [] None new asked mid good None →
       IsToldBy (TellsJudged c script good new.kept faults) before last mid told result → IsToldBy (IsJudgement c script faults) before last asked told result
-  told_verdicts told (Ok ending) ran written = record {
+  verdicts_told told (Ok ending) ran written = record {
     answer = record written.answer { texts = ran.outcome.texts ++ written.answer.texts };
     right = (
       judgement ran written.answer written.right.0,
@@ -281,12 +290,20 @@ module _ (c : CircuitData) (script : List ℕ) (faults : List ListedFault) (new 
     ended = written.ended;
     grew = written.grew;
   }
-  told_verdicts told (Err stop) ran (inl same) = inl same
-  told_verdicts told (Err stop) ran (inr begun) = inr (record {
+  verdicts_told told (Err stop) ran (inl same) = inl same
+  verdicts_told told (Err stop) ran (inr begun) = inr (record {
     answer = record begun.answer { texts = ran.outcome.texts ++ begun.answer.texts };
     right = judgement ran begun.answer begun.right;
     part = begun.part;
   })
+
+  pub told_verdicts : (told : List GroupTextData) (result : Result end.End Stop) (kept : List GroupTextData) (halt : Halt) → kept ≡ [] →
+      RunsTo c script kept None new asked mid good halt → halt ≡ End → IsToldBy (TellsJudged c script good new.kept faults) before last mid told result →
+      IsToldBy (IsJudgement c script faults) before last asked told result
+  told_verdicts told result kept halt none ran is written =
+      verdicts_told told result
+      (subst (RunsTo c script [] None new asked mid good) is
+      (subst (λ (texts : List GroupTextData). RunsTo c script texts None new asked mid good halt) none ran)) written
 
   refused_right : (number : ℕ) (cause : Cause) (ran : HasRun c script [] None new asked mid good (Some (record { line = number; cause = cause }))) →
       IsJudgement c script faults (refusal_answer number cause ran.outcome.texts)
@@ -297,7 +314,7 @@ module _ (c : CircuitData) (script : List ℕ) (faults : List ListedFault) (new 
   }
 
   -- a line that is refused in the good run is the whole answer
-  pub told_refused : (result : Result end.End Stop) (number : ℕ) (cause : Cause) →
+  told_refused : (result : Result end.End Stop) (number : ℕ) (cause : Cause) →
       HasRun c script [] None new asked mid good (Some (record { line = number; cause = cause })) →
       IsTold (IsRefusalFor (Script number) cause status.ScriptRefused) before last result →
       IsToldBy (IsJudgement c script faults) before last asked mid result
@@ -315,7 +332,7 @@ module _ (c : CircuitData) (script : List ℕ) (faults : List ListedFault) (new 
   })
 
   -- so is that of a group that is too large
-  pub told_outgrown : (result : Result end.End Stop) (number : ℕ) (size : BuildFault) → HasOutgrown c script [] None new asked mid good number size →
+  told_outgrown : (result : Result end.End Stop) (number : ℕ) (size : BuildFault) → HasOutgrown c script [] None new asked mid good number size →
       IsTold (IsTooLarge new.circuit (Script number) status.ScriptRefused) before last result →
       IsToldBy (IsJudgement c script faults) before last asked mid result
   told_outgrown (Ok ending) number size outgrown written =
@@ -329,17 +346,24 @@ module _ (c : CircuitData) (script : List ℕ) (faults : List ListedFault) (new 
       (inr (record { answer = begun.answer; right = large.told; part = begun.part }))
 
   -- however the good run was cut short
-  pub told_cut_short : (result : Result end.End Stop) (halt : Halt) → RunsTo c script [] None new asked mid good halt →
+  cut_short_told : (result : Result end.End Stop) (halt : Halt) → RunsTo c script [] None new asked mid good halt →
       IsTold (TellsCutShort new.circuit halt) before last result → IsToldBy (IsJudgement c script faults) before last asked mid result
-  told_cut_short (Ok ending) End ran written = absurd written.right
-  told_cut_short (Err stop) End ran (inl same) = inl same
-  told_cut_short (Err stop) End ran (inr begun) = absurd begun.right
-  told_cut_short result (Refused number code) ran told = told_refused result number (plain_cause code) ran told
-  told_cut_short result (TooLarge number size) outgrown told = told_outgrown result number size outgrown told
+  cut_short_told (Ok ending) End ran written = absurd written.right
+  cut_short_told (Err stop) End ran (inl same) = inl same
+  cut_short_told (Err stop) End ran (inr begun) = absurd begun.right
+  cut_short_told result (Refused number code) ran told = told_refused result number (plain_cause code) ran told
+  cut_short_told result (TooLarge number size) outgrown told = told_outgrown result number size outgrown told
+
+  pub told_cut_short : (at : CircuitData) (result : Result end.End Stop) (kept : List GroupTextData) (halt : Halt) → kept ≡ [] →
+      RunsTo c script kept None new asked mid good halt → at ≡ new.circuit → IsTold (TellsCutShort at halt) before last result →
+      IsToldBy (IsJudgement c script faults) before last asked mid result
+  told_cut_short at result kept halt none ran here told =
+      cut_short_told result halt (subst (λ (texts : List GroupTextData). RunsTo c script texts None new asked mid good halt) none ran)
+      (subst (λ (circuit : CircuitData). IsTold (TellsCutShort circuit halt) before last result) here told)
 
 -- a run that didn't come to its end was cut short
-pub cut_short : (c : CircuitData) (script : List ℕ) (new : SessionData) (asked mid : List GroupTextData) (good : Trace) (halt : Halt) → halt ≢ End →
-    RunsTo c script [] None new asked mid good halt → IsCutShort new.circuit halt
-cut_short c script new asked mid good End other ran = absurd (other refl)
-cut_short c script new asked mid good (Refused number code) other ran = tt
-cut_short c script new asked mid good (TooLarge number size) other outgrown = outgrown.first
+pub cut_short : (c : CircuitData) (script : List ℕ) (kept : List GroupTextData) (new : SessionData) (asked mid : List GroupTextData) (good : Trace) (halt : Halt) → halt ≢ End →
+    RunsTo c script kept None new asked mid good halt → IsCutShort new.circuit halt
+cut_short c script kept new asked mid good End other ran = absurd (other refl)
+cut_short c script kept new asked mid good (Refused number code) other ran = tt
+cut_short c script kept new asked mid good (TooLarge number size) other outgrown = outgrown.first

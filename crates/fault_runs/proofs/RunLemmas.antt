@@ -27,9 +27,9 @@ use Rattle.script_run.proofs.RunLemmas.{outcome_exists}
 use Rattle.script_run.proofs.SizeLemmas.{size_caused}
 use Rattle.fault_runs.specs.declared.list.ListedFault.{ListedFault}
 use Rattle.fault_runs.specs.Rows.{row_of}
-use Rattle.fault_runs.specs.Traces.{start_with, commands_under, stuck_under, AreDone, RunsUnder, Shows, IsTrace}
+use Rattle.fault_runs.specs.Traces.{start_with, commands_under, stuck_under, AreDone, RunsUnder, Shows}
 use Rattle.fault_runs.specs.Judging.{LineVerdict, AreJudged, no_fault, one_more}
-use Rattle.fault_runs.specs.Runnings.{TellsTrace, line_of, HasRun, RunsTo}
+use Rattle.fault_runs.specs.Runnings.{TellsTrace, line_of, HasRun, RunsTo, IsTraced}
 use Rattle.fault_runs.proofs.TextLemmas.{rows_shown}
 use Rattle.fault_runs.proofs.BeginLemmas.{has_start}
 use Rattle.fault_runs.proofs.VerdictLemmas.{verdict_exists}
@@ -87,13 +87,7 @@ runs_to c script kept fault mid new text asked told trace (TooLarge number size)
       (Some (record { line = number; cause = cause })) refl (outgrown.halted other cause first named);
 }
 
--- the trace of a run, with the texts that were analysed for it
-pub record IsTraced (c : CircuitData) (script : List ℕ) (kept : List GroupTextData) (fault : Option Fault) (new : SessionData)
-    (asked told : List GroupTextData) (trace : Trace) : Type 0 where
-  pub texts : List GroupTextData
-  pub is : IsTrace c script kept fault trace texts new.kept
-  pub analysed : told ≡ asked ++ texts
-
+-- the trace of a run
 has_traced : (c : CircuitData) (script : List ℕ) (kept : List GroupTextData) (fault : Option Fault) (new : SessionData) (asked told : List GroupTextData) (trace : Trace) (last : Option RefusedLine) →
     HasRun c script kept fault new asked told trace last → IsTraced c script kept fault new asked told trace
 has_traced c script kept fault new asked told trace last ran = record {

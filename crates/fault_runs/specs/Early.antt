@@ -10,6 +10,8 @@ use Rattle.script_lang.specs.Commands.{reading_of}
 use Rattle.cosmos_session.specs.Sessions.{SessionData}
 use Rattle.cosmos_session.specs.Machines.{edits}
 use Rattle.cosmos_session.specs.Preparing.{builds}
+use Rattle.script_run.specs.declared.script.Turn.{Turn}
+use Rattle.script_run.specs.declared.script.Turn.TheVariants.{Accepted, Refused, TooLarge}
 use Rattle.script_run.specs.Runs.{Outcome, Runs}
 use Rattle.fault_sim.specs.declared.trace.Trace.{Trace}
 use Rattle.fault_sim.specs.declared.verdicts.Verdict.{Verdict}
@@ -82,6 +84,15 @@ pub record IsEarly (good : Trace) (text : List ℕ) (calm : Bool) (verdict : Ver
   pub still : calm ≡ true
   pub detected : is_detected verdict ≡ true
   pub judges : JudgesText good text None verdict
+
+-- after a line that came to this turn, with this text so far, the run ends with a verdict or goes on
+abbrev pub TellsAfter : Trace → Turn → ℕ → List ℕ → Bool → Option Verdict → Type 0
+TellsAfter good Accepted number text calm None = Unit {0}
+TellsAfter good Accepted number text calm (Some verdict) = IsEarly good text calm verdict
+TellsAfter good (Refused code) number text calm None = ⊥
+TellsAfter good (Refused code) number text calm (Some verdict) = JudgesText good text (Some number) verdict
+TellsAfter good (TooLarge size) number text calm None = ⊥
+TellsAfter good (TooLarge size) number text calm (Some verdict) = JudgesText good text (Some number) verdict
 
 -- the lines of a script were judged beside a good trace, from these data on: this is the verdict on what an outcome of theirs shows, whose
 -- texts were analysed, and at whose end the same is kept

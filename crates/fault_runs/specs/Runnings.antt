@@ -12,8 +12,6 @@ use Rattle.cosmos_session.specs.Preparing.{builds}
 use Rattle.cosmos_session.specs.Lines.{Line}
 use Rattle.cosmos_session.specs.Effects.{Effect}
 use Rattle.cosmos_session.specs.Outcomes.{Does}
-use Rattle.wave_print.specs.declared.faults.FaultPlace.TheVariants.{Script}
-use Rattle.script_run.specs.Answers.{IsRefusal, IsTooLarge}
 use Rattle.script_run.specs.declared.halt.Halt.{Halt}
 use Rattle.script_run.specs.declared.halt.Halt.TheVariants.{End, Refused, TooLarge}
 use Rattle.script_run.specs.Codes.{Cause, plain_cause, size_cause}
@@ -76,17 +74,12 @@ RunsTo circuit script kept fault new asked told trace (Refused number code) =
 RunsTo circuit script kept fault new asked told trace (TooLarge number size) =
     HasOutgrown circuit script kept fault new asked told trace number size
 
--- the run ended at a line that is refused: where a group of the circuit is too large, the first of these is told
-abbrev pub IsCutShort : CircuitData → Halt → Type 0
-IsCutShort circuit End = ⊥
-IsCutShort circuit (Refused number code) = Unit {0}
-IsCutShort circuit (TooLarge number size) = TellsTooLarge circuit.graph size
-
--- the answer is the line of that refusal
-abbrev pub TellsCutShort : CircuitData → Halt → Answer → Type 0
-TellsCutShort circuit End answer = ⊥
-TellsCutShort circuit (Refused number code) answer = IsRefusal (Script number) code status.ScriptRefused answer
-TellsCutShort circuit (TooLarge number size) answer = IsTooLarge circuit (Script number) status.ScriptRefused answer
+-- the trace of a run, with the texts that were analysed for it
+pub record IsTraced (circuit : CircuitData) (script : List ℕ) (kept : List GroupTextData) (fault : Option Fault) (new : SessionData)
+    (asked told : List GroupTextData) (trace : Trace) : Type 0 where
+  pub texts : List GroupTextData
+  pub is : IsTrace circuit script kept fault trace texts new.kept
+  pub analysed : told ≡ asked ++ texts
 
 -- the command builds nothing and writes nothing
 pub record IsQuiet (command : Command) : Type 0 where

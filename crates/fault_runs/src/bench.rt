@@ -7,8 +7,8 @@ ghost use Rattle.fault_sim.specs.Faults.{IsFault};
 ghost use Rattle.fault_runs.specs.Runnings.{HasTraced};
 ghost use Rattle.fault_runs.specs.Traces.{start_with};
 
-use crate::early::{calm_from, judge_lines};
-use crate::running::{are_bounded, put_fault, run_under, stuck_under};
+use crate::early::{calm_from, judge_under};
+use crate::running::run_under;
 use cosmos_session::Session;
 use fault_sim::{Bench, Fault, Trace, Verdict, judge};
 use group_analysis::Analyst;
@@ -22,11 +22,11 @@ use ternary::NoMemory;
 #[derive(Drop)]
 pub(crate) struct FaultBench<'a> {
     alloc: Global,
-    start: Circuit,
+    start: &'a Circuit,
     script: &'a [u8],
     // The line of the script from which on nothing more is analysed, and what is kept stays, where there is one.
     calm_from: Option<u64>,
-    // None after want of memory: then nothing is kept.
+    // None while it runs, and after want of memory: then nothing is kept.
     session: Option<Session>,
 }
 
@@ -38,21 +38,21 @@ impl<'a> Model for FaultBench<'a> {
 
     ghost Value = { BenchData };
 
-    ghost view = { λ bench. record { start = bench.start; script = bench.script.now; kept = kept_in bench.session } };
+    ghost view = { λ bench. record { start = bench.start.now; script = bench.script.now; kept = kept_in bench.session } };
 
-    ghost invariant = { λ bench. HasVisibleNames bench.start × IfSome bench.calm_from (IsCalmFrom bench.script.now) };
+    ghost invariant = { λ bench. HasVisibleNames bench.start.now × IfSome bench.calm_from (IsCalmFrom bench.script.now) };
 }
 
 impl<'a> FaultBench<'a> {
     /// A bench whose runs go on from this session.
     pub(crate) fn new(
         alloc: Global,
-        start: Circuit,
+        start: &'a Circuit,
         script: &'a [u8],
         session: Session,
     ) -> Result<FaultBench<'a>, NoMemory>
-        requires { HasVisibleNames start }
-        ensures { IfOk result (λ bench. bench ≡ record { start = start; script = script.now; kept = session.core.kept }) }
+        requires { HasVisibleNames start.now }
+        ensures { IfOk result (λ bench. bench ≡ record { start = start.now; script = script.now; kept = session.core.kept }) }
     {
         let calm_from = calm_from(alloc, script)?;
         Ok(FaultBench {
@@ -79,10 +79,7 @@ impl<'a> FaultBench<'a> {
     }
 
     /// Runs the script under a fault that the start circuit can have, and gives the verdict on its trace
-    /// beside the good one.
-    ///
-    /// Where no line of the script edits the circuit or is `keep` once it was built, the run ends at its first
-    /// strong difference: nothing after it can change the verdict, what was analysed, or what is kept.
+    /// beside the good one. Where it can, the run ends early.
     pub(crate) fn judge<A: Analyst>(
         &mut self,
         good: &Trace,
@@ -95,46 +92,27 @@ impl<'a> FaultBench<'a> {
         ensures start { self.new.start ≡ self.old.start }
         ensures script { self.new.script ≡ self.old.script }
     {
-        if self.can_end_early() {
-            self.judge_early(good, fault, analyst)
-        } else {
-            judge(self, good, fault, analyst)
+        if !self.can_end_early() {
+            return judge(self, good, fault, analyst);
         }
+        let mut session = self.session_at_start()?;
+        let told = judge_under(
+            self.alloc,
+            &mut session,
+            self.start,
+            self.script,
+            self.calm_from,
+            fault,
+            good,
+            analyst,
+        );
+        self.session = Some(session);
+        told
     }
 
     // Whether there is a line of the script from which on nothing more is analysed, and what is kept stays.
     fn can_end_early(&self) -> bool {
         self.calm_from.is_some()
-    }
-
-    // The same, by a run that ends at its first strong difference from that line on.
-    fn judge_early<A: Analyst>(
-        &mut self,
-        good: &Trace,
-        fault: Fault,
-        analyst: &mut A,
-    ) -> Result<Verdict, NoMemory>
-        requires { IsFault self.old.start fault }
-        ensures verdict { IfOk result (JudgesBy (λ bad. HasTraced self.old (A.analysed analyst.old) (Some fault) bad
-            self.new (A.analysed analyst.new)) good.now) }
-        ensures start { self.new.start ≡ self.old.start }
-        ensures script { self.new.script ≡ self.old.script }
-    {
-        let fault = Some(fault);
-        let mut session = self.session_at_start()?;
-        put_fault(self.alloc, &mut session, &self.start, fault, analyst)?;
-        are_bounded(&session);
-        let verdict = judge_lines(
-            self.alloc,
-            &mut session,
-            self.script,
-            self.calm_from,
-            stuck_under(fault),
-            good,
-            analyst,
-        )?;
-        self.session = Some(session);
-        Ok(verdict)
     }
 }
 
@@ -149,15 +127,16 @@ impl<'a, A: Analyst> Bench<A> for FaultBench<'a> {
 
     fn run(&mut self, fault: Option<Fault>, analyst: &mut A) -> Result<Trace, NoMemory> {
         let mut session = self.session_at_start()?;
-        let (trace, _) = run_under(
+        let ran = run_under(
             self.alloc,
             &mut session,
-            &self.start,
+            self.start,
             self.script,
             fault,
             analyst,
-        )?;
+        );
         self.session = Some(session);
+        let (trace, _) = ran?;
         Ok(trace)
     }
 }

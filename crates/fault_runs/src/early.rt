@@ -1,13 +1,19 @@
 //! A run under a fault that ends at its first strong difference, where nothing after it is wanted.
 
-ghost use Rattle.std.specs.Prelude.{◌≡◌, IfOk, IfSome, IsTrue};
+ghost use Rattle.std.specs.Prelude.{◌≡◌, Some, IfOk, IfSome, IsTrue};
+ghost use Rattle.netlist.specs.Circuits.{HasVisibleNames};
 ghost use Rattle.cosmos_session.specs.Bounds.{IsBounded};
+ghost use Rattle.fault_sim.specs.Benches.{JudgesBy};
+ghost use Rattle.fault_sim.specs.Faults.{IsFault};
 ghost use Rattle.fault_runs.specs.Early as spec;
+ghost use Rattle.fault_runs.specs.Runnings.{IsTraced, StandsAtStart};
 
+use crate::running::{are_bounded, put_fault, stuck_under};
 use cosmos_session::Session;
-use fault_sim::{Names, Trace, Verdict, read_rows, verdict};
+use fault_sim::{Fault, Names, Trace, Verdict, read_rows, verdict};
 use group_analysis::Analyst;
 use line_words::{cut_line, front, lines};
+use netlist::Circuit;
 use port_edge::HonestSink;
 use script_lang::{Command, ScriptFault, read_command};
 use script_run::{Turn, run_line};
@@ -82,12 +88,41 @@ fn command_bearing(command: &Command) -> Bearing
     }
 }
 
-/// Runs the lines of a script in a session while a node may be stuck, and gives the verdict on what they
-/// show beside the good trace.
+/// Runs a script under a fault, in a session that stands at the start, and gives the verdict on its trace beside
+/// a good one.
 ///
-/// From the line with the number on, the run ends at the first strong difference: the verdict is that on the
-/// whole run then, and nothing after it would be analysed or kept.
-pub(crate) fn judge_lines<A: Analyst>(
+/// Where no line of the script edits the circuit or is `keep` from one on that builds, the run ends at its first
+/// strong difference after that: nothing that follows can change the verdict, what was analysed, or what is kept.
+pub(crate) fn judge_under<A: Analyst>(
+    alloc: Global,
+    session: &mut Session,
+    start: &Circuit,
+    script: &[u8],
+    calm_from: Option<u64>,
+    fault: Fault,
+    good: &Trace,
+    analyst: &mut A,
+) -> Result<Verdict, NoMemory>
+    requires stands { StandsAtStart start.now session.old }
+    requires visible { HasVisibleNames start.now }
+    requires fault { IsFault start.now fault }
+    requires calm { IfSome calm_from (spec.IsCalmFrom script.now) }
+    ensures { IfOk result (JudgesBy (IsTraced start.now script.now session.old.core.kept (Some fault) session.new.core
+        (A.analysed analyst.old) (A.analysed analyst.new)) good.now) }
+{
+    let fault = Some(fault);
+    put_fault(alloc, session, start, fault, analyst)?;
+    are_bounded(session);
+    let stuck = stuck_under(fault);
+    judge_lines(alloc, session, script, calm_from, stuck, good, analyst)
+}
+
+// Runs the lines of a script in a session while a node may be stuck, and gives the verdict on what they
+// show beside the good trace.
+//
+// From the line with the number on, the run ends at the first strong difference: the verdict is that on the
+// whole run then, and nothing after it would be analysed or kept.
+fn judge_lines<A: Analyst>(
     alloc: Global,
     session: &mut Session,
     script: &[u8],
@@ -108,18 +143,39 @@ pub(crate) fn judge_lines<A: Analyst>(
         let Ok(turn) = run_line(alloc, session, cut, line, stuck, &mut out, analyst) else {
             return Err(NoMemory);
         };
-        let text = out.written();
-        match turn {
-            Turn::Accepted => watch.look(good, text),
-            Turn::Refused(_) => return judge_text(alloc, good, text, Some(line.number)),
-            Turn::TooLarge(_) => return judge_text(alloc, good, text, Some(line.number)),
-        }
         let calm = is_from(calm_from, line.number);
-        if let Some(verdict) = early_verdict(alloc, good, text, watch, calm)? {
-            return Ok(verdict);
+        let text = out.written();
+        let found = verdict_after(alloc, good, turn, line.number, text, &mut watch, calm)?;
+        match found {
+            Some(verdict) => return Ok(verdict),
+            None => {}
         }
     }
     judge_text(alloc, good, out.written(), None)
+}
+
+// The verdict on what a text shows so far, where the run ends after a line that came to this turn.
+fn verdict_after(
+    alloc: Global,
+    good: &Trace,
+    turn: Turn,
+    number: u64,
+    text: &[u8],
+    watch: &mut Watch,
+    calm: bool,
+) -> Result<Option<Verdict>, NoMemory>
+    ensures { IfOk result (spec.TellsAfter good.now turn number text.now calm) }
+{
+    match turn {
+        Turn::Accepted => {
+            watch.look(good, text);
+            early_verdict(alloc, good, text, *watch, calm)
+        }
+        _ => {
+            let told = judge_text(alloc, good, text, Some(number))?;
+            Ok(Some(told))
+        }
+    }
 }
 
 // Whether a number is one from this on.

@@ -7,10 +7,10 @@ ghost use Rattle.netlist.specs.Circuits.{HasVisibleNames, IsCircuit};
 ghost use Rattle.wave_print.specs.Verdicts.{faults_line_of};
 ghost use Rattle.cosmos_session.specs.Sessions.{start_of};
 ghost use Rattle.fault_sim.specs.Faults.{IsFault};
-ghost use Rattle.script_run.specs.Ends.{IsTold, IsToldBy};
+ghost use Rattle.script_run.specs.Ends.{IsToldBy};
 ghost use Rattle.script_run.specs.Stops.{faults_written, IsRefusedOnce};
 ghost use Rattle.fault_runs.specs.Judging.{AnswersList, AreJudgedFaults, IsJudgement, named_entry, verdict_line};
-ghost use Rattle.fault_runs.specs.Runnings.{IsCutShort, TellsCutShort, TellsJudged};
+ghost use Rattle.fault_runs.specs.Runnings.{TellsJudged};
 
 use crate::bench::FaultBench;
 use crate::counts::VerdictCounts;
@@ -21,7 +21,7 @@ use fault_sim::{Trace, Verdict};
 use group_analysis::Analyst;
 use netlist::Circuit;
 use port_edge::{Sink, send};
-use script_run::{End, Halt, Stop, refuse, refuse_size};
+use script_run::{End, Halt, Stop, refuse, refuse_halt};
 use std::alloc::Global;
 use ternary::NoMemory;
 use wave_print::{
@@ -76,7 +76,7 @@ fn judge_listed<S: Sink, A: Analyst>(
     ensures refused { IsRefusedOnce (S.refusals out.old) (S.refusals out.new) result }
 {
     let session = first_session(alloc, &circuit)?;
-    judge_from(alloc, circuit, script, session, faults, out, analyst)
+    judge_from(alloc, &circuit, script, session, faults, out, analyst)
 }
 
 // A session at the start in a copy of a circuit.
@@ -89,61 +89,34 @@ fn first_session(alloc: Global, circuit: &Circuit) -> Result<Session, NoMemory>
 // The same, where the good run goes on in a session at the start in the circuit.
 fn judge_from<S: Sink, A: Analyst>(
     alloc: Global,
-    circuit: Circuit,
+    circuit: &Circuit,
     script: &[u8],
     session: Session,
     faults: &FaultList,
     out: &mut S,
     analyst: &mut A,
 ) -> Result<End, Stop>
-    requires start { session.core ≡ start_of circuit }
-    requires visible { HasVisibleNames circuit }
-    requires faults { All (λ listed. IsFault circuit listed.fault) faults.now }
-    ensures told { IsToldBy (IsJudgement circuit script.now faults.now) (S.written out.old) (S.written out.new)
+    requires start { session.core ≡ start_of circuit.now }
+    requires visible { HasVisibleNames circuit.now }
+    requires faults { All (λ listed. IsFault circuit.now listed.fault) faults.now }
+    ensures told { IsToldBy (IsJudgement circuit.now script.now faults.now) (S.written out.old) (S.written out.new)
         (A.analysed analyst.old) (A.analysed analyst.new) result }
     ensures no_read { IfErr result (λ stop. stop ≢ Stop.Read) }
     ensures write { S.faults out.new ≡ faults_written (S.faults out.old) result }
     ensures refused { IsRefusedOnce (S.refusals out.old) (S.refusals out.new) result }
 {
     let mut session = session;
-    let (good, halt) = run_under(alloc, &mut session, &circuit, script, None, analyst)?;
+    let (good, halt) = run_under(alloc, &mut session, circuit, script, None, analyst)?;
     match halt {
         Halt::End => judge_beside(alloc, circuit, script, session, &good, faults, out, analyst),
-        _ => refuse_run(alloc, &session, halt, out),
-    }
-}
-
-// Writes the line at which a run ended in a session.
-fn refuse_run<S: Sink>(
-    alloc: Global,
-    session: &Session,
-    halt: Halt,
-    out: &mut S,
-) -> Result<End, Stop>
-    requires { IsCutShort session.now.core.circuit halt }
-    ensures told { IsTold (TellsCutShort session.now.core.circuit halt) (S.written out.old) (S.written out.new) result }
-    ensures no_read { IfErr result (λ stop. stop ≢ Stop.Read) }
-    ensures write { S.faults out.new ≡ faults_written (S.faults out.old) result }
-    ensures refused { IsRefusedOnce (S.refusals out.old) (S.refusals out.new) result }
-{
-    match halt {
-        Halt::End => unreachable!(),
-        Halt::Refused(line, code) => {
-            let place = FaultPlace::Script(line);
-            refuse(alloc, place, code, End::ScriptRefused, out)
-        }
-        Halt::TooLarge(line, size) => {
-            let place = FaultPlace::Script(line);
-            let circuit = session.circuit();
-            refuse_size(alloc, place, circuit, size, End::ScriptRefused, out)
-        }
+        _ => refuse_halt(alloc, session.circuit(), halt, out),
     }
 }
 
 // Judges the faults beside the good run, by runs that go on from its session.
 fn judge_beside<S: Sink, A: Analyst>(
     alloc: Global,
-    circuit: Circuit,
+    circuit: &Circuit,
     script: &[u8],
     session: Session,
     good: &Trace,
@@ -151,9 +124,9 @@ fn judge_beside<S: Sink, A: Analyst>(
     out: &mut S,
     analyst: &mut A,
 ) -> Result<End, Stop>
-    requires visible { HasVisibleNames circuit }
-    requires faults { All (λ listed. IsFault circuit listed.fault) faults.now }
-    ensures told { IsToldBy (TellsJudged circuit script.now good.now session.core.kept faults.now)
+    requires visible { HasVisibleNames circuit.now }
+    requires faults { All (λ listed. IsFault circuit.now listed.fault) faults.now }
+    ensures told { IsToldBy (TellsJudged circuit.now script.now good.now session.core.kept faults.now)
         (S.written out.old) (S.written out.new) (A.analysed analyst.old) (A.analysed analyst.new) result }
     ensures no_read { IfErr result (λ stop. stop ≢ Stop.Read) }
     ensures write { S.faults out.new ≡ faults_written (S.faults out.old) result }

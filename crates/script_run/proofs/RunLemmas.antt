@@ -18,6 +18,7 @@ use Rattle.cosmos_session.specs.Outcomes.{Keeps}
 use Rattle.wave_print.specs.declared.faults.FaultCode.{FaultCode}
 use Rattle.wave_print.specs.declared.faults.FaultCode.TheVariants.{S11TooLong}
 use Rattle.script_run.specs.declared.stop.Stop.{Stop}
+use Rattle.script_run.specs.declared.script.Turn.{Turn}
 use Rattle.script_run.specs.declared.script.Turn.TheVariants.{Accepted, Refused, TooLarge}
 use Rattle.script_run.specs.Codes.{Cause, plain_cause, size_cause, script_code, refusal_code}
 use Rattle.script_run.specs.Runs.{Reading, RefusedLine, Outcome, Runs, ends, passes, obeys, refuses, IsIdle, Asks, IsRefused, too_long, unread, refused, too_large, at_end, refused_at, after_command}
@@ -96,9 +97,9 @@ pub record HasCome (reading : Reading) (cut : Option ℕ) (start : SessionData) 
   pub ready : IsReady now
 
 -- at the start nothing was sent or analysed
-pub comes_first : (reading : Reading) (cut : Option ℕ) (start : SessionData) (all : List (ℕ × List ℕ)) (before : Option (List ℕ)) (asked : List GroupTextData) →
+pub comes_first : {reading : Reading} {cut : Option ℕ} {start : SessionData} {all : List (ℕ × List ℕ)} {before : Option (List ℕ)} {asked : List GroupTextData} →
     IsReady start → HasCome reading cut start all before asked start all before asked
-comes_first reading cut start all before asked ready = record {
+comes_first {before = before} {asked = asked} ready = record {
   lines = [];
   texts = [];
   grew = sym (append_known-nil before);
@@ -107,7 +108,14 @@ comes_first reading cut start all before asked ready = record {
   ready = ready;
 }
 
-module _ (reading : Reading) (cut : Option ℕ) (start : SessionData) (all : List (ℕ × List ℕ)) (before : Option (List ℕ)) (asked : List GroupTextData) (now : HeldSession) (line : ℕ × List ℕ) (left : List (ℕ × List ℕ)) (after : Option (List ℕ)) (told : List GroupTextData) (come : HasCome reading cut start all before asked now.core (line ∷ left) after told) where
+-- the lines that are left, in other words
+pub comes_to : {reading : Reading} {cut : Option ℕ} {start now : SessionData} {all left rest : List (ℕ × List ℕ)} {before after : Option (List ℕ)} {asked told : List GroupTextData} →
+    HasCome reading cut start all before asked now left after told → left ≡ rest → HasCome reading cut start all before asked now rest after told
+comes_to {reading = reading} {cut = cut} {start = start} {now = now} {all = all} {before = before} {after = after} {asked = asked} {told = told} come same =
+    subst (λ lines. HasCome reading cut start all before asked now lines after told) same come
+
+-- at a line, after those before it; what is told of the whole is told where the line that is too far is known in other words
+module _ {reading : Reading} {cut : Option ℕ} {start : SessionData} {all : List (ℕ × List ℕ)} {before : Option (List ℕ)} {asked : List GroupTextData} (now : HeldSession) {line : ℕ × List ℕ} {left : List (ℕ × List ℕ)} {after : Option (List ℕ)} {told : List GroupTextData} (come : HasCome reading cut start all before asked now.core (line ∷ left) after told) where
   -- past a line that asks for nothing
   comes_past : IsIdle reading cut now.core line → HasCome reading cut start all before asked now.core left after told
   comes_past idle = record {
@@ -139,15 +147,21 @@ module _ (reading : Reading) (cut : Option ℕ) (start : SessionData) (all : Lis
       }
 
   -- past a line that is accepted
-  pub comes_on : (new : HeldSession) (more : Option (List ℕ)) (further : List GroupTextData) →
+  comes_accepted : (new : HeldSession) (more : Option (List ℕ)) (further : List GroupTextData) →
       TakesTurn reading cut line now new after more told further (Ok Accepted) → HasCome reading cut start all before asked new.core left more further
-  comes_on new more further (inl passed) =
+  comes_accepted new more further (inl passed) =
       let keeps = passed.keeps in
       subst (λ (session : HeldSession). HasCome reading cut start all before asked session.core left more further) (sym keeps.same)
       (subst (λ (known : Option (List ℕ)). HasCome reading cut start all before asked now.core left known further) (sym keeps.unwritten)
       (subst (λ (texts : List GroupTextData). HasCome reading cut start all before asked now.core left after texts) (sym keeps.unasked)
       (comes_past passed.idle)))
-  comes_on new more further (inr follows) = comes_by new more further follows
+  comes_accepted new more further (inr follows) = comes_by new more further follows
+
+  pub comes_on : (new : HeldSession) (more : Option (List ℕ)) (further : List GroupTextData) {turn : Turn} →
+      TakesTurn reading cut line now new after more told further (Ok turn) → turn ≡ Accepted →
+      HasCome reading cut start all before asked new.core left more further
+  comes_on new more further turn is =
+      comes_accepted new more further (subst (λ one. TakesTurn reading cut line now new after more told further (Ok one)) is turn)
 
   -- to a line that is refused for this cause
   refused_here : (cause : Cause) → IsRefused reading cut now.core line cause →
@@ -171,17 +185,24 @@ module _ (reading : Reading) (cut : Option ℕ) (start : SessionData) (all : Lis
       (subst (λ (texts : List GroupTextData). HasObeyed reading cut start all now.core before after asked texts last) (sym keeps.unasked) obeyed))
 
   -- to a line that is refused under a code
-  pub halts_refused : (new : HeldSession) (more : Option (List ℕ)) (further : List GroupTextData) (code : FaultCode) →
+  refused_under : (new : HeldSession) (more : Option (List ℕ)) (further : List GroupTextData) (code : FaultCode) →
       TakesTurn reading cut line now new after more told further (Ok (Refused code)) →
       HasObeyed reading cut start all new.core before more asked further (Some (record { line = line.0; cause = plain_cause code }))
-  halts_refused new more further code (is, keeps) =
+  refused_under new more further code (is, keeps) =
       obeyed_kept new more further (Some (record { line = line.0; cause = plain_cause code })) keeps (refused_here (plain_cause code) is)
 
+  pub halts_refused : (new : HeldSession) (more : Option (List ℕ)) (further : List GroupTextData) {turn : Turn} {code : FaultCode} {cuts : Option ℕ} →
+      TakesTurn reading cut line now new after more told further (Ok turn) → turn ≡ Refused code → cut ≡ cuts →
+      HasObeyed reading cuts start all new.core before more asked further (Some (record { line = line.0; cause = plain_cause code }))
+  halts_refused new more further {code = code} turn is same =
+      subst (λ at. HasObeyed reading at start all new.core before more asked further (Some (record { line = line.0; cause = plain_cause code }))) same
+      (refused_under new more further code (subst (λ one. TakesTurn reading cut line now new after more told further (Ok one)) is turn))
+
   -- to a line for whose command the circuit is too large
-  pub halts_large : (new : HeldSession) (more : Option (List ℕ)) (further : List GroupTextData) (fault : BuildFault) →
+  outgrown_by : (new : HeldSession) (more : Option (List ℕ)) (further : List GroupTextData) (fault : BuildFault) →
       TakesTurn reading cut line now new after more told further (Ok (TooLarge fault)) →
       HasOutgrown reading cut start all new.core before more asked further line.0 fault
-  halts_large new more further fault out =
+  outgrown_by new more further fault out =
       let keeps = out.refuses.keeps in
       record {
         first = subst (λ (session : HeldSession). TellsTooLarge session.core.circuit.graph fault) (sym keeps.same) out.refuses.first;
@@ -192,6 +213,13 @@ module _ (reading : Reading) (cut : Option ℕ) (start : SessionData) (all : Lis
             (subst (λ (session : HeldSession). TellsTooLarge session.core.circuit.graph other) keeps.same tells)
             (subst (λ (session : HeldSession). size_cause session.core.circuit other ≡ Some cause) keeps.same named)));
       }
+
+  pub halts_large : (new : HeldSession) (more : Option (List ℕ)) (further : List GroupTextData) {turn : Turn} {fault : BuildFault} {cuts : Option ℕ} →
+      TakesTurn reading cut line now new after more told further (Ok turn) → turn ≡ TooLarge fault → cut ≡ cuts →
+      HasOutgrown reading cuts start all new.core before more asked further line.0 fault
+  halts_large new more further {fault = fault} turn is same =
+      subst (λ at. HasOutgrown reading at start all new.core before more asked further line.0 fault) same
+      (outgrown_by new more further fault (subst (λ one. TakesTurn reading cut line now new after more told further (Ok one)) is turn))
 
   -- where it stopped in the text of the lines of an outcome from here, a part was written of what all lines tell
   breaks_in : (rest : Outcome) → Runs reading cut now.core (line ∷ left) rest → (last : Option (List ℕ)) (text tail : List ℕ) →
@@ -215,12 +243,12 @@ module _ (reading : Reading) (cut : Option ℕ) (start : SessionData) (all : Lis
   }
 
   -- to a line at which it stopped: what was written is where the text begins that the lines would have had
-  pub halts_stop : IsSound reading → (new : HeldSession) (more : Option (List ℕ)) (further : List GroupTextData) (stop : Stop) →
+  breaks_off : IsSound reading → (new : HeldSession) (more : Option (List ℕ)) (further : List GroupTextData) (stop : Stop) →
       TakesTurn reading cut line now new after more told further (Err stop) → BreaksOff reading cut start all before more
-  halts_stop sound new more further stop (inl same) =
+  breaks_off sound new more further stop (inl same) =
       let rest = outcome_exists reading sound cut (line ∷ left) now.core come.ready in
       breaks_in rest.0 rest.1 more [] (text_of rest.0.lines) refl (inl same)
-  halts_stop sound new more further stop (inr starts) =
+  breaks_off sound new more further stop (inr starts) =
       let begins = starts.begins in
       let performs = begins.performs in
       let rest = outcome_exists reading sound cut left begins.end
@@ -231,14 +259,21 @@ module _ (reading : Reading) (cut : Option ℕ) (start : SessionData) (all : Lis
       (text_of-append performs.does.lines rest.0.lines ∙ ap (λ (text : List ℕ). text ++ text_of rest.0.lines) (sym performs.does.text_is))
       (inr begins.written)
 
+  pub halts_stop : IsSound reading → (new : HeldSession) (more : Option (List ℕ)) (further : List GroupTextData) (stop : Stop) {cuts : Option ℕ} →
+      TakesTurn reading cut line now new after more told further (Err stop) → cut ≡ cuts → BreaksOff reading cuts start all before more
+  halts_stop sound new more further stop turn same =
+      subst (λ at. BreaksOff reading at start all before more) same (breaks_off sound new more further stop turn)
+
 -- to the end
-pub halts_end : (reading : Reading) (cut : Option ℕ) (start : SessionData) (all : List (ℕ × List ℕ)) (before : Option (List ℕ)) (asked : List GroupTextData) (now : SessionData) (after : Option (List ℕ)) (told : List GroupTextData) →
-    HasCome reading cut start all before asked now [] after told → HasObeyed reading cut start all now before after asked told None
-halts_end reading cut start all before asked now after told come = record {
-  outcome = after_command come.lines come.texts (at_end now);
-  runs = come.goes_on (at_end now) (ends now);
-  reached = refl;
-  stopped = refl;
-  grew = come.grew ∙ ap (λ (lines : List Line). append_known before (text_of lines)) (sym (append-nil come.lines));
-  analysed = come.analysed ∙ ap (λ (texts : List GroupTextData). asked ++ texts) (sym (append-nil come.texts));
-}
+pub halts_end : {reading : Reading} {cut cuts : Option ℕ} {start now : SessionData} {all : List (ℕ × List ℕ)} {before after : Option (List ℕ)} {asked told : List GroupTextData} →
+    HasCome reading cut start all before asked now [] after told → cut ≡ cuts → HasObeyed reading cuts start all now before after asked told None
+halts_end {reading = reading} {start = start} {now = now} {all = all} {before = before} {after = after} {asked = asked} {told = told} come same =
+    subst (λ at. HasObeyed reading at start all now before after asked told None) same
+    (record {
+      outcome = after_command come.lines come.texts (at_end now);
+      runs = come.goes_on (at_end now) (ends now);
+      reached = refl;
+      stopped = refl;
+      grew = come.grew ∙ ap (λ (lines : List Line). append_known before (text_of lines)) (sym (append-nil come.lines));
+      analysed = come.analysed ∙ ap (λ (texts : List GroupTextData). asked ++ texts) (sym (append-nil come.texts));
+    })

@@ -1,120 +1,49 @@
 -- Each line takes the script one step on; at each exit what was told so far becomes what is told of all lines.
-use Rattle.std.proofs.Common.{List, ℕ, inr, Ok, None, Some, refl, sym, ap, ◌∙◌, ◌⊎◌, ◌≡◌, subst}
+use Rattle.std.proofs.Common.{List, ℕ, inr, refl, sym, ap, ◌∙◌}
 use Rattle.std.specs.List.{enumerate_from}
 use Rattle.std.proofs.lemmas.Result.{err_from_is_err_and}
 use Rattle.line_words.specs.Lines.{lines_of}
-use Rattle.line_words.specs.Files as file
-use Rattle.fault_sim.specs.Masks.{masked_reading}
-use Rattle.script_run.specs.Codes.{plain_cause}
-use Rattle.script_run.specs.Turns.{TakesTurn}
-use Rattle.script_run.specs.Halts.{HasObeyed, HasOutgrown, BreaksOff}
 use Rattle.script_run.proofs.ReadingLemmas.{masked-sound}
-use Rattle.script_run.proofs.RunLemmas.{HasCome, comes_first, comes_on, halts_refused, halts_large, halts_stop, halts_end}
+use Rattle.script_run.proofs.RunLemmas.{comes_first, comes_to, comes_on, halts_refused, halts_large, halts_stop, halts_end}
 use Rattle.script_run.proofs.script.obey_lines.Goals as goal
 
 pub loop-line-init : goal.loop-line-init
 loop-line-init g c = record {
   come =
-      let reading = masked_reading c.args.stuck in
-      let all = file.lines_in c.args.text.now in
-      let written = g.S.Sink.written c.args.out.now in
-      let asked = g.A.Analyst.analysed c.args.analyst.now in
-      let start = c.args.session.now.core in
       let first = c.into_iter-line-iterator.ensures.into_iter_gives ∙ c.lines-line-items.ensures.numbered
       ∙ ap (λ (front : List ℕ). enumerate_from 1 (lines_of front)) c.front.ensures in
-      subst (λ left. HasCome reading c.cut_line-cut.result start all written asked start left written asked) (sym first)
-      (comes_first reading c.cut_line-cut.result start all written asked c.requires);
+      comes_to (comes_first c.requires) (sym first);
   faults = refl;
   refusals = refl;
 }
 
 pub returns-in_err-run_line-clause-told : goal.returns-in_err-run_line-clause-told
 returns-in_err-run_line-clause-told g c =
-    let reading = masked_reading c.args.stuck in
-    let cut = c.cut_line-cut.result in
-    let start = c.args.session.now.core in
-    let all = file.lines_in c.args.text.now in
-    let written = g.S.Sink.written c.args.out.now in
-    let asked = g.A.Analyst.analysed c.args.analyst.now in
-    let before = g.S.Sink.written c.loop-line.out in
-    let told = g.A.Analyst.analysed c.loop-line.analyst in
-    let more = g.S.Sink.written c.run_line.new.out in
-    let come = subst (λ left. HasCome reading cut start all written asked c.loop-line.session.core left before told) c.in-Some.ensures.steps c.loop-line.invariant.come in
-    let stopped = halts_stop _ _ _ _ _ _ c.loop-line.session _ _ _ _ come (masked-sound c.args.stuck) c.run_line.new.session more
-    (g.A.Analyst.analysed c.run_line.new.analyst) c.in_err-run_line.field-0.0 c.in_err-run_line.ensures.turn in
+    let come = comes_to c.loop-line.invariant.come c.in-Some.ensures.steps in
     let p = err_from_is_err_and c.from_residual.result c.from_residual.ensures.1 in
-    rw p.1 (subst (λ cut. (more ≡ written) ⊎ BreaksOff reading cut start all written more) c.cut_line-cut.ensures (inr stopped))
+    rw p.1
+    (inr (halts_stop c.loop-line.session come (masked-sound c.args.stuck) c.run_line.new.session (g.S.Sink.written c.run_line.new.out)
+    (g.A.Analyst.analysed c.run_line.new.analyst) c.in_err-run_line.field-0.0 c.in_err-run_line.ensures.turn c.cut_line-cut.ensures))
 
 pub loop-line-preserved : goal.loop-line-preserved
 loop-line-preserved g c = record {
-  come =
-      let reading = masked_reading c.args.stuck in
-      let cut = c.cut_line-cut.result in
-      let start = c.args.session.now.core in
-      let all = file.lines_in c.args.text.now in
-      let written = g.S.Sink.written c.args.out.now in
-      let asked = g.A.Analyst.analysed c.args.analyst.now in
-      let before = g.S.Sink.written c.loop-line.out in
-      let told = g.A.Analyst.analysed c.loop-line.analyst in
-      let after = g.S.Sink.written c.run_line.new.out in
-      let further = g.A.Analyst.analysed c.run_line.new.analyst in
-      let come = subst (λ left. HasCome reading cut start all written asked c.loop-line.session.core left before told) c.in-Some.ensures.steps c.loop-line.invariant.come in
-      comes_on _ _ _ _ _ _ c.loop-line.session _ _ _ _ come c.run_line.new.session after further
-      (subst (λ turn. TakesTurn reading cut (c.in-Some.line.number, c.in-Some.line.bytes.now) c.loop-line.session c.run_line.new.session before after told further (Ok turn))
-      c.in-Accepted.is c.in_ok-run_line.ensures.turn);
+  come = comes_on c.loop-line.session (comes_to c.loop-line.invariant.come c.in-Some.ensures.steps) c.run_line.new.session
+      (g.S.Sink.written c.run_line.new.out) (g.A.Analyst.analysed c.run_line.new.analyst) c.in_ok-run_line.ensures.turn c.in-Accepted.is;
   faults = c.in_ok-run_line.ensures.write ∙ c.loop-line.invariant.faults;
   refusals = c.in_ok-run_line.ensures.refused ∙ c.loop-line.invariant.refusals;
 }
 
 pub returns-in-Refused-clause-told : goal.returns-in-Refused-clause-told
 returns-in-Refused-clause-told g c =
-    let reading = masked_reading c.args.stuck in
-    let cut = c.cut_line-cut.result in
-    let start = c.args.session.now.core in
-    let all = file.lines_in c.args.text.now in
-    let written = g.S.Sink.written c.args.out.now in
-    let asked = g.A.Analyst.analysed c.args.analyst.now in
-    let before = g.S.Sink.written c.loop-line.out in
-    let told = g.A.Analyst.analysed c.loop-line.analyst in
-    let after = g.S.Sink.written c.run_line.new.out in
-    let further = g.A.Analyst.analysed c.run_line.new.analyst in
-    let new = c.run_line.new.session in
-    let come = subst (λ left. HasCome reading cut start all written asked c.loop-line.session.core left before told) c.in-Some.ensures.steps c.loop-line.invariant.come in
-    let turn = subst (λ turn. TakesTurn reading cut (c.in-Some.line.number, c.in-Some.line.bytes.now) c.loop-line.session new before after told further (Ok turn))
-    c.in-Refused.is c.in_ok-run_line.ensures.turn in
-    subst (λ cut. HasObeyed reading cut start all new.core written after asked further
-    (Some (record { line = c.in-Some.line.number; cause = plain_cause c.in-Refused.code }))) c.cut_line-cut.ensures
-    (halts_refused _ _ _ _ _ _ c.loop-line.session _ _ _ _ come new after further c.in-Refused.code turn)
+    halts_refused c.loop-line.session (comes_to c.loop-line.invariant.come c.in-Some.ensures.steps) c.run_line.new.session
+    (g.S.Sink.written c.run_line.new.out) (g.A.Analyst.analysed c.run_line.new.analyst) c.in_ok-run_line.ensures.turn c.in-Refused.is
+    c.cut_line-cut.ensures
 
 pub returns-in-TooLarge-clause-told : goal.returns-in-TooLarge-clause-told
 returns-in-TooLarge-clause-told g c =
-    let reading = masked_reading c.args.stuck in
-    let cut = c.cut_line-cut.result in
-    let start = c.args.session.now.core in
-    let all = file.lines_in c.args.text.now in
-    let written = g.S.Sink.written c.args.out.now in
-    let asked = g.A.Analyst.analysed c.args.analyst.now in
-    let before = g.S.Sink.written c.loop-line.out in
-    let told = g.A.Analyst.analysed c.loop-line.analyst in
-    let after = g.S.Sink.written c.run_line.new.out in
-    let further = g.A.Analyst.analysed c.run_line.new.analyst in
-    let new = c.run_line.new.session in
-    let come = subst (λ left. HasCome reading cut start all written asked c.loop-line.session.core left before told) c.in-Some.ensures.steps c.loop-line.invariant.come in
-    let turn = subst (λ turn. TakesTurn reading cut (c.in-Some.line.number, c.in-Some.line.bytes.now) c.loop-line.session new before after told further (Ok turn))
-    c.in-TooLarge.is c.in_ok-run_line.ensures.turn in
-    subst (λ cut. HasOutgrown reading cut start all new.core written after asked further c.in-Some.line.number c.in-TooLarge.fault) c.cut_line-cut.ensures
-    (halts_large _ _ _ _ _ _ c.loop-line.session _ _ _ _ come new after further c.in-TooLarge.fault turn)
+    halts_large c.loop-line.session (comes_to c.loop-line.invariant.come c.in-Some.ensures.steps) c.run_line.new.session
+    (g.S.Sink.written c.run_line.new.out) (g.A.Analyst.analysed c.run_line.new.analyst) c.in_ok-run_line.ensures.turn c.in-TooLarge.is
+    c.cut_line-cut.ensures
 
 pub returns-clause-told : goal.returns-clause-told
-returns-clause-told g c =
-    let reading = masked_reading c.args.stuck in
-    let start = c.args.session.now.core in
-    let all = file.lines_in c.args.text.now in
-    let written = g.S.Sink.written c.args.out.now in
-    let asked = g.A.Analyst.analysed c.args.analyst.now in
-    let after = g.S.Sink.written c.loop-line.out in
-    let told = g.A.Analyst.analysed c.loop-line.analyst in
-    let now = c.loop-line.session.core in
-    let come = subst (λ left. HasCome reading c.cut_line-cut.result start all written asked now left after told) c.in-None.ensures.steps.0 c.loop-line.invariant.come in
-    subst (λ cut. HasObeyed reading cut start all now written after asked told None) c.cut_line-cut.ensures
-    (halts_end _ _ _ _ _ _ now _ _ come)
+returns-clause-told g c = halts_end (comes_to c.loop-line.invariant.come c.in-None.ensures.steps.0) c.cut_line-cut.ensures
