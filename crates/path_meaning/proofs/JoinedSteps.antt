@@ -10,7 +10,6 @@ use Rattle.ternary.specs.Tern.{may_one, may_zero, join}
 use Rattle.ternary.proofs.TernLemmas.{may_one-join, may_zero-join}
 use Rattle.path_meaning.specs.declared.switching.SwitchKind.{SwitchKind}
 use Rattle.path_meaning.specs.declared.switching.SwitchKind.TheVariants.{NChan, PChan, Always}
-use Rattle.path_meaning.specs.declared.switching.SwitchState.TheVariants.{Closed}
 use Rattle.path_meaning.specs.Switching.{state_at, state_by}
 use Rattle.path_meaning.specs.Graphs.{GraphData, IsWired, nodes}
 use Rattle.path_meaning.specs.Step.{Responds}
@@ -18,34 +17,22 @@ use Rattle.path_meaning.specs.Laws.{SameSwitches, IsJoin, StepsJoin}
 use Rattle.path_meaning.proofs.PathLemmas.{switch_fits}
 use Rattle.path_meaning.proofs.SameSwitchesLemmas.{SameSwitches-sym, Reaches-same}
 
--- a depletion switch is closed
-always_closed : (t : Tern) → state_by Always t ≡ Closed
-always_closed Zero = refl
-always_closed One = refl
-always_closed Unk = refl
-
 -- a switch whose state two gates agree on has it under their join
 state_by-join : (kind : SwitchKind) (s t : Tern) → state_by kind s ≡ state_by kind t →
     state_by kind s ≡ state_by kind (join s t)
-state_by-join NChan Zero Zero same = refl
+state_by-join kind Zero Zero same = refl
+state_by-join kind One One same = refl
+state_by-join kind Unk Zero same = refl
+state_by-join kind Unk One same = refl
+state_by-join kind Unk Unk same = refl
+state_by-join kind Zero Unk same = same
+state_by-join kind One Unk same = same
 state_by-join NChan Zero One same = absurd cc
-state_by-join NChan Zero Unk same = same
 state_by-join NChan One Zero same = absurd cc
-state_by-join NChan One One same = refl
-state_by-join NChan One Unk same = same
-state_by-join NChan Unk Zero same = refl
-state_by-join NChan Unk One same = refl
-state_by-join NChan Unk Unk same = refl
-state_by-join PChan Zero Zero same = refl
 state_by-join PChan Zero One same = absurd cc
-state_by-join PChan Zero Unk same = same
 state_by-join PChan One Zero same = absurd cc
-state_by-join PChan One One same = refl
-state_by-join PChan One Unk same = same
-state_by-join PChan Unk Zero same = refl
-state_by-join PChan Unk One same = refl
-state_by-join PChan Unk Unk same = refl
-state_by-join Always s t same = always_closed s ∙ sym (always_closed (join s t))
+state_by-join Always Zero One same = refl
+state_by-join Always One Zero same = refl
 
 -- under a join of two states that agree on the switches, the switches are as under the first
 join_same : (g : GraphData) → IsWired g → (a b joined : List Tern) → length a ≡ nodes g → SameSwitches g a b →

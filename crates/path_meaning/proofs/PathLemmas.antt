@@ -13,18 +13,17 @@ use Rattle.strength_order.specs.Levels.{IsLevel}
 use Rattle.path_meaning.specs.Graphs.{GraphData, IsWired, Fits, nodes, level_of, place_at}
 use Rattle.path_meaning.specs.Path.{Stand, Joins, Hop, Leads, at_root, LivePath, IsBeaten, IsBlocked, Reaches}
 
+-- the node at a definite path's end is beaten at each lower strength
+abbrev pub IsBeaten-path : {g : GraphData} {state : List Tern} {node strength : ℕ} (root : ℕ) (hops : List ℕ) (there : Stand) →
+    LivePath g state root hops there → there.node ≡ node → there.definite ≡ true → strength < there.strength → IsBeaten g state node strength
+IsBeaten-path root hops there path ends definite stronger =
+    record { root = root; hops = hops; there = there; path = path; ends = ends; definite = definite; stronger = stronger }
+
 -- what a definite path beats, it beats all the more at a lower strength
 pub IsBeaten-lower : {g : GraphData} {state : List Tern} {node low high : ℕ} →
     IsBeaten g state node high → low ≤ high → IsBeaten g state node low
-IsBeaten-lower beaten most = record {
-  root = beaten.root;
-  hops = beaten.hops;
-  there = beaten.there;
-  path = beaten.path;
-  ends = beaten.ends;
-  definite = beaten.definite;
-  stronger = omega arith;
-}
+IsBeaten-lower beaten most =
+    IsBeaten-path beaten.root beaten.hops beaten.there beaten.path beaten.ends beaten.definite (omega (arith, beaten.stronger))
 
 -- stands with the same node, strength and definiteness are one stand
 pub same_stand : (x y : Stand) → x.node ≡ y.node → x.strength ≡ y.strength → x.definite ≡ y.definite → x ≡ y
@@ -170,15 +169,8 @@ module _ (g : GraphData) (state : List Tern) where
 
   -- a strength below a node's level is beaten there, by the empty path
   pub IsBeaten-by_level : (node strength : ℕ) → node < nodes g → strength < level_of g node → IsBeaten g state node strength
-  IsBeaten-by_level node strength in_range below = record {
-    root = node;
-    hops = [];
-    there = at_root g node;
-    path = record { in_range = in_range; leads = refl };
-    ends = refl;
-    definite = refl;
-    stronger = below;
-  }
+  IsBeaten-by_level node strength in_range below =
+      IsBeaten-path node [] (at_root g node) (record { in_range = in_range; leads = refl }) refl refl below
 
   -- no definite path that leads to a node on the way is stronger than the path there: an unblocked path
   abbrev pub Goes : Stand → List ℕ → Stand → Type 0

@@ -6,6 +6,7 @@ use Rattle.ternary.specs.declared.tern.Tern.{Tern}
 use Rattle.path_meaning.specs.Graphs.{GraphData}
 use Rattle.path_meaning.specs.Path.{Stand, Hop, Leads, at_root, LivePath, IsBeaten, IsBlocked, Reaches}
 use Rattle.path_meaning.specs.Laws.{SameSwitches}
+use Rattle.path_meaning.proofs.PathLemmas.{IsBeaten-path}
 
 -- it doesn't matter which state comes first
 pub SameSwitches-sym : (g : GraphData) (a b : List Tern) → SameSwitches g a b → SameSwitches g b a
@@ -44,15 +45,9 @@ module _ (g : GraphData) (a b : List Tern) (same : SameSwitches g a b) where
 
   -- what is beaten under one state is beaten under the other
   IsBeaten-same : (node strength : ℕ) → IsBeaten g a node strength → IsBeaten g b node strength
-  IsBeaten-same node strength beaten = record {
-    root = beaten.root;
-    hops = beaten.hops;
-    there = beaten.there;
-    path = LivePath-same beaten.root beaten.hops beaten.there beaten.path;
-    ends = beaten.ends;
-    definite = beaten.definite;
-    stronger = beaten.stronger;
-  }
+  IsBeaten-same node strength beaten =
+      IsBeaten-path beaten.root beaten.hops beaten.there (LivePath-same beaten.root beaten.hops beaten.there beaten.path)
+      beaten.ends beaten.definite beaten.stronger
 
   -- and what is blocked is blocked
   IsBlocked-same : (root : ℕ) (hops : List ℕ) → IsBlocked g a root hops → IsBlocked g b root hops

@@ -13,7 +13,7 @@ use Rattle.path_meaning.specs.declared.switching.SwitchState.{SwitchState}
 use Rattle.path_meaning.specs.declared.switching.SwitchState.TheVariants.{Open, Closed, Unknown}
 use Rattle.path_meaning.specs.Graphs.{GraphData, IsWired, nodes, level_of, place_at}
 use Rattle.path_meaning.specs.Path.{Stand, Joins, Hop, Leads, at_root, LivePath, IsBeaten}
-use Rattle.path_meaning.proofs.PathLemmas.{Leads-more, Leads-definite, Leads-weaker, level_fits}
+use Rattle.path_meaning.proofs.PathLemmas.{IsBeaten-path, Leads-more, Leads-definite, Leads-weaker, level_fits}
 use Rattle.path_meaning.proofs.TableClosure.{IsClosed, closed_table}
 
 -- a definite path stands at this node with this strength
@@ -147,14 +147,6 @@ best-from_unbeaten g state best is_best node strength in_range unbeaten =
     elim (cases_lt strength (best node)) [
       | inl more ↦
           let found = is_best.found node in_range in
-          absurd (unbeaten (record {
-            root = found.root;
-            hops = found.hops;
-            there = surely node (best node);
-            path = found.path;
-            ends = refl;
-            definite = refl;
-            stronger = more;
-          }))
+          absurd (unbeaten (IsBeaten-path found.root found.hops (surely node (best node)) found.path refl refl more))
       | inr most ↦ most
     ]

@@ -18,7 +18,7 @@ use Rattle.path_meaning.specs.Step.{IsStep}
 use Rattle.path_meaning.specs.Spread.{passes, width, AreWidths, Comes, AllCome, Grows, IsSpreadOver, IsSpread, rail_of}
 use Rattle.path_meaning.specs.Plain.{AreStrongest, root_entry, AreRoots, AreReached}
 use Rattle.path_meaning.specs.Spread.Comes.{starts, crosses}
-use Rattle.path_meaning.proofs.PathLemmas.{place_inside, switch_fits, level_fits, Hop-in_range, Leads-positive, Leads-definite, Goes, Goes-here, Goes-from_Reaches, Arrives, Arrives-with, Arrives-at_root, Arrives-more, Reaches-from_Arrives}
+use Rattle.path_meaning.proofs.PathLemmas.{IsBeaten-path, place_inside, switch_fits, level_fits, Hop-in_range, Leads-positive, Leads-definite, Goes, Goes-here, Goes-from_Reaches, Arrives, Arrives-with, Arrives-at_root, Arrives-more, Reaches-from_Arrives}
 use Rattle.path_meaning.proofs.StrongestPaths.{surely, Definite, onward, and-second}
 use Rattle.path_meaning.proofs.ReachedNodes.{reached}
 
@@ -132,21 +132,17 @@ module _ (g : GraphData) (state : List Tern) (best : List ℕ) (are_strongest : 
         ap (slice_index best) beaten.ends,
       ))
 
-  -- and what isn't beaten is as great
+  -- and a lesser one is beaten
+  pub beaten_below : (node strength : ℕ) → node < nodes g → strength < slice_index best node → IsBeaten g state node strength
+  beaten_below node strength in_range less =
+      let way = are_strongest.found node in_range in
+      IsBeaten-path way.0 way.1 way.2 way.3 way.4 way.5 (omega (arith, less, way.6))
+
+  -- so what isn't beaten is as great
   pub most_unbeaten : (node strength : ℕ) → node < nodes g → (¬ IsBeaten g state node strength) → slice_index best node ≤ strength
   most_unbeaten node strength in_range free =
-      let way = are_strongest.found node in_range in
       elim (cases_lt strength (slice_index best node)) [
-        | inl more ↦
-            absurd (free (record {
-              root = way.0;
-              hops = way.1;
-              there = way.2;
-              path = way.3;
-              ends = way.4;
-              definite = way.5;
-              stronger = omega (arith, way.6);
-            }))
+        | inl less ↦ absurd (free (beaten_below node strength in_range less))
         | inr most ↦ most
       ]
 

@@ -8,13 +8,10 @@ use Rattle.path_meaning.proofs.plain.put_reached.Goals as goal
 pub returns : goal.returns
 returns c =
     let g : GraphData = c.args.graph.now in
-    let state = c.args.state.now in
-    let widths = c.args.widths.now in
     let best = c.args.best.now in
     let start = c.put_roots.new.table in
-    let table = c.spread.new.table in
-    let roots : AreRoots c.args.one state g.levels best start = rw c.levels.ensures at c.put_roots.ensures in
-    let come : AllCome g.places widths best start table = rw c.switches.ensures.value at c.spread.ensures.come in
-    let spread : IsSpread g.places widths best table = rw c.switches.ensures.value at c.spread.ensures.spread in
-    are_reached g c.switches.ensures.wired state widths best c.args.one c.requires.widths c.requires.strongest start
-    table roots come c.spread.ensures.grows spread
+    let roots : AreRoots c.args.one c.args.state.now g.levels best start = rw c.levels.ensures at c.put_roots.ensures in
+    let come : AllCome g.places c.args.widths.now best start c.spread.new.table = rw c.switches.ensures.value at c.spread.ensures.come in
+    let spread : IsSpread g.places c.args.widths.now best c.spread.new.table = rw c.switches.ensures.value at c.spread.ensures.spread in
+    are_reached g c.switches.ensures.wired c.args.state.now c.args.widths.now best c.args.one c.requires.widths c.requires.strongest start
+    c.spread.new.table roots come c.spread.ensures.grows spread
