@@ -1,5 +1,5 @@
 -- Bytes cut at the first one that passes a test: how `position` finds the place, and that bytes are cut or none passes.
-use Rattle.std.proofs.Common.{◌≡◌, ℕ, ◌+◌, ◌-◌, ◌<◌, ◌⊎◌, Bool, true, false, List, [], ◌∷◌, ◌++◌, length, take, drop, get_or, position, Some, None, All, inl, inr, refl, ◌∙◌, ap, arith, add-one, length-append, length-take, length-drop, take_all, lt-ltb}
+use Rattle.std.proofs.Common.{◌≡◌, ℕ, zero, suc, ◌+◌, ◌-◌, ◌<◌, ◌≤◌, ◌⊎◌, Bool, true, false, List, [], ◌∷◌, ◌++◌, length, take, drop, get_or, position, Some, None, All, inl, inr, refl, ◌∙◌, ap, arith, add-one, length-append, length-take, length-drop, take_all, lt-ltb}
 use Rattle.std.proofs.Math.Seq.{split_at}
 use Rattle.std.specs.List.{position_or_len}
 use Rattle.std.proofs.lemmas.Bool.{cases_Bool, cases_lt, cond-true}
@@ -68,3 +68,23 @@ cut_or_whole p (byte ∷ bytes) =
         | inr none ↦ inr (All-cons (λ b. p b ≡ false) byte bytes goes_on none)
       ]
     ]
+
+-- what holds of no bytes, of bytes of which none passes, and of bytes that are cut where it holds of those after the cut, holds of all
+by_cuts-within : (p : ℕ → Bool) (P : List ℕ → Type 0) → P []
+    → ((bytes : List ℕ) → 0 < length bytes → All (λ byte. p byte ≡ false) bytes → P bytes)
+    → ((bytes before after : List ℕ) → IsCut p bytes before after → P after → P bytes)
+    → (most : ℕ) (bytes : List ℕ) → length bytes ≤ most → P bytes
+by_cuts-within p P empty whole cut most [] h = empty
+by_cuts-within p P empty whole cut zero (byte ∷ bytes) h = absurd (omega arith)
+by_cuts-within p P empty whole cut (suc most) (byte ∷ bytes) h =
+    elim (cut_or_whole p (byte ∷ bytes)) [
+      | inl parts ↦
+          let shorter : length parts.1 ≤ most = omega (arith, length-after parts.2) in
+          cut (byte ∷ bytes) parts.0 parts.1 parts.2 (by_cuts-within p P empty whole cut most parts.1 shorter)
+      | inr none ↦ whole (byte ∷ bytes) (omega arith) none
+    ]
+
+pub by_cuts : (p : ℕ → Bool) (P : List ℕ → Type 0) → P []
+    → ((bytes : List ℕ) → 0 < length bytes → All (λ byte. p byte ≡ false) bytes → P bytes)
+    → ((bytes before after : List ℕ) → IsCut p bytes before after → P after → P bytes) → (bytes : List ℕ) → P bytes
+by_cuts p P empty whole cut bytes = by_cuts-within p P empty whole cut (length bytes) bytes (omega arith)

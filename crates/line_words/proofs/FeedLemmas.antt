@@ -1,13 +1,13 @@
 -- The line that holds a byte, by counting the LFs before the byte.
-use Rattle.std.proofs.Common.{◌≡◌, ℕ, zero, suc, ◌+◌, ◌-◌, ◌<◌, ◌≤◌, false, cond, List, [], ◌∷◌, ◌++◌, length, take, get_or, count_by, inl, inr, refl, sym, ◌∙◌, ap, ap₂, subst, arith, eqb-true, append_assoc, length-append}
+use Rattle.std.proofs.Common.{◌≡◌, ℕ, suc, ◌+◌, ◌-◌, ◌<◌, false, cond, List, [], ◌∷◌, ◌++◌, length, take, get_or, count_by, inl, inr, refl, sym, ◌∙◌, ap, ap₂, subst, arith, eqb-true, append_assoc, length-append}
 use Rattle.std.proofs.lemmas.Bool.{cases_Bool, cond-false}
 use Rattle.std.proofs.lemmas.List.{take_more}
 use Rattle.std.proofs.lemmas.List.Elements.{All-nil, All-head, All-tail, All-push}
 use Rattle.std.proofs.lemmas.List.Sums.{sum_by-cons, sum_by-append}
 use Rattle.line_words.specs.Bytes.{line_feed, is_line_feed}
 use Rattle.line_words.specs.Lines.{lines_of, HasNoFeed, CountsFeeds}
-use Rattle.line_words.proofs.CutLemmas.{cut_or_whole, length-after}
-use Rattle.line_words.proofs.LineLemmas.{lines_of-ended, lines_of-last}
+use Rattle.line_words.proofs.CutLemmas.{by_cuts}
+use Rattle.line_words.proofs.LineLemmas.{cut_feed, lines_of-ended, lines_of-last}
 
 -- what a byte adds to the count of LFs
 abbrev feeds : ℕ → ℕ
@@ -42,30 +42,19 @@ length-lines_of-one text byte none =
     ]
 
 -- the lines up to a byte are as many as the LFs before it, and one
-length-lines_of-within : (most : ℕ) (text : List ℕ) (byte : ℕ) → length text ≤ most
-    → length (lines_of (text ++ byte ∷ [])) ≡ count_by is_line_feed text + 1
-length-lines_of-within most [] byte h = length-lines_of-one [] byte (All-nil (λ b. is_line_feed b ≡ false))
-length-lines_of-within zero (first ∷ others) byte h = absurd (omega arith)
-length-lines_of-within (suc most) (first ∷ others) byte h =
-    elim (cut_or_whole is_line_feed (first ∷ others)) [
-      | inl parts ↦
-          let line = parts.0 in
-          let rest = parts.1 in
-          let cut = parts.2 in
-          let feed : first ∷ others ≡ line ++ line_feed ∷ rest =
-          cut.whole ∙ ap (λ stop. line ++ stop ∷ rest) (eqb-true cut.stop line_feed cut.passes) in
-          let shorter : length rest ≤ most = omega (arith, length-after cut) in
-          let more : length (lines_of (rest ++ byte ∷ [])) ≡ count_by is_line_feed rest + 1 =
-          length-lines_of-within most rest byte shorter in
-          let whole : length (lines_of ((line ++ line_feed ∷ rest) ++ byte ∷ [])) ≡ suc (length (lines_of (rest ++ byte ∷ []))) =
-          ap (λ text. length (lines_of text)) (append_assoc line (line_feed ∷ rest) (byte ∷ []))
-          ∙ ap length (lines_of-ended line (rest ++ byte ∷ []) cut.none_before) in
-          let counted = count_by-ended line rest cut.none_before in
-          subst (λ text. length (lines_of (text ++ byte ∷ [])) ≡ count_by is_line_feed text + 1) (sym feed)
-          (omega (arith, more, whole, counted))
-      | inr none ↦
-          length-lines_of-one (first ∷ others) byte none ∙ ap (λ n. n + 1) (sym (count_by-none (first ∷ others) none))
-    ]
+length-lines_of-up_to : (text : List ℕ) (byte : ℕ) → length (lines_of (text ++ byte ∷ [])) ≡ count_by is_line_feed text + 1
+length-lines_of-up_to text byte =
+    by_cuts is_line_feed (λ before. length (lines_of (before ++ byte ∷ [])) ≡ count_by is_line_feed before + 1)
+    (length-lines_of-one [] byte (All-nil (λ b. is_line_feed b ≡ false)))
+    (λ line some none. length-lines_of-one line byte none ∙ ap (λ n. n + 1) (sym (count_by-none line none)))
+    (λ bytes line rest cut more.
+    let whole : length (lines_of ((line ++ line_feed ∷ rest) ++ byte ∷ [])) ≡ suc (length (lines_of (rest ++ byte ∷ []))) =
+    ap (λ all. length (lines_of all)) (append_assoc line (line_feed ∷ rest) (byte ∷ []))
+    ∙ ap length (lines_of-ended line (rest ++ byte ∷ []) cut.none_before) in
+    let counted = count_by-ended line rest cut.none_before in
+    subst (λ before. length (lines_of (before ++ byte ∷ [])) ≡ count_by is_line_feed before + 1) (sym (cut_feed cut))
+    (omega (arith, more, whole, counted)))
+    text
 
 -- the line that holds a byte is told by the LFs before the byte
 pub CountsFeeds-text : (text : List ℕ) → CountsFeeds text
@@ -75,4 +64,4 @@ CountsFeeds-text text = λ place some within.
     let up_to : take place text ≡ before ++ get_or text (place - 1) 0 ∷ [] =
     ap (λ n. take n text) at ∙ take_more text (place - 1) 0 (omega arith) in
     ap (λ part. length (lines_of part)) up_to
-    ∙ length-lines_of-within (length before) before (get_or text (place - 1) 0) (omega arith)
+    ∙ length-lines_of-up_to before (get_or text (place - 1) 0)

@@ -1,11 +1,11 @@
 -- The lines of a text that is cut at its first LF, and that the lines are those of the grammar.
-use Rattle.std.proofs.Common.{◌≡◌, ℕ, ◌<◌, ◌≤◌, zero, suc, List, [], ◌∷◌, ◌++◌, map, length, inl, inr, refl, sym, ◌∙◌, ap, subst, arith, eqb-true, length-append}
+use Rattle.std.proofs.Common.{◌≡◌, ℕ, ◌<◌, ◌≤◌, List, [], ◌∷◌, ◌++◌, map, length, refl, sym, ◌∙◌, ap, subst, arith, eqb-true, length-append}
 use Rattle.std.specs.List.{slice_split}
 use Rattle.std.proofs.lemmas.List.Splits.{slice_split_none, slice_split_at, length-slice_split}
 use Rattle.line_words.specs.Bytes.{line_feed, is_line_feed}
 use Rattle.line_words.specs.Lines.{less_empty_last, without_return, lines_of, HasNoFeed, IsText}
 use Rattle.line_words.specs.Lines.IsText.{empty, last, ended}
-use Rattle.line_words.proofs.CutLemmas.{IsCut, cut_or_whole, length-after}
+use Rattle.line_words.proofs.CutLemmas.{IsCut, by_cuts}
 
 -- a part with others after it stays
 less_empty_last-more : (part : List ℕ) (parts : List (List ℕ)) → 0 < length parts
@@ -35,12 +35,14 @@ lines_of-last line some none =
     ap (λ ps. map without_return (less_empty_last ps)) (slice_split_none is_line_feed line none)
     ∙ ap (map without_return) (less_empty_last-last line some)
 
+-- a text is cut at an LF
+pub cut_feed : {text line rest : List ℕ} → IsCut is_line_feed text line rest → text ≡ line ++ line_feed ∷ rest
+cut_feed {text} {line} {rest} cut = cut.whole ∙ ap (λ stop. line ++ stop ∷ rest) (eqb-true cut.stop line_feed cut.passes)
+
 -- the same at a cut, as the program makes it
 pub lines_of-cut : {text line rest : List ℕ} → IsCut is_line_feed text line rest
     → lines_of text ≡ without_return line ∷ lines_of rest
-lines_of-cut {text} {line} {rest} cut =
-    ap lines_of (cut.whole ∙ ap (λ stop. line ++ stop ∷ rest) (eqb-true cut.stop line_feed cut.passes))
-    ∙ lines_of-ended line rest cut.none_before
+lines_of-cut {text} {line} {rest} cut = ap lines_of (cut_feed cut) ∙ lines_of-ended line rest cut.none_before
 
 -- what the grammar cuts a text into are its lines
 pub lines_of-IsText : {text : List ℕ} {lines : List (List ℕ)} → IsText text lines → lines ≡ lines_of text
@@ -56,29 +58,16 @@ length-IsText (last line some none) = some
 length-IsText (ended line rest lines none more) =
     omega (arith, length-IsText more, length-append line (line_feed ∷ rest))
 
--- the lines of a text of at most so many bytes are by the grammar
-IsText-lines_of-within : (most : ℕ) (text : List ℕ) → length text ≤ most → IsText text (lines_of text)
-IsText-lines_of-within most [] h = empty
-IsText-lines_of-within zero (byte ∷ bytes) h = absurd (omega arith)
-IsText-lines_of-within (suc most) (byte ∷ bytes) h =
-    elim (cut_or_whole is_line_feed (byte ∷ bytes)) [
-      | inl parts ↦
-          let line = parts.0 in
-          let rest = parts.1 in
-          let cut = parts.2 in
-          let feed : byte ∷ bytes ≡ line ++ line_feed ∷ rest =
-          cut.whole ∙ ap (λ stop. line ++ stop ∷ rest) (eqb-true cut.stop line_feed cut.passes) in
-          let shorter : length rest ≤ most = omega (arith, length-after cut) in
-          let whole : IsText (line ++ line_feed ∷ rest) (without_return line ∷ lines_of rest) =
-          ended line rest (lines_of rest) cut.none_before (IsText-lines_of-within most rest shorter) in
-          subst (λ text. IsText text (lines_of text)) (sym feed)
-          (subst (IsText (line ++ line_feed ∷ rest)) (sym (lines_of-ended line rest cut.none_before)) whole)
-      | inr none ↦ subst (IsText (byte ∷ bytes)) (sym (lines_of-last (byte ∷ bytes) (omega arith) none)) (last (byte ∷ bytes) (omega arith) none)
-    ]
-
 -- the lines of a text are by the grammar
 pub IsText-lines_of : (text : List ℕ) → IsText text (lines_of text)
-IsText-lines_of text = IsText-lines_of-within (length text) text (omega arith)
+IsText-lines_of text =
+    by_cuts is_line_feed (λ bytes. IsText bytes (lines_of bytes)) empty
+    (λ line some none. subst (IsText line) (sym (lines_of-last line some none)) (last line some none))
+    (λ bytes line rest cut more.
+    subst (λ whole. IsText whole (lines_of whole)) (sym (cut_feed cut))
+    (subst (IsText (line ++ line_feed ∷ rest)) (sym (lines_of-ended line rest cut.none_before))
+    (ended line rest (lines_of rest) cut.none_before more)))
+    text
 
 -- a text has no more lines than bytes
 pub length-lines_of : (text : List ℕ) → length (lines_of text) ≤ length text

@@ -1,5 +1,5 @@
 -- The words of a line that is cut at its first blank, and that the words are those of the grammar.
-use Rattle.std.proofs.Common.{◌≡◌, ℕ, zero, suc, ◌<◌, ◌≤◌, Bool, true, false, not, List, [], ◌∷◌, ◌++◌, ◌-◌, length, take, drop, position, filter, Some, None, IfSome, slice_get, All, inl, inr, refl, sym, ◌∙◌, ap, subst, arith, one-add, drop-cons, get_or, length-append}
+use Rattle.std.proofs.Common.{◌≡◌, ℕ, suc, ◌<◌, ◌≤◌, Bool, true, false, not, List, [], ◌∷◌, ◌++◌, ◌-◌, length, take, drop, position, filter, Some, None, IfSome, slice_get, All, inl, inr, refl, sym, ◌∙◌, ap, subst, arith, one-add, drop-cons, get_or, length-append}
 use Rattle.std.specs.List.{position_or_len}
 use Rattle.std.proofs.lemmas.Bool.{cases_Bool, cond-true, cond-false, not-true, not-false}
 use Rattle.std.proofs.lemmas.List.Elements.{All-head, All-tail}
@@ -9,7 +9,7 @@ use Rattle.std.proofs.lemmas.List.Splits.{slice_split_none, slice_split_at, slic
 use Rattle.line_words.specs.Bytes.{is_blank}
 use Rattle.line_words.specs.Words.{is_word, words_of, IsWord, IsLine}
 use Rattle.line_words.specs.Words.IsLine.{empty, blank, last, ended}
-use Rattle.line_words.proofs.CutLemmas.{IsCut, cut_or_whole, length-after, none_passes, rest_from}
+use Rattle.line_words.proofs.CutLemmas.{IsCut, by_cuts, none_passes, rest_from}
 
 -- a part with a byte is a word
 is_word-some : (part : List ℕ) → 0 < length part → is_word part ≡ true
@@ -115,37 +115,26 @@ length-IsLine (last word is) = is.has_byte
 length-IsLine (ended word byte rest words is stops more) =
     omega (arith, length-IsLine more, length-append word (byte ∷ rest))
 
--- the words of a line of at most so many bytes are by the grammar
-IsLine-words_of-within : (most : ℕ) (line : List ℕ) → length line ≤ most → IsLine line (words_of line)
-IsLine-words_of-within most [] h = empty
-IsLine-words_of-within zero (byte ∷ bytes) h = absurd (omega arith)
-IsLine-words_of-within (suc most) (byte ∷ bytes) h =
-    elim (cases_Bool (is_blank byte)) [
-      | inl stops ↦
-          subst (IsLine (byte ∷ bytes)) (sym (words_of-blank byte bytes stops))
-          (blank byte bytes (words_of bytes) stops (IsLine-words_of-within most bytes (omega arith)))
-      | inr solid ↦
-          let starts : StartsWord (byte ∷ bytes) = record { some = omega arith; solid = solid } in
-          elim (cut_or_whole is_blank (byte ∷ bytes)) [
-            | inl parts ↦
-                let word = parts.0 in
-                let rest = parts.1 in
-                let cut = parts.2 in
-                let is : IsWord word = IsWord-cut (byte ∷ bytes) word rest starts cut in
-                let shorter : length rest ≤ most = omega (arith, length-after cut) in
-                let whole : IsLine (word ++ cut.stop ∷ rest) (word ∷ words_of rest) =
-                ended word cut.stop rest (words_of rest) is cut.passes (IsLine-words_of-within most rest shorter) in
-                subst (λ line. IsLine line (words_of line)) (sym cut.whole)
-                (subst (IsLine (word ++ cut.stop ∷ rest)) (sym (words_of-ended word cut.stop rest is cut.passes)) whole)
-            | inr none ↦
-                let is : IsWord (byte ∷ bytes) = record { has_byte = omega arith; no_blank = none } in
-                subst (IsLine (byte ∷ bytes)) (sym (words_of-last (byte ∷ bytes) is)) (last (byte ∷ bytes) is)
-          ]
-    ]
+-- those of a line that is cut at a blank are, where those after the blank are
+IsLine-cut : (line word rest : List ℕ) → IsCut is_blank line word rest → IsLine rest (words_of rest) → IsLine line (words_of line)
+IsLine-cut line [] rest cut more =
+    subst (λ bytes. IsLine bytes (words_of bytes)) (sym cut.whole)
+    (subst (IsLine (cut.stop ∷ rest)) (sym (words_of-blank cut.stop rest cut.passes)) (blank cut.stop rest (words_of rest) cut.passes more))
+IsLine-cut line (byte ∷ part) rest cut more =
+    let word : List ℕ = byte ∷ part in
+    let is : IsWord word = record { has_byte = omega arith; no_blank = cut.none_before } in
+    subst (λ bytes. IsLine bytes (words_of bytes)) (sym cut.whole)
+    (subst (IsLine (word ++ cut.stop ∷ rest)) (sym (words_of-ended word cut.stop rest is cut.passes))
+    (ended word cut.stop rest (words_of rest) is cut.passes more))
 
 -- the words of a line are by the grammar
 pub IsLine-words_of : (line : List ℕ) → IsLine line (words_of line)
-IsLine-words_of line = IsLine-words_of-within (length line) line (omega arith)
+IsLine-words_of line =
+    by_cuts is_blank (λ bytes. IsLine bytes (words_of bytes)) empty
+    (λ word some none.
+    let is : IsWord word = record { has_byte = some; no_blank = none } in
+    subst (IsLine word) (sym (words_of-last word is)) (last word is))
+    IsLine-cut line
 
 -- a line has no more words than bytes
 pub length-words_of : (line : List ℕ) → length (words_of line) ≤ length line

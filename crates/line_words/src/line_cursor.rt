@@ -49,6 +49,16 @@ impl<'a> Lines<'a> {
             number: 1,
         }
     }
+
+    /// The same lines, to be looked at ahead.
+    pub fn ahead(&self) -> Lines<'a>
+        ensures { result ≡ self.now }
+    {
+        Lines {
+            rest: self.rest,
+            number: self.number,
+        }
+    }
 }
 
 impl<'a> Iterator for Lines<'a> {
