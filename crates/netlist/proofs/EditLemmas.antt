@@ -18,7 +18,7 @@ use Rattle.netlist.specs.Names.{first_name, name_at, node_of}
 use Rattle.netlist.specs.Circuits.{CircuitData, IsCircuit, HasVisibleNames, called}
 use Rattle.netlist.specs.Edits.{is_strength, node_named, strength_fault, switch_between, switch_numbered, with_changed, with_kind, with_new_node, with_node, with_nodes, with_place, with_strength, with_transistor, with_wires, without_switch}
 use Rattle.netlist.proofs.NameLemmas.{first_name-added, first_name-append}
-use Rattle.netlist.proofs.KeptLemmas.{IsCircuit-with_nodes, node_named-within, switch_level}
+use Rattle.netlist.proofs.KeptLemmas.{IsCircuit-with_nodes, IsCircuit-with_places, node_named-within, switch_level}
 
 -- ---- new nodes
 
@@ -136,19 +136,9 @@ switch_numbered-fits c number is = by (nat_lt 0 number) (place_at c.graph.places
 -- a circuit with something that fits it at a transistor's place
 IsCircuit-with_place : (c : CircuitData) (number : ℕ) (place : Option Switch) → IsCircuit c → FitsPlace (nodes c.graph) place →
     IsCircuit (with_place c number place)
-IsCircuit-with_place c number place is fits = record {
-  wired = record {
-    levels = is.wired.levels;
-    places = All-set (FitsPlace (nodes c.graph)) c.graph.places (number - 1) place fits is.wired.places;
-  };
-  railed = is.railed;
-  gnd = is.gnd;
-  vdd = is.vdd;
-  within = is.within;
-  found = is.found;
-  once = is.once;
-  names = is.names;
-}
+IsCircuit-with_place c number place is fits =
+    IsCircuit-with_places c (slice_set c.graph.places (number - 1) place) is
+    (All-set (FitsPlace (nodes c.graph)) c.graph.places (number - 1) place fits is.wired.places)
 
 -- a circuit with a transistor's switch changed to one that fits it
 IsCircuit-with_changed : (c : CircuitData) (number : ℕ) (change : Switch → Switch) → IsCircuit c →

@@ -210,13 +210,11 @@ pub IsCircuit-with_nodes : (names : List (List ℕ)) (c : CircuitData) → IsCir
 IsCircuit-with_nodes [] c is = is
 IsCircuit-with_nodes (name ∷ names) c is = IsCircuit-with_nodes names (with_node c name) (IsCircuit-with_node c name is)
 
--- a circuit with one more switch, which fits it
-IsCircuit-with_switch : (c : CircuitData) (switch : Switch) → IsCircuit c → Fits (nodes c.graph) switch → IsCircuit (with_switch c switch)
-IsCircuit-with_switch c switch is fits = record {
-  wired = record {
-    levels = is.wired.levels;
-    places = All-push (FitsPlace (nodes c.graph)) c.graph.places (Some switch) is.wired.places fits;
-  };
+-- a circuit with other places, whose switches fit it
+pub IsCircuit-with_places : (c : CircuitData) (places : List (Option Switch)) → IsCircuit c → All (FitsPlace (nodes c.graph)) places →
+    IsCircuit (record c { graph = record c.graph { places = places } })
+IsCircuit-with_places c places is fit = record {
+  wired = record { levels = is.wired.levels; places = fit };
   railed = is.railed;
   gnd = is.gnd;
   vdd = is.vdd;
@@ -225,6 +223,12 @@ IsCircuit-with_switch c switch is fits = record {
   once = is.once;
   names = is.names;
 }
+
+-- a circuit with one more switch, which fits it
+IsCircuit-with_switch : (c : CircuitData) (switch : Switch) → IsCircuit c → Fits (nodes c.graph) switch → IsCircuit (with_switch c switch)
+IsCircuit-with_switch c switch is fits =
+    IsCircuit-with_places c (c.graph.places ++ Some switch ∷ []) is
+    (All-push (FitsPlace (nodes c.graph)) c.graph.places (Some switch) is.wired.places fits)
 
 -- the strength of a transistor that isn't refused is accepted
 accepted_strength : (accepted : Bool) (limits : Option MakingFault) → (if accepted then limits else Some BadStrength) ≡ None → accepted ≡ true
