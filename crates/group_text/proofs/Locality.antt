@@ -36,6 +36,14 @@ pub record IsCopied (g : GraphData) (group : Group) (state : List Tern) (here th
   pub goes : Goes (local_graph g group) (local_state (local_nodes g group) state) (local_stand (local_nodes g group) here) hops
       (local_stand (local_nodes g group) there)
 
+-- the local node that stands for a root reaches the k-th member over the local graph, with this strength
+pub record IsReached (g : GraphData) (group : Group) (state : List Tern) (root k strength : ℕ) : Type 0 where
+  pub local : ℕ
+  pub inside : local < length (local_nodes g group)
+  pub stands : slice_index (local_nodes g group) local ≡ root
+  pub reaches : Reaches (local_graph g group) (local_state (local_nodes g group) state) local k
+  pub strong : reaches.there.strength ≡ strength
+
 -- a fact that holds exactly where a second one does, which holds exactly where a third one does
 iff_trans : {P Q R : Type 0} → P ↔ Q → Q ↔ R → P ↔ R
 iff_trans one two = (λ p. two.0 (one.0 p), λ r. one.1 (two.1 r))
@@ -45,18 +53,15 @@ iff_sym : {P Q : Type 0} → P ↔ Q → Q ↔ P
 iff_sym both = (both.1, both.0)
 
 module _ (g : GraphData) (wired : IsWired g) (group : Group) (is_group : IsGroup g group) (state : List Tern) where
-  -- the local nodes, the local graph, and the states of its nodes
+  -- the local nodes, and the states of the local graph's nodes
   abbrev locals : List ℕ
   locals = local_nodes g group
-
-  abbrev text_graph : GraphData
-  text_graph = local_graph g group
 
   abbrev local_states : List Tern
   local_states = local_state (local_nodes g group) state
 
   -- an unblocked path over the local graph that leads to a member starts at a node with the level of what it stands for
-  pub alike_start : (hops : List ℕ) (here there : Stand) → Goes text_graph local_states here hops there →
+  pub alike_start : (hops : List ℕ) (here there : Stand) → Goes (local_graph g group) local_states here hops there →
       there.node < length group.members →
       IsAlike g group here.node
   alike_start [] here there goes first =
@@ -89,31 +94,31 @@ module _ (g : GraphData) (wired : IsWired g) (group : Group) (is_group : IsGroup
       rw stands at (alike_storage g wired group is_group (local_of locals node) alike (rw stands storage))
 
   module _ (best local_best : ℕ → ℕ) (is_best : IsBest g state best)
-      (is_local_best : IsBest text_graph local_states local_best) where
+      (is_local_best : IsBest (local_graph g group) local_states local_best) where
     -- what nothing beats in the local graph, nothing beats in the whole one
-    unbeaten_whole : (local strength : ℕ) → IsAlike g group local → (¬ IsBeaten text_graph local_states local strength) →
+    unbeaten_whole : (local strength : ℕ) → IsAlike g group local → (¬ IsBeaten (local_graph g group) local_states local strength) →
         ¬ IsBeaten g state (slice_index locals local) strength
     unbeaten_whole local strength alike unbeaten =
-        let inside : local < nodes text_graph = rw (nodes_local g group is_group) alike.inside in
-        let most = best-from_unbeaten text_graph local_states local_best is_local_best local strength inside unbeaten in
+        let inside : local < nodes (local_graph g group) = rw (nodes_local g group is_group) alike.inside in
+        let most = best-from_unbeaten (local_graph g group) local_states local_best is_local_best local strength inside unbeaten in
         let least = local_best-least g wired group is_group state best local_best is_best is_local_best local alike in
         unbeaten-from_best g state best is_best (slice_index locals local) strength (omega (arith, most, least))
 
     -- and the other way round
     unbeaten_local : (node strength : ℕ) → Contains locals node → IsAlike g group (local_of locals node) →
         (¬ IsBeaten g state node strength) →
-        ¬ IsBeaten text_graph local_states (local_of locals node) strength
+        ¬ IsBeaten (local_graph g group) local_states (local_of locals node) strength
     unbeaten_local node strength near alike unbeaten =
         let stands : slice_index locals (local_of locals node) ≡ node = local_of-stands locals node near in
         let in_range : node < nodes g = rw stands at alike.in_range in
         let most = best-from_unbeaten g state best is_best node strength in_range unbeaten in
         let least = local_best-most g wired group is_group state best local_best is_best is_local_best
         (local_of locals node) alike in
-        unbeaten-from_best text_graph local_states local_best is_local_best (local_of locals node) strength
+        unbeaten-from_best (local_graph g group) local_states local_best is_local_best (local_of locals node) strength
         (omega (arith, most, least, ap best stands))
 
     -- so an unblocked path over the local graph is one over switches of the group
-    pub goes_whole : (hops : List ℕ) (here there : Stand) → Goes text_graph local_states here hops there →
+    pub goes_whole : (hops : List ℕ) (here there : Stand) → Goes (local_graph g group) local_states here hops there →
         IsAlike g group here.node →
         Goes g state (whole_stand locals here) (map (slice_index group.switches) hops) (whole_stand locals there)
     goes_whole [] here there goes alike = (unbeaten_whole here.node here.strength alike goes.0, ap (whole_stand locals) goes.1)
@@ -158,41 +163,46 @@ module _ (g : GraphData) (wired : IsWired g) (group : Group) (is_group : IsGroup
         }
 
     -- what reaches a member in the local graph stands for what reaches it in the whole one
-    reaches_whole : (root k : ℕ) → k < length group.members → Reaches text_graph local_states root k →
+    reaches_whole : (root k : ℕ) → k < length group.members → Reaches (local_graph g group) local_states root k →
         Reaches g state (slice_index locals root) (slice_index group.members k)
     reaches_whole root k first reached =
-        let goes = Goes-from_Reaches text_graph local_states root k reached in
-        let alike = alike_start reached.hops (at_root text_graph root) reached.there goes (rw reached.ends first) in
-        let whole = goes_whole reached.hops (at_root text_graph root) reached.there goes alike in
+        let goes = Goes-from_Reaches (local_graph g group) local_states root k reached in
+        let alike = alike_start reached.hops (at_root (local_graph g group) root) reached.there goes (rw reached.ends first) in
+        let whole = goes_whole reached.hops (at_root (local_graph g group) root) reached.there goes alike in
         let ends = ap (slice_index locals) reached.ends ∙ member_at g group is_group k first in
         Reaches-from_Goes g state (slice_index locals root) (slice_index group.members k)
         (map (slice_index group.switches) reached.hops)
         (whole_stand locals reached.there) alike.in_range (rw (whole_root g group root alike) at whole) ends
 
-    -- and what reaches a member in the whole graph has a local node that reaches it in the local one
-    reaches_local : (root k : ℕ) → k < length group.members → Reaches g state root (slice_index group.members k) →
-        (local : ℕ) × Reaches text_graph local_states local k × (local < length locals) × (slice_index locals local ≡ root)
+    -- and what reaches a member in the whole graph has a local node that reaches it in the local one, as strongly
+    pub reaches_local : (root k : ℕ) → k < length group.members → (reached : Reaches g state root (slice_index group.members k)) →
+        IsReached g group state root k reached.there.strength
     reaches_local root k first reached =
         let member : Contains group.members reached.there.node = rw reached.ends (Contains-get_or group.members k 0 first) in
         let goes = Goes-from_Reaches g state root (slice_index group.members k) reached in
         let copied = goes_local reached.hops (at_root g root) reached.there goes member in
         let local = local_of locals root in
         let stands : slice_index locals local ≡ root = local_of-stands locals root copied.near in
-        let start : local_stand locals (at_root g root) ≡ at_root text_graph local =
-        same_stand (local_stand locals (at_root g root)) (at_root text_graph local) refl
+        let start : local_stand locals (at_root g root) ≡ at_root (local_graph g group) local =
+        same_stand (local_stand locals (at_root g root)) (at_root (local_graph g group) local) refl
         (sym (copied.alike.level ∙ ap (level_of g) stands)) refl in
         let inside : k < length locals = omega (arith, members_within g group is_group) in
         let ends : local_of locals reached.there.node ≡ k =
         ap (local_of locals) (reached.ends ∙ sym (member_at g group is_group k first)) ∙ local_of-at locals
         (locals_apart g group) k inside in
-        let in_range : local < nodes text_graph = rw (nodes_local g group is_group) copied.alike.inside in
-        let reaches = Reaches-from_Goes text_graph local_states local k copied.hops (local_stand locals reached.there) in_range
-        (rw start at copied.goes) ends in
-        (local, reaches, copied.alike.inside, stands)
+        let in_range : local < nodes (local_graph g group) = rw (nodes_local g group is_group) copied.alike.inside in
+        record {
+          local = local;
+          inside = copied.alike.inside;
+          stands = stands;
+          reaches = Reaches-from_Goes (local_graph g group) local_states local k copied.hops (local_stand locals reached.there) in_range
+              (rw start at copied.goes) ends;
+          strong = refl {a = reached.there.strength};
+        }
 
     -- so a member responds in the one as in the other, under each rail
     responds : (rail : Tern → Bool) (k : ℕ) → k < length group.members →
-        Responds rail text_graph local_states k ↔ Responds rail g state (slice_index group.members k)
+        Responds rail (local_graph g group) local_states k ↔ Responds rail g state (slice_index group.members k)
     responds rail k first = (
       λ local.
           let inside : local.0 < length locals = rw (nodes_local g group is_group) at local.1.path.in_range in
@@ -200,8 +210,8 @@ module _ (g : GraphData) (wired : IsWired g) (group : Group) (is_group : IsGroup
           (slice_index locals local.0, reaches_whole local.0 k first local.1, sym same ∙ local.2),
       λ whole.
           let reached = reaches_local whole.0 k first whole.1 in
-          let same = ap rail (state_local locals state reached.0 reached.2 ∙ ap (state_at state) reached.3) in
-          (reached.0, reached.1, same ∙ whole.2),
+          let same = ap rail (state_local locals state reached.local reached.inside ∙ ap (state_at state) reached.stands) in
+          (reached.local, reached.reaches, same ∙ whole.2),
     )
 
 -- the steady state of a member in its group's local graph is its steady state in the whole graph

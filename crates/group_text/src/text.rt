@@ -37,6 +37,16 @@ impl From<NoMemory> for TextFault {
     }
 }
 
+impl From<AllocError> for TextFault {
+    ghost use Rattle.group_text.specs.declared.text.TextFault.TheVariants.{NoMemory};
+
+    ghost from_gives = { λ _ fault. fault ≡ NoMemory };
+
+    fn from(_want: AllocError) -> TextFault {
+        TextFault::NoMemory
+    }
+}
+
 /// The text of a group: its local graph, how many of its nodes are members, and which are a rail.
 ///
 /// Two texts are equal exactly where all three are, and equal texts have equal hashes. So an
@@ -131,22 +141,6 @@ pub fn text_of(
             count: switches.len() as u64,
         });
     }
-    Ok(make_text(alloc, graph, members, switches)?)
-}
-
-// The text of a group of any size, and the node that each local node stands for.
-fn make_text(
-    alloc: Global,
-    graph: &Graph,
-    members: &[usize],
-    switches: &[usize],
-) -> Result<(GroupText, Vec<usize>), NoMemory>
-    requires { IsGroup graph.now (record { members = members.now; switches = switches.now }) }
-    ensures text { IfOk result (λ made.
-        made.0 ≡ text_of_group graph.now (record { members = members.now; switches = switches.now })) }
-    ensures locals { IfOk result (λ made.
-        made.1.items ≡ local_nodes graph.now (record { members = members.now; switches = switches.now })) }
-{
     graphs_are_wired(graph);
     let locals = collect_nodes(alloc, graph, members, switches)?;
     let text = GroupText {

@@ -3,7 +3,7 @@ use Rattle.std.proofs.Common.{refl}
 use Rattle.group_text.proofs.LocalNodes.{members_within}
 use Rattle.group_text.proofs.GroupLemmas.{members_inside, switches_among, switches_inside}
 use Rattle.group_text.proofs.WellFormedTexts.{well_formed}
-use Rattle.group_text.proofs.text.make_text.Goals as goal
+use Rattle.group_text.proofs.text.text_of.Goals as goal
 
 pub collect_nodes-requires : goal.collect_nodes-requires
 collect_nodes-requires c = switches_inside c.args.graph.now
