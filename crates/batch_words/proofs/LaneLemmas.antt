@@ -18,34 +18,28 @@ bit_small word lane = omega arith
 
 -- ---- tests of bits
 
-min-test : (x y : ℕ) → x < 2 → y < 2 → (min x y == 1) ≡ ((x == 1) && (y == 1))
-min-test zero zero one two = refl
-min-test zero (suc zero) one two = refl
-min-test (suc zero) zero one two = refl
-min-test (suc zero) (suc zero) one two = refl
-min-test (suc (suc x)) y one two = absurd (omega arith)
-min-test x (suc (suc y)) one two = absurd (omega arith)
-
-max-test : (x y : ℕ) → x < 2 → y < 2 → (max x y == 1) ≡ ((x == 1) || (y == 1))
-max-test zero zero one two = refl
-max-test zero (suc zero) one two = refl
-max-test (suc zero) zero one two = refl
-max-test (suc zero) (suc zero) one two = refl
-max-test (suc (suc x)) y one two = absurd (omega arith)
-max-test x (suc (suc y)) one two = absurd (omega arith)
-
 -- true where the first is turned by the second
 abbrev pub turn : Bool → Bool → Bool
 turn a true = not a
 turn a false = a
 
-xor-test : (x y : ℕ) → x < 2 → y < 2 → ((x + y) % 2 == 1) ≡ turn (x == 1) (y == 1)
-xor-test zero zero one two = refl
-xor-test zero (suc zero) one two = refl
-xor-test (suc zero) zero one two = refl
-xor-test (suc zero) (suc zero) one two = refl
-xor-test (suc (suc x)) y one two = absurd (omega arith)
-xor-test x (suc (suc y)) one two = absurd (omega arith)
+-- what two bits give together
+record AreBits (x y : ℕ) : Type 0 where
+  both : (min x y == 1) ≡ ((x == 1) && (y == 1))
+  either : (max x y == 1) ≡ ((x == 1) || (y == 1))
+  one : ((x + y) % 2 == 1) ≡ turn (x == 1) (y == 1)
+
+bits : (x y : ℕ) → x < 2 → y < 2 → AreBits x y
+bits zero zero first second = record { both = refl; either = refl; one = refl }
+bits zero (suc zero) first second = record { both = refl; either = refl; one = refl }
+bits (suc zero) zero first second = record { both = refl; either = refl; one = refl }
+bits (suc zero) (suc zero) first second = record { both = refl; either = refl; one = refl }
+bits (suc (suc x)) y first second = absurd (omega arith)
+bits x (suc (suc y)) first second = absurd (omega arith)
+
+-- and those of two words
+bits_in : (lane a b : ℕ) → AreBits (bit_at a lane) (bit_at b lane)
+bits_in lane a b = bits (bit_at a lane) (bit_at b lane) (bit_small a lane) (bit_small b lane)
 
 not-test : (x : ℕ) → x < 2 → (1 - x == 1) ≡ not (x == 1)
 not-test zero one = refl
@@ -56,15 +50,15 @@ not-test (suc (suc x)) one = absurd (omega arith)
 
 pub lane-and : (lane a b : ℕ) → is_in_lane lane (bit_and a b) ≡ (is_in_lane lane a && is_in_lane lane b)
 unfolding is_in_lane
-lane-and lane a b = ap (λ x. x == 1) (bit_at_and a b lane) ∙ min-test (bit_at a lane) (bit_at b lane) (bit_small a lane) (bit_small b lane)
+lane-and lane a b = ap (λ x. x == 1) (bit_at_and a b lane) ∙ (bits_in lane a b).both
 
 pub lane-or : (lane a b : ℕ) → is_in_lane lane (bit_or a b) ≡ (is_in_lane lane a || is_in_lane lane b)
 unfolding is_in_lane
-lane-or lane a b = ap (λ x. x == 1) (bit_at_or a b lane) ∙ max-test (bit_at a lane) (bit_at b lane) (bit_small a lane) (bit_small b lane)
+lane-or lane a b = ap (λ x. x == 1) (bit_at_or a b lane) ∙ (bits_in lane a b).either
 
 pub lane-xor : (lane a b : ℕ) → is_in_lane lane (bit_xor a b) ≡ turn (is_in_lane lane a) (is_in_lane lane b)
 unfolding is_in_lane
-lane-xor lane a b = ap (λ x. x == 1) (bit_at_xor a b lane) ∙ xor-test (bit_at a lane) (bit_at b lane) (bit_small a lane) (bit_small b lane)
+lane-xor lane a b = ap (λ x. x == 1) (bit_at_xor a b lane) ∙ (bits_in lane a b).one
 
 pub lane-none : (lane : ℕ) → is_in_lane lane 0 ≡ false
 unfolding is_in_lane

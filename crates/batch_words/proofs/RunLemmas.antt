@@ -1,6 +1,6 @@
 -- A run in a column: the array's bits of the column are the array of the machine's run on the column's states.
 use Rattle.std.proofs.Common.{◌≡◌, ℕ, zero, suc, ◌+◌, ◌*◌, ◌<◌, ◌≤◌, Bool, true, false, List, [], ◌∷◌, ◌++◌, length, map, take, get_or, set, refl, sym, ap, ap₂, ◌∙◌, arith}
-use Rattle.std.proofs.lemmas.List.{get_or-map, get_or-take, map_more, take_more_set, length-map}
+use Rattle.std.proofs.lemmas.List.{get_or-map, get_or-take, map_more, take_more_set, length-map, length-take-le, take_all}
 use Rattle.ternary.specs.declared.tern.Tern.{Tern}
 use Rattle.ternary.specs.declared.tern.Tern.TheVariants.{Zero}
 use Rattle.ternary.specs.Tern.{may_one, may_zero}
@@ -11,7 +11,7 @@ use Rattle.straight_code.specs.Code.{CodeData, IsCode, settled, results, output_
 use Rattle.straight_code.specs.Flat.{IsFlat, flat_values, pair_value, step_value, kind_value, step_of}
 use Rattle.straight_code.specs.declared.flat.FlatCode.{FlatCode}
 use Rattle.straight_code.proofs.FlatLemmas.{constants_written, rails_written}
-use Rattle.straight_code.proofs.RunMappedLemmas.{no_step, no_output, IsWithin, reads_within, result_written, hi_within, lo_within, pair_state}
+use Rattle.straight_code.proofs.RunMappedLemmas.{no_step, no_output, IsWithin, IsPairWithin, reads_within, result_written, pair_within, pair_state}
 use Rattle.batch_words.specs.Lanes.{is_in_lane, lane_of, HasLane}
 use Rattle.batch_words.proofs.LaneLemmas.{lane-all, lane-none, lane_of-at, lane_of-set, lane_of-take, length-lane_of}
 
@@ -86,14 +86,23 @@ module _ (code : CodeData) (steps : List FlatStep) (flat : steps ≡ map (step_o
       let within = reads_within some.0 code.instructions steps (rw many flat) (rw many is_code.reads) k inside no_step in
       record { a = omega (arith, within.a, many); b = omega (arith, within.b, many) }
 
+  -- the array before its result has these places
+  pub front_read : (first k : ℕ) (values : List ℕ) → first ≡ code.inputs → k < length steps → 2 + 2 * code.inputs + length code.instructions ≤ length values
+      → IsWithin (get_or steps k no_step) (length (take (2 + 2 * first + k) values))
+  front_read first k values counted stands room =
+      let inside : k < length code.instructions = omega (arith, stands, length-steps) in
+      let within = step_reads k inside in
+      rw (length-take-le (2 + 2 * first + k) values (omega (arith, counted, inside, room))) (record { a = omega (arith, within.a, counted); b = omega (arith, within.b, counted) })
+
   -- once its result is written, the array has the results up to it in a column
-  pub step_written : (k : ℕ) → k < length code.instructions → (lane : ℕ) (input : List Tern) (values : List ℕ) (word : ℕ) → length input ≡ code.inputs →
-      2 + 2 * code.inputs + k < length values →
+  pub step_written : (k : ℕ) → k < length steps → (lane : ℕ) (input : List Tern) (values : List ℕ) (word : ℕ) → length input ≡ code.inputs →
+      2 + 2 * code.inputs + length code.instructions ≤ length values →
       is_in_lane lane word ≡ step_value (lane_of lane (take (2 + 2 * code.inputs + k) values)) (get_or steps k no_step) →
       take (2 + 2 * code.inputs + k) (lane_of lane values) ≡ flat_values input (results input (take k code.instructions)) →
       take (2 + 2 * code.inputs + (k + 1)) (lane_of lane (set values (2 + 2 * code.inputs + k) word))
       ≡ flat_values input (results input (take (k + 1) code.instructions))
-  step_written k inside lane input values word many room is so_far =
+  step_written k stands lane input values word many room is so_far =
+      let inside : k < length code.instructions = omega (arith, stands, length-steps) in
       let place = 2 + 2 * length input + k in
       let same : 2 + 2 * code.inputs + k ≡ place = omega (arith, many) in
       let next : 2 + 2 * code.inputs + (k + 1) ≡ 2 + 2 * length input + (k + 1) = omega (arith, many) in
@@ -106,26 +115,26 @@ module _ (code : CodeData) (steps : List FlatStep) (flat : steps ≡ map (step_o
       ap (take (2 + 2 * code.inputs + (k + 1))) (lane_of-set lane values (2 + 2 * code.inputs + k) word)
       ∙ ap₂ (λ count at. take count (set (lane_of lane values) at (is_in_lane lane word))) next same
       ∙ result_written input code.instructions steps (rw many flat) (rw many is_code.reads) k inside no_step
-      (lane_of lane values) (is_in_lane lane word) (omega (arith, room, many, length-lane_of lane values)) before own
+      (lane_of lane values) (is_in_lane lane word) (omega (arith, room, inside, many, length-lane_of lane values)) before own
+
+  -- after the last one the array has all results in a column
+  pub all_written : (count : ℕ) (lane : ℕ) (input : List Tern) (values : List ℕ) → count ≡ length steps →
+      take (2 + 2 * code.inputs + count) (lane_of lane values) ≡ flat_values input (results input (take count code.instructions)) →
+      take (2 + 2 * code.inputs + length code.instructions) (lane_of lane values) ≡ flat_values input (results input code.instructions)
+  all_written count lane input values last so_far =
+      let end : count ≡ length code.instructions = last ∙ length-steps in
+      rw (end, take_all (length code.instructions) code.instructions (omega arith)) at so_far
 
 module _ (code : CodeData) (flat : FlatCode) (is_flat : IsFlat code.inputs code.instructions code.outputs flat) (is_code : IsCode code)
     (k : ℕ) (inside : k < length code.outputs) (pair : FlatOutput) (is_pair : pair ≡ get_or flat.outputs.items k pair) where
   -- the rails of an output stand in the array
-  pub hi_reads : pair.hi < 2 + 2 * code.inputs + length code.instructions
-  hi_reads =
+  pub pair_reads : IsPairWithin pair (2 + 2 * code.inputs + length code.instructions)
+  pair_reads =
       let some = some_input code.inputs in
       let many = some.1 in
-      let within : (get_or flat.outputs.items k pair).hi < 2 + 2 * length some.0 + length code.instructions =
-      hi_within some.0 code.instructions code.outputs flat.outputs.items (rw many is_flat.pairs) (rw many is_code.outputs) k inside pair no_output in
-      omega (arith, within, many, ap (λ (p : FlatOutput). p.hi) is_pair)
-
-  pub lo_reads : pair.lo < 2 + 2 * code.inputs + length code.instructions
-  lo_reads =
-      let some = some_input code.inputs in
-      let many = some.1 in
-      let within : (get_or flat.outputs.items k pair).lo < 2 + 2 * length some.0 + length code.instructions =
-      lo_within some.0 code.instructions code.outputs flat.outputs.items (rw many is_flat.pairs) (rw many is_code.outputs) k inside pair no_output in
-      omega (arith, within, many, ap (λ (p : FlatOutput). p.lo) is_pair)
+      let within : IsPairWithin (get_or flat.outputs.items k pair) (2 + 2 * length some.0 + length code.instructions) =
+      pair_within some.0 code.instructions code.outputs flat.outputs.items (rw many is_flat.pairs) (rw many is_code.outputs) k inside pair no_output in
+      rw (many, ← is_pair) at within
 
   -- and over the array in which the code ran they are those of its state
   pub output_in_lane : (lane : ℕ) (input : List Tern) (values : List ℕ) → length input ≡ code.inputs →
@@ -138,7 +147,7 @@ module _ (code : CodeData) (flat : FlatCode) (is_flat : IsFlat code.inputs code.
       pair no_output (take end (lane_of lane values)) whole in
       let own : pair_value (take end (lane_of lane values)) pair ≡ output_state input (results input code.instructions) (get_or code.outputs k no_output) =
       ap (pair_value (take end (lane_of lane values))) is_pair ∙ state in
-      pair_in_lane lane values pair (omega (arith, hi_reads, room)) (omega (arith, lo_reads, room))
-      ∙ ap₂ settled (sym (get_or-take end (lane_of lane values) pair.hi false hi_reads)) (sym (get_or-take end (lane_of lane values) pair.lo false lo_reads))
+      pair_in_lane lane values pair (omega (arith, pair_reads.hi, room)) (omega (arith, pair_reads.lo, room))
+      ∙ ap₂ settled (sym (get_or-take end (lane_of lane values) pair.hi false pair_reads.hi)) (sym (get_or-take end (lane_of lane values) pair.lo false pair_reads.lo))
       ∙ own
       ∙ sym (get_or-map (output_state input (results input code.instructions)) code.outputs k no_output Zero inside)

@@ -18,7 +18,7 @@ use Rattle.bool_pool.specs.declared.gate.Id.{Id}
 use Rattle.bool_pool.specs.Gate.{gate_at, IsOperand}
 use Rattle.bool_pool.specs.Reach.{Reaches, AnyReaches, here, through}
 use Rattle.bool_pool.specs.Compact.{places_of}
-use Rattle.bool_pool.specs.Copying.{IsFound, AreCollected}
+use Rattle.bool_pool.specs.Collecting.{IsFound, AreCollected}
 use Rattle.bool_pool.proofs.ReachLemmas.{Reaches-trans, Reaches-down}
 
 -- a set has what it had, and the place that was inserted
@@ -48,7 +48,7 @@ Contains-inserted old new key place updates = (forth, back)
     back (inr same) = subst (Contains new.keys) (sym same) ((in_set new key).0 updates.1)
 
 -- the same of two places, one after the other
-Contains-inserted_two : (old middle new : BTreeSet ℕ) (a b place : ℕ) → Updates nat_cmp old middle a true
+pub Contains-inserted_two : (old middle new : BTreeSet ℕ) (a b place : ℕ) → Updates nat_cmp old middle a true
     → Updates nat_cmp middle new b true
     → Contains new.keys place ↔ ((Contains old.keys place ⊎ (place ≡ a)) ⊎ (place ≡ b))
 Contains-inserted_two old middle new a b place first second =
@@ -150,6 +150,18 @@ AnyReaches-by gates (first ∷ roots) place (inr any) =
     let by = AnyReaches-by gates roots place any in
     (by.0, (suc by.1.0, omega (arith, by.1.1), by.1.2), by.2)
 
+-- what is listed as reached by some places is reached by the same places in another list
+pub listed_as_reached : (gates : List Gate) (roots others listed : List ℕ) → ((root : ℕ) → Contains roots root ↔ Contains others root)
+    → ((place : ℕ) → Contains listed place ↔ AnyReaches gates roots place) → (place : ℕ) → Contains listed place ↔ AnyReaches gates others place
+listed_as_reached gates roots others listed same each place = (
+  λ held.
+      let by = AnyReaches-by gates roots place ((each place).0 held) in
+      AnyReaches-contained gates others by.0 place ((same by.0).0 by.1) by.2,
+  λ any.
+      let by = AnyReaches-by gates others place any in
+      (each place).1 (AnyReaches-contained gates roots by.0 place ((same by.0).1 by.1) by.2),
+)
+
 module _ (gates : List Gate) (roots : List ℕ) where
   -- the operand of a gate that is reached is reached
   pub AnyReaches-operand : (place k : ℕ) → AnyReaches gates roots place → k < place → IsOperand (gate_at gates place) k
@@ -166,16 +178,15 @@ module _ (gates : List Gate) (roots : List ℕ) where
       omega (arith, inside by.0 by.1, Reaches-down gates by.0 place by.2)
 
   -- at first the roots wait
-  pub AreCollected-roots : (waiting : List ℕ) → ((root : ℕ) → Contains roots root → root < length gates)
-      → ((place : ℕ) → Contains waiting place ↔ Contains roots place) → AreCollected gates roots waiting []
-  AreCollected-roots waiting inside each = record {
+  pub AreCollected-roots : ((root : ℕ) → Contains roots root → root < length gates) → AreCollected gates roots roots []
+  AreCollected-roots inside = record {
     reached = λ place. ⊎_elim
-        (λ waits. AnyReaches-contained gates roots place place ((each place).0 waits) here)
+        (λ waits. AnyReaches-contained gates roots place place waits here)
         (λ took. absurd (not_in_none place took));
-    rooted = λ place held. inl ((each place).1 held);
+    rooted = λ place held. inl held;
     operands = λ place k took operand. absurd (not_in_none place took);
     ascending = rises_none;
-    below = λ place waits. inside place ((each place).0 waits);
+    below = inside;
   }
 
   module _ (place : ℕ) (waiting rest next taken : List ℕ) (is : waiting ≡ rest ++ place ∷ [])
@@ -253,11 +264,16 @@ module _ (gates : List Gate) (roots : List ℕ) where
           let by = AnyReaches-by gates roots place any in
           taken_reached taken by.0 place closed by.2 (took by.0 (all.rooted by.0 by.1))
 
+-- each of some places is a place of the pool
+pub places_inside : (gates : List Gate) (places : List ℕ) → All (λ place. place < length gates) places → (place : ℕ)
+    → Contains places place → place < length gates
+places_inside gates places inside place held = All-contains (λ other. other < length gates) places place inside held
+
 -- the roots' places are places of the pool
 pub roots_inside : (gates : List Gate) (roots : List Id) → All (λ root. root.place < length gates) roots → (root : ℕ)
     → Contains (places_of roots) root → root < length gates
-roots_inside gates roots inside root held =
-    All-contains (λ place. place < length gates) (places_of roots) root (All-map (λ place. place < length gates) (λ (id : Id). id.place) roots inside) held
+roots_inside gates roots inside =
+    places_inside gates (places_of roots) (All-map (λ place. place < length gates) (λ (id : Id). id.place) roots inside)
 
 module _ (places : List ℕ) (rises : IsStrictlyIncreasing places) (index : ℕ) (inside : index < length places) where
   -- of places that rise those before one are below it

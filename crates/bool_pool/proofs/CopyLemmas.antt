@@ -60,9 +60,9 @@ gate_value-moved vars f to (Not a) = refl
 gate_value-moved vars f to (And a b) = refl
 gate_value-moved vars f to (Or a b) = refl
 
--- one formula is at one place
-id_from_place : (a b : Id) → a.place ≡ b.place → a ≡ b
-id_from_place a b same = ap (λ p. let id : Id = record { place = p } in id) same
+-- formulas of one copy are one formula, if their places of one copy are
+id_from_copy : (to : ℕ → ℕ) (a b : Id) → (to a.place ≡ to b.place → a.place ≡ b.place) → moved_id to a ≡ moved_id to b → a ≡ b
+id_from_copy to a b same e = ap (λ p. let id : Id = record { place = p } in id) (same (ap (λ (id : Id). id.place) e))
 
 -- gates of one copy are one gate, if their operands of one copy are
 gate_from_copy : (to : ℕ → ℕ) (g h : Gate) → ((k m : ℕ) → IsOperand g k → IsOperand h m → to k ≡ to m → k ≡ m)
@@ -73,22 +73,16 @@ gate_from_copy to True True same e = refl
 gate_from_copy to True h same e = cc
 gate_from_copy to (Var v) (Var w) same e = e
 gate_from_copy to (Var v) h same e = cc
-gate_from_copy to (Not a) (Not b) same e =
-    let inner : moved_id to a ≡ moved_id to b = cc in
-    ap Not (id_from_place a b (same a.place b.place refl refl (ap (λ (id : Id). id.place) inner)))
+gate_from_copy to (Not a) (Not b) same e = ap Not (id_from_copy to a b (same a.place b.place refl refl) cc)
 gate_from_copy to (Not a) h same e = cc
 gate_from_copy to (And a b) (And c d) same e =
-    let first : moved_id to a ≡ moved_id to c = cc in
-    let second : moved_id to b ≡ moved_id to d = cc in
-    let left : a ≡ c = id_from_place a c (same a.place c.place (inl refl) (inl refl) (ap (λ (id : Id). id.place) first)) in
-    let right : b ≡ d = id_from_place b d (same b.place d.place (inr refl) (inr refl) (ap (λ (id : Id). id.place) second)) in
+    let left : a ≡ c = id_from_copy to a c (same a.place c.place (inl refl) (inl refl)) cc in
+    let right : b ≡ d = id_from_copy to b d (same b.place d.place (inr refl) (inr refl)) cc in
     cc
 gate_from_copy to (And a b) h same e = cc
 gate_from_copy to (Or a b) (Or c d) same e =
-    let first : moved_id to a ≡ moved_id to c = cc in
-    let second : moved_id to b ≡ moved_id to d = cc in
-    let left : a ≡ c = id_from_place a c (same a.place c.place (inl refl) (inl refl) (ap (λ (id : Id). id.place) first)) in
-    let right : b ≡ d = id_from_place b d (same b.place d.place (inr refl) (inr refl) (ap (λ (id : Id). id.place) second)) in
+    let left : a ≡ c = id_from_copy to a c (same a.place c.place (inl refl) (inl refl)) cc in
+    let right : b ≡ d = id_from_copy to b d (same b.place d.place (inr refl) (inr refl)) cc in
     cc
 gate_from_copy to (Or a b) h same e = cc
 

@@ -5,4 +5,5 @@ pub mod Made
 pub mod Choice
 pub mod Pairs
 pub mod Compact
+pub mod Collecting
 pub mod Copying

@@ -1,4 +1,4 @@
-ghost use Rattle.std.specs.Prelude.{◌≡◌, ℕ, ◌<◌, ◌⊎◌, ◌↔◌, List, ◌∷◌, [], ◌++◌, length, map, nat_eq, All, Contains, Some, IsSome, IfOk, OnOk, if◌then◌else◌};
+ghost use Rattle.std.specs.Prelude.{◌≡◌, ℕ, ◌<◌, ◌↔◌, List, ◌∷◌, [], ◌++◌, length, map, nat_eq, All, Contains, Some, IsSome, IfOk, OnOk, if◌then◌else◌};
 ghost use Rattle.std.specs.List.Sorted.{IsStrictlyIncreasing};
 ghost use Rattle.indexmap.specs.IndexMap.{get};
 ghost use Rattle.bool_pool.specs.Gate.{gate_at, IsOperand, IsInOrder, IsApart};
@@ -29,7 +29,7 @@ impl Pool {
         ensures compacted { IfOk result (λ made. IsCompacted self.now roots.now made.0 made.1.items) }
     {
         gates_are_apart(self);
-        let places = reached_places(alloc, self, roots)?;
+        let places = places_reached(alloc, self, roots)?;
         let mut copies = Copies {
             pool: Pool::with_keys(alloc, self.keys()),
             ids: IndexMap::with_hasher(alloc, self.keys()),
@@ -52,22 +52,14 @@ fn gates_are_apart(pool: &Pool)
 }
 
 // The places that formulas reach, in ascending order.
-//
-// The greatest place that waits is taken out first: the operands of its gate stand before it.
-fn reached_places(alloc: Global, pool: &Pool, roots: &[Id]) -> Result<Vec<usize>, AllocError>
+fn places_reached(alloc: Global, pool: &Pool, roots: &[Id]) -> Result<Vec<usize>, AllocError>
     requires { All (λ root. root.place < length pool.now) roots.now }
     ensures ascending { IfOk result (λ places. IsStrictlyIncreasing places.items) }
     ensures each { IfOk result (λ places. (place : ℕ) →
         Contains places.items place ↔ AnyReaches pool.now (places_of roots.now) place) }
 {
-    let mut waiting = root_places(alloc, roots)?;
-    let mut places = Vec::new(alloc);
-    while let Some(place) = waiting.pop_last() {
-        places.push(place)?;
-        insert_operands(&mut waiting, pool.gate(Id { place }))?;
-    }
-    places.reverse();
-    Ok(places)
+    let places = root_places(alloc, roots)?;
+    pool.reached_places(alloc, places)
 }
 
 // The places of formulas.
@@ -80,24 +72,6 @@ fn root_places(alloc: Global, roots: &[Id]) -> Result<BTreeSet<usize>, AllocErro
         places.insert(root.place)?;
     }
     Ok(places)
-}
-
-// Inserts the places of a gate's operands.
-fn insert_operands(places: &mut BTreeSet<usize>, gate: Gate) -> Result<(), AllocError>
-    ensures { OnOk result ((place : ℕ) →
-        Contains places.new.keys place ↔ (Contains places.old.keys place ⊎ IsOperand gate place)) }
-{
-    match gate {
-        Gate::False | Gate::True | Gate::Var(_) => {}
-        Gate::Not(a) => {
-            places.insert(a.place)?;
-        }
-        Gate::And(a, b) | Gate::Or(a, b) => {
-            places.insert(a.place)?;
-            places.insert(b.place)?;
-        }
-    }
-    Ok(())
 }
 
 // Copies of gates of another pool.

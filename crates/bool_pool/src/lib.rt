@@ -17,11 +17,12 @@
 //! pool.value(alloc, both, &[true])?             is false: a variable past the end is false
 //! ```
 //!
-//! `compact` gives formulas a pool of their own, which has the gates that they reach and no other.
+//! `reached_places` lists what formulas reach. `compact` gives formulas a pool of their own, which has
+//! the gates that they reach and no other.
 //!
 //! For the proofs of crates above: `ValueLemmas` (gates that are added leave the values), `ReachLemmas`,
 //! `WithinLemmas` (how many gates formulas reach), `MadeLemmas` (formulas that were just made) and
-//! `CollectLemmas` (each root reaches its own place).
+//! `CollectLemmas` (each root reaches its own place, and places that rise).
 //!
 //! Formulas with shared parts are those of Bryant, "Boolean Analysis of MOS Circuits", 1987.
 #![tactic(auto)]
@@ -30,6 +31,7 @@ mod choice;
 mod compact;
 mod gate;
 mod pool;
+mod reach;
 
 pub use gate::{Gate, Id, Rails};
 pub use pool::Pool;

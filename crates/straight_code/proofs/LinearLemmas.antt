@@ -3,8 +3,8 @@ use Rattle.std.proofs.Common.{◌≡◌, ℕ, ◌<◌, ◌≤◌, ◌↔◌, inl
 use Rattle.std.specs.Prelude.{slice_get, nat_eq, filter, slice_index, option_map}
 use Rattle.std.specs.List.{IsDistinct}
 use Rattle.std.specs.List.Sorted.{IsStrictlyIncreasing}
-use Rattle.std.proofs.lemmas.Bool.{cases_lt, ne_eqb, false≢true}
-use Rattle.std.proofs.lemmas.List.{get_or-take, get_or_default, length-take-le, take_all}
+use Rattle.std.proofs.lemmas.Bool.{ne_eqb, false≢true}
+use Rattle.std.proofs.lemmas.List.{take_all}
 use Rattle.std.proofs.lemmas.List.Elements.{All-from_recursion, recursion_from_All, All-filter, All-contains, All-contains_itself, All-map, Contains-get_or, filter_passes}
 use Rattle.std.proofs.lemmas.Map.Keys.{IsDistinct-head, IsDistinct-tail, IsDistinct-cons, IsDistinct-from_apart, sorted_from_strictly_increasing, below_from_sorted}
 use Rattle.std.proofs.lemmas.Map.Made.{is_member-filter, is_member-Decides}
@@ -23,6 +23,7 @@ use Rattle.straight_code.specs.declared.code.Instruction.{Instruction}
 use Rattle.straight_code.specs.Code.{results, IsCode, IsOutput}
 use Rattle.straight_code.specs.Linear.{HasValues, Means}
 use Rattle.straight_code.specs.Lowering.{is_operation, operations, operand_at, output_of, AreNoted, IsValueOf, AreLowered}
+use Rattle.bool_pool.proofs.CollectLemmas.{below_listed}
 use Rattle.straight_code.proofs.PlaceLemmas.{AreReaching-operand}
 use Rattle.straight_code.proofs.LoweringLemmas.{value_noted}
 
@@ -87,23 +88,7 @@ module _ (gates : List Gate) (outs : List Rails) (places : List ℕ) (rises : Is
   operand_before index k inside before operand =
       let place = slice_index places index in
       let reached = AreReaching-operand gates outs place k ((each place).0 (Contains-get_or places index 0 inside)) before operand in
-      let held = (each k).1 reached in
-      let own : get_or places index k ≡ place = get_or_default places index k 0 inside in
-      elim (cases_lt held.0 index) [
-        | inl earlier ↦
-            (held.0, omega (arith, earlier, length-take-le index places (omega arith)), get_or-take index places held.0 k earlier ∙ held.2)
-        | inr later ↦
-            elim (cases_lt index held.0) [
-              | inl after ↦
-                  let sorted = sorted_from_strictly_increasing places rises in
-                  let above = below_from_sorted places index held.0 k sorted after held.1 in
-                  absurd (omega (arith, above, held.2))
-              | inr not_after ↦
-                  let same : held.0 ≡ index = omega arith in
-                  let here_too : get_or places index k ≡ k = ap (λ i. get_or places i k) (sym same) ∙ held.2 in
-                  absurd (omega (arith, here_too))
-            ]
-      ]
+      below_listed places rises index inside k ((each k).1 reached) before
 
   -- the variable at a place is one of the inputs'
   pub variable_below : (bound place v : ℕ) → HasVariablesBelow gates outs bound → Contains places place → IsVariable (gate_at gates place) v

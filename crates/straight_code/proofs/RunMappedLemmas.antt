@@ -36,6 +36,11 @@ pub record IsWithin (step : FlatStep) (count : ℕ) : Type 0 where
   pub a : step.a < count
   pub b : step.b < count
 
+-- and so do those of an output
+pub record IsPairWithin (pair : FlatOutput) (count : ℕ) : Type 0 where
+  pub hi : pair.hi < count
+  pub lo : pair.lo < count
+
 step_within : (input : List Tern) (done : List Bool) (instruction : Instruction) → AreAllowed (length input) (length done) instruction →
     IsWithin (step_of (length input) instruction) (2 + 2 * length input + length done)
 step_within input done (Not a) allowed = record { a = place_within input done a allowed; b = place_within input done a allowed }
@@ -96,13 +101,14 @@ module _ (input : List Tern) (instructions : List Instruction) (outputs : List O
   own_allowed : IsOutput (length input) (length all_results) (get_or outputs k past)
   own_allowed = rw (length-results input instructions) (allowed k past inside)
 
-  pub hi_within : (get_or pairs k d).hi < 2 + 2 * length input + length instructions
-  hi_within =
-      rw pair_at (omega (arith, place_within input all_results (get_or outputs k past).hi own_allowed.hi, length-results input instructions))
-
-  pub lo_within : (get_or pairs k d).lo < 2 + 2 * length input + length instructions
-  lo_within =
-      rw pair_at (omega (arith, place_within input all_results (get_or outputs k past).lo own_allowed.lo, length-results input instructions))
+  pub pair_within : IsPairWithin (get_or pairs k d) (2 + 2 * length input + length instructions)
+  pair_within =
+      let counted = length-results input instructions in
+      let output = get_or outputs k past in
+      rw pair_at (record {
+        hi = omega (arith, place_within input all_results output.hi own_allowed.hi, counted);
+        lo = omega (arith, place_within input all_results output.lo own_allowed.lo, counted);
+      })
 
   -- over the array with all results, it has its state
   pub pair_state : (array : List Bool) → array ≡ flat_values input all_results →

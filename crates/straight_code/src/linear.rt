@@ -1,6 +1,6 @@
 //! Code for formulas.
 
-ghost use Rattle.std.specs.Prelude.{◌≡◌, ℕ, ◌*◌, ◌<◌, ◌⊎◌, ◌↔◌, List, [], ◌∷◌, ◌++◌, length, map, nat_eq, All, Contains, IsSome, IfOk, OnOk};
+ghost use Rattle.std.specs.Prelude.{◌≡◌, ℕ, ◌*◌, ◌<◌, ◌↔◌, List, [], ◌∷◌, ◌++◌, length, map, nat_eq, All, Contains, IsSome, IfOk, OnOk};
 ghost use Rattle.std.specs.List.Sorted.{IsStrictlyIncreasing};
 ghost use Rattle.indexmap.specs.IndexMap.{get};
 ghost use Rattle.bool_pool.specs.Gate.{gate_at, IsOperand, IsVariable};
@@ -48,42 +48,17 @@ pub fn linearise(
 }
 
 // The places that the formulas reach, in ascending order.
-//
-// The greatest place that waits is taken out first: the operands of its gate stand before it.
 fn reached_places(alloc: Global, pool: &Pool, outs: &[Rails]) -> Result<Vec<usize>, AllocError>
     requires { All (AreInside pool.now) outs.now }
     ensures ascending { IfOk result (λ places. IsStrictlyIncreasing places.items) }
     ensures each { IfOk result (λ places. (place : ℕ) → Contains places.items place ↔ AreReaching pool.now outs.now place) }
 {
-    let mut waiting = BTreeSet::new(alloc);
+    let mut roots = BTreeSet::new(alloc);
     for rails in outs {
-        waiting.insert(rails.hi.place)?;
-        waiting.insert(rails.lo.place)?;
+        roots.insert(rails.hi.place)?;
+        roots.insert(rails.lo.place)?;
     }
-    let mut places = Vec::new(alloc);
-    while let Some(place) = waiting.pop_last() {
-        places.push(place)?;
-        insert_operands(&mut waiting, pool.gate(Id { place }))?;
-    }
-    places.reverse();
-    Ok(places)
-}
-
-// Inserts the places of a gate's operands.
-fn insert_operands(places: &mut BTreeSet<usize>, gate: Gate) -> Result<(), AllocError>
-    ensures { OnOk result ((place : ℕ) → Contains places.new.keys place ↔ (Contains places.old.keys place ⊎ IsOperand gate place)) }
-{
-    match gate {
-        Gate::False | Gate::True | Gate::Var(_) => {}
-        Gate::Not(a) => {
-            places.insert(a.place)?;
-        }
-        Gate::And(a, b) | Gate::Or(a, b) => {
-            places.insert(a.place)?;
-            places.insert(b.place)?;
-        }
-    }
-    Ok(())
+    pool.reached_places(alloc, roots)
 }
 
 // Code for the places that were lowered so far.

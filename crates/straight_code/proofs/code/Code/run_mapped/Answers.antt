@@ -5,7 +5,7 @@ use Rattle.ternary.specs.declared.tern.Tern.{Tern}
 use Rattle.path_meaning.specs.Switching.{state_at}
 use Rattle.straight_code.specs.Code.{results, output_state}
 use Rattle.straight_code.specs.Flat.{flat_values, step_of, pair_of}
-use Rattle.straight_code.proofs.RunMappedLemmas.{no_step, no_pair, no_output, reads_within, result_written, hi_within, lo_within, state_written}
+use Rattle.straight_code.proofs.RunMappedLemmas.{no_step, no_pair, no_output, reads_within, result_written, pair_within, state_written}
 use Rattle.straight_code.proofs.code.Code.run_mapped.Goals as goal
 
 pub loop-k-init : goal.loop-k-init
@@ -16,8 +16,8 @@ loop-k-init g c =
     let place : 2 + 2 * c.self.inside.inputs + 0 ≡ 2 + 2 * length nodes = omega (arith, inputs) in
     record { done = ap (λ count. take count c.fill_rails.new.values) place ∙ c.fill_rails.ensures.rails; steps = omega arith }
 
-pub step_value-requires-clause-a : goal.step_value-requires-clause-a
-step_value-requires-clause-a g c =
+pub step_value-requires : goal.step_value-requires
+step_value-requires g c =
     let input : List Tern = map (state_at c.args.state.now) c.args.nodes.now in
     let k = c.loop-k.k in
     let many : length input ≡ c.self.inside.inputs =
@@ -28,21 +28,7 @@ step_value-requires-clause-a g c =
     let within = reads_within input items c.deref-step-items.result.now (rw many flat) (rw many c.self.invariant.0.reads) k inside no_step in
     let long = length-take-le (2 + 2 * c.self.inside.inputs + k) c.loop-k.values
     (omega (arith, ap (λ code. code.inputs) c.self.view_is, ap (λ code. length code.instructions) c.self.view_is)) in
-    rw long (omega (arith, within.a, many))
-
-pub step_value-requires-clause-b : goal.step_value-requires-clause-b
-step_value-requires-clause-b g c =
-    let input : List Tern = map (state_at c.args.state.now) c.args.nodes.now in
-    let k = c.loop-k.k in
-    let many : length input ≡ c.self.inside.inputs =
-    length-map c.args.nodes.now (state_at c.args.state.now) ∙ c.requires.nodes ∙ sym (ap (λ code. code.inputs) c.self.view_is) in
-    let items = c.self.inside.instructions.items in
-    let flat = c.deref-step-items.ensures.value ∙ c.self.invariant.1.steps in
-    let inside : k < length items = omega (arith, ap length flat, length-map items (step_of c.self.inside.inputs)) in
-    let within = reads_within input items c.deref-step-items.result.now (rw many flat) (rw many c.self.invariant.0.reads) k inside no_step in
-    let long = length-take-le (2 + 2 * c.self.inside.inputs + k) c.loop-k.values
-    (omega (arith, ap (λ code. code.inputs) c.self.view_is, ap (λ code. length code.instructions) c.self.view_is)) in
-    rw long (omega (arith, within.b, many))
+    rw long (record { a = omega (arith, within.a, many); b = omega (arith, within.b, many) })
 
 pub loop-k-preserved : goal.loop-k-preserved
 loop-k-preserved g c =
@@ -63,8 +49,8 @@ loop-k-preserved g c =
     c.step_value.result room so_far (rw many c.step_value.ensures) in
     record { done = rw (many, same) at written; steps = omega arith }
 
-pub pair_value-requires-clause-hi : goal.pair_value-requires-clause-hi
-pair_value-requires-clause-hi g c =
+pub pair_value-requires : goal.pair_value-requires
+pair_value-requires g c =
     let input : List Tern = map (state_at c.args.state.now) c.args.nodes.now in
     let k = c.loop-k-2.k in
     let many : length input ≡ c.self.inside.inputs =
@@ -74,26 +60,10 @@ pair_value-requires-clause-hi g c =
     let counted : c.len.result ≡ length items = omega (arith, c.len.ensures, c.self.inside.instructions.ok.0) in
     let flat = c.deref-pair-items.ensures.value ∙ c.self.invariant.1.pairs in
     let inside : k < length outputs = omega (arith, ap length flat, length-map outputs (pair_of c.self.inside.inputs)) in
-    let within = hi_within input items outputs c.deref-pair-items.result.now (rw many flat) (rw many c.self.invariant.0.outputs) k inside no_pair no_output in
+    let within = pair_within input items outputs c.deref-pair-items.result.now (rw many flat) (rw many c.self.invariant.0.outputs) k inside no_pair no_output in
     let long = length-take-le (2 + 2 * c.self.inside.inputs + c.len.result) c.loop-k.values
     (omega (arith, counted, ap (λ code. code.inputs) c.self.view_is, ap (λ code. length code.instructions) c.self.view_is)) in
-    rw long (omega (arith, within, many, counted))
-
-pub pair_value-requires-clause-lo : goal.pair_value-requires-clause-lo
-pair_value-requires-clause-lo g c =
-    let input : List Tern = map (state_at c.args.state.now) c.args.nodes.now in
-    let k = c.loop-k-2.k in
-    let many : length input ≡ c.self.inside.inputs =
-    length-map c.args.nodes.now (state_at c.args.state.now) ∙ c.requires.nodes ∙ sym (ap (λ code. code.inputs) c.self.view_is) in
-    let items = c.self.inside.instructions.items in
-    let outputs = c.self.inside.outputs.items in
-    let counted : c.len.result ≡ length items = omega (arith, c.len.ensures, c.self.inside.instructions.ok.0) in
-    let flat = c.deref-pair-items.ensures.value ∙ c.self.invariant.1.pairs in
-    let inside : k < length outputs = omega (arith, ap length flat, length-map outputs (pair_of c.self.inside.inputs)) in
-    let within = lo_within input items outputs c.deref-pair-items.result.now (rw many flat) (rw many c.self.invariant.0.outputs) k inside no_pair no_output in
-    let long = length-take-le (2 + 2 * c.self.inside.inputs + c.len.result) c.loop-k.values
-    (omega (arith, counted, ap (λ code. code.inputs) c.self.view_is, ap (λ code. length code.instructions) c.self.view_is)) in
-    rw long (omega (arith, within, many, counted))
+    rw long (record { hi = omega (arith, within.hi, many, counted); lo = omega (arith, within.lo, many, counted) })
 
 pub loop-k-2-preserved : goal.loop-k-2-preserved
 loop-k-2-preserved g c =

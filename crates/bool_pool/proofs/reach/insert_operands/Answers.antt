@@ -1,6 +1,6 @@
 -- A gate has one operand or two.
-use Rattle.straight_code.proofs.PlaceLemmas.{Contains-inserted, Contains-inserted_operands}
-use Rattle.straight_code.proofs.linear.insert_operands.Goals as goal
+use Rattle.bool_pool.proofs.CollectLemmas.{Contains-inserted, Contains-inserted_operands}
+use Rattle.bool_pool.proofs.reach.insert_operands.Goals as goal
 
 pub returns-in_ok-insert-in-Not : goal.returns-in_ok-insert-in-Not
 returns-in_ok-insert-in-Not c = λ place.
