@@ -118,7 +118,7 @@ kept_after-fresh bound present last kept fresh there =
     ∙ append-nil (without present (used_texts last kept))))
 
 -- what a test leaves of distinct texts is distinct
-IsDistinct-filter : (test : GroupTextData → Bool) (texts : List GroupTextData) → IsDistinct same_text texts → IsDistinct same_text (filter test texts)
+pub IsDistinct-filter : (test : GroupTextData → Bool) (texts : List GroupTextData) → IsDistinct same_text texts → IsDistinct same_text (filter test texts)
 unfolding IsDistinct
 IsDistinct-filter test [] apart = tt
 IsDistinct-filter test (text ∷ texts) apart = by (test text) (IsDistinct-filter test texts apart.1)

@@ -18,6 +18,12 @@ abbrev pub all_to_front : List GroupTextData → List GroupTextData → List Gro
 all_to_front [] kept = kept
 all_to_front (text ∷ texts) kept = to_front text (all_to_front texts kept)
 
+-- one text more goes to the front of those behind it
+pub all_to_front-next : (text : GroupTextData) (texts all kept before after : List GroupTextData) → all ≡ text ∷ texts →
+    before ≡ all_to_front texts kept → after ≡ to_front text before → after ≡ all_to_front all kept
+all_to_front-next text texts all kept before after all_are so_far next =
+    next ∙ (ap (to_front text) so_far ∙ ap (λ list. all_to_front list kept) (sym all_are))
+
 -- so the distinct ones come first, in order of first appearance, and the others behind them in their order
 pub all_to_front-used : (present kept : List GroupTextData) → all_to_front present kept ≡ used_texts present kept
 all_to_front-used [] kept = sym (filter_every (λ text. true) (λ text. refl) kept)

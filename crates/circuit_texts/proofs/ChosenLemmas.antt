@@ -1,15 +1,17 @@
 -- Groups that are chosen by their ids: one id more is one group more.
-use Rattle.std.proofs.Common.{◌≡◌, ℕ, ◌+◌, ◌<◌, List, [], ◌∷◌, ◌++◌, length, take, drop, map, get_or, All, ◌⊎◌, Option, Some, None, refl, sym, ap, subst, ◌∙◌, arith}
+use Rattle.std.proofs.Common.{◌≡◌, ℕ, zero, suc, ◌+◌, ◌<◌, ◌≤◌, List, [], ◌∷◌, ◌++◌, length, take, drop, map, get_or, All, ◌⊎◌, Option, Some, None, true, refl, sym, ap, subst, ◌∙◌, arith}
+use Rattle.std.specs.Prelude.{is_some}
 use Rattle.std.specs.List.{filter_map}
-use Rattle.std.proofs.lemmas.List.{take_more, take-append-drop, map-append}
+use Rattle.std.specs.List.Sorted.{IsStrictlyIncreasing}
+use Rattle.std.proofs.lemmas.List.{take_more, take_all, take-append-drop, map-append, length-map}
 use Rattle.std.proofs.lemmas.List.Elements.{filter_map-append}
 use Rattle.group_meaning.specs.Groups.{Group, id_of}
 use Rattle.channel_groups.specs.declared.group.GroupId.{GroupId}
-use Rattle.channel_groups.specs.Grouping.{group_with}
-use Rattle.group_text.specs.declared.text.TextFault.{TextFault}
-use Rattle.group_text.specs.declared.text.TextFault.TheVariants as text
+use Rattle.channel_groups.specs.Grouping.{group_with, IsId}
+use Rattle.channel_groups.proofs.HeldLemmas.{group_of_id}
+use Rattle.circuit_texts.specs.declared.texts.BuildFault.{BuildFault}
 use Rattle.circuit_texts.specs.declared.texts.BuildFault.TheVariants.{NoMemory}
-use Rattle.circuit_texts.specs.Sizes.{fault_in, at_node, IsFirstTooLarge}
+use Rattle.circuit_texts.specs.Sizes.{fault_in, IsTooLarge, IsFirstTooLarge}
 use Rattle.circuit_texts.specs.Choosing.{chosen}
 use Rattle.circuit_texts.proofs.SizeLemmas.{first_refused}
 
@@ -57,12 +59,39 @@ seam_inside [] rest group = omega arith
 seam_inside (first ∷ front) rest group = omega (arith, seam_inside front rest group)
 
 -- a group that no text was made of, where all groups before it fit, is the first that is too large, or there was want of memory
-pub split_refused : (all front rest : List Group) (group : Group) (cause : TextFault) → all ≡ (front ++ group ∷ []) ++ rest →
-    All (λ one. fault_in one ≡ None) front → (cause ≡ text.NoMemory) ⊎ (fault_in group ≡ Some cause) →
-    (at_node (id_of group) cause ≡ NoMemory) ⊎ IsFirstTooLarge all (at_node (id_of group) cause)
-split_refused all front rest group cause all_are fits refused =
+pub split_refused : (all front rest : List Group) (group : Group) (fault : BuildFault) → all ≡ (front ++ group ∷ []) ++ rest →
+    All (λ one. fault_in one ≡ None) front → (fault ≡ NoMemory) ⊎ IsTooLarge group fault → (fault ≡ NoMemory) ⊎ IsFirstTooLarge all fault
+split_refused all front rest group fault all_are fits told =
     let list = (front ++ group ∷ []) ++ rest in
     let fit : All (λ one. fault_in one ≡ None) (take (length front) list) =
     subst (All (λ one. fault_in one ≡ None)) (sym (before_seam front rest group)) fits in
-    subst (λ (groups : List Group). (at_node (id_of group) cause ≡ NoMemory) ⊎ IsFirstTooLarge groups (at_node (id_of group) cause)) (sym all_are)
-    (first_refused list (length front) group cause (seam_inside front rest group) (sym (at_seam front rest group group)) fit refused)
+    subst (λ (groups : List Group). (fault ≡ NoMemory) ⊎ IsFirstTooLarge groups fault) (sym all_are)
+    (first_refused list (length front) group fault (seam_inside front rest group) (sym (at_seam front rest group group)) fit told)
+
+-- the groups of the first of all ids are the first groups
+chosen_front : (groups : List Group) → IsStrictlyIncreasing (map id_of groups) → (ids : List GroupId) → map (λ (id : GroupId). id.node) ids ≡ map id_of groups →
+    All (λ (id : GroupId). IsId groups id.node) ids → (k : ℕ) → k ≤ length ids → chosen groups (take k ids) ≡ take k groups
+chosen_front groups ascending ids same each zero within = refl
+chosen_front groups ascending ids same each (suc k) within =
+    let d : GroupId = record { node = 0 } in
+    let inside : k < length ids = omega (arith, within) in
+    let next : suc k ≡ k + 1 = omega arith in
+    rw next (one (chosen_front groups ascending ids same each k (omega (arith, within))) (group_with groups (get_or ids k d).node) refl (each k d inside))
+  where
+    one : chosen groups (take k ids) ≡ take k groups → (slot : Option Group) → group_with groups (get_or ids k (record { node = 0 })).node ≡ slot →
+        is_some slot ≡ true → chosen groups (take (k + 1) ids) ≡ take (k + 1) groups
+    one so_far None is some = absurd cc
+    one so_far (Some group) is some =
+        let d : GroupId = record { node = 0 } in
+        let inside : k < length ids = omega (arith, within) in
+        let at = group_of_id groups ascending ids same k d inside group is in
+        chosen-more groups ids k d group inside is
+        ∙ (ap (λ front. front ++ group ∷ []) so_far ∙ sym (take_more groups k group at.0 ∙ ap (λ last. take k groups ++ last ∷ []) at.1))
+
+-- and those of all ids are all groups
+pub chosen-all : (groups : List Group) → IsStrictlyIncreasing (map id_of groups) → (ids read : List GroupId) → read ≡ ids →
+    map (λ (id : GroupId). id.node) ids ≡ map id_of groups → All (λ (id : GroupId). IsId groups id.node) ids → chosen groups read ≡ groups
+chosen-all groups ascending ids read is same each =
+    let counted : length ids ≡ length groups = omega (arith, ap length same, length-map ids (λ (id : GroupId). id.node), length-map groups id_of) in
+    ap (chosen groups) (is ∙ sym (take_all (length ids) ids (omega arith)))
+    ∙ (chosen_front groups ascending ids same each (length ids) (omega arith) ∙ take_all (length ids) groups (omega (arith, counted)))

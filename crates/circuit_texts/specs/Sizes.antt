@@ -18,6 +18,12 @@ at_node node (text.GroupNodes count) = GroupNodes node count
 at_node node (text.GroupSwitches count) = GroupSwitches node count
 at_node node text.NoMemory = NoMemory
 
+-- the fault is that of a group that is too large
+pub record IsTooLarge (group : Group) (fault : BuildFault) : Type 0 where
+  pub cause : TextFault
+  pub too_large : fault_in group ≡ Some cause
+  pub named : fault ≡ at_node (id_of group) cause
+
 -- the fault is that of the first of these groups that is too large
 pub record IsFirstTooLarge (groups : List Group) (fault : BuildFault) : Type 0 where
   pub k : ℕ

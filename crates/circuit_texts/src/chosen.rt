@@ -9,9 +9,8 @@ ghost use Rattle.circuit_texts.specs.Reading.{AreReads};
 ghost use Rattle.circuit_texts.specs.Choosing.{chosen};
 
 use crate::reads::sorted_reads;
-use crate::texts::{BuildFault, GroupTexts, fault_at};
+use crate::texts::{BuildFault, GroupTexts, text_or_fault};
 use channel_groups::{GroupId, Groups};
-use group_text::text_of;
 use path_meaning::Graph;
 use std::alloc::{AllocError, Global};
 
@@ -34,14 +33,9 @@ pub fn texts_at(
     let mut texts = Vec::new(alloc);
     let mut maps = Vec::new(alloc);
     for &id in ids {
-        let group = groups.group(id);
-        match text_of(alloc, graph, group.members(), group.switches()) {
-            Ok((text, nodes)) => {
-                texts.push(text).map_err(AllocError::from)?;
-                maps.push(nodes).map_err(AllocError::from)?;
-            }
-            Err(fault) => return Err(fault_at(group.id().node(), fault)),
-        }
+        let (text, nodes) = text_or_fault(alloc, graph, groups.group(id))?;
+        texts.push(text).map_err(AllocError::from)?;
+        maps.push(nodes).map_err(AllocError::from)?;
     }
     Ok(GroupTexts { texts, maps })
 }

@@ -1,14 +1,14 @@
 //! The nodes that groups read.
-ghost use Rattle.std.specs.Prelude.{◌≡◌, ◌<◌, ◌++◌, length, map, All, IfOk, OnOk};
+ghost use Rattle.std.specs.Prelude.{◌≡◌, ◌<◌, ◌++◌, length, All, IfOk, OnOk};
 ghost use Rattle.std.specs.List.{AllZip, flat_map};
 ghost use Rattle.std.specs.List.Sorted.{IsPermutation};
 ghost use Rattle.path_meaning.specs.Graphs.{nodes, place_at, FitsPlace};
-ghost use Rattle.group_meaning.specs.Groups.{AreGroups, id_of};
-ghost use Rattle.channel_groups.specs.Grouping.{IsId};
+ghost use Rattle.group_meaning.specs.Groups.{AreGroups};
 ghost use Rattle.group_text.specs.Texts.{firsts};
 ghost use Rattle.circuit_texts.specs.Reading.{AreReads, inputs_of, reads_at};
 
-use channel_groups::{GroupId, Groups};
+use crate::chosen::reads_at;
+use channel_groups::Groups;
 use path_meaning::{Graph, Switch};
 use std::alloc::{AllocError, Global};
 use strength_order::INPUT_LEVEL;
@@ -21,27 +21,7 @@ pub fn reads_of(alloc: Global, graph: &Graph, groups: &Groups) -> Result<Vec<Vec
     ensures { IfOk result (λ lists. AllZip (λ group list. AreReads graph.now group list.items) groups.now.groups lists.items) }
 {
     let ids = groups.ids(alloc)?;
-    Ok(reads_by(alloc, graph, groups, &ids)?)
-}
-
-// The nodes that the groups with these ids, which are all of them, read.
-fn reads_by(
-    alloc: Global,
-    graph: &Graph,
-    groups: &Groups,
-    ids: &[GroupId],
-) -> Result<Vec<Vec<usize>>, AllocError>
-    requires groups { AreGroups graph.now groups.now.groups }
-    requires ids { map (λ id. id.node) ids.now ≡ map id_of groups.now.groups }
-    requires each { All (λ id. IsId groups.now.groups id.node) ids.now }
-    ensures { IfOk result (λ lists. AllZip (λ group list. AreReads graph.now group list.items) groups.now.groups lists.items) }
-{
-    let mut lists = Vec::new(alloc);
-    for &id in ids {
-        let group = groups.group(id);
-        lists.push(sorted_reads(alloc, graph, group.switches())?)?;
-    }
-    Ok(lists)
+    Ok(reads_at(alloc, graph, groups, &ids)?)
 }
 
 // The nodes that the switches at these places read, each once, in ascending order.

@@ -1,9 +1,10 @@
 ghost use Rattle.std.specs.Prelude.{◌≡◌, ◌⊎◌, None, map, All, IfOk, IfErr, OnOk};
-ghost use Rattle.group_meaning.specs.Groups.{AreGroups};
+ghost use Rattle.group_meaning.specs.Groups.{AreGroups, IsGroup};
 ghost use Rattle.group_text.specs.Texts.{local_nodes, text_of_group};
-ghost use Rattle.circuit_texts.specs.Sizes.{IsFirstTooLarge, fault_in, at_node};
+ghost use Rattle.circuit_texts.specs.Sizes.{IsFirstTooLarge, IsTooLarge, fault_in, at_node};
 
-use channel_groups::Groups;
+use crate::chosen::texts_at;
+use channel_groups::{Group, Groups};
 use group_text::{GroupText, TextFault, text_of};
 use path_meaning::Graph;
 use std::alloc::{AllocError, Global};
@@ -59,24 +60,32 @@ pub fn texts_of(alloc: Global, graph: &Graph, groups: &Groups) -> Result<GroupTe
     ensures fits { OnOk result (All (λ group. fault_in group ≡ None) groups.now.groups) }
     ensures too_large { IfErr result (λ fault. (fault ≡ BuildFault.NoMemory) ⊎ IsFirstTooLarge groups.now.groups fault) }
 {
-    let mut texts = Vec::new(alloc);
-    let mut maps = Vec::new(alloc);
     let ids = groups.ids(alloc)?;
-    for &id in &ids {
-        let group = groups.group(id);
-        match text_of(alloc, graph, group.members(), group.switches()) {
-            Ok((text, nodes)) => {
-                texts.push(text).map_err(AllocError::from)?;
-                maps.push(nodes).map_err(AllocError::from)?;
-            }
-            Err(fault) => return Err(fault_at(group.id().node(), fault)),
-        }
-    }
-    Ok(GroupTexts { texts, maps })
+    texts_at(alloc, graph, groups, &ids)
 }
 
-/// The fault of a group's text, told of the group with this least node.
-pub fn fault_at(node: usize, fault: TextFault) -> BuildFault
+/// The text of a group, and the nodes that the text's local nodes stand for.
+///
+/// Where the group is too large, that is told of it.
+pub fn text_or_fault(
+    alloc: Global,
+    graph: &Graph,
+    group: &Group,
+) -> Result<(GroupText, Vec<usize>), BuildFault>
+    requires { IsGroup graph.now group.now }
+    ensures text { IfOk result (λ made. made.0 ≡ text_of_group graph.now group.now) }
+    ensures nodes { IfOk result (λ made. made.1.items ≡ local_nodes graph.now group.now) }
+    ensures fits { OnOk result (fault_in group.now ≡ None) }
+    ensures too_large { IfErr result (λ fault. (fault ≡ BuildFault.NoMemory) ⊎ IsTooLarge group.now fault) }
+{
+    match text_of(alloc, graph, group.members(), group.switches()) {
+        Ok(made) => Ok(made),
+        Err(fault) => Err(fault_at(group.id().node(), fault)),
+    }
+}
+
+// The fault of a group's text, told of the group with this least node.
+fn fault_at(node: usize, fault: TextFault) -> BuildFault
     ensures { result ≡ at_node node fault }
 {
     match fault {

@@ -250,44 +250,6 @@ used_raised counts number inside =
           omega (arith, again, used-again counts number inside (lt-ltb 0 (slice_index counts number) (omega (arith, some))))
     ]
 
--- a part more that has a number
-pub AreCounted-push : (known : List GroupTextData) (counts : List ℕ) (numbers : List (Option ℕ)) (distinct number : ℕ) → number < length known →
-    AreCounted known counts numbers distinct →
-    AreCounted known (slice_set counts number (slice_index counts number + 1)) (numbers ++ Some number ∷ [])
-    (distinct + first_use (slice_index counts number))
-AreCounted-push known counts numbers distinct number within are =
-    let inside : number < length counts = omega (arith, within, are.counted) in
-    record {
-      apart = are.apart;
-      counted = length-set counts number (slice_index counts number + 1) ∙ are.counted;
-      inside = λ k other is. last numbers number within are.inside k other is;
-      each = λ other.
-          let worth : Option ℕ → ℕ = λ one. cond (is_number other one) 1 0 in
-          let more = sum_by_push worth numbers (Some number) in
-          elim (cases_eq other number) [
-            | inl same ↦
-                let here : worth (Some number) ≡ 1 = ap (λ b. cond b 1 0) (eq-eqb other number same) in
-                let so_far = are.each other in
-                ap (slice_index (slice_set counts number (slice_index counts number + 1))) same
-                ∙ (get_or-set_same counts number (slice_index counts number + 1) 0 inside
-                ∙ omega (arith, ap (slice_index counts) same, so_far, more, here))
-            | inr differs ↦
-                let here : worth (Some number) ≡ 0 =
-                ap (λ b. cond b 1 0) (false_from_ne_true (eqb other number) (λ is. differs ((Decides-eqb other number).0 is))) in
-                get_or-set_other counts number other (slice_index counts number + 1) 0 differs ∙ omega (arith, are.each other, more, here)
-          ];
-      some = ap (λ n. n + first_use (slice_index counts number)) are.some ∙ used_raised counts number inside;
-    }
-  where
-    last : (xs : List (Option ℕ)) (n : ℕ) → n < length known → ((k other : ℕ) → slice_index_or xs k None ≡ Some other → other < length known) →
-        (k other : ℕ) → slice_index_or (xs ++ Some n ∷ []) k None ≡ Some other → other < length known
-    last [] n within before zero other is =
-        let same : n ≡ other = cc in
-        omega (arith, within, same)
-    last [] n within before (suc k) other is = absurd cc
-    last (x ∷ xs) n within before zero other is = before 0 other is
-    last (x ∷ xs) n within before (suc k) other is = last xs n within (λ j one here. before (suc j) one here) k other is
-
 -- a part that had no number gets one
 pub AreCounted-set : (known : List GroupTextData) (counts : List ℕ) (numbers : List (Option ℕ)) (distinct part number : ℕ) → part < length numbers →
     slice_index_or numbers part None ≡ None → number < length known → AreCounted known counts numbers distinct →

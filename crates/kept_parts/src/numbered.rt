@@ -8,8 +8,7 @@ ghost use Rattle.kept_parts.specs.Uses.{texts_used};
 
 use crate::uses::TextUses;
 use channel_groups::Groups;
-use circuit_texts::{BuildFault, fault_at};
-use group_text::text_of;
+use circuit_texts::{BuildFault, text_or_fault};
 use path_meaning::Graph;
 use std::alloc::{AllocError, Global};
 use table_keys::TableKeys;
@@ -42,14 +41,9 @@ pub fn numbered_texts(
     let mut maps = Vec::new(alloc);
     let ids = groups.ids(alloc)?;
     for &id in &ids {
-        let group = groups.group(id);
-        match text_of(alloc, graph, group.members(), group.switches()) {
-            Ok((text, nodes)) => {
-                uses.push_text(alloc, &text)?;
-                maps.push(nodes).map_err(AllocError::from)?;
-            }
-            Err(fault) => return Err(fault_at(group.id().node(), fault)),
-        }
+        let (text, nodes) = text_or_fault(alloc, graph, groups.group(id))?;
+        uses.push_text(alloc, &text)?;
+        maps.push(nodes).map_err(AllocError::from)?;
     }
     Ok(NumberedTexts { uses, maps })
 }

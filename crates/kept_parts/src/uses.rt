@@ -126,10 +126,9 @@ impl TextUses {
         ensures known { self.new.known ≡ self.old.known }
         ensures ok { OnOk result (self.new.numbers ≡ self.old.numbers ++ Some number ∷ []) }
     {
-        self.numbers.push(Some(number))?;
-        let before = self.counts[number];
-        self.counts[number] = before + 1;
-        self.distinct = with_use(self.distinct, before);
+        self.add()?;
+        let part = self.numbers.len() - 1;
+        self.set(part, number);
         Ok(())
     }
 

@@ -1,74 +1,76 @@
 -- Each group before the next one has its text; the first that has none is too large.
-use Rattle.std.proofs.Common.{◌≡◌, List, [], ◌∷◌, ◌++◌, length, map, take, true, None, Some, refl, ap, subst, sym, ◌∙◌, arith}
+use Rattle.std.proofs.Common.{◌≡◌, ◌<◌, List, [], ◌∷◌, ◌++◌, length, map, take, get_or, true, None, Some, refl, ap, subst, sym, ◌∙◌, arith}
 use Rattle.std.specs.Result.{is_ok}
+use Rattle.std.proofs.lemmas.Result.{err_from_is_err_and}
 use Rattle.std.proofs.lemmas.List.{take_all, length-map, map-append}
 use Rattle.std.proofs.lemmas.List.Elements.{All-more}
-use Rattle.group_meaning.specs.Groups.{IsGroup, id_of}
+use Rattle.group_meaning.specs.Groups.{id_of}
 use Rattle.channel_groups.specs.declared.group.GroupId.{GroupId}
-use Rattle.channel_groups.proofs.HeldLemmas.{group_of_id}
+use Rattle.channel_groups.proofs.HeldLemmas.{group_of_id, IsGroup-found}
 use Rattle.group_text.specs.FirstTexts.{first_texts, new_texts}
 use Rattle.group_text.specs.Texts.{local_nodes, text_of_group}
 use Rattle.circuit_texts.specs.Sizes.{fault_in}
 use Rattle.circuit_texts.proofs.SizeLemmas.{first_refused}
 use Rattle.circuit_texts.proofs.PairedLists.{mapped_more, map_pushed}
 use Rattle.kept_parts.proofs.NumberLemmas.{first_texts-more}
+use Rattle.kept_parts.proofs.numbered.numbered_texts.Goals.{After-deref-id-items, After-group}
 use Rattle.kept_parts.proofs.numbered.numbered_texts.Goals as goal
 
-pub text_of-requires : goal.text_of-requires
-text_of-requires c =
-    let groups = c.args.groups.now.groups in
-    let group = c.group-group.result.now in
-    let ids = c.deref-id-items.result.now in
-    let same = ap (λ (ids : List GroupId). map (λ (id : GroupId). id.node) ids) c.deref-id-items.ensures.value ∙ c.in_ok-ids.ensures.ids in
-    let at = group_of_id groups c.requires.ascending ids same c.loop-id.id-index _ c.loop-id-test.true group c.group-group.ensures in
-    rw (c.members.ensures, c.switches.ensures) (subst (IsGroup c.args.graph.now) at.1 (c.requires.each c.loop-id.id-index group at.0))
+-- the ids are those of all groups
+all_ids : (c : After-deref-id-items) → map (λ (id : GroupId). id.node) c.deref-id-items.result.now ≡ map id_of c.args.groups.now.groups
+all_ids c = ap (λ (ids : List GroupId). map (λ (id : GroupId). id.node) ids) c.deref-id-items.ensures.value ∙ c.in_ok-ids.ensures.ids
 
-pub returns-in-Err-clause-too_large : goal.returns-in-Err-clause-too_large
-returns-in-Err-clause-too_large c =
-    let groups = c.args.groups.now.groups in
-    let group = c.group-group.result.now in
-    let ids = c.deref-id-items.result.now in
-    let same = ap (λ (ids : List GroupId). map (λ (id : GroupId). id.node) ids) c.deref-id-items.ensures.value ∙ c.in_ok-ids.ensures.ids in
-    let at = group_of_id groups c.requires.ascending ids same c.loop-id.id-index _ c.loop-id-test.true group c.group-group.ensures in
-    let too_large = rw (c.members.ensures, c.switches.ensures) at c.in-Err.ensures.too_large in
-    rw (c.fault_at.ensures, c.node.ensures, c.id.ensures)
-    (first_refused groups c.loop-id.id-index group c.in-Err.fault at.0 (sym at.1) c.loop-id.invariant.fits too_large)
+-- so the next id is that of the next group
+next : (c : After-group) → map (λ (id : GroupId). id.node) c.deref-id-items.result.now ≡ map id_of c.args.groups.now.groups →
+    (c.loop-id.id-index < length c.args.groups.now.groups) × (get_or c.args.groups.now.groups c.loop-id.id-index c.group.result.now ≡ c.group.result.now)
+next c ids =
+    group_of_id c.args.groups.now.groups c.requires.ascending c.deref-id-items.result.now ids c.loop-id.id-index _ c.loop-id-test.true c.group.result.now
+    c.group.ensures
+
+pub text_or_fault-requires : goal.text_or_fault-requires
+text_or_fault-requires c = IsGroup-found c.args.graph.now c.args.groups.now.groups _ c.group.result.now c.requires.each c.group.ensures
+
+pub returns-in_err-text-clause-too_large : goal.returns-in_err-text-clause-too_large
+returns-in_err-text-clause-too_large c =
+    let begin = goal.at.returns-in_err-text-clause-too_large c in
+    let at = next begin.After-group (all_ids begin.After-deref-id-items) in
+    let told = err_from_is_err_and c.from_residual-in_err-text.result c.from_residual-in_err-text.ensures.1 in
+    rw (told.1, told.2) (first_refused c.args.groups.now.groups c.loop-id.id-index c.group.result.now c.in_err-text.field-0.0 at.0 (sym at.1)
+    c.loop-id.invariant.fits c.in_err-text.ensures.too_large)
 
 pub loop-id-preserved : goal.loop-id-preserved
 loop-id-preserved c =
+    let begin = goal.at.loop-id-preserved c in
+    let at = next begin.After-group (all_ids begin.After-deref-id-items) in
     let groups = c.args.groups.now.groups in
-    let group = c.group-group.result.now in
+    let group = c.group.result.now in
     let i = c.loop-id.id-index in
-    let ids = c.deref-id-items.result.now in
-    let same = ap (λ (ids : List GroupId). map (λ (id : GroupId). id.node) ids) c.deref-id-items.ensures.value ∙ c.in_ok-ids.ensures.ids in
-    let at = group_of_id groups c.requires.ascending ids same i _ c.loop-id-test.true group c.group-group.ensures in
     let graph = c.args.graph.now in
+    let text = c.in_ok-text.text in
+    let nodes = c.in_ok-text.nodes in
     let front = map (text_of_group graph) (take i groups) in
-    let text = rw (c.members.ensures, c.switches.ensures) at c.in-Ok.ensures.text in
-    let locals = rw (c.members.ensures, c.switches.ensures) at c.in-Ok.ensures.locals in
-    let fits = rw (c.members.ensures, c.switches.ensures) at c.in-Ok.ensures.fits in
-    let all = mapped_more (text_of_group graph) front c.in-Ok.text groups group i at.0 (sym at.1) refl text in
-    let ok : is_ok c.push.result ≡ true = sym c.map_err.ensures.variant ∙ ap is_ok c.in_ok-map_err-in-Ok.was in
-    let pushed : c.push.new.self.items ≡ c.loop-id.maps.items ++ c.in-Ok.nodes ∷ [] = rw ok at c.push.ensures.items in
+    let all = mapped_more (text_of_group graph) front text groups group i at.0 (sym at.1) refl c.in_ok-text.ensures.text in
+    let ok : is_ok c.push.result ≡ true = sym c.map_err.ensures.variant ∙ ap is_ok c.in_ok-map_err.was in
+    let pushed : c.push.new.self.items ≡ c.loop-id.maps.items ++ nodes ∷ [] = rw ok at c.push.ensures.items in
     record {
-      texts = c.in_ok-push_text-in-Ok.ensures.texts
-          ∙ (ap (λ texts. texts ++ Some c.in-Ok.text ∷ []) c.loop-id.invariant.texts
-          ∙ (sym (map-append Some front (c.in-Ok.text ∷ [])) ∙ ap (map Some) all));
-      known = c.in_ok-push_text-in-Ok.ensures.known
-          ∙ (ap (λ known. known ++ new_texts known (c.in-Ok.text ∷ [])) c.loop-id.invariant.known
-          ∙ (first_texts-more front c.in-Ok.text ∙ ap first_texts all));
-      maps = rw pushed (map_pushed (λ nodes. nodes.items) (local_nodes graph) c.loop-id.maps.items c.in-Ok.nodes groups
-          group i at.0 (sym at.1) c.loop-id.invariant.maps locals);
+      texts = c.in_ok-push_text.ensures.texts
+          ∙ (ap (λ texts. texts ++ Some text ∷ []) c.loop-id.invariant.texts
+          ∙ (sym (map-append Some front (text ∷ [])) ∙ ap (map Some) all));
+      known = c.in_ok-push_text.ensures.known
+          ∙ (ap (λ known. known ++ new_texts known (text ∷ [])) c.loop-id.invariant.known
+          ∙ (first_texts-more front text ∙ ap first_texts all));
+      maps = rw pushed (map_pushed (λ nodes. nodes.items) (local_nodes graph) c.loop-id.maps.items nodes groups group i at.0 (sym at.1)
+          c.loop-id.invariant.maps c.in_ok-text.ensures.nodes);
       fits = All-more (λ group. fault_in group ≡ None) groups i group at.0 c.loop-id.invariant.fits
-          (subst (λ group. fault_in group ≡ None) (sym at.1) fits);
+          (subst (λ group. fault_in group ≡ None) (sym at.1) c.in_ok-text.ensures.fits);
     }
 
 pub returns : goal.returns
 returns c =
     let groups = c.args.groups.now.groups in
-    let same = ap (λ (ids : List GroupId). map (λ (id : GroupId). id.node) ids) c.deref-id-items.ensures.value ∙ c.in_ok-ids.ensures.ids in
+    let ids = all_ids (goal.at.returns c).After-deref-id-items in
     let all : take c.loop-id.id-index groups ≡ groups =
     take_all c.loop-id.id-index groups
-    (omega (arith, c.loop-id-test.false, ap length same, length-map c.deref-id-items.result.now (λ (id : GroupId). id.node), length-map groups id_of)) in
+    (omega (arith, c.loop-id-test.false, ap length ids, length-map c.deref-id-items.result.now (λ (id : GroupId). id.node), length-map groups id_of)) in
     let so_far = c.loop-id.invariant in
     record { texts = rw all at so_far.texts; known = rw all at so_far.known; maps = rw all at so_far.maps; fits = rw all at so_far.fits; too_large = tt }

@@ -3,10 +3,9 @@ use Rattle.std.proofs.Common.{◌≡◌, ◌+◌, ◌-◌, ◌<◌, ◌∷◌, d
 use Rattle.std.proofs.Math.Bool.{or-true}
 use Rattle.std.proofs.lemmas.List.{drop_all, drop_more}
 use Rattle.group_text.specs.FirstTexts.{is_among}
-use Rattle.group_analysis.specs.Using.{to_front}
 use Rattle.analysis_cache.specs.Keeping.{entry_texts}
 use Rattle.std.proofs.Common.{◌||◌}
-use Rattle.analysis_cache.proofs.UseLemmas.{all_to_front, all_to_front-used, is_among-used}
+use Rattle.analysis_cache.proofs.UseLemmas.{all_to_front, all_to_front-next, all_to_front-used, is_among-used}
 use Rattle.analysis_cache.proofs.recent.Recent.use_all.Goals as goal
 
 pub loop-left-init : goal.loop-left-init
@@ -43,10 +42,7 @@ loop-left-preserved c =
     ∙ ap (λ k. text ∷ drop k texts) next in
     record {
       inside = omega (arith, inside);
-      texts =
-          c.use_text.ensures.texts
-          ∙ ap (to_front text) c.loop-left.invariant.texts
-          ∙ ap (λ l. all_to_front l kept) (sym more);
+      texts = all_to_front-next text (drop c.loop-left.left texts) (drop at texts) kept _ _ more c.loop-left.invariant.texts c.use_text.ensures.texts;
       same = λ entry there. c.loop-left.invariant.same entry (c.use_text.ensures.same entry there);
     }
 

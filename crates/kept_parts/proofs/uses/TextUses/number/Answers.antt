@@ -7,7 +7,19 @@ use Rattle.group_text.specs.Compared.{same_text, same_text_decides}
 use Rattle.group_text.specs.FirstTexts.{is_among}
 use Rattle.kept_parts.specs.Uses.{UsesData}
 use Rattle.kept_parts.proofs.NumberLemmas.{AreCounted-known, used_known_more, among_at, position-text, known_again, known_first}
+use Rattle.kept_parts.proofs.uses.TextUses.number.Goals.{In-Ok}
 use Rattle.kept_parts.proofs.uses.TextUses.number.Goals as goal
+
+-- a text that isn't found is not among those that are known
+absent : (c : In-Ok) → is_among c.self.inside.known.keys c.in_ok-key.key ≡ false
+absent c = subst (λ one. is_among c.self.inside.known.keys one ≡ false) (sym c.in_ok-key.ensures) (sym c.in_default.ensures.found)
+
+-- and stands behind them
+keys : (c : In-Ok) → c.insert_full.new.self.keys ≡ c.self.inside.known.keys ++ c.in_ok-key.key ∷ []
+keys c =
+    let known = c.self.inside.known.keys in
+    let text = c.in_ok-key.key in
+    c.in-Ok.ensures.keys ∙ cond-false (is_among known text) known (known ++ text ∷ []) (absent c)
 
 pub returns-in-Some-clause-number : goal.returns-in-Some-clause-number
 returns-in-Some-clause-number c =
@@ -17,32 +29,20 @@ returns-in-Some-clause-number c =
 pub invariant_of-self-2 : goal.invariant_of-self-2
 invariant_of-self-2 c =
     let i = c.self.inside in
-    let text = c.in_ok-key.key in
-    let absent : is_among i.known.keys text ≡ false = subst (λ one. is_among i.known.keys one ≡ false) (sym c.in_ok-key.ensures) (sym c.in_default.ensures.found) in
-    let keys : c.insert_full.new.self.keys ≡ i.known.keys ++ text ∷ [] =
-    c.in-Ok.ensures.keys ∙ cond-false (is_among i.known.keys text) i.known.keys (i.known.keys ++ text ∷ []) absent in
+    let known = keys (goal.at.invariant_of-self-2 c).In-Ok in
     let counts = c.push_reserved.ensures.items ∙ ap (λ xs. xs ++ 0 ∷ []) c.reserve.ensures.items in
-    rw (keys, counts) (AreCounted-known i.known.keys i.counts.items i.numbers.items i.distinct text c.self.invariant
-    (subst (IsDistinct same_text) keys c.in-Ok.ensures.unique))
+    rw (known, counts) (AreCounted-known i.known.keys i.counts.items i.numbers.items i.distinct c.in_ok-key.key c.self.invariant
+    (subst (IsDistinct same_text) known c.in-Ok.ensures.unique))
 
 pub returns-clause-numbered : goal.returns-clause-numbered
 returns-clause-numbered c =
-    let i = c.self.inside in
-    let text = c.in_ok-key.key in
-    let absent : is_among i.known.keys text ≡ false = subst (λ one. is_among i.known.keys one ≡ false) (sym c.in_ok-key.ensures) (sym c.in_default.ensures.found) in
-    let keys : c.insert_full.new.self.keys ≡ i.known.keys ++ text ∷ [] =
-    c.in-Ok.ensures.keys ∙ cond-false (is_among i.known.keys text) i.known.keys (i.known.keys ++ text ∷ []) absent in
-    rw (← c.self.view_is) (record { more = text ∷ []; known = keys; numbers = refl })
+    rw (← c.self.view_is) (record { more = c.in_ok-key.key ∷ []; known = keys (goal.at.returns-clause-numbered c).In-Ok; numbers = refl })
 
 pub returns-clause-texts : goal.returns-clause-texts
 returns-clause-texts c =
-    let i = c.self.inside in
-    let text = c.in_ok-key.key in
-    let absent : is_among i.known.keys text ≡ false = subst (λ one. is_among i.known.keys one ≡ false) (sym c.in_ok-key.ensures) (sym c.in_default.ensures.found) in
-    let keys : c.insert_full.new.self.keys ≡ i.known.keys ++ text ∷ [] =
-    c.in-Ok.ensures.keys ∙ cond-false (is_among i.known.keys text) i.known.keys (i.known.keys ++ text ∷ []) absent in
-    let old : UsesData = record { known = i.known.keys; numbers = i.numbers.items } in
-    rw (← c.self.view_is) (used_known_more old _ c.self.invariant.inside (record { more = text ∷ []; known = keys; numbers = refl }))
+    let old : UsesData = record { known = c.self.inside.known.keys; numbers = c.self.inside.numbers.items } in
+    rw (← c.self.view_is) (used_known_more old _ c.self.invariant.inside
+    (record { more = c.in_ok-key.key ∷ []; known = keys (goal.at.returns-clause-texts c).In-Ok; numbers = refl }))
 
 pub returns-in-Some-clause-known : goal.returns-in-Some-clause-known
 returns-in-Some-clause-known c =
@@ -54,12 +54,9 @@ returns-in-Some-clause-known c =
 
 pub returns-clause-known : goal.returns-clause-known
 returns-clause-known c =
-    let i = c.self.inside in
-    let text = c.in_ok-key.key in
-    let absent : is_among i.known.keys text ≡ false = subst (λ one. is_among i.known.keys one ≡ false) (sym c.in_ok-key.ensures) (sym c.in_default.ensures.found) in
-    let keys : c.insert_full.new.self.keys ≡ i.known.keys ++ text ∷ [] =
-    c.in-Ok.ensures.keys ∙ cond-false (is_among i.known.keys text) i.known.keys (i.known.keys ++ text ∷ []) absent in
-    rw (← c.self.view_is, ← c.in_ok-key.ensures) (keys ∙ ap (λ more. i.known.keys ++ more) (sym (known_first i.known.keys text absent)))
+    let known = c.self.inside.known.keys in
+    let at = (goal.at.returns-clause-known c).In-Ok in
+    rw (← c.self.view_is, ← c.in_ok-key.ensures) (keys at ∙ ap (λ more. known ++ more) (sym (known_first known c.in_ok-key.key (absent at))))
 
 pub returns-clause-number : goal.returns-clause-number
 returns-clause-number c =

@@ -1,29 +1,25 @@
--- One use more is counted.
-use Rattle.std.proofs.Common.{◌≡◌, ◌<◌, length, ap, ◌∙◌, arith}
-use Rattle.std.specs.Prelude.{slice_index}
-use Rattle.std.proofs.lemmas.List.{get_or_default}
+-- A part without a text is added, and gets it.
+use Rattle.std.proofs.Common.{◌≡◌, ◌-◌, [], ◌∷◌, ◌++◌, length, None, Some, ap, ap₂, ◌∙◌, refl, arith}
+use Rattle.std.specs.Prelude.{slice_set}
+use Rattle.std.proofs.lemmas.List.{set-append_right, length_push}
 use Rattle.kept_parts.specs.Uses.{UsesData}
-use Rattle.kept_parts.proofs.NumberLemmas.{count_few, distinct_few, AreCounted-push}
 use Rattle.kept_parts.proofs.uses.TextUses.push.Goals as goal
 
-pub overflow_add-before : goal.overflow_add-before
-overflow_add-before c =
-    let i = c.self.inside in
-    let within : c.args.number < length i.known.keys = omega (arith, c.requires, ap (λ (uses : UsesData). length uses.known) c.self.view_is) in
-    let before : c.index-before.result.now ≡ slice_index i.counts.items c.args.number =
-    c.index-before.ensures ∙ get_or_default i.counts.items c.args.number c.index-before.result.now 0 (omega (arith, within, c.self.invariant.counted)) in
-    omega (arith, before, count_few i.known.keys i.counts.items i.numbers.items i.distinct c.args.number c.self.invariant, i.numbers.ok.0)
-
-pub with_use-self-inside-requires : goal.with_use-self-inside-requires
-with_use-self-inside-requires c =
-    let i = c.self.inside in
-    omega (arith, distinct_few i.known.keys i.counts.items i.numbers.items i.distinct c.self.invariant, i.counts.ok.0)
-
-pub invariant_of-self-2 : goal.invariant_of-self-2
-invariant_of-self-2 c =
-    let i = c.self.inside in
-    let within : c.args.number < length i.known.keys = omega (arith, c.requires, ap (λ (uses : UsesData). length uses.known) c.self.view_is) in
-    let before : c.index-before.result.now ≡ slice_index i.counts.items c.args.number =
-    c.index-before.ensures ∙ get_or_default i.counts.items c.args.number c.index-before.result.now 0 (omega (arith, within, c.self.invariant.counted)) in
-    rw (c.with_use-self-inside.ensures, c.in_ok-push.ensures.items, before)
-    (AreCounted-push i.known.keys i.counts.items i.numbers.items i.distinct c.args.number within c.self.invariant)
+pub returns-clause-ok : goal.returns-clause-ok
+returns-clause-ok c =
+    let old = c.args.self.now.numbers in
+    let added : c.add.new.self.numbers ≡ old ++ None ∷ [] = c.in_ok-add.ensures.ok in
+    let last : c.len-part.result - 1 ≡ length old =
+    omega (
+      arith,
+      c.len-part.ensures,
+      c.self.inside.numbers.ok.0,
+      ap (λ (uses : UsesData). length uses.numbers) c.self.view_is,
+      ap length added,
+      length_push old None,
+    ) in
+    let none : length old - length old ≡ 0 = omega arith in
+    c.set.ensures.numbers
+    ∙ (ap₂ (λ list place. slice_set list place (Some c.args.number)) added last
+    ∙ (set-append_right old (None ∷ []) (length old) (length old) (Some c.args.number) refl (omega arith)
+    ∙ ap (λ k. old ++ slice_set (None ∷ []) k (Some c.args.number)) none))

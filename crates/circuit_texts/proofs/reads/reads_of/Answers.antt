@@ -1,0 +1,9 @@
+-- The groups with all ids are all groups.
+use Rattle.circuit_texts.proofs.ChosenLemmas.{chosen-all}
+use Rattle.circuit_texts.proofs.reads.reads_of.Goals as goal
+
+pub returns : goal.returns
+returns c =
+    let all = chosen-all c.args.groups.now.groups c.requires.ascending c.in_ok-ids.ids.items c.deref.result.now c.deref.ensures.value
+    c.in_ok-ids.ensures.ids c.in_ok-ids.ensures.all in
+    rw all at c.in_ok-reads_at.ensures
