@@ -44,8 +44,20 @@ pub(crate) fn arrays(alloc: Global) -> Result<Room, AllocError> {
     })
 }
 
-/// Runs all parts so often by instructions with tagged operands. What the last round changes is left noted.
-pub(crate) fn tagged_rounds<L: Ledger>(
+/// How parts are run.
+#[derive(Clone, Copy)]
+pub(crate) enum Form {
+    /// By instructions with tagged operands.
+    Tagged,
+    /// Over one array of truth values.
+    Flat,
+    /// By their codes, up to 64 parts of one code together, in words.
+    Together,
+}
+
+/// Runs all parts so often in this form. What the last round changes is left noted.
+pub(crate) fn run_rounds<L: Ledger>(
+    form: Form,
     places: &Places,
     state: &[Tern],
     room: &mut Room,
@@ -59,45 +71,35 @@ pub(crate) fn tagged_rounds<L: Ledger>(
     let mut steps: Steps<L> = Steps::new(blank);
     for _round in 0..ROUNDS {
         room.changes.clear();
-        for part in &places.parts {
-            run_tagged(part, &places.nodes, state, room, &mut steps);
-        }
+        run_all(form, places, state, room, &mut steps);
     }
 }
 
-/// Runs all parts so often over one array of truth values. What the last round changes is left noted.
-pub(crate) fn flat_rounds<L: Ledger>(places: &Places, state: &[Tern], room: &mut Room, blank: Blank)
-    requires name { blank.name ≡ L.name }
-    requires parts { blank.parts ≡ L.parts }
-    requires some { blank.parts ≢ 0 }
-    requires placed { ArePlaced (length state.now) places.now }
-{
-    let mut steps: Steps<L> = Steps::new(blank);
-    for _round in 0..ROUNDS {
-        room.changes.clear();
-        for part in &places.parts {
-            run_flat(part, &places.nodes, state, room, &mut steps);
-        }
-    }
-}
-
-/// Runs all parts so often by their codes, up to 64 of them together. What the last round changes is left noted.
-pub(crate) fn together_rounds<L: Ledger>(
+// A run of each part, in this form.
+fn run_all<L: Ledger>(
+    form: Form,
     places: &Places,
     state: &[Tern],
     room: &mut Room,
-    blank: Blank,
+    steps: &mut Steps<L>,
 )
-    requires name { blank.name ≡ L.name }
-    requires parts { blank.parts ≡ L.parts }
-    requires some { blank.parts ≢ 0 }
-    requires placed { ArePlaced (length state.now) places.now }
+    requires { ArePlaced (length state.now) places.now }
 {
-    let mut steps: Steps<L> = Steps::new(blank);
-    for _round in 0..ROUNDS {
-        room.changes.clear();
-        for alike in &places.alike {
-            run_alike(alike, &places.nodes, state, room, &mut steps);
+    match form {
+        Form::Tagged => {
+            for part in &places.parts {
+                run_tagged(part, &places.nodes, state, room, steps);
+            }
+        }
+        Form::Flat => {
+            for part in &places.parts {
+                run_flat(part, &places.nodes, state, room, steps);
+            }
+        }
+        Form::Together => {
+            for alike in &places.alike {
+                run_alike(alike, &places.nodes, state, room, steps);
+            }
         }
     }
 }

@@ -6,7 +6,7 @@ ghost use Rattle.code_bench.specs.Placing.{ArePlaced};
 use crate::draws::Draws;
 use crate::nets::Size;
 use crate::parts::{PLACES, Placed, Places, codes_of, drawn_state, places_of};
-use crate::rounds::{Room, arrays, flat_rounds, tagged_rounds, together_rounds};
+use crate::rounds::{Form, Room, arrays, run_rounds};
 use part_words::Change;
 use std::io;
 use std::marker::Brand;
@@ -47,18 +47,19 @@ pub(crate) fn measure(rt: &HostRuntime, size: Size) -> io::Result<()> {
 fn time_all(rt: &HostRuntime, places: &Places, state: &[Tern], room: &mut Room) -> io::Result<()>
     requires { ArePlaced (length state.now) places.now }
 {
-    let tagged = time_tagged(rt, places, state, room)?;
-    let flat = time_flat(rt, places, state, room)?;
-    let together = time_together(rt, places, state, room)?;
+    let tagged = time_form(rt, Form::Tagged, places, state, room)?;
+    let flat = time_form(rt, Form::Flat, places, state, room)?;
+    let together = time_form(rt, Form::Together, places, state, room)?;
     if tagged.sum != flat.sum || tagged.sum != together.sum {
         println!(rt; "the forms differ")?;
     }
     tell(rt, &places.parts, tagged, flat, together)
 }
 
-// The time by instructions with tagged operands.
-fn time_tagged(
+// The time of all rounds in this form.
+fn time_form(
     rt: &HostRuntime,
+    form: Form,
     places: &Places,
     state: &[Tern],
     room: &mut Room,
@@ -66,35 +67,7 @@ fn time_tagged(
     requires { ArePlaced (length state.now) places.now }
 {
     let start = Instant::now(rt)?;
-    tagged_rounds::<Brand>(places, state, room, Blank::new(1));
-    time_since(rt, start, &room.changes)
-}
-
-// The time over one array of truth values.
-fn time_flat(
-    rt: &HostRuntime,
-    places: &Places,
-    state: &[Tern],
-    room: &mut Room,
-) -> io::Result<Timed>
-    requires { ArePlaced (length state.now) places.now }
-{
-    let start = Instant::now(rt)?;
-    flat_rounds::<Brand>(places, state, room, Blank::new(1));
-    time_since(rt, start, &room.changes)
-}
-
-// The time of parts of one code together, in words.
-fn time_together(
-    rt: &HostRuntime,
-    places: &Places,
-    state: &[Tern],
-    room: &mut Room,
-) -> io::Result<Timed>
-    requires { ArePlaced (length state.now) places.now }
-{
-    let start = Instant::now(rt)?;
-    together_rounds::<Brand>(places, state, room, Blank::new(1));
+    run_rounds::<Brand>(form, places, state, room, Blank::new(1));
     time_since(rt, start, &room.changes)
 }
 
