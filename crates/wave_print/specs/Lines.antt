@@ -58,22 +58,20 @@ abbrev pub group_line_of : ℕ → ℕ → ℕ → Option ℕ → List (List ℕ
 group_line_of number nodes switches text names =
     group_start_of number nodes switches text ++ names_after names ++ codes "\n"
 
--- what a summary tells of the circuit: ` nodes <nodes> switches <switches>`
-abbrev pub circuit_of : Summary → List ℕ
-circuit_of summary = codes " nodes " ++ decimal summary.nodes ++ codes " switches " ++ decimal summary.switches
+-- how many nodes and transistors there are: ` nodes <nodes> switches <switches>`
+abbrev pub circuit_of : ℕ → ℕ → List ℕ
+circuit_of nodes switches = codes " nodes " ++ decimal nodes ++ codes " switches " ++ decimal switches
 
--- of the lines and their steps: ` lines <lines> steps <steps> marks <marks>`
-abbrev pub moves_of : Summary → List ℕ
-moves_of summary =
+-- how many values have each state: ` zeros <zeros> ones <ones> unknown <unknown>`
+abbrev pub states_of : ℕ → ℕ → ℕ → List ℕ
+states_of zeros ones unknown = codes " zeros " ++ decimal zeros ++ codes " ones " ++ decimal ones ++ codes " unknown " ++ decimal unknown
+
+-- what a summary tells of the waveform lines and their values: ` lines <lines> steps <steps> marks <marks>`, and the values of each state
+abbrev pub waves_of : Summary → List ℕ
+waves_of summary =
     codes " lines " ++ decimal summary.lines ++ codes " steps " ++ decimal summary.steps ++ codes " marks "
-    ++ decimal summary.marks
+    ++ decimal summary.marks ++ states_of summary.zeros summary.ones summary.unknown
 
--- and of the values: ` zeros <zeros> ones <ones> unknown <unknown>`
-abbrev pub states_of : Summary → List ℕ
-states_of summary =
-    codes " zeros " ++ decimal summary.zeros ++ codes " ones " ++ decimal summary.ones ++ codes " unknown "
-    ++ decimal summary.unknown
-
--- the summary line: `large`, and these three parts
+-- the summary line: `large`, the circuit, and the waveform lines
 abbrev pub summary_line_of : Summary → List ℕ
-summary_line_of summary = codes "large" ++ circuit_of summary ++ moves_of summary ++ states_of summary ++ codes "\n"
+summary_line_of summary = codes "large" ++ circuit_of summary.nodes summary.switches ++ waves_of summary ++ codes "\n"

@@ -1,10 +1,32 @@
 ghost use Rattle.std.specs.Prelude.{◌≡◌, ◌+◌, ◌≤◌, ◌++◌, length, map, codes, decimal};
 ghost use Rattle.ternary.specs.Tern.{letter};
-ghost use Rattle.wave_print.specs.Lines.{mark_of, values_of, wave_line_of, report_line_of, expect_line_of, check_line_of, text_number_of, group_start_of, circuit_of, moves_of, states_of, summary_line_of};
+ghost use Rattle.wave_print.specs.Lines.{mark_of, values_of, wave_line_of, report_line_of, expect_line_of, check_line_of, text_number_of, group_start_of, circuit_of, waves_of, states_of, summary_line_of};
 
 use crate::line_buf::LineBuf;
 use itoa::Buffer;
 use ternary::Tern;
+
+/// What a whole run comes to: its circuit's nodes and transistors, and what its waveform lines tell
+/// together. A count that is at the last value of its type may stand for more.
+#[derive(Clone, Copy, Debug, PartialEq, Eq)]
+pub struct Summary {
+    /// How many nodes the circuit has.
+    pub nodes: u64,
+    /// How many transistors it has.
+    pub switches: u64,
+    /// How many waveform lines there are.
+    pub lines: u64,
+    /// How many steps changed something, in all lines together.
+    pub steps: u64,
+    /// How many lines have the mark.
+    pub marks: u64,
+    /// How many values are 0.
+    pub zeros: u64,
+    /// How many are 1.
+    pub ones: u64,
+    /// How many are X.
+    pub unknown: u64,
+}
 
 /// The most values of one waveform line.
 pub const MOST_VALUES: usize = 256;
@@ -30,26 +52,18 @@ pub const SUMMARY_LINE_ROOM: usize = 300;
 /// The most digits of a number.
 pub(crate) const NUMBER_ROOM: usize = 20;
 
-/// What a whole run comes to: its circuit's nodes and transistors, and what its waveform lines tell
-/// together. A count that is at the last value of its type may stand for more.
-#[derive(Clone, Copy, Debug, PartialEq, Eq)]
-pub struct Summary {
-    /// How many nodes the circuit has.
-    pub nodes: u64,
-    /// How many transistors it has.
-    pub switches: u64,
-    /// How many waveform lines there are.
-    pub lines: u64,
-    /// How many steps changed something, in all lines together.
-    pub steps: u64,
-    /// How many lines have the mark.
-    pub marks: u64,
-    /// How many values are 0.
-    pub zeros: u64,
-    /// How many are 1.
-    pub ones: u64,
-    /// How many are X.
-    pub unknown: u64,
+/// Appends the summary line `large nodes <nodes> switches <switches> lines <lines> steps <steps> marks
+/// <marks> zeros <zeros> ones <ones> unknown <unknown>` and LF.
+pub fn summary_line(out: &mut LineBuf, summary: Summary)
+    requires room { SUMMARY_LINE_ROOM ≤ out.old.spare }
+    ensures bytes { out.new.bytes ≡ out.old.bytes ++ summary_line_of summary }
+    ensures spare { out.new.spare + length (summary_line_of summary) ≡ out.old.spare }
+    ensures short { length (summary_line_of summary) ≤ SUMMARY_LINE_ROOM }
+{
+    out.append(b"large");
+    append_circuit(out, summary.nodes, summary.switches);
+    append_waves(out, summary);
+    out.append(b"\n");
 }
 
 /// Appends the waveform line `<n> <k><mark> <values>` and LF.
@@ -73,22 +87,6 @@ pub fn wave_line(out: &mut LineBuf, n: u64, k: u64, mark: bool, values: &[Tern])
     out.append(b"\n");
 }
 
-/// Appends the report line `groups <groups> texts <texts> new <new>` and LF.
-pub fn report_line(out: &mut LineBuf, groups: u64, texts: u64, new: u64)
-    requires room { REPORT_LINE_ROOM ≤ out.old.spare }
-    ensures bytes { out.new.bytes ≡ out.old.bytes ++ report_line_of groups texts new }
-    ensures spare { out.new.spare + length (report_line_of groups texts new) ≡ out.old.spare }
-    ensures short { length (report_line_of groups texts new) ≤ REPORT_LINE_ROOM }
-{
-    out.append(b"groups ");
-    append_number(out, groups);
-    out.append(b" texts ");
-    append_number(out, texts);
-    out.append(b" new ");
-    append_number(out, new);
-    out.append(b"\n");
-}
-
 /// Appends the line of an `expect` that wasn't met, `expect <name>=<want> got <got> after <n>` and
 /// LF.
 ///
@@ -105,8 +103,7 @@ pub fn expect_line(out: &mut LineBuf, name: &[u8], want: Tern, got: Tern, n: u64
     out.push(want.letter());
     out.append(b" got ");
     out.push(got.letter());
-    out.append(b" after ");
-    append_number(out, n);
+    append_count(out, b" after ", n);
     out.append(b"\n");
 }
 
@@ -117,71 +114,10 @@ pub fn check_line(out: &mut LineBuf, nodes: u64, switches: u64, names: u64)
     ensures spare { out.new.spare + length (check_line_of nodes switches names) ≡ out.old.spare }
     ensures short { length (check_line_of nodes switches names) ≤ CHECK_LINE_ROOM }
 {
-    out.append(b"ok nodes ");
-    append_number(out, nodes);
-    out.append(b" switches ");
-    append_number(out, switches);
-    out.append(b" names ");
-    append_number(out, names);
+    out.append(b"ok");
+    append_circuit(out, nodes, switches);
+    append_count(out, b" names ", names);
     out.append(b"\n");
-}
-
-/// Appends the summary line `large nodes <nodes> switches <switches> lines <lines> steps <steps> marks
-/// <marks> zeros <zeros> ones <ones> unknown <unknown>` and LF.
-pub fn summary_line(out: &mut LineBuf, summary: Summary)
-    requires room { SUMMARY_LINE_ROOM ≤ out.old.spare }
-    ensures bytes { out.new.bytes ≡ out.old.bytes ++ summary_line_of summary }
-    ensures spare { out.new.spare + length (summary_line_of summary) ≡ out.old.spare }
-    ensures short { length (summary_line_of summary) ≤ SUMMARY_LINE_ROOM }
-{
-    out.append(b"large");
-    append_circuit(out, summary);
-    append_moves(out, summary);
-    append_states(out, summary);
-    out.append(b"\n");
-}
-
-// Appends what a summary tells of the circuit.
-fn append_circuit(out: &mut LineBuf, summary: Summary)
-    requires room { 90 ≤ out.old.spare }
-    ensures bytes { out.new.bytes ≡ out.old.bytes ++ circuit_of summary }
-    ensures spare { out.new.spare + length (circuit_of summary) ≡ out.old.spare }
-    ensures short { length (circuit_of summary) ≤ 90 }
-{
-    out.append(b" nodes ");
-    append_number(out, summary.nodes);
-    out.append(b" switches ");
-    append_number(out, summary.switches);
-}
-
-// Appends what a summary tells of the lines and their steps.
-fn append_moves(out: &mut LineBuf, summary: Summary)
-    requires room { 90 ≤ out.old.spare }
-    ensures bytes { out.new.bytes ≡ out.old.bytes ++ moves_of summary }
-    ensures spare { out.new.spare + length (moves_of summary) ≡ out.old.spare }
-    ensures short { length (moves_of summary) ≤ 90 }
-{
-    out.append(b" lines ");
-    append_number(out, summary.lines);
-    out.append(b" steps ");
-    append_number(out, summary.steps);
-    out.append(b" marks ");
-    append_number(out, summary.marks);
-}
-
-// Appends what a summary tells of the values.
-fn append_states(out: &mut LineBuf, summary: Summary)
-    requires room { 90 ≤ out.old.spare }
-    ensures bytes { out.new.bytes ≡ out.old.bytes ++ states_of summary }
-    ensures spare { out.new.spare + length (states_of summary) ≡ out.old.spare }
-    ensures short { length (states_of summary) ≤ 90 }
-{
-    out.append(b" zeros ");
-    append_number(out, summary.zeros);
-    out.append(b" ones ");
-    append_number(out, summary.ones);
-    out.append(b" unknown ");
-    append_number(out, summary.unknown);
 }
 
 /// Appends the start of a group line, `group <number> nodes <nodes> switches <switches> text
@@ -194,12 +130,8 @@ pub fn group_start(out: &mut LineBuf, number: u64, nodes: u64, switches: u64, te
     ensures spare { out.new.spare + length (group_start_of number nodes switches text) ≡ out.old.spare }
     ensures short { length (group_start_of number nodes switches text) ≤ GROUP_START_ROOM }
 {
-    out.append(b"group ");
-    append_number(out, number);
-    out.append(b" nodes ");
-    append_number(out, nodes);
-    out.append(b" switches ");
-    append_number(out, switches);
+    append_count(out, b"group ", number);
+    append_circuit(out, nodes, switches);
     out.append(b" text ");
     append_text_number(out, text);
     out.append(b":");
@@ -215,6 +147,19 @@ pub fn group_name(out: &mut LineBuf, name: &[u8])
     out.append(name);
 }
 
+/// Appends the report line `groups <groups> texts <texts> new <new>` and LF.
+pub fn report_line(out: &mut LineBuf, groups: u64, texts: u64, new: u64)
+    requires room { REPORT_LINE_ROOM ≤ out.old.spare }
+    ensures bytes { out.new.bytes ≡ out.old.bytes ++ report_line_of groups texts new }
+    ensures spare { out.new.spare + length (report_line_of groups texts new) ≡ out.old.spare }
+    ensures short { length (report_line_of groups texts new) ≤ REPORT_LINE_ROOM }
+{
+    append_count(out, b"groups ", groups);
+    append_count(out, b" texts ", texts);
+    append_count(out, b" new ", new);
+    out.append(b"\n");
+}
+
 /// Appends LF, which ends a line.
 pub fn line_end(out: &mut LineBuf)
     requires room { 1 ≤ out.old.spare }
@@ -222,6 +167,42 @@ pub fn line_end(out: &mut LineBuf)
     ensures spare { out.new.spare + 1 ≡ out.old.spare }
 {
     out.append(b"\n");
+}
+
+// Appends how many nodes and transistors there are, ` nodes <nodes> switches <switches>`.
+fn append_circuit(out: &mut LineBuf, nodes: u64, switches: u64)
+    requires room { 60 ≤ out.old.spare }
+    ensures bytes { out.new.bytes ≡ out.old.bytes ++ circuit_of nodes switches }
+    ensures spare { out.new.spare + length (circuit_of nodes switches) ≡ out.old.spare }
+    ensures short { length (circuit_of nodes switches) ≤ 60 }
+{
+    append_count(out, b" nodes ", nodes);
+    append_count(out, b" switches ", switches);
+}
+
+// Appends what a summary tells of the waveform lines and their values.
+fn append_waves(out: &mut LineBuf, summary: Summary)
+    requires room { 180 ≤ out.old.spare }
+    ensures bytes { out.new.bytes ≡ out.old.bytes ++ waves_of summary }
+    ensures spare { out.new.spare + length (waves_of summary) ≡ out.old.spare }
+    ensures short { length (waves_of summary) ≤ 180 }
+{
+    append_count(out, b" lines ", summary.lines);
+    append_count(out, b" steps ", summary.steps);
+    append_count(out, b" marks ", summary.marks);
+    append_states(out, summary.zeros, summary.ones, summary.unknown);
+}
+
+// Appends how many values have each state, ` zeros <zeros> ones <ones> unknown <unknown>`.
+fn append_states(out: &mut LineBuf, zeros: u64, ones: u64, unknown: u64)
+    requires room { 90 ≤ out.old.spare }
+    ensures bytes { out.new.bytes ≡ out.old.bytes ++ states_of zeros ones unknown }
+    ensures spare { out.new.spare + length (states_of zeros ones unknown) ≡ out.old.spare }
+    ensures short { length (states_of zeros ones unknown) ≤ 90 }
+{
+    append_count(out, b" zeros ", zeros);
+    append_count(out, b" ones ", ones);
+    append_count(out, b" unknown ", unknown);
 }
 
 // Appends the number of a group's text, or `-`.
@@ -235,6 +216,17 @@ fn append_text_number(out: &mut LineBuf, text: Option<u64>)
         Some(number) => append_number(out, number),
         None => out.append(b"-"),
     }
+}
+
+/// Appends a text and a number behind it.
+pub(crate) fn append_count(out: &mut LineBuf, text: &[u8], n: u64)
+    requires room { length text.now + NUMBER_ROOM ≤ out.old.spare }
+    ensures bytes { out.new.bytes ≡ out.old.bytes ++ text.now ++ decimal n }
+    ensures spare { out.new.spare + length text.now + length (decimal n) ≡ out.old.spare }
+    ensures short { length (decimal n) ≤ NUMBER_ROOM }
+{
+    out.append(text);
+    append_number(out, n);
 }
 
 /// Appends a number as a decimal without leading zeros.

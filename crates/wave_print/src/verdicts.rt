@@ -1,9 +1,9 @@
 //! The lines of a list of faults.
-ghost use Rattle.std.specs.Prelude.{◌≡◌, ◌+◌, ◌≤◌, ◌++◌, length};
+ghost use Rattle.std.specs.Prelude.{◌≡◌, ◌+◌, ◌≤◌, ◌++◌, length, codes, decimal};
 ghost use Rattle.wave_print.specs.Verdicts.{detected_line_of, faults_line_of, possible_line_of, refused_line_of, undetected_line_of};
 
 use crate::line_buf::LineBuf;
-use crate::lines::append_number;
+use crate::lines::{append_count, append_number};
 
 /// Room for any verdict's line, beyond that for its name.
 pub const VERDICT_LINE_ROOM: usize = 60;
@@ -19,9 +19,7 @@ pub fn detected_line(out: &mut LineBuf, line: u64, row: u64, name: &[u8])
     ensures spare { out.new.spare + length (detected_line_of line row name.now) ≡ out.old.spare }
     ensures short { length (detected_line_of line row name.now) ≤ VERDICT_LINE_ROOM + length name.now }
 {
-    out.append(b"fault ");
-    append_number(out, line);
-    out.append(b" detected ");
+    append_fault(out, line, b" detected ");
     append_number(out, row);
     out.append(b" ");
     out.append(name);
@@ -36,9 +34,7 @@ pub fn possible_line(out: &mut LineBuf, line: u64, row: u64, name: &[u8])
     ensures spare { out.new.spare + length (possible_line_of line row name.now) ≡ out.old.spare }
     ensures short { length (possible_line_of line row name.now) ≤ VERDICT_LINE_ROOM + length name.now }
 {
-    out.append(b"fault ");
-    append_number(out, line);
-    out.append(b" possible ");
+    append_fault(out, line, b" possible ");
     append_number(out, row);
     out.append(b" ");
     out.append(name);
@@ -53,9 +49,7 @@ pub fn refused_line(out: &mut LineBuf, line: u64, at: u64)
     ensures spare { out.new.spare + length (refused_line_of line at) ≡ out.old.spare }
     ensures short { length (refused_line_of line at) ≤ VERDICT_LINE_ROOM }
 {
-    out.append(b"fault ");
-    append_number(out, line);
-    out.append(b" refused ");
+    append_fault(out, line, b" refused ");
     append_number(out, at);
     out.append(b"\n");
 }
@@ -67,9 +61,7 @@ pub fn undetected_line(out: &mut LineBuf, line: u64)
     ensures spare { out.new.spare + length (undetected_line_of line) ≡ out.old.spare }
     ensures short { length (undetected_line_of line) ≤ VERDICT_LINE_ROOM }
 {
-    out.append(b"fault ");
-    append_number(out, line);
-    out.append(b" undetected\n");
+    append_fault(out, line, b" undetected\n");
 }
 
 /// Appends the last line of a list of faults, `faults <faults> detected <detected> possible
@@ -89,15 +81,21 @@ pub fn faults_line(
         ≡ out.old.spare }
     ensures short { length (faults_line_of faults detected possible undetected refused) ≤ FAULTS_LINE_ROOM }
 {
-    out.append(b"faults ");
-    append_number(out, faults);
-    out.append(b" detected ");
-    append_number(out, detected);
-    out.append(b" possible ");
-    append_number(out, possible);
-    out.append(b" undetected ");
-    append_number(out, undetected);
-    out.append(b" refused ");
-    append_number(out, refused);
+    append_count(out, b"faults ", faults);
+    append_count(out, b" detected ", detected);
+    append_count(out, b" possible ", possible);
+    append_count(out, b" undetected ", undetected);
+    append_count(out, b" refused ", refused);
     out.append(b"\n");
+}
+
+// Appends `fault`, the number of a line of the list, and a text behind it.
+fn append_fault(out: &mut LineBuf, line: u64, text: &[u8])
+    requires room { 26 + length text.now ≤ out.old.spare }
+    ensures bytes { out.new.bytes ≡ out.old.bytes ++ codes "fault " ++ decimal line ++ text.now }
+    ensures spare { out.new.spare + 6 + length (decimal line) + length text.now ≡ out.old.spare }
+    ensures short { length (decimal line) ≤ 20 }
+{
+    append_count(out, b"fault ", line);
+    out.append(text);
 }
