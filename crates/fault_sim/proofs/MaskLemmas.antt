@@ -1,5 +1,5 @@
 -- Laws of masks: without a stuck node a well-formed command stays as it is, and a masked command is well formed.
-use Rattle.std.proofs.Common.{◌≡◌, ℕ, ◌+◌, ◌<◌, ◌++◌, get_or, take, Bool, true, false, not, List, [], ◌∷◌, length, map, filter, All, Option, Some, None, IfSome, Result, Ok, Err, IfOk, if◌then◌else◌, refl, sym, ap, ◌∙◌, subst, arith}
+use Rattle.std.proofs.Common.{◌≡◌, ℕ, ◌+◌, ◌<◌, ◌++◌, get_or, take, Bool, true, false, not, List, [], ◌∷◌, length, map, filter, All, Option, Some, None, IfSome, Result, Ok, Err, IfOk, IfErr, ◌⊎◌, inl, inr, if◌then◌else◌, refl, sym, ap, ◌∙◌, subst, arith}
 use Rattle.std.proofs.lemmas.List.{length-map, map_more}
 use Rattle.std.proofs.lemmas.List.Elements.{All-map, All-filter, All-weaker}
 use Rattle.ternary.specs.declared.tern.Tern.{Tern}
@@ -8,6 +8,7 @@ use Rattle.line_words.specs.Visible.{IsVisibleName}
 use Rattle.script_lang.specs.declared.command.Command.{Command}
 use Rattle.script_lang.specs.declared.command.Command.TheVariants.{Input, Store, Set, Charge, Watch, Limit, Step, Phase, Clock, Cycle, Expect, Add, Del, Strength, Kind, Wire, Report, Keep}
 use Rattle.script_lang.specs.declared.command.ScriptFault.{ScriptFault}
+use Rattle.script_lang.specs.declared.command.ScriptFault.TheVariants.{NoMemory}
 use Rattle.script_lang.specs.Forms.{IsFormed}
 use Rattle.script_lang.specs.Commands.{reading_of}
 use Rattle.script_lang.proofs.ReadingLemmas.{reading-formed}
@@ -53,6 +54,23 @@ unmasked-reading c line = by (reading_of line) (reading-formed line)
     by (Ok None) formed = refl
     by (Ok (Some command)) formed = ap Ok (unmasked c command (formed command refl))
     by (Err fault) formed = refl
+
+-- what is read of a line where no node is stuck
+read_plain : (stuck : Option (ℕ × Tern)) (c : CircuitData) (line : List ℕ) → stuck ≡ None → masked_reading stuck c line ≡ reading_of line
+read_plain stuck c line none = ap (λ at. masked_reading at c line) none ∙ unmasked-reading c line
+
+-- so what was read as ever was read where no node is stuck
+pub read_as : (stuck : Option (ℕ × Tern)) (c : CircuitData) (line : List ℕ) → stuck ≡ None → (result : Result (Option Command) ScriptFault) →
+    IfOk result (λ left. reading_of line ≡ Ok left) → IfOk result (λ left. masked_reading stuck c line ≡ Ok left)
+read_as stuck c line none (Ok left) is = read_plain stuck c line none ∙ is
+read_as stuck c line none (Err fault) is = tt
+
+pub refused_as : (stuck : Option (ℕ × Tern)) (c : CircuitData) (line : List ℕ) → stuck ≡ None → (result : Result (Option Command) ScriptFault) →
+    IfErr result (λ fault. (fault ≡ NoMemory) ⊎ (reading_of line ≡ Err fault)) →
+    IfErr result (λ fault. (fault ≡ NoMemory) ⊎ (masked_reading stuck c line ≡ Err fault))
+refused_as stuck c line none (Ok left) is = tt
+refused_as stuck c line none (Err fault) (inl want) = inl want
+refused_as stuck c line none (Err fault) (inr is) = inr (read_plain stuck c line none ∙ is)
 
 -- a masked command is well formed, where the command is
 pub masked_of-formed : (c : CircuitData) (stuck : Option (ℕ × Tern)) (command : Command) → IsFormed command → IfSome (masked_of c stuck command) IsFormed

@@ -80,15 +80,11 @@ fn read_words(circuit: &Circuit, mut words: Words<'_>) -> Result<Option<Fault>, 
     let Some(word) = words.next() else {
         return Ok(None);
     };
-    let Some(subject) = words.next() else {
-        return Err(ListFault::BadFault);
-    };
+    let subject = words.next().ok_or(ListFault::BadFault)?;
     if words.next().is_some() {
         return Err(ListFault::BadFault);
     }
-    let Some(kind) = kind_named(word) else {
-        return Err(ListFault::BadFault);
-    };
+    let kind = kind_named(word).ok_or(ListFault::BadFault)?;
     Ok(Some(fault_on(circuit, kind, subject)?))
 }
 

@@ -27,37 +27,45 @@ pub fn masked(
     ensures value { IfOk result (λ left. left ≡ masked_of circuit.now stuck command.now) }
     ensures formed { IsFormed command.now → IfOk result (λ left. IfSome left IsFormed) }
 {
-    masked_by_kind(alloc, command, circuit, stuck)
+    let mask = Mask {
+        alloc,
+        circuit,
+        stuck,
+    };
+    masked_by_kind(&mask, command)
 }
 
-// The same, command by command.
-fn masked_by_kind(
+// What commands are masked for.
+#[derive(Clone, Copy)]
+struct Mask<'a> {
     alloc: Global,
-    command: &Command,
-    circuit: &Circuit,
+    circuit: &'a Circuit,
     stuck: Option<(usize, Tern)>,
-) -> Result<Option<Command>, NoMemory>
-    ensures { IfOk result (λ left. left ≡ masked_of circuit.now stuck command.now) }
+}
+
+// The command under a mask, command by command.
+fn masked_by_kind(mask: &Mask<'_>, command: &Command) -> Result<Option<Command>, NoMemory>
+    ensures { IfOk result (λ left. left ≡ masked_of mask.now.circuit.now mask.now.stuck command.now) }
 {
     match command {
-        Command::Input(names) => Ok(Some(Command::Input(copied_names(alloc, names)?))),
-        Command::Store(name, size) => masked_store(alloc, name, *size, circuit, stuck),
+        Command::Input(names) => Ok(Some(Command::Input(copied_names(mask.alloc, names)?))),
+        Command::Store(name, size) => masked_store(mask, name, *size),
         Command::Set(list) => {
-            let list = masked_assignments(alloc, list, circuit, stuck)?;
+            let list = masked_assignments(mask, list)?;
             Ok(Some(Command::Set(list)))
         }
-        Command::Charge(list) => masked_charge(alloc, list, circuit, stuck),
-        Command::Watch(names) => Ok(Some(Command::Watch(copied_names(alloc, names)?))),
+        Command::Charge(list) => masked_charge(mask, list),
+        Command::Watch(names) => Ok(Some(Command::Watch(copied_names(mask.alloc, names)?))),
         Command::Limit(number) => Ok(Some(Command::Limit(*number))),
         Command::Step => Ok(Some(Command::Step)),
         Command::Phase => Ok(Some(Command::Phase)),
         Command::Clock(list) => {
-            let list = masked_clocks(alloc, list, circuit, stuck)?;
+            let list = masked_clocks(mask, list)?;
             Ok(Some(Command::Clock(list)))
         }
         Command::Cycle(number) => Ok(Some(Command::Cycle(*number))),
         Command::Expect(list) => {
-            let list = copied_assignments(alloc, list, circuit)?;
+            let list = copied_assignments(mask, list)?;
             Ok(Some(Command::Expect(list)))
         }
         Command::Add {
@@ -67,7 +75,7 @@ fn masked_by_kind(
             drain,
             strength,
         } => {
-            let names = copied_terminals(alloc, gate, source, drain)?;
+            let names = copied_terminals(mask.alloc, gate, source, drain)?;
             Ok(Some(Command::Add {
                 kind: *kind,
                 gate: names.0,
@@ -85,7 +93,7 @@ fn masked_by_kind(
             source,
             drain,
         } => {
-            let names = copied_terminals(alloc, gate, source, drain)?;
+            let names = copied_terminals(mask.alloc, gate, source, drain)?;
             Ok(Some(Command::Wire {
                 number: *number,
                 gate: names.0,
@@ -98,7 +106,8 @@ fn masked_by_kind(
     }
 }
 
-/// Reads a line of the script while a node is stuck: what `read_command` gives, masked.
+/// Reads a line of the script while a node is stuck: what `read_command` gives, masked. Where no node is
+/// stuck its command is taken as it is, and not copied.
 pub fn read_masked(
     alloc: Global,
     bytes: &[u8],
@@ -110,38 +119,32 @@ pub fn read_masked(
         ⊎ (masked_reading stuck circuit.now bytes.now ≡ Err fault)) }
     ensures formed { IfOk result (λ left. IfSome left IsFormed) }
 {
-    match read_command(alloc, bytes)? {
-        Some(command) => Ok(masked(alloc, &command, circuit, stuck)?),
-        None => Ok(None),
+    match stuck {
+        None => read_command(alloc, bytes),
+        Some(_) => match read_command(alloc, bytes)? {
+            Some(command) => Ok(masked(alloc, &command, circuit, stuck)?),
+            None => Ok(None),
+        },
     }
 }
 
 // `store`, unless it is of the stuck node.
-fn masked_store(
-    alloc: Global,
-    name: &Name,
-    size: u64,
-    circuit: &Circuit,
-    stuck: Option<(usize, Tern)>,
-) -> Result<Option<Command>, NoMemory>
-    ensures { IfOk result (λ left. left ≡ masked_of circuit.now stuck (command.Store name.now size)) }
+fn masked_store(mask: &Mask<'_>, name: &Name, size: u64) -> Result<Option<Command>, NoMemory>
+    ensures { IfOk result (λ left. left
+        ≡ masked_of mask.now.circuit.now mask.now.stuck (command.Store name.now size)) }
 {
-    if names_stuck(circuit, stuck, name.items()) {
+    if names_stuck(mask, name.items()) {
         return Ok(None);
     }
-    Ok(Some(Command::Store(Name::from_slice(alloc, name.items())?, size)))
+    Ok(Some(Command::Store(Name::from_slice(mask.alloc, name.items())?, size)))
 }
 
 // `charge` without the words that name the stuck node, unless no word is left.
-fn masked_charge(
-    alloc: Global,
-    list: &AssignList,
-    circuit: &Circuit,
-    stuck: Option<(usize, Tern)>,
-) -> Result<Option<Command>, NoMemory>
-    ensures { IfOk result (λ left. left ≡ masked_of circuit.now stuck (command.Charge list.now)) }
+fn masked_charge(mask: &Mask<'_>, list: &AssignList) -> Result<Option<Command>, NoMemory>
+    ensures { IfOk result (λ left. left
+        ≡ masked_of mask.now.circuit.now mask.now.stuck (command.Charge list.now)) }
 {
-    let list = others(alloc, list, circuit, stuck)?;
+    let list = others(mask, list)?;
     if list.items().is_empty() {
         Ok(None)
     } else {
@@ -150,104 +153,85 @@ fn masked_charge(
 }
 
 // The assignments that don't name the stuck node.
-fn others(
-    alloc: Global,
-    list: &AssignList,
-    circuit: &Circuit,
-    stuck: Option<(usize, Tern)>,
-) -> Result<AssignList, NoMemory>
+fn others(mask: &Mask<'_>, list: &AssignList) -> Result<AssignList, NoMemory>
     ensures { IfOk result (λ left. left
-        ≡ filter (λ item. not (is_stuck circuit.now stuck item.0)) list.now) }
+        ≡ filter (λ item. not (is_stuck mask.now.circuit.now mask.now.stuck item.0)) list.now) }
 {
-    let mut left = AssignList::new(alloc);
+    let mut left = AssignList::new(mask.alloc);
     for (name, state) in list.items() {
-        if !names_stuck(circuit, stuck, name.items()) {
-            left.push((Name::from_slice(alloc, name.items())?, *state))?;
+        if !names_stuck(mask, name.items()) {
+            left.push((Name::from_slice(mask.alloc, name.items())?, *state))?;
         }
     }
     Ok(left)
 }
 
 // The assignments, with the stuck node given the state at which it is stuck.
-fn masked_assignments(
-    alloc: Global,
-    list: &AssignList,
-    circuit: &Circuit,
-    stuck: Option<(usize, Tern)>,
-) -> Result<AssignList, NoMemory>
+fn masked_assignments(mask: &Mask<'_>, list: &AssignList) -> Result<AssignList, NoMemory>
     ensures { IfOk result (λ left. left
-        ≡ map (λ item. (item.0, state_for circuit.now stuck item.0 item.1)) list.now) }
+        ≡ map (λ item. (item.0, state_for mask.now.circuit.now mask.now.stuck item.0 item.1)) list.now) }
 {
-    let mut left = AssignList::new(alloc);
+    let mut left = AssignList::new(mask.alloc);
     for (name, state) in list.items() {
-        let state = given_state(circuit, stuck, name.items(), *state);
-        left.push((Name::from_slice(alloc, name.items())?, state))?;
+        let state = given_state(mask, name.items(), *state);
+        left.push((Name::from_slice(mask.alloc, name.items())?, state))?;
     }
     Ok(left)
 }
 
 // The same assignments.
-fn copied_assignments(
-    alloc: Global,
-    list: &AssignList,
-    circuit: &Circuit,
-) -> Result<AssignList, NoMemory>
+fn copied_assignments(mask: &Mask<'_>, list: &AssignList) -> Result<AssignList, NoMemory>
     ensures { IfOk result (λ copy. copy ≡ list.now) }
 {
-    masked_assignments(alloc, list, circuit, None)
+    let unstuck = Mask {
+        alloc: mask.alloc,
+        circuit: mask.circuit,
+        stuck: None,
+    };
+    masked_assignments(&unstuck, list)
 }
 
 // The clocks, with the stuck node given the state at which it is stuck each time.
-fn masked_clocks(
-    alloc: Global,
-    list: &ClockList,
-    circuit: &Circuit,
-    stuck: Option<(usize, Tern)>,
-) -> Result<ClockList, NoMemory>
+fn masked_clocks(mask: &Mask<'_>, list: &ClockList) -> Result<ClockList, NoMemory>
     ensures { IfOk result (λ left. left
-        ≡ map (λ item. (item.0, map (state_for circuit.now stuck item.0) item.1)) list.now) }
+        ≡ map (λ item. (item.0, map (state_for mask.now.circuit.now mask.now.stuck item.0) item.1)) list.now) }
 {
-    let mut left = ClockList::new(alloc);
+    let mut left = ClockList::new(mask.alloc);
     for (name, states) in list.items() {
-        let states = masked_states(alloc, name.items(), states, circuit, stuck)?;
-        left.push((Name::from_slice(alloc, name.items())?, states))?;
+        let states = masked_states(mask, name.items(), states)?;
+        left.push((Name::from_slice(mask.alloc, name.items())?, states))?;
     }
     Ok(left)
 }
 
 // The states that a clock gives the node of a name.
-fn masked_states(
-    alloc: Global,
-    name: &[u8],
-    states: &StateList,
-    circuit: &Circuit,
-    stuck: Option<(usize, Tern)>,
-) -> Result<StateList, NoMemory>
-    ensures { IfOk result (λ left. left ≡ map (state_for circuit.now stuck name.now) states.now) }
+fn masked_states(mask: &Mask<'_>, name: &[u8], states: &StateList) -> Result<StateList, NoMemory>
+    ensures { IfOk result (λ left. left
+        ≡ map (state_for mask.now.circuit.now mask.now.stuck name.now) states.now) }
 {
-    let mut left = StateList::new(alloc);
+    let mut left = StateList::new(mask.alloc);
     for state in states.items() {
-        left.push(given_state(circuit, stuck, name, *state))?;
+        left.push(given_state(mask, name, *state))?;
     }
     Ok(left)
 }
 
 // The state that a word gives the node of a name.
-fn given_state(circuit: &Circuit, stuck: Option<(usize, Tern)>, name: &[u8], state: Tern) -> Tern
-    ensures { result ≡ state_for circuit.now stuck name.now state }
+fn given_state(mask: &Mask<'_>, name: &[u8], state: Tern) -> Tern
+    ensures { result ≡ state_for mask.now.circuit.now mask.now.stuck name.now state }
 {
-    match stuck {
-        Some(at) if names_stuck(circuit, stuck, name) => at.1,
+    match mask.stuck {
+        Some(at) if names_stuck(mask, name) => at.1,
         _ => state,
     }
 }
 
 // Whether the name is that of the stuck node.
-fn names_stuck(circuit: &Circuit, stuck: Option<(usize, Tern)>, name: &[u8]) -> bool
-    ensures { result ≡ is_stuck circuit.now stuck name.now }
+fn names_stuck(mask: &Mask<'_>, name: &[u8]) -> bool
+    ensures { result ≡ is_stuck mask.now.circuit.now mask.now.stuck name.now }
 {
-    match stuck {
-        Some(at) => circuit.find(name).is_some_and(|node| node == at.0),
+    match mask.stuck {
+        Some(at) => mask.circuit.find(name).is_some_and(|node| node == at.0),
         None => false,
     }
 }
