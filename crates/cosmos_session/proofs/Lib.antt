@@ -8,7 +8,6 @@ pub mod EffectLemmas
 pub mod BeatLemmas
 pub mod ClockLemmas
 pub mod RestLemmas
-pub mod GrownLemmas
 pub mod RoomLemmas
 pub mod MachineLemmas
 pub mod StayingLemmas

@@ -1,8 +1,8 @@
--- What commands and steps keep of the states: their number, and the states of the rails.
+-- What commands and steps do to the states, one after another, and what they keep: their number, and the states of the rails.
 -- The plan: commands set no rail, and a step and a joining step leave an input node as it is.
-use Rattle.std.proofs.Common.{◌≡◌, ℕ, zero, suc, ◌<◌, ◌≤◌, All, List, [], ◌∷◌, length, map, nat_lt, Bool, true, false, Option, None, Some, unwrap_or, refl, ◌∙◌, inl, inr, arith}
+use Rattle.std.proofs.Common.{◌≡◌, ℕ, zero, suc, ◌+◌, ◌<◌, ◌≤◌, All, List, [], ◌∷◌, length, map, get_or, drop, nat_lt, Bool, true, false, Option, None, Some, unwrap_or, refl, sym, ap, ◌∙◌, inl, inr, arith}
 use Rattle.std.specs.Prelude.{slice_set, if◌then◌else◌}
-use Rattle.std.proofs.lemmas.List.{length-set, get_or-set_other}
+use Rattle.std.proofs.lemmas.List.{length-set, get_or-set_other, drop_more}
 use Rattle.std.proofs.lemmas.List.Elements.{All-nil, All-cons, All-head, All-tail, All-weaker}
 use Rattle.std.proofs.lemmas.Bool.Decides.{nat_tests}
 use Rattle.ternary.specs.declared.tern.Tern.{Tern}
@@ -24,6 +24,26 @@ use Rattle.cosmos_session.specs.Sessions.{ClockData}
 use Rattle.cosmos_session.specs.Refusals.{first_refusal, set_refusal, charge_refusal, is_input}
 use Rattle.cosmos_session.specs.Effects.{assigned, clock_of, states_with}
 use Rattle.cosmos_session.proofs.RefusalLemmas.{none_of_all}
+
+-- ---- one more of them
+
+-- one more assignment is done
+pub assigned-more : (c : CircuitData) (list : List (List ℕ × Tern)) (place : ℕ) (item : List ℕ × Tern) (state new : List Tern) → place < length list →
+    item ≡ get_or list place item → new ≡ slice_set state (node_named c item.0) item.1 →
+    assigned c new (drop (place + 1) list) ≡ assigned c state (drop place list)
+assigned-more c list place item state new inside is set =
+    ap (λ (now : List Tern). assigned c now (drop (place + 1) list)) set
+    ∙ sym (ap (assigned c state) (drop_more list place item inside)
+    ∙ ap (λ (first : List ℕ × Tern). assigned c state (first ∷ drop (place + 1) list)) (sym is))
+
+-- one more clock is put
+pub states_with-more : (clocks : List ClockData) (k place : ℕ) (clock : ClockData) (state new : List Tern) → k < length clocks →
+    clock ≡ get_or clocks k clock → new ≡ slice_set state clock.node (state_at clock.states place) →
+    states_with (drop (k + 1) clocks) place new ≡ states_with (drop k clocks) place state
+states_with-more clocks k place clock state new inside is set =
+    ap (λ (now : List Tern). states_with (drop (k + 1) clocks) place now) set
+    ∙ sym (ap (λ (left : List ClockData). states_with left place state) (drop_more clocks k clock inside)
+    ∙ ap (λ (first : ClockData). states_with (first ∷ drop (k + 1) clocks) place state) (sym is))
 
 -- ---- their number
 

@@ -1,6 +1,6 @@
 //! What an edit of the circuit does to a session's state and its machine.
 
-ghost use Rattle.std.specs.Prelude.{◌≡◌, ◌≢◌, ◌+◌, ◌-◌, ◌≤◌, length, vec_capacity, IfSome, IfOk, IfErr};
+ghost use Rattle.std.specs.Prelude.{◌≡◌, ◌≢◌, ◌+◌, ◌-◌, ◌≤◌, length, IfSome, IfOk, IfErr};
 ghost use Rattle.path_meaning.specs.Graphs.{nodes, IsWired};
 ghost use Rattle.channel_groups.specs.Changes.{undo};
 ghost use Rattle.unit_step.specs.Fitting.{Covers};
@@ -17,7 +17,7 @@ use path_meaning::Graph;
 use std::marker::Brand;
 use std::sync::ledger::{Blank, Ledger};
 use ternary::{Steps, Tern};
-use unit_step::{EditRefused, Machine};
+use unit_step::{EditRefused, Machine, grow};
 
 // How many parts a machine may always have that groups left which are gone.
 const MOST_LEFT: usize = 16;
@@ -134,14 +134,4 @@ fn edit_uncounted<L: Ledger>(
     ensures last { IfErr result (λ refused. refused.machine.last ≡ machine.last) }
 {
     machine.edit(graph, change, &mut Steps::<L>::new(blank))
-}
-
-// Adds X for each new node, up to so many nodes, in room that is there.
-fn grow(state: &mut Vec<Tern>, nodes: usize)
-    requires { nodes ≤ vec_capacity state.old }
-    ensures { state.new.items ≡ with_new_nodes state.old.items nodes }
-{
-    for _node in state.len()..nodes {
-        state.push_reserved(Tern::Unk);
-    }
 }

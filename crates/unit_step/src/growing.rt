@@ -24,8 +24,8 @@ impl Machine {
     }
 }
 
-// Adds X for each new node, up to so many nodes, in room that is there.
-pub(crate) fn grow(state: &mut Vec<Tern>, nodes: usize)
+/// Adds X for each new node to a state, up to so many nodes, in room that is there.
+pub fn grow(state: &mut Vec<Tern>, nodes: usize)
     requires { nodes ≤ vec_capacity state.old }
     ensures state { state.new.items ≡ with_new_nodes state.old.items nodes }
     ensures capacity { vec_capacity state.new ≡ vec_capacity state.old }

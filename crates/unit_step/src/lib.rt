@@ -38,6 +38,7 @@ mod waking;
 
 pub use agenda::numbers_below;
 pub use editing::{EditRefused, NEW_NODES};
+pub use growing::grow;
 pub use laws::{
     alike_groups_keep_their_parts, columns_step_apart, empty_places_are_covered,
     machines_have_kept_texts, placing_keeps_fits, steps_are_unit_steps,

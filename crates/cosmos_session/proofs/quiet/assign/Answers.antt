@@ -5,7 +5,7 @@ use Rattle.ternary.specs.declared.tern.Tern.{Tern}
 use Rattle.group_meaning.proofs.MappedLists.{contains-map}
 use Rattle.netlist.specs.Edits.{node_named}
 use Rattle.cosmos_session.specs.Stages.{PutsIn}
-use Rattle.cosmos_session.proofs.GrownLemmas.{assigned-more}
+use Rattle.cosmos_session.proofs.StateLemmas.{assigned-more}
 use Rattle.cosmos_session.proofs.MachineLemmas.{assigns_in-none, assigns_in-more}
 use Rattle.cosmos_session.proofs.quiet.assign.Goals as goal
 

@@ -1,7 +1,7 @@
 use Rattle.std.proofs.Common.{◌<◌, length, refl, ap, ◌∙◌, arith}
 use Rattle.std.proofs.lemmas.List.{length-set}
 use Rattle.path_meaning.specs.Switching.{state_at}
-use Rattle.cosmos_session.proofs.GrownLemmas.{states_with-more}
+use Rattle.cosmos_session.proofs.StateLemmas.{states_with-more}
 use Rattle.cosmos_session.proofs.MachineLemmas.{ticks_in-none, ticks_in-more}
 use Rattle.cosmos_session.proofs.stepping.put_states.Goals as goal
 

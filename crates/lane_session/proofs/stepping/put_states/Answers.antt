@@ -5,7 +5,7 @@ use Rattle.ternary.specs.declared.tern.Tern.TheVariants.{Zero}
 use Rattle.path_meaning.specs.Graphs.{nodes}
 use Rattle.path_meaning.specs.Switching.{state_at}
 use Rattle.cosmos_session.specs.Sessions.{ClockData}
-use Rattle.cosmos_session.proofs.GrownLemmas.{states_with-more}
+use Rattle.cosmos_session.proofs.StateLemmas.{states_with-more}
 use Rattle.lane_session.specs.Stages.{states_in}
 use Rattle.lane_session.proofs.ColumnLemmas.{within_high, within_low, HasStates-value, placed_value}
 use Rattle.lane_session.proofs.FitLemmas.{keeps_fit}
