@@ -245,11 +245,6 @@ fits_there g found machine built there =
     let is : built.machine ≡ machine = cc in
     subst (FitsGraph g) is built.fits
 
--- what clocks' ticks leave of the machine
-pub record StaysPut (old new : Option MachineData) : Type 0 where
-  pub moves : moves_of new ≡ moves_of old
-  pub placed : placed_of new ≡ placed_of old
-
 -- ---- steps and phases
 
 -- what serves before
@@ -267,6 +262,21 @@ module _ (session : HeldSession) (spare : ℕ) (stage : StageData) (count : ℕ)
   moved_core : (record session.core { state = stage.state; count = count }) ≡ moved_to session.core stage.state
   moved_core = ap (λ (n : ℕ). record session.core { state = stage.state; count = n }) counted
 
+  -- a machine that moved, and fits still, serves the states after it
+  serves-moved : (Leads : MachineData → MachineData → Type 0)
+      (moves : MovesBy Leads (record { state = session.core.state; machine = session.machine; spare = spare }) stage) →
+      FitsGraph session.core.circuit.graph moves.after → IfSome stage.machine (Serves session.core.circuit.graph stage.state session.core.kept)
+  serves-moved Leads moves fits =
+      let g = session.core.circuit.graph in
+      let serves = served g session.core.state session.core.kept session.machine moves.before moves.was held.machine in
+      subst (λ (m : Option MachineData). IfSome m (Serves g stage.state session.core.kept)) (sym moves.there)
+      (record {
+        covers = fits.covers;
+        same = moves.to;
+        known = fitting_machines_share_texts g session.core.kept moves.before moves.after (fits_there g session.machine moves.before built moves.was) fits
+            serves.known;
+      })
+
   module _ (moves : MovesBy (TakesStep session.core.circuit.graph) (record { state = session.core.state; machine = session.machine; spare = spare }) stage) where
     -- the step is one of the session's states
     step_is : IsStep session.core.circuit.graph session.core.state stage.state
@@ -279,17 +289,10 @@ module _ (session : HeldSession) (spare : ℕ) (stage : StageData) (count : ℕ)
     held-stepped =
         let circuit = session.core.circuit in
         let ready = held.core.ready in
-        let serves = served circuit.graph session.core.state session.core.kept session.machine moves.before moves.was held.machine in
         record {
           core = IsSession-beside session.core stage.state count session.core.missed session.core.bound session.core.kept session.core.fresh step_is.count
               (sound-step circuit ready.netlist session.core.state stage.state step_is ready.sound) held.core;
-          machine = subst (λ (m : Option MachineData). IfSome m (Serves circuit.graph stage.state session.core.kept)) (sym moves.there)
-              (record {
-                covers = moves.leads.fits.covers;
-                same = moves.to;
-                known = fitting_machines_share_texts circuit.graph session.core.kept moves.before moves.after
-                    (fits_there circuit.graph session.machine moves.before built moves.was) moves.leads.fits serves.known;
-              });
+          machine = serves-moved (TakesStep circuit.graph) moves moves.leads.fits;
         }
 
     -- which the machine did
@@ -320,18 +323,11 @@ module _ (session : HeldSession) (spare : ℕ) (stage : StageData) (count : ℕ)
         let circuit = session.core.circuit in
         let ready = held.core.ready in
         let limit = session.core.limit in
-        let serves = served circuit.graph session.core.state session.core.kept session.machine moves.before moves.was held.machine in
         record {
           core = IsSession-beside session.core stage.state count session.core.missed session.core.bound session.core.kept session.core.fresh
               (length-settles circuit.graph session.core.state limit stage.state steps joined ready.states settles_is)
               (sound-settles circuit ready.netlist session.core.state limit stage.state steps joined ready.states settles_is ready.sound) held.core;
-          machine = subst (λ (m : Option MachineData). IfSome m (Serves circuit.graph stage.state session.core.kept)) (sym moves.there)
-              (record {
-                covers = moves.leads.fits.covers;
-                same = moves.to;
-                known = fitting_machines_share_texts circuit.graph session.core.kept moves.before moves.after
-                    (fits_there circuit.graph session.machine moves.before built moves.was) moves.leads.fits serves.known;
-              });
+          machine = serves-moved (λ before after. TakesPhase circuit.graph limit before after steps joined) moves moves.leads.fits;
         }
 
     -- the machine fits still

@@ -13,8 +13,7 @@ use Rattle.cosmos_session.specs.Sessions.{SessionData, HeldSession, places_of}
 use Rattle.cosmos_session.specs.Lines.{Line, Wave, Unmet, Reported}
 use Rattle.cosmos_session.specs.Effects.{Effect, IsPhase, AreBeats, with_beat, wave_by, places_in}
 use Rattle.cosmos_session.specs.Machines.{FitsIn, IsBuilt, EndsAtRest, MovesMachine, StepsMachine, SettlesMachine, moves_of, placed_of, steps_in}
-use Rattle.cosmos_session.specs.Stages.{Readied, IsSettled, PhaseMoves, BeatsMove, BeatsMoveOn}
-use Rattle.cosmos_session.proofs.MachineLemmas.{StaysPut}
+use Rattle.cosmos_session.specs.Stages.{Readied, IsSettled, PhaseMoves, BeatsMove, BeatsMoveOn, StaysPut, SameSetup}
 use Rattle.cosmos_session.proofs.BeatLemmas.{beats-append, one_beat, clocks-beats, cycles-next}
 
 -- ---- lines
@@ -117,6 +116,31 @@ phase-moves old new steps joined settled =
         let unmarked : joined ≡ false = cc in
         let few : steps ≡ ends.k = cc in
         settled.rests unmarked (subst (λ (n : ℕ). n < old.core.limit) (sym few) ends.few)
+
+-- ---- what steps leave alone
+
+-- as many times as one likes
+pub setup-same : (session : SessionData) → SameSetup session session
+setup-same session = record { circuit = refl; clocks = refl; watched = refl }
+
+pub setup-more : (start now next : SessionData) → SameSetup start now → SameSetup now next → SameSetup start next
+setup-more start now next first more = record {
+  circuit = more.circuit ∙ first.circuit;
+  clocks = more.clocks ∙ first.clocks;
+  watched = more.watched ∙ first.watched;
+}
+
+-- what gives states alone, and counts lines
+pub setup-stated : (session new : SessionData) (state : List Tern) (count : ℕ) → new ≡ record session { state = state; count = count } → SameSetup session new
+setup-stated session new state count is = subst (SameSetup session) (sym is) (record { circuit = refl; clocks = refl; watched = refl })
+
+-- clocks that are put, and a phase behind them
+pub setup-put : (start now put : SessionData) (place : ℕ) → SameSetup start now → put ≡ with_beat now place → SameSetup start put
+setup-put start now put place so_far beat = setup-more start now put so_far (setup-stated now put _ _ beat)
+
+pub setup-phase : (start now put next : SessionData) (place : ℕ) → SameSetup start now → put ≡ with_beat now place → SameSetup put next →
+    SameSetup start next
+setup-phase start now put next place so_far beat phase = setup-more start put next (setup-put start now put place so_far beat) phase
 
 -- ---- cycles
 

@@ -7,7 +7,7 @@ use Rattle.path_meaning.specs.Graphs.{nodes}
 use Rattle.circuit_texts.specs.declared.texts.BuildFault.TheVariants as build
 use Rattle.group_text.specs.Texts.{GroupTextData}
 use Rattle.script_lang.specs.declared.command.Command.{Command}
-use Rattle.script_lang.specs.declared.command.Command.TheVariants.{Input, Store, Set, Charge, Watch, Limit, Step, Phase, Clock, Cycle, Expect, Add, Del, Strength, Kind, Wire, Report, Keep}
+use Rattle.script_lang.specs.declared.command.Command.TheVariants.{Input, Cycle}
 use Rattle.cosmos_session.specs.declared.fault.ApplyFault.{ApplyFault}
 use Rattle.cosmos_session.specs.declared.fault.ApplyFault.TheVariants.{Refused, GroupNodes, GroupSwitches, WriteFault, NoMemory}
 use Rattle.cosmos_session.specs.Sessions.{SessionData, HeldSession, places_of}
@@ -52,23 +52,7 @@ does_effect old new command lines allowed effect = record { allowed = allowed; l
 refusal_of-with_present : (session : SessionData) (command : Command) (present : List GroupTextData) →
     refusal_of (with_present session present) command ≡ refusal_of session command
 refusal_of-with_present session (Input names) present = refl
-refusal_of-with_present session (Store name size) present = refl
-refusal_of-with_present session (Set list) present = refl
-refusal_of-with_present session (Charge list) present = refl
-refusal_of-with_present session (Watch names) present = refl
-refusal_of-with_present session (Limit number) present = refl
-refusal_of-with_present session Step present = refl
-refusal_of-with_present session Phase present = refl
-refusal_of-with_present session (Clock list) present = refl
-refusal_of-with_present session (Cycle times) present = refl
-refusal_of-with_present session (Expect list) present = refl
-refusal_of-with_present session (Add kind gate source drain strength) present = refl
-refusal_of-with_present session (Del number) present = refl
-refusal_of-with_present session (Strength number strength) present = refl
-refusal_of-with_present session (Kind number kind) present = refl
-refusal_of-with_present session (Wire number gate source drain) present = refl
-refusal_of-with_present session Report present = refl
-refusal_of-with_present session (Keep number) present = refl
+refusal_of-with_present session command present = refl
 
 -- so a build changes no refusal
 pub refusal_of-built : (old mid : SessionData) (command : Command) (texts : List GroupTextData) → IsBuild old mid texts →

@@ -8,10 +8,10 @@ use Rattle.unit_step.specs.Machines.{MachineData}
 use Rattle.cosmos_session.specs.Sessions.{HeldSession, ClockData}
 use Rattle.cosmos_session.specs.Effects.{states_with}
 use Rattle.cosmos_session.specs.Machines.{Serves, FitsIn, IsHeldSession, moves_of, placed_of}
-use Rattle.cosmos_session.specs.Stages.{StageData, TicksIn}
+use Rattle.cosmos_session.specs.Stages.{StageData, TicksIn, StaysPut}
 use Rattle.cosmos_session.proofs.StateLemmas.{length-states_with, sound-states_with}
 use Rattle.cosmos_session.proofs.ClockLemmas.{IsSession-state}
-use Rattle.cosmos_session.proofs.MachineLemmas.{StaysPut, placed_on, fits_there, serves_there}
+use Rattle.cosmos_session.proofs.MachineLemmas.{placed_on, fits_there, serves_there}
 
 -- clocks' nodes that are input nodes were placed in a machine that fits
 module _ (g : GraphData) (clocks : List ClockData) (old new : Option MachineData) (inputs : All (λ clock. level_of g clock.node ≡ INPUT_LEVEL) clocks) where

@@ -1,5 +1,5 @@
 -- Bounds of a session's data, by which the lines of its commands can be read again.
-use Rattle.std.specs.Prelude.{ℕ, ◌<◌, ◌≤◌, ◌^◌}
+use Rattle.std.specs.Prelude.{◌<◌, ◌≤◌, ◌^◌}
 use Rattle.line_words.specs.Visible.{IsVisibleName}
 use Rattle.path_meaning.specs.Graphs.{nodes}
 use Rattle.script_lang.specs.declared.TheConstants.{MOST_TIMES}

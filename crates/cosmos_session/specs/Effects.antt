@@ -87,14 +87,9 @@ places_in count times = map (λ i. i % count) (range_with_len 0 (times * count))
 -- both states are the same
 abbrev pub is_state : Tern → Tern → Bool
 is_state Zero Zero = true
-is_state Zero One = false
-is_state Zero Unk = false
-is_state One Zero = false
 is_state One One = true
-is_state One Unk = false
-is_state Unk Zero = false
-is_state Unk One = false
 is_state Unk Unk = true
+is_state left right = false
 
 -- the line of an assignment whose node isn't in the wanted state
 abbrev pub unmet_line : SessionData → (List ℕ × Tern) → Option Line

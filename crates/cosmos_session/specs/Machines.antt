@@ -180,22 +180,12 @@ IsMachineAfter old (Keep number) new = new.machine ≡ old.machine
 abbrev pub edits : Command → Bool
 edits (Input names) = true
 edits (Store name size) = true
-edits (Set list) = false
-edits (Charge list) = false
-edits (Watch names) = false
-edits (Limit number) = false
-edits Step = false
-edits Phase = false
-edits (Clock list) = false
-edits (Cycle times) = false
-edits (Expect list) = false
 edits (Add kind gate source drain strength) = true
 edits (Del number) = true
 edits (Strength number strength) = true
 edits (Kind number kind) = true
 edits (Wire number gate source drain) = true
-edits Report = false
-edits (Keep number) = false
+edits other = false
 
 -- where an accepted command found a machine and leaves none, it edited the circuit
 abbrev pub OnlyEditsLoseMachines : Type 0

@@ -100,21 +100,26 @@ Quietly old command new (Err (GroupSwitches node count)) = ⊥
 Quietly old command new (Err NoMemory) = new ≡ old
 Quietly old command new (Err WriteFault) = ⊥
 
--- what any command comes to, and how often the sink lacked memory by then: where the command itself wants memory, all is as before but
--- for what is kept
+-- what any command comes to, by what it is where the command is accepted, refused, refused since a group is too large, stopped before it began, and
+-- begun; and how often the sink lacked memory by then
+abbrev pub Outcome : Type 0 → (Refusal → Type 0) → (BuildFault → Type 0) → Type 0 → Type 0 → ℕ → ℕ → Result (Unit {0}) ApplyFault → Type 0
+Outcome Accepted RefusedFor OutgrownBy Stopped Begun refusals now (Ok _) = Accepted × (now ≡ refusals)
+Outcome Accepted RefusedFor OutgrownBy Stopped Begun refusals now (Err (Refused refusal)) = RefusedFor refusal × (now ≡ refusals)
+Outcome Accepted RefusedFor OutgrownBy Stopped Begun refusals now (Err (GroupNodes node count)) =
+    OutgrownBy (build.GroupNodes node count) × (now ≡ refusals)
+Outcome Accepted RefusedFor OutgrownBy Stopped Begun refusals now (Err (GroupSwitches node count)) =
+    OutgrownBy (build.GroupSwitches node count) × (now ≡ refusals)
+Outcome Accepted RefusedFor OutgrownBy Stopped Begun refusals now (Err WriteFault) = Begun × (now ≡ refusals)
+Outcome Accepted RefusedFor OutgrownBy Stopped Begun refusals now (Err NoMemory) =
+    (Stopped × (now ≡ refusals)) ⊎ (Begun × (now ≡ raised refusals 1))
+
+-- what a command comes to: where the command itself wants memory, all is as before but for what is kept
 abbrev pub Obeys : HeldSession → Command → HeldSession → Option (List ℕ) → Option (List ℕ) → List GroupTextData → List GroupTextData → ℕ → ℕ →
     Result (Unit {0}) ApplyFault → Type 0
-Obeys old command new before after asked told refusals now (Ok _) = Accepts old command new before after asked told × (now ≡ refusals)
-Obeys old command new before after asked told refusals now (Err (Refused refusal)) =
-    Refuses old command new before after asked told refusal × (now ≡ refusals)
-Obeys old command new before after asked told refusals now (Err (GroupNodes node count)) =
-    RefusesSize old command new before after asked told (build.GroupNodes node count) × (now ≡ refusals)
-Obeys old command new before after asked told refusals now (Err (GroupSwitches node count)) =
-    RefusesSize old command new before after asked told (build.GroupSwitches node count) × (now ≡ refusals)
-Obeys old command new before after asked told refusals now (Err WriteFault) =
-    Begins old command new before after asked told × (now ≡ refusals)
-Obeys old command new before after asked told refusals now (Err NoMemory) =
-    (Stays old new before after asked told × (now ≡ refusals)) ⊎ (Begins old command new before after asked told × (now ≡ raised refusals 1))
+Obeys old command new before after asked told refusals now result =
+    Outcome (Accepts old command new before after asked told) (Refuses old command new before after asked told)
+    (RefusesSize old command new before after asked told) (Stays old new before after asked told) (Begins old command new before after asked told)
+    refusals now result
 
 -- the lines of a step or a phase just done were sent, or a part of them from the start
 abbrev pub Sent : Option (List ℕ) → Option (List ℕ) → List Line → Result (Unit {0}) ApplyFault → Type 0

@@ -7,7 +7,7 @@ use Rattle.group_text.specs.FirstTexts.{new_texts}
 use Rattle.group_analysis.specs.Using.{kept_after}
 use Rattle.circuit_texts.specs.Building.{HasTexts}
 use Rattle.script_lang.specs.declared.command.Command.{Command}
-use Rattle.script_lang.specs.declared.command.Command.TheVariants.{Input, Store, Set, Charge, Watch, Limit, Step, Phase, Clock, Cycle, Expect, Add, Del, Strength, Kind, Wire, Report, Keep}
+use Rattle.script_lang.specs.declared.command.Command.TheVariants.{Step, Phase, Cycle, Report}
 use Rattle.circuit_texts.specs.declared.texts.BuildFault.{BuildFault}
 use Rattle.circuit_texts.specs.declared.texts.BuildFault.TheVariants as build
 use Rattle.path_meaning.specs.Graphs.{GraphData, nodes}
@@ -20,24 +20,11 @@ use Rattle.cosmos_session.specs.Sessions.{SessionData}
 
 -- the command builds the present circuit before it has its effect
 abbrev pub builds : Command → Bool
-builds (Input names) = false
-builds (Store name size) = false
-builds (Set list) = false
-builds (Charge list) = false
-builds (Watch names) = false
-builds (Limit number) = false
 builds Step = true
 builds Phase = true
-builds (Clock list) = false
 builds (Cycle times) = true
-builds (Expect list) = false
-builds (Add kind gate source drain strength) = false
-builds (Del number) = false
-builds (Strength number strength) = false
-builds (Kind number kind) = false
-builds (Wire number gate source drain) = false
 builds Report = true
-builds (Keep number) = false
+builds other = false
 
 -- the data after a build with these present texts: they are in front of what is kept, what is past the bound is cut, and the new ones are
 -- counted

@@ -177,6 +177,17 @@ Readies old new asked told (Err (GroupSwitches node count)) = TooLarge old new a
 Readies old new asked told (Err WriteFault) = ⊥
 Readies old new asked told (Err NoMemory) = CutOff old new asked told
 
+-- the machine, if there is one, neither moved nor had a member placed
+pub record StaysPut (old new : Option MachineData) : Type 0 where
+  pub moves : moves_of new ≡ moves_of old
+  pub placed : placed_of new ≡ placed_of old
+
+-- what steps leave alone: the circuit, the clocks and the watch list
+pub record SameSetup (old new : SessionData) : Type 0 where
+  pub circuit : new.circuit ≡ old.circuit
+  pub clocks : new.clocks ≡ old.clocks
+  pub watched : new.watched ≡ old.watched
+
 -- a unit step was done
 pub record IsUnitStepDone (old new : SessionData) : Type 0 where
   pub next : List Tern

@@ -1,3 +1,6 @@
+ghost use Rattle.std.specs.Prelude.{◌≡◌};
+ghost use Rattle.cosmos_session.specs.Sessions.{places_of};
+
 use std::marker::Model;
 use ternary::Tern;
 
@@ -16,4 +19,11 @@ impl Model for Clock {
     ghost Value = { ClockData };
 
     ghost view = { λ clock. record { node = clock.node; states = clock.states.items } };
+}
+
+/// How many places a cycle of these clocks has.
+pub fn places_of(clocks: &[Clock]) -> usize
+    ensures { result ≡ places_of clocks.now }
+{
+    clocks.first().map_or(0, |clock| clock.states.len())
 }

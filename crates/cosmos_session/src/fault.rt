@@ -80,8 +80,8 @@ impl ApplyFault {
         }
     }
 
-    // What ends a command for which the circuit can't be built.
-    pub(crate) fn of_build(fault: BuildFault) -> ApplyFault
+    /// What ends a command for which the circuit can't be built.
+    pub fn of_build(fault: BuildFault) -> ApplyFault
         ensures { result ≡ fault_of_build fault }
     {
         match fault {

@@ -39,11 +39,12 @@ mod stage;
 mod stepping;
 mod waves;
 
-pub use clock::Clock;
+pub use clock::{Clock, places_of};
 pub use fault::{ApplyFault, Refusal};
 pub use laws::only_edits_lose_the_machine;
 pub use refusals::cycle_refusal;
 pub use session::Session;
+pub use waves::send_text;
 
 /// The most entries of the watch list.
 pub const MOST_WATCHED: usize = 256;

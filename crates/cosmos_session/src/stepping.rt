@@ -9,12 +9,12 @@ ghost use Rattle.script_lang.specs.declared.command.Command.TheVariants as asked
 ghost use Rattle.script_lang.specs.Forms.{IsTimes};
 ghost use Rattle.cosmos_session.specs.Sessions.{places_of, IsReady};
 ghost use Rattle.cosmos_session.specs.Effects as effect;
-ghost use Rattle.cosmos_session.specs.Machines.{IsBuilt, StepsMachine, SettlesMachine, moves_of, placed_of};
-ghost use Rattle.cosmos_session.specs.Stages.{IsStepSent, IsUnitStepDone, IsSettled, PhaseMoves, BeatsMove, BeatsMoveOn, PutsIn, TicksIn};
+ghost use Rattle.cosmos_session.specs.Machines.{IsBuilt, StepsMachine, SettlesMachine};
+ghost use Rattle.cosmos_session.specs.Stages.{IsStepSent, IsUnitStepDone, IsSettled, PhaseMoves, BeatsMove, BeatsMoveOn, PutsIn, TicksIn, StaysPut, SameSetup};
 ghost use Rattle.cosmos_session.specs.Sinks.{IsSinkFault, faults_applied, refusals_sent};
 ghost use Rattle.cosmos_session.specs.Outcomes.{Obeys, TakesBeats, IsPhaseSent, Sent};
 
-use crate::clock::Clock;
+use crate::clock::{Clock, places_of};
 use crate::fault::ApplyFault;
 use crate::refusals;
 use crate::session::Session;
@@ -115,15 +115,13 @@ impl Session {
         ensures beats { TakesBeats (range_with_len 0 (places_of self.old.core.clocks)) self.old.core self.new.core (S.written out.old) (S.written out.new) result }
         ensures moves { OnOk result (BeatsMoveOn (range_with_len 0 (places_of self.old.core.clocks)) self.old self.new) }
         ensures room { room.new ≡ room.old }
-        ensures watched { self.new.core.watched ≡ self.old.core.watched }
-        ensures clocks { self.new.core.clocks ≡ self.old.core.clocks }
-        ensures circuit { self.new.core.circuit ≡ self.old.core.circuit }
+        ensures setup { SameSetup self.old.core self.new.core }
         ensures built { IsBuilt self.new }
         ensures cause { IfErr result IsSinkFault }
         ensures faults { S.faults out.new ≡ faults_applied (S.faults out.old) result }
         ensures refusals { S.refusals out.new ≡ refusals_sent (S.refusals out.old) result }
     {
-        for place in 0..places(&self.clocks) {
+        for place in 0..places_of(&self.clocks) {
             self.put_clocks(place);
             self.settle_and_send(room, out)?;
         }
@@ -137,8 +135,7 @@ impl Session {
         requires inputs { All (λ clock. level_of self.old.core.circuit.graph clock.node ≡ INPUT_LEVEL) self.old.core.clocks }
         ensures beat { self.new.core ≡ effect.with_beat self.old.core place }
         ensures built { IsBuilt self.new }
-        ensures moves { moves_of self.new.machine ≡ moves_of self.old.machine }
-        ensures placed { placed_of self.new.machine ≡ placed_of self.old.machine }
+        ensures stays { StaysPut self.old.machine self.new.machine }
     {
         put_states(&self.clocks, place, self.circuit.graph(), &mut self.stage);
     }
@@ -178,9 +175,7 @@ impl Session {
         ensures phase { IsPhaseSent self.old.core self.new.core (S.written out.old) (S.written out.new) result }
         ensures moves { PhaseMoves self.old self.new }
         ensures built { IsBuilt self.new }
-        ensures watched { self.new.core.watched ≡ self.old.core.watched }
-        ensures clocks { self.new.core.clocks ≡ self.old.core.clocks }
-        ensures circuit { self.new.core.circuit ≡ self.old.core.circuit }
+        ensures setup { SameSetup self.old.core self.new.core }
         ensures room { room.new ≡ room.old }
         ensures cause { IfErr result IsSinkFault }
         ensures faults { S.faults out.new ≡ faults_applied (S.faults out.old) result }
@@ -219,13 +214,6 @@ impl Session {
         let state = self.stage.state();
         room.send(self.count, k, mark, state, &self.watched, out)
     }
-}
-
-// How many places a cycle of these clocks has.
-fn places(clocks: &[Clock]) -> usize
-    ensures { result ≡ places_of clocks.now }
-{
-    clocks.first().map_or(0, |clock| clock.states.len())
 }
 
 // Gives each clock's node its state at a place.

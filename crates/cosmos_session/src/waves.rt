@@ -74,8 +74,8 @@ impl WaveRoom {
     }
 }
 
-/// Sends a text to the sink.
-pub(crate) fn send_text<S: Sink>(out: &mut S, text: &[u8]) -> Result<(), ApplyFault>
+/// Sends a text to the sink. A fault of the sink is what ends a command.
+pub fn send_text<S: Sink>(out: &mut S, text: &[u8]) -> Result<(), ApplyFault>
     ensures ok { OnOk result (S.written out.new ≡ append_known (S.written out.old) text.now) }
     ensures part { OnErr result (WritesPart (S.written out.old) (S.written out.new) text.now) }
     ensures cause { IfErr result IsSinkFault }

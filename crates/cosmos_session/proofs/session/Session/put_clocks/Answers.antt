@@ -51,18 +51,10 @@ returns-clause-built c =
     (subst HasInputs (sym c.self.view_is) c.requires.inputs) (subst IsBuilt (sym c.self.view_is) c.requires.built)
     (rw (c.graph.ensures.value, c.deref.ensures.value) at c.put_states.ensures.machine)
 
-pub returns-clause-moves : goal.returns-clause-moves
-returns-clause-moves c =
+pub returns-clause-stays : goal.returns-clause-stays
+returns-clause-stays c =
     let session = the_view c.self.inside in
     rw (← c.self.view_is)
     (stays-ticked session.core.circuit.graph session.core.clocks session.machine c.put_states.new.stage.machine
     (subst HasInputs (sym c.self.view_is) c.requires.inputs) (subst IsBuilt (sym c.self.view_is) c.requires.built)
-    (rw (c.graph.ensures.value, c.deref.ensures.value) at c.put_states.ensures.machine)).moves
-
-pub returns-clause-placed : goal.returns-clause-placed
-returns-clause-placed c =
-    let session = the_view c.self.inside in
-    rw (← c.self.view_is)
-    (stays-ticked session.core.circuit.graph session.core.clocks session.machine c.put_states.new.stage.machine
-    (subst HasInputs (sym c.self.view_is) c.requires.inputs) (subst IsBuilt (sym c.self.view_is) c.requires.built)
-    (rw (c.graph.ensures.value, c.deref.ensures.value) at c.put_states.ensures.machine)).placed
+    (rw (c.graph.ensures.value, c.deref.ensures.value) at c.put_states.ensures.machine))

@@ -1,28 +1,27 @@
 -- The clocks stay through a cycle, so each place is within it; a fault in a phase leaves a part of the whole cycle's text.
-use Rattle.std.proofs.Common.{◌≡◌, length, ap, subst, ◌∙◌, refl, arith}
+use Rattle.std.proofs.Common.{length, ap, subst, ◌∙◌, refl, arith}
 use Rattle.std.specs.List.{range_with_len}
 use Rattle.std.proofs.lemmas.Result.{err_from_is_err_and}
 use Rattle.cosmos_session.specs.Sessions.{SessionData, HeldSession, IsReady, places_of}
 use Rattle.cosmos_session.specs.Effects.{with_beat}
 use Rattle.cosmos_session.proofs.BeatLemmas.{beat_done, beat_stopped, places-next, places-split}
-use Rattle.cosmos_session.proofs.MachineLemmas.{StaysPut}
-use Rattle.cosmos_session.proofs.MoveLemmas.{beats_on-more}
+use Rattle.cosmos_session.proofs.MoveLemmas.{beats_on-more, setup-put, setup-phase}
 use Rattle.cosmos_session.proofs.session.Session.run_cycle.Goals as goal
 
 pub put_clocks-requires-clause-built : goal.put_clocks-requires-clause-built
 put_clocks-requires-clause-built g c = c.loop-place.invariant.built
 
 pub put_clocks-requires-clause-place : goal.put_clocks-requires-clause-place
-put_clocks-requires-clause-place g c = omega (arith, ap places_of c.loop-place.invariant.clocks, c.loop-place.invariant.end)
+put_clocks-requires-clause-place g c = omega (arith, ap places_of c.loop-place.invariant.setup.clocks, c.loop-place.invariant.end)
 
 pub put_clocks-requires-clause-inputs : goal.put_clocks-requires-clause-inputs
-put_clocks-requires-clause-inputs g c = rw (c.loop-place.invariant.clocks, c.loop-place.invariant.circuit) c.requires.inputs
+put_clocks-requires-clause-inputs g c = rw (c.loop-place.invariant.setup.clocks, c.loop-place.invariant.setup.circuit) c.requires.inputs
 
 pub settle_and_send-requires-clause-room : goal.settle_and_send-requires-clause-room
 settle_and_send-requires-clause-room g c =
-    let watched : c.put_clocks.new.self.core.watched ≡ c.args.self.now.core.watched =
-    ap (λ (s : SessionData). s.watched) c.put_clocks.ensures.beat ∙ c.loop-place.invariant.watched in
-    omega (arith, ap length watched, c.loop-place.invariant.room, c.requires.room)
+    let setup = setup-put c.args.self.now.core c.loop-place.self.core c.put_clocks.new.self.core c.loop-place.place c.loop-place.invariant.setup
+    c.put_clocks.ensures.beat in
+    omega (arith, ap length setup.watched, c.loop-place.invariant.room, c.requires.room)
 
 pub returns-in_err-settle_and_send-clause-beats : goal.returns-in_err-settle_and_send-clause-beats
 returns-in_err-settle_and_send-clause-beats g c =
@@ -39,17 +38,10 @@ returns-in_err-settle_and_send-clause-beats g c =
     c.loop-place.invariant.done refl
     (rw c.put_clocks.ensures.beat at c.in_err-settle_and_send.ensures.phase))
 
-pub returns-in_err-settle_and_send-clause-watched : goal.returns-in_err-settle_and_send-clause-watched
-returns-in_err-settle_and_send-clause-watched g c =
-    c.settle_and_send.ensures.watched ∙ ap (λ (s : SessionData). s.watched) c.put_clocks.ensures.beat ∙ c.loop-place.invariant.watched
-
-pub returns-in_err-settle_and_send-clause-clocks : goal.returns-in_err-settle_and_send-clause-clocks
-returns-in_err-settle_and_send-clause-clocks g c =
-    c.settle_and_send.ensures.clocks ∙ ap (λ (s : SessionData). s.clocks) c.put_clocks.ensures.beat ∙ c.loop-place.invariant.clocks
-
-pub returns-in_err-settle_and_send-clause-circuit : goal.returns-in_err-settle_and_send-clause-circuit
-returns-in_err-settle_and_send-clause-circuit g c =
-    c.settle_and_send.ensures.circuit ∙ ap (λ (s : SessionData). s.circuit) c.put_clocks.ensures.beat ∙ c.loop-place.invariant.circuit
+pub returns-in_err-settle_and_send-clause-setup : goal.returns-in_err-settle_and_send-clause-setup
+returns-in_err-settle_and_send-clause-setup g c =
+    setup-phase c.args.self.now.core c.loop-place.self.core c.put_clocks.new.self.core c.settle_and_send.new.self.core c.loop-place.place
+    c.loop-place.invariant.setup c.put_clocks.ensures.beat c.settle_and_send.ensures.setup
 
 pub loop-place-preserved : goal.loop-place-preserved
 loop-place-preserved g c =
@@ -59,8 +51,6 @@ loop-place-preserved g c =
     let put = c.put_clocks.new.self in
     let next = c.settle_and_send.new.self in
     let beat : SessionData = with_beat now.core place in
-    let stays : StaysPut now.machine put.machine =
-    record { moves = c.put_clocks.ensures.moves; placed = c.put_clocks.ensures.placed } in
     record {
       end = c.loop-place.invariant.end;
       done = rw (places-next place) (beat_done start.core now.core next.core beat.state
@@ -68,11 +58,9 @@ loop-place-preserved g c =
           (g.S.Sink.written c.settle_and_send.new.out) c.loop-place.invariant.done refl
           (rw c.put_clocks.ensures.beat at c.in_ok-settle_and_send.ensures.phase));
       moves = rw (places-next place) (beats_on-more start now put next (range_with_len 0 place) place c.loop-place.invariant.moves
-          c.put_clocks.ensures.beat stays c.settle_and_send.ensures.moves);
+          c.put_clocks.ensures.beat c.put_clocks.ensures.stays c.settle_and_send.ensures.moves);
       built = c.settle_and_send.ensures.built;
-      clocks = c.settle_and_send.ensures.clocks ∙ ap (λ (s : SessionData). s.clocks) c.put_clocks.ensures.beat ∙ c.loop-place.invariant.clocks;
-      circuit = c.settle_and_send.ensures.circuit ∙ ap (λ (s : SessionData). s.circuit) c.put_clocks.ensures.beat ∙ c.loop-place.invariant.circuit;
-      watched = c.settle_and_send.ensures.watched ∙ ap (λ (s : SessionData). s.watched) c.put_clocks.ensures.beat ∙ c.loop-place.invariant.watched;
+      setup = setup-phase start.core now.core put.core next.core place c.loop-place.invariant.setup c.put_clocks.ensures.beat c.settle_and_send.ensures.setup;
       room = c.settle_and_send.ensures.room ∙ c.loop-place.invariant.room;
       faults = c.in_ok-settle_and_send.ensures.faults ∙ c.loop-place.invariant.faults;
       refusals = c.in_ok-settle_and_send.ensures.refusals ∙ c.loop-place.invariant.refusals;

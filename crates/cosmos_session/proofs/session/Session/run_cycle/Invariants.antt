@@ -3,7 +3,7 @@ use Rattle.std.proofs.Common.{◌≡◌}
 use Rattle.std.specs.List.{range_with_len}
 use Rattle.cosmos_session.specs.Sessions.{places_of}
 use Rattle.cosmos_session.specs.Machines.{IsBuilt}
-use Rattle.cosmos_session.specs.Stages.{BeatsMoveOn}
+use Rattle.cosmos_session.specs.Stages.{BeatsMoveOn, SameSetup}
 use Rattle.cosmos_session.proofs.BeatLemmas.{BeatsDone}
 use Rattle.cosmos_session.proofs.session.Session.run_cycle.Given as goal
 
@@ -13,9 +13,7 @@ invariant-loop-place g l = record {
   done : BeatsDone l.fn.self.core l.self.core (range_with_len 0 l.place) (g.S.Sink.written l.fn.out) (g.S.Sink.written l.out);
   moves : BeatsMoveOn (range_with_len 0 l.place) l.fn.self l.self;
   built : IsBuilt l.self;
-  clocks : l.self.core.clocks ≡ l.fn.self.core.clocks;
-  circuit : l.self.core.circuit ≡ l.fn.self.core.circuit;
-  watched : l.self.core.watched ≡ l.fn.self.core.watched;
+  setup : SameSetup l.fn.self.core l.self.core;
   room : l.room ≡ l.fn.room;
   faults : g.S.Sink.faults l.out ≡ g.S.Sink.faults l.fn.out;
   refusals : g.S.Sink.refusals l.out ≡ g.S.Sink.refusals l.fn.out;

@@ -4,7 +4,7 @@ use Rattle.std.proofs.lemmas.Result.{err_from_is_err_and}
 use Rattle.cosmos_session.specs.Sessions.{places_of}
 use Rattle.cosmos_session.specs.Stages.{BeatsMove}
 use Rattle.cosmos_session.proofs.BeatLemmas.{beats_done-none, no_cycle, cycle_done, cycle_stopped}
-use Rattle.cosmos_session.proofs.MoveLemmas.{beats_move-none, cycle_moves}
+use Rattle.cosmos_session.proofs.MoveLemmas.{beats_move-none, cycle_moves, setup-same, setup-more}
 use Rattle.cosmos_session.proofs.session.Session.run_cycles.Goals as goal
 
 pub loop-cycle-init : goal.loop-cycle-init
@@ -15,9 +15,7 @@ loop-cycle-init g c =
       moves = subst (λ (places : List ℕ). BeatsMove places start start) (sym (no_cycle (places_of start.core.clocks)))
           (beats_move-none start c.requires.built);
       built = c.requires.built;
-      clocks = refl;
-      circuit = refl;
-      watched = refl;
+      setup = setup-same start.core;
       room = refl;
       faults = refl;
       refusals = refl;
@@ -27,11 +25,11 @@ pub run_cycle-requires-clause-built : goal.run_cycle-requires-clause-built
 run_cycle-requires-clause-built g c = c.loop-cycle.invariant.built
 
 pub run_cycle-requires-clause-inputs : goal.run_cycle-requires-clause-inputs
-run_cycle-requires-clause-inputs g c = rw (c.loop-cycle.invariant.clocks, c.loop-cycle.invariant.circuit) c.requires.inputs
+run_cycle-requires-clause-inputs g c = rw (c.loop-cycle.invariant.setup.clocks, c.loop-cycle.invariant.setup.circuit) c.requires.inputs
 
 pub run_cycle-requires-clause-room : goal.run_cycle-requires-clause-room
 run_cycle-requires-clause-room g c =
-    omega (arith, ap length c.loop-cycle.invariant.watched, c.loop-cycle.invariant.room, c.requires.room)
+    omega (arith, ap length c.loop-cycle.invariant.setup.watched, c.loop-cycle.invariant.room, c.requires.room)
 
 pub returns-in_err-run_cycle-clause-beats : goal.returns-in_err-run_cycle-clause-beats
 returns-in_err-run_cycle-clause-beats g c =
@@ -48,9 +46,7 @@ loop-cycle-preserved g c = record {
   moves = cycle_moves c.args.self.now c.loop-cycle.self c.run_cycle.new.self c.loop-cycle._cycle c.loop-cycle.invariant.moves
       c.in_ok-run_cycle.ensures.moves;
   built = c.run_cycle.ensures.built;
-  clocks = c.run_cycle.ensures.clocks ∙ c.loop-cycle.invariant.clocks;
-  circuit = c.run_cycle.ensures.circuit ∙ c.loop-cycle.invariant.circuit;
-  watched = c.run_cycle.ensures.watched ∙ c.loop-cycle.invariant.watched;
+  setup = setup-more c.args.self.now.core c.loop-cycle.self.core c.run_cycle.new.self.core c.loop-cycle.invariant.setup c.run_cycle.ensures.setup;
   room = c.run_cycle.ensures.room ∙ c.loop-cycle.invariant.room;
   faults = c.in_ok-run_cycle.ensures.faults ∙ c.loop-cycle.invariant.faults;
   refusals = c.in_ok-run_cycle.ensures.refusals ∙ c.loop-cycle.invariant.refusals;

@@ -3,7 +3,7 @@ use Rattle.std.proofs.Common.{◌≡◌}
 use Rattle.cosmos_session.specs.Sessions.{places_of}
 use Rattle.cosmos_session.specs.Effects.{places_in}
 use Rattle.cosmos_session.specs.Machines.{IsBuilt}
-use Rattle.cosmos_session.specs.Stages.{BeatsMove}
+use Rattle.cosmos_session.specs.Stages.{BeatsMove, SameSetup}
 use Rattle.cosmos_session.proofs.BeatLemmas.{BeatsDone}
 use Rattle.cosmos_session.proofs.session.Session.run_cycles.Given as goal
 
@@ -12,9 +12,7 @@ invariant-loop-cycle g l = record {
   done : BeatsDone l.fn.self.core l.self.core (places_in (places_of l.fn.self.core.clocks) l._cycle) (g.S.Sink.written l.fn.out) (g.S.Sink.written l.out);
   moves : BeatsMove (places_in (places_of l.fn.self.core.clocks) l._cycle) l.fn.self l.self;
   built : IsBuilt l.self;
-  clocks : l.self.core.clocks ≡ l.fn.self.core.clocks;
-  circuit : l.self.core.circuit ≡ l.fn.self.core.circuit;
-  watched : l.self.core.watched ≡ l.fn.self.core.watched;
+  setup : SameSetup l.fn.self.core l.self.core;
   room : l.room ≡ l.fn.room;
   faults : g.S.Sink.faults l.out ≡ g.S.Sink.faults l.fn.out;
   refusals : g.S.Sink.refusals l.out ≡ g.S.Sink.refusals l.fn.out;
