@@ -8,19 +8,11 @@ use Rattle.std.proofs.lemmas.Bool.{cases_Bool, eqb-true, eq-eqb}
 use Rattle.std.proofs.lemmas.List.Elements.{All-from_recursion, recursion_from_All, Contains-append_cases, Contains-get_or}
 use Rattle.std.proofs.lemmas.Map.Keys.{IsDistinct-head, IsDistinct-tail, IsDistinct-cons}
 use Rattle.std.proofs.lemmas.Map.Made.{length-le_from_is_member}
-use Rattle.list_facts.proofs.ContainsLemmas.{Contains-cons_first, Contains-cons_later, Contains-from_filter, passes-from_filter}
+use Rattle.list_facts.proofs.ContainsLemmas.{Contains-cons_first, Contains-cons_later, Contains-from_filter, passes-from_filter, unlike}
 use Rattle.indexmap.proofs.CallerLemmas.{Contains-list_any}
 use Rattle.path_meaning.specs.declared.switching.Switch.{Switch}
 use Rattle.path_meaning.specs.Graphs.{GraphData}
 use Rattle.channel_groups.specs.Listing.{HasEndAt, AreListed, is_other, others_at}
-
--- what differs from one number
-unlike : (x : ℕ) (ys : List ℕ) → (¬ Contains ys x) → All (λ y. nat_eq x y ≡ false) ys
-unlike x ys none k d inside =
-    elim (cases_Bool (nat_eq x (get_or ys k d))) [
-      | inl same ↦ absurd (none (subst (Contains ys) (sym (eqb-true x (get_or ys k d) same)) (Contains-get_or ys k d inside)))
-      | inr other ↦ other
-    ]
 
 -- a number in front of a list without repeats isn't in it
 pub not_again : (x : ℕ) (xs : List ℕ) → IsDistinct nat_eq (x ∷ xs) → ¬ Contains xs x

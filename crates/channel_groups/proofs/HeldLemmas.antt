@@ -210,7 +210,7 @@ module _ (classes : List (Option ℕ)) (slots : List (Option Group)) (are : IsHe
       ]))
 
 -- what is found stands somewhere in the list and passes
-found_place : {X : Type 0} → (p : X → Bool) (xs : List X) (x : X) → find p xs ≡ Some x → (k : ℕ) × (k < length xs) × (get_or xs k x ≡ x) × (p x ≡ true)
+pub found_place : {X : Type 0} → (p : X → Bool) (xs : List X) (x : X) → find p xs ≡ Some x → (k : ℕ) × (k < length xs) × (get_or xs k x ≡ x) × (p x ≡ true)
 found_place p [] x found = absurd (cc)
 found_place p (y ∷ xs) x found =
     elim (cases_Bool (p y)) [

@@ -176,7 +176,7 @@ module _ (g h : GraphData) (before after : List ℕ) (differ : DifferAt g h befo
           ]
 
       -- each group stands at its least node, and its members have that node as their class
-      pub IsHeld-regrouped : IsHeld classes_3 slots_3
+      IsHeld-regrouped : IsHeld classes_3 slots_3
       IsHeld-regrouped = record {
         own = λ id group at.
             elim (slot_cases id group at) [
@@ -202,7 +202,7 @@ module _ (g h : GraphData) (before after : List ℕ) (differ : DifferAt g h befo
       }
 
       -- and they are the groups of the graph now
-      pub AreGroups-regrouped : AreGroups h (held slots_3)
+      AreGroups-regrouped : AreGroups h (held slots_3)
       AreGroups-regrouped = record {
         each = λ k d inside.
             let slot = slot-from_held slots_3 (get_or (held slots_3) k d) (Contains-get_or (held slots_3) k d inside) in
@@ -236,3 +236,7 @@ module _ (g h : GraphData) (before after : List ℕ) (differ : DifferAt g h befo
           any_held id group at node member =
               let there = held-from_slot slots_3 id group at in
               (there.0, group, there.1, there.2, member)
+
+      -- so the groups of the graph now are held
+      pub regrouped : IsHeld classes_3 slots_3 × AreGroups h (held slots_3)
+      regrouped = (IsHeld-regrouped, AreGroups-regrouped)

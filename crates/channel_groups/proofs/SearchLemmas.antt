@@ -1,5 +1,5 @@
 -- The search: a found group more, and a root more.
-use Rattle.std.proofs.Common.{◌≡◌, ℕ, ◌+◌, ◌<◌, inl, inr, true, false, nat_lt, List, [], ◌∷◌, ◌++◌, ◌*◌, ◌≤◌, length, map, filter, get_or, take, nat_eq, Contains, drop, Result, Ok, Err, OnErr, sym, ap, subst, ◌∙◌, arith, refl, if◌then◌else◌}
+use Rattle.std.proofs.Common.{◌≡◌, ℕ, ◌+◌, ◌<◌, inl, inr, true, false, nat_lt, List, [], ◌∷◌, ◌++◌, ◌*◌, ◌≤◌, length, map, filter, get_or, take, nat_eq, Contains, drop, Result, Ok, Err, OnErr, sym, ap, subst, ◌∙◌, arith, refl}
 use Rattle.std.specs.List.{IsDistinct, list_any}
 use Rattle.std.proofs.lemmas.Bool.{cases_Bool, eqb-true, eq-eqb, and_parts, and_from, ltb-true, lt-ltb}
 use Rattle.std.proofs.lemmas.Cmp.{nat_eq_equiv}
@@ -18,7 +18,7 @@ use Rattle.group_meaning.proofs.UniqueGroups.{same_by_id, same_by_member}
 use Rattle.group_meaning.proofs.MappedLists.{contains-from_map}
 use Rattle.channel_groups.specs.Flood.{IsPaid}
 use Rattle.channel_groups.specs.Search.{AreFound, Finds, Notes, is_storage, AreFoundFrom, IsCutShort, ArePaid, search_cost}
-use Rattle.channel_groups.proofs.FloodLemmas.{insert_key-grown, insert_key-cases, filter-count_more, filter-part}
+use Rattle.channel_groups.proofs.FloodLemmas.{insert_key-grown, insert_key-cases, filter-part}
 
 -- the test for a storage node
 pub IsStorage-from_test : (g : GraphData) (node : ℕ) → is_storage g node ≡ true → IsStorage g node
@@ -151,125 +151,114 @@ AreFoundFrom-one root fresh group member = record {
       ];
 }
 
--- one root more
-pub AreFoundFrom-more : (roots : List ℕ) (i : ℕ) (old fresh new : List Group) → i < length roots → AreFoundFrom (take i roots) old fresh →
-    AreFoundFrom (get_or roots i 0 ∷ []) fresh new → AreFoundFrom (take (i + 1) roots) old new
-AreFoundFrom-more roots i old fresh new inside so_far one =
-    let root = get_or roots i 0 in
-    let more : take (i + 1) roots ≡ take i roots ++ root ∷ [] = take_more roots i 0 inside in
-    record {
-      from = λ group there.
-          elim (one.from group there) [
-            | inl before ↦
-                elim (so_far.from group before) [
-                  | inl older ↦ inl older
-                  | inr (n, in_roots, member) ↦ inr (n, rw more (Contains-append_left (take i roots) (root ∷ []) n in_roots), member)
-                ]
-            | inr (n, last, member) ↦
-                elim (Contains-cons_cases root [] n last) [
-                  | inl same ↦ inr (n, rw (more, ← same) (Contains-push (take i roots) root), member)
-                  | inr none ↦ absurd (omega (arith, none.1))
-                ]
-          ];
-    }
+-- what comes in from some roots and then from others comes in from all of them
+AreFoundFrom-then : (first second roots : List ℕ) (old fresh new : List Group) → ((n : ℕ) → Contains first n → Contains roots n) →
+    ((n : ℕ) → Contains second n → Contains roots n) → AreFoundFrom first old fresh → AreFoundFrom second fresh new → AreFoundFrom roots old new
+AreFoundFrom-then first second roots old fresh new before after one two = record {
+  from = λ group there.
+      elim (two.from group there) [
+        | inl earlier ↦
+            elim (one.from group earlier) [
+              | inl older ↦ inl older
+              | inr (n, root, member) ↦ inr (n, before n root, member)
+            ]
+        | inr (n, root, member) ↦ inr (n, after n root, member)
+      ];
+}
 
 -- what a part of a list has is in the list
 pub Contains-part : (xs : List ℕ) (k n : ℕ) → Contains (take k xs) n → Contains xs n
 Contains-part xs k n there = subst (λ (ys : List ℕ). Contains ys n) (take-append-drop k xs) (Contains-append_left (take k xs) (drop k xs) n there)
 
--- where the search ends early at a root, the groups that were found and that of the root pay for its steps
-pub ArePaid-cut : (g : GraphData) (roots : List ℕ) (i : ℕ) (old fresh : List Group) (seen : List ℕ) (start middle end : ℕ) → i < length roots →
-    AreFound g seen fresh → AreFoundFrom (take i roots) old fresh →
-    middle + search_cost old ≤ start + length (filter (is_storage g) (take i roots)) + search_cost fresh →
-    IsCutShort g (get_or roots i 0) seen middle end → ArePaid g roots old start end
-ArePaid-cut g roots i old fresh seen start middle end inside so_far from ticked cut = record {
-  paid = λ groups are.
-      let root = get_or roots i 0 in
-      let at = are.whole root cut.storage in
-      let group = at.1 in
-      let is : IsGroup g group = All-contains (IsGroup g) groups group are.each (at.0, at.2, at.3) in
-      let more : take (i + 1) roots ≡ take i roots ++ root ∷ [] = take_more roots i 0 inside in
-      let last : Contains roots root = Contains-part roots (i + 1) root (rw more (Contains-push (take i roots) root)) in (
-        fresh ++ group ∷ [],
-        record {
-          each = λ one there. elim (Contains-push_cases fresh group one there) [ inl before ↦ so_far.each one before | inr same ↦ subst (IsGroup g) same is ];
-          apart = apart-more g root seen fresh group so_far is at.4 cut.unseen;
-          from = record {
-            from = λ one there.
-                elim (Contains-push_cases fresh group one there) [
-                  | inl before ↦
-                      elim (from.from one before) [
-                        | inl older ↦ inl older
-                        | inr (n, in_roots, member) ↦ inr (n, Contains-part roots i n in_roots, member)
-                      ]
-                  | inr same ↦ inr (root, last, subst (λ (one : Group). Contains one.members root) same at.4)
-                ];
-          };
-          steps =
-              let grown = sum_by_push (λ (group : Group). 3 * length group.members + 2 * length group.switches) fresh group in
-              let one = cut.paid group is at.4 in
-              let next = filter-count_more (is_storage g) roots i inside in
-              let root_counts : ℕ = if is_storage g root then 1 else 0 in
-              let tested : root_counts ≡ 1 = rw (test-from_IsStorage g root cut.storage) refl in
-              let fewer = filter-part (is_storage g) roots (i + 1) in
-              omega (arith, grown, one, next, tested, fewer, ticked);
-        },
-      );
-}
-
+-- how many of two lists are storage nodes
 both_pass : (g : GraphData) (roots more : List ℕ) →
     length (filter (is_storage g) (roots ++ more)) ≡ length (filter (is_storage g) roots) + length (filter (is_storage g) more)
 both_pass g roots more =
     ap length (filter-append (is_storage g) roots more) ∙ length-append (filter (is_storage g) roots) (filter (is_storage g) more)
 
--- what the first roots pay for, more roots pay for too
-pub ArePaid-first : (g : GraphData) (roots more : List ℕ) (old : List Group) (start end : ℕ) → ArePaid g roots old start end →
-    ArePaid g (roots ++ more) old start end
-ArePaid-first g roots more old start end paid = record {
+-- the roots so far and the next one are among the roots so far with the next one
+before_next : (roots : List ℕ) (i n : ℕ) → i < length roots → Contains (take i roots) n → Contains (take (i + 1) roots) n
+before_next roots i n inside there = rw (take_more roots i 0 inside) (Contains-append_left (take i roots) (get_or roots i 0 ∷ []) n there)
+
+next_one : (roots : List ℕ) (i n : ℕ) → i < length roots → Contains (get_or roots i 0 ∷ []) n → Contains (take (i + 1) roots) n
+next_one roots i n inside there = rw (take_more roots i 0 inside) (Contains-append_right (take i roots) (get_or roots i 0 ∷ []) n there)
+
+-- one root more
+pub AreFoundFrom-more : (roots : List ℕ) (i : ℕ) (old fresh new : List Group) → i < length roots → AreFoundFrom (take i roots) old fresh →
+    AreFoundFrom (get_or roots i 0 ∷ []) fresh new → AreFoundFrom (take (i + 1) roots) old new
+AreFoundFrom-more roots i old fresh new inside =
+    AreFoundFrom-then (take i roots) (get_or roots i 0 ∷ []) (take (i + 1) roots) old fresh new
+    (λ n there. before_next roots i n inside there) (λ n there. next_one roots i n inside there)
+
+-- where the search ends early in a later part of the roots, the groups that were found before pay for the steps before
+ArePaid-then : (g : GraphData) (first second roots : List ℕ) (old fresh : List Group) (start middle end : ℕ) →
+    ((n : ℕ) → Contains first n → Contains roots n) → ((n : ℕ) → Contains second n → Contains roots n) →
+    length (filter (is_storage g) first) + length (filter (is_storage g) second) ≤ length (filter (is_storage g) roots) →
+    AreFoundFrom first old fresh → middle + search_cost old ≤ start + length (filter (is_storage g) first) + search_cost fresh →
+    ArePaid g second fresh middle end → ArePaid g roots old start end
+ArePaid-then g first second roots old fresh start middle end before after counts from ticked paid = record {
   paid = λ groups are.
       let looked = paid.paid groups are in (
         looked.0,
         record {
           each = looked.1.each;
           apart = looked.1.apart;
-          from = record {
-            from = λ group there.
-                elim (looked.1.from.from group there) [
-                  | inl older ↦ inl older
-                  | inr (n, root, member) ↦ inr (n, Contains-append_left roots more n root, member)
-                ];
-          };
-          steps = let ticked = looked.1.steps in omega (arith, ticked, both_pass g roots more);
+          from = AreFoundFrom-then first second roots old fresh looked.0 before after from looked.1.from;
+          steps = let more = looked.1.steps in omega (arith, more, ticked, counts);
         },
       );
 }
+
+-- where it ends early at a root, the groups that were found and that of the root pay for its steps
+ArePaid-one : (g : GraphData) (root : ℕ) (fresh : List Group) (seen : List ℕ) (start end : ℕ) → AreFound g seen fresh →
+    IsCutShort g root seen start end → ArePaid g (root ∷ []) fresh start end
+ArePaid-one g root fresh seen start end so_far cut = record {
+  paid = λ groups are.
+      let at = are.whole root cut.storage in
+      let group = at.1 in
+      let is : IsGroup g group = All-contains (IsGroup g) groups group are.each (at.0, at.2, at.3) in (
+        fresh ++ group ∷ [],
+        record {
+          each = λ one there. elim (Contains-push_cases fresh group one there) [ inl before ↦ so_far.each one before | inr same ↦ subst (IsGroup g) same is ];
+          apart = apart-more g root seen fresh group so_far is at.4 cut.unseen;
+          from = AreFoundFrom-one root fresh group at.4;
+          steps =
+              let grown = sum_by_push (λ (group : Group). 3 * length group.members + 2 * length group.switches) fresh group in
+              let one = cut.paid group is at.4 in
+              let counts : length (filter (is_storage g) (root ∷ [])) ≡ 1 = rw (test-from_IsStorage g root cut.storage) refl in
+              omega (arith, grown, one, counts);
+        },
+      );
+}
+
+pub ArePaid-cut : (g : GraphData) (roots : List ℕ) (i : ℕ) (old fresh : List Group) (seen : List ℕ) (start middle end : ℕ) → i < length roots →
+    AreFound g seen fresh → AreFoundFrom (take i roots) old fresh →
+    middle + search_cost old ≤ start + length (filter (is_storage g) (take i roots)) + search_cost fresh →
+    IsCutShort g (get_or roots i 0) seen middle end → ArePaid g roots old start end
+ArePaid-cut g roots i old fresh seen start middle end inside so_far from ticked cut =
+    let root = get_or roots i 0 in
+    let counts = both_pass g (take i roots) (root ∷ []) in
+    let next : take i roots ++ root ∷ [] ≡ take (i + 1) roots = sym (take_more roots i 0 inside) in
+    ArePaid-then g (take i roots) (root ∷ []) roots old fresh start middle end
+    (λ n there. Contains-part roots i n there) (λ n there. Contains-part roots (i + 1) n (next_one roots i n inside there))
+    (omega (arith, counts, ap (λ (xs : List ℕ). length (filter (is_storage g) xs)) next, filter-part (is_storage g) roots (i + 1))) from ticked
+    (ArePaid-one g root fresh seen middle end so_far cut)
+
+-- what the first roots pay for, more roots pay for too
+pub ArePaid-first : (g : GraphData) (roots more : List ℕ) (old : List Group) (start end : ℕ) → ArePaid g roots old start end →
+    ArePaid g (roots ++ more) old start end
+ArePaid-first g roots more old start end =
+    ArePaid-then g [] roots (roots ++ more) old old start start end
+    (λ n there. absurd (omega (arith, there.1))) (λ n there. Contains-append_left roots more n there)
+    (omega (arith, both_pass g roots more)) (AreFoundFrom-none [] old) (omega arith)
 
 -- and those that come after others pay with them
 pub ArePaid-second : (g : GraphData) (roots more : List ℕ) (old fresh : List Group) (start middle end : ℕ) → AreFoundFrom roots old fresh →
     middle + search_cost old ≤ start + length (filter (is_storage g) roots) + search_cost fresh → ArePaid g more fresh middle end →
     ArePaid g (roots ++ more) old start end
-ArePaid-second g roots more old fresh start middle end from first paid = record {
-  paid = λ groups are.
-      let looked = paid.paid groups are in (
-        looked.0,
-        record {
-          each = looked.1.each;
-          apart = looked.1.apart;
-          from = record {
-            from = λ group there.
-                elim (looked.1.from.from group there) [
-                  | inl before ↦
-                      elim (from.from group before) [
-                        | inl older ↦ inl older
-                        | inr (n, root, member) ↦ inr (n, Contains-append_left roots more n root, member)
-                      ]
-                  | inr (n, root, member) ↦ inr (n, Contains-append_right roots more n root, member)
-                ];
-          };
-          steps = let ticked = looked.1.steps in omega (arith, ticked, first, both_pass g roots more);
-        },
-      );
-}
+ArePaid-second g roots more old fresh start middle end =
+    ArePaid-then g roots more (roots ++ more) old fresh start middle end
+    (λ n there. Contains-append_left roots more n there) (λ n there. Contains-append_right roots more n there) (omega (arith, both_pass g roots more))
 
 -- a number that no look finds isn't there
 pub unseen_root : (seen : List ℕ) (root : ℕ) → list_any (nat_eq root) seen ≡ false → ¬ Contains seen root

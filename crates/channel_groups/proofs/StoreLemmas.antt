@@ -19,13 +19,13 @@ use Rattle.group_meaning.proofs.LinkLemmas.{Joins-sym}
 use Rattle.channel_groups.specs.declared.change.Change.{Change}
 use Rattle.channel_groups.specs.Listing.{places_of, HasEndAt, AreListed, Moves}
 use Rattle.channel_groups.specs.Changes.{undo, with_place, changed_place, nodes_before, nodes_after, DifferAt}
-use Rattle.channel_groups.specs.Grouping.{class_at, slot_at, held, IsHeld, group_at_node, list_at, first_lists}
+use Rattle.channel_groups.specs.Grouping.{class_at, slot_at, held, IsHeld, group_at_node, list_at, first_lists, GroupsData, AreOf}
 use Rattle.channel_groups.specs.Search.{AreFound, Notes}
 use Rattle.channel_groups.specs.Writing.{Clears, AreTouched, AddsGroup, AreInside, Puts, SameHeld, IsPlan}
 use Rattle.channel_groups.proofs.ChangeLemmas.{DifferAt-undo}
 use Rattle.channel_groups.proofs.HeldLemmas.{there_inside}
 use Rattle.channel_groups.proofs.ListingLemmas.{AreListed-same, AreListed-changed, AreListed-moved}
-use Rattle.channel_groups.proofs.RegroupedLemmas.{IsHeld-regrouped, AreGroups-regrouped}
+use Rattle.channel_groups.proofs.RegroupedLemmas.{regrouped}
 
 -- nothing more at the end is the same to look at
 pub same_more : (X : Type 0) (xs : List (Option X)) (n : ℕ) → get_or (xs ++ None ∷ []) n None ≡ get_or xs n None
@@ -38,6 +38,20 @@ same_more X xs n =
             | inr other ↦ get_or_past (xs ++ None ∷ []) n None (omega (arith, length_push xs None)) ∙ sym (get_or_past xs n None past)
           ]
     ]
+
+-- the groups are held as they were
+pub SameHeld-none : (classes : List (Option ℕ)) (slots : List (Option Group)) → length classes ≤ length slots → SameHeld classes classes slots slots
+SameHeld-none classes slots counted = record { class = λ n. refl; slot = λ n. refl; counted = counted; longer = omega arith }
+
+-- and so they are with one empty slot more and one node without a class
+pub SameHeld-both : (classes more : List (Option ℕ)) (slots filled : List (Option Group)) → SameHeld classes more slots filled →
+    SameHeld classes (more ++ None ∷ []) slots (filled ++ None ∷ [])
+SameHeld-both classes more slots filled so_far = record {
+  class = λ n. same_more ℕ more n ∙ so_far.class n;
+  slot = λ n. same_more Group filled n ∙ so_far.slot n;
+  counted = omega (arith, so_far.counted, length_push filled None, length_push more None);
+  longer = omega (arith, so_far.longer, length_push more None);
+}
 
 -- what is held goes by what stands in the slots
 held-nothing : (slots : List (Option Group)) → ((n : ℕ) → slot_at slots n ≡ None) → held slots ≡ []
@@ -91,7 +105,7 @@ AreListed-unchanged end h change lists is listed =
     AreListed-same end (undo h change) h lists (ap (λ (o : Option (ℕ × Option Switch)). with_place o h.places) is) listed
 
 -- with the changed place moved they are right
-pub AreListed-relisted : (end : Switch → ℕ) (h : GraphData) (change : Change) (old : ℕ × Option Switch) (lists new : ℕ → List ℕ) → change.place ≡ Some old →
+AreListed-relisted : (end : Switch → ℕ) (h : GraphData) (change : Change) (old : ℕ × Option Switch) (lists new : ℕ → List ℕ) → change.place ≡ Some old →
     AreListed end (undo h change) None lists → Moves old.0 (option_map end old.1) (option_map end (place_at h.places old.0)) lists new →
     AreListed end h None new
 AreListed-relisted end h change old lists new is listed moves =
@@ -117,6 +131,15 @@ AreListed-relisted end h change old lists new is listed moves =
         option_map end there ≡ Some n → HasEndAt end h place n
     end_now end h place None stands n to = absurd (cc)
     end_now end h place (Some switch) stands n to = record { switch = switch; at_place = stands; at_node = cc (to) }
+
+-- by whatever equals the old end and the new one
+pub AreListed-moved_to : (end : Switch → ℕ) (h : GraphData) (change : Change) (old : ℕ × Option Switch) (lists new : ℕ → List ℕ) (from to : Option ℕ) →
+    change.place ≡ Some old → AreListed end (undo h change) None lists → from ≡ option_map end old.1 →
+    to ≡ option_map end (place_at h.places old.0) → Moves old.0 from to lists new → AreListed end h None new
+AreListed-moved_to end h change old lists new from to is listed from_is to_is moves =
+    AreListed-relisted end h change old lists new is listed
+    (subst (λ (o : Option ℕ). Moves old.0 o (option_map end (place_at h.places old.0)) lists new) from_is
+    (subst (λ (o : Option ℕ). Moves old.0 from o lists new) to_is moves))
 
 -- the members of the touched groups are nodes that are held
 pub gone_inside : (classes : List (Option ℕ)) (slots : List (Option Group)) (before gone : List ℕ) → IsHeld classes slots →
@@ -150,15 +173,9 @@ module _ (h : GraphData) (change : Change) (classes : List (Option ℕ)) (slots 
     (class_gone : Clears ℕ gone (class_at classes) (class_at classes_1)) (slot_gone : Clears Group gone (slot_at slots) (slot_at slots_1))
     (class_seen : Clears ℕ seen (class_at classes_1) (class_at classes_2)) (slot_seen : Clears Group seen (slot_at slots_1) (slot_at slots_2))
     (puts : Puts fresh classes_2 classes_3 slots_2 slots_3) where
-  pub IsHeld-written : IsHeld classes_3 slots_3
-  IsHeld-written =
-      IsHeld-regrouped (undo h change) h (nodes_before change) (nodes_after h change) (DifferAt-undo h change) classes slots are_held are
-      gone plan.touched seen fresh plan.found.each plan.found.all plan.found.only plan.gone_rooted plan.new_rooted
-      classes_1 classes_2 classes_3 slots_1 slots_2 slots_3 class_gone slot_gone class_seen slot_seen puts
-
-  pub AreGroups-written : AreGroups h (held slots_3)
-  AreGroups-written =
-      AreGroups-regrouped (undo h change) h (nodes_before change) (nodes_after h change) (DifferAt-undo h change) classes slots are_held are
+  pub written : IsHeld classes_3 slots_3 × AreGroups h (held slots_3)
+  written =
+      regrouped (undo h change) h (nodes_before change) (nodes_after h change) (DifferAt-undo h change) classes slots are_held are
       gone plan.touched seen fresh plan.found.each plan.found.all plan.found.only plan.gone_rooted plan.new_rooted
       classes_1 classes_2 classes_3 slots_1 slots_2 slots_3 class_gone slot_gone class_seen slot_seen puts
 
@@ -212,17 +229,9 @@ module _ (h : GraphData) (wired : IsWired h) (classes more : List (Option ℕ)) 
   all_cleared : (X : Type 0) (at : ℕ → Option X) → ((n : ℕ) → at n ≡ None) → Clears X seen at at
   all_cleared X at none = record { gone = λ n there. none n; stays = λ n elsewhere. refl }
 
-  pub IsHeld-found : IsHeld more filled
-  IsHeld-found =
-      IsHeld-regrouped nothing h [] (range_with_len 0 (nodes h)) differ classes slots none_held no_groups [] none_touched seen fresh
-      found.each found.all found.only (λ n there storage. absurd (omega (arith, there.1)))
-      (λ n there storage. rooted n storage.inside storage)
-      classes classes more slots slots filled (none_cleared ℕ (class_at classes)) (none_cleared Group (slot_at slots))
-      (all_cleared ℕ (class_at classes) no_class) (all_cleared Group (slot_at slots) no_slot) puts
-
-  pub AreGroups-found : AreGroups h (held filled)
-  AreGroups-found =
-      AreGroups-regrouped nothing h [] (range_with_len 0 (nodes h)) differ classes slots none_held no_groups [] none_touched seen fresh
+  pub all_found : IsHeld more filled × AreGroups h (held filled)
+  all_found =
+      regrouped nothing h [] (range_with_len 0 (nodes h)) differ classes slots none_held no_groups [] none_touched seen fresh
       found.each found.all found.only (λ n there storage. absurd (omega (arith, there.1)))
       (λ n there storage. rooted n storage.inside storage)
       classes classes more slots slots filled (none_cleared ℕ (class_at classes)) (none_cleared Group (slot_at slots))
@@ -290,7 +299,7 @@ list_at-first_lists nodes lists past n =
     ]
 
 -- lists that are seen as one are listed alike
-pub AreListed-seen : (end : Switch → ℕ) (g : GraphData) (nodes : ℕ) (lists : List (SmallVec ℕ)) → ((n : ℕ) → nodes ≤ n → places_of lists n ≡ []) →
+AreListed-seen : (end : Switch → ℕ) (g : GraphData) (nodes : ℕ) (lists : List (SmallVec ℕ)) → ((n : ℕ) → nodes ≤ n → places_of lists n ≡ []) →
     AreListed end g None (list_at (first_lists nodes lists)) → AreListed end g None (places_of lists)
 AreListed-seen end g nodes lists past listed =
     subst (AreListed end g None) (sym (same_function (places_of lists) (list_at (first_lists nodes lists)) (list_at-first_lists nodes lists past))) listed
@@ -299,6 +308,17 @@ pub AreListed-shown : (end : Switch → ℕ) (g : GraphData) (nodes : ℕ) (list
     AreListed end g None (places_of lists) → AreListed end g None (list_at (first_lists nodes lists))
 AreListed-shown end g nodes lists past listed =
     subst (AreListed end g None) (same_function (places_of lists) (list_at (first_lists nodes lists)) (list_at-first_lists nodes lists past)) listed
+
+-- the lists that are held are those of the graph whose groups are seen
+pub AreListed-held : (g : GraphData) (found : GroupsData) (nodes : ℕ) (groups : List Group) (firsts seconds : List (SmallVec ℕ)) →
+    ((n : ℕ) → nodes ≤ n → places_of firsts n ≡ []) → ((n : ℕ) → nodes ≤ n → places_of seconds n ≡ []) →
+    record { nodes = nodes; groups = groups; firsts = first_lists nodes firsts; seconds = first_lists nodes seconds } ≡ found → AreOf g found →
+    AreListed (λ switch. switch.a) g None (places_of firsts) × AreListed (λ switch. switch.b) g None (places_of seconds)
+AreListed-held g found nodes groups firsts seconds firsts_past seconds_past seen are =
+    let of = subst (AreOf g) (sym seen) are in (
+      AreListed-seen (λ switch. switch.a) g nodes firsts firsts_past of.firsts,
+      AreListed-seen (λ switch. switch.b) g nodes seconds seconds_past of.seconds,
+    )
 
 -- the same lists are seen where the lists stay
 pub first_lists-same : (nodes : ℕ) (lists more : List (SmallVec ℕ)) → ((n : ℕ) → places_of more n ≡ places_of lists n) →

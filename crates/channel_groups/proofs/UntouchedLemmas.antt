@@ -13,6 +13,18 @@ use Rattle.channel_groups.specs.Changes.{DifferAt}
 AreJoined-moved : (g h : GraphData) (place m n : ℕ) → AreJoined g place m n → place_at h.places place ≡ place_at g.places place → AreJoined h place m n
 AreJoined-moved g h place m n at same = record { switch = at.switch; at_place = same ∙ at.at_place; joins = at.joins }
 
+-- a switch touches nodes in the other graph too, where its place holds the same in both wherever it joins one of them
+TouchesAny-moved : (g h : GraphData) (members : List ℕ) (place : ℕ) →
+    ((m n : ℕ) → Contains members m → AreJoined g place m n → place_at h.places place ≡ place_at g.places place) →
+    TouchesAny g members place → TouchesAny h members place
+TouchesAny-moved g h members place stays at =
+    let same : place_at h.places place ≡ place_at g.places place =
+    elim at.touches [
+      | inl a ↦ stays at.switch.a at.switch.b a (record { switch = at.switch; at_place = at.at_place; joins = inl (refl, refl) })
+      | inr b ↦ stays at.switch.b at.switch.a b (record { switch = at.switch; at_place = at.at_place; joins = inr (refl, refl) })
+    ] in
+    record { switch = at.switch; at_place = same ∙ at.at_place; touches = at.touches }
+
 module _ (g h : GraphData) (before after : List ℕ) (differ : DifferAt g h before after) (group : Group) (is : IsGroup g group)
     (unchanged : (n : ℕ) → Contains group.members n → ¬ Contains before n) where
   -- a member is a storage node still
@@ -73,24 +85,10 @@ module _ (g h : GraphData) (before after : List ℕ) (differ : DifferAt g h befo
 
     -- a switch touches the members in the one graph where it does in the other
     touches_stay : (place : ℕ) → TouchesAny g group.members place → TouchesAny h group.members place
-    touches_stay place at = record {
-      switch = at.switch;
-      at_place = (elim at.touches [
-        | inl a ↦ place_stays place at.switch.a at.switch.b a (record { switch = at.switch; at_place = at.at_place; joins = inl (refl, refl) })
-        | inr b ↦ place_stays place at.switch.b at.switch.a b (record { switch = at.switch; at_place = at.at_place; joins = inr (refl, refl) })
-      ]) ∙ at.at_place;
-      touches = at.touches;
-    }
+    touches_stay place = TouchesAny-moved g h group.members place (place_stays place)
 
     touches_before : (place : ℕ) → TouchesAny h group.members place → TouchesAny g group.members place
-    touches_before place at = record {
-      switch = at.switch;
-      at_place = (elim at.touches [
-        | inl a ↦ place_stood place at.switch.a at.switch.b a (record { switch = at.switch; at_place = at.at_place; joins = inl (refl, refl) })
-        | inr b ↦ place_stood place at.switch.b at.switch.a b (record { switch = at.switch; at_place = at.at_place; joins = inr (refl, refl) })
-      ]) ∙ at.at_place;
-      touches = at.touches;
-    }
+    touches_before place = TouchesAny-moved h g group.members place (place_stood place)
 
     -- so it is a group of the graph now
     pub IsGroup-untouched : IsGroup h group

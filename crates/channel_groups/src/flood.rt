@@ -25,7 +25,8 @@ struct Flood {
     places: Vec<usize>,
 }
 
-/// The group of a storage node, by the places that are listed at each node and the changed one.
+/// The group of a storage node, by the places that are listed at each node and the changed one. It looks
+/// from the root, and then from each node that was found.
 pub(crate) fn group_at<L: Ledger>(
     alloc: Global,
     graph: &Graph,
@@ -41,28 +42,6 @@ pub(crate) fn group_at<L: Ledger>(
     ensures root { IfOk result (λ group. Contains group.members root) }
     ensures steps { IsPaid graph.now root steps.old steps.new }
 {
-    let flood = flood_from(alloc, graph, ends, changed, root, steps)?;
-    let group = Group::sorted(alloc, flood.nodes.as_slice(), flood.places.as_slice())?;
-    Ok(group)
-}
-
-/// Looks from the root, and then from each node that was found.
-fn flood_from<L: Ledger>(
-    alloc: Global,
-    graph: &Graph,
-    ends: &Ends,
-    changed: Option<usize>,
-    root: usize,
-    steps: &mut Steps<L>,
-) -> Result<Flood, AllocError>
-    requires root { IsStorage graph.now root }
-    requires firsts { AreListed (λ switch. switch.a) graph.now changed (places_of ends.now.firsts.items) }
-    requires seconds { AreListed (λ switch. switch.b) graph.now changed (places_of ends.now.seconds.items) }
-    ensures flooded { IfOk result (λ flood.
-        IsFlooding graph.now root (length flood.nodes.keys) flood.nodes.keys flood.places.items) }
-    ensures unique { IfOk result (λ flood. IsDistinct nat_eq flood.nodes.keys) }
-    ensures steps { IsPaid graph.now root steps.old steps.new }
-{
     let mut flood = Flood {
         nodes: IndexSet::new(alloc),
         places: Vec::new(alloc),
@@ -75,7 +54,8 @@ fn flood_from<L: Ledger>(
         visit(graph, ends, changed, node, &mut flood, steps)?;
         count += 1;
     }
-    Ok(flood)
+    let group = Group::sorted(alloc, flood.nodes.as_slice(), flood.places.as_slice())?;
+    Ok(group)
 }
 
 /// Looks at all places at a node.

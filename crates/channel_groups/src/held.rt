@@ -132,32 +132,9 @@ pub(crate) fn grow_held(held: &mut Held, count: usize) -> Result<(), AllocError>
     ensures same { SameHeld held.old.classes.items held.new.classes.items held.old.slots.items held.new.slots.items }
     ensures ok { OnOk result (count ≤ length held.new.classes.items) }
 {
-    grow_slots(&mut held.slots, count)?;
-    grow_classes(&mut held.classes, count)?;
-    Ok(())
-}
-
-/// Adds empty slots up to so many.
-fn grow_slots(slots: &mut Vec<Option<Group>>, count: usize) -> Result<(), AllocError>
-    ensures same { (n : ℕ) → slot_at slots.new.items n ≡ slot_at slots.old.items n }
-    ensures longer { length slots.old.items ≤ length slots.new.items }
-    ensures ok { OnOk result (count ≤ length slots.new.items) }
-{
-    while slots.len() < count {
-        slots.push(None)?;
-    }
-    Ok(())
-}
-
-/// Adds nodes without a class up to so many.
-fn grow_classes(classes: &mut Vec<Option<usize>>, count: usize) -> Result<(), AllocError>
-    ensures same { (n : ℕ) → class_at classes.new.items n ≡ class_at classes.old.items n }
-    ensures longer { length classes.old.items ≤ length classes.new.items }
-    ensures within { (most : ℕ) → length classes.old.items ≤ most → count ≤ most → length classes.new.items ≤ most }
-    ensures ok { OnOk result (count ≤ length classes.new.items) }
-{
-    while classes.len() < count {
-        classes.push(None)?;
+    while held.classes.len() < count {
+        held.slots.push(None)?;
+        held.classes.push(None)?;
     }
     Ok(())
 }

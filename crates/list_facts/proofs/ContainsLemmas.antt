@@ -1,8 +1,8 @@
 -- What a list contains: with one item more in front, through a filter, and where it is that of the first numbers.
-use Rattle.std.proofs.Common.{◌≡◌, ◌∙◌, ℕ, zero, suc, ◌+◌, ◌<◌, ◌⊎◌, inl, inr, Bool, true, List, [], ◌∷◌, filter, Contains, ap, arith}
+use Rattle.std.proofs.Common.{◌≡◌, ◌∙◌, ℕ, zero, suc, ◌+◌, ◌<◌, ◌⊎◌, inl, inr, Bool, true, false, List, [], ◌∷◌, get_or, filter, nat_eq, All, Contains, sym, ap, subst, arith}
 use Rattle.std.specs.List.{range_with_len}
-use Rattle.std.proofs.lemmas.Bool.{cases_Bool}
-use Rattle.std.proofs.lemmas.List.Elements.{All-contains, All-filter, All-contains_itself, filter_passes}
+use Rattle.std.proofs.lemmas.Bool.{cases_Bool, eqb-true}
+use Rattle.std.proofs.lemmas.List.Elements.{All-contains, All-filter, All-contains_itself, Contains-get_or, filter_passes}
 use Rattle.std.proofs.lemmas.List.FromFn.{length-range_with_len, get_or-range_with_len}
 
 -- what a list with one item in front contains is that item or in the list
@@ -26,6 +26,14 @@ Contains-from_filter test xs x kept =
 -- and passes its test
 pub passes-from_filter : {X : Type 0} (test : X → Bool) (xs : List X) (x : X) → Contains (filter test xs) x → test x ≡ true
 passes-from_filter test xs x kept = All-contains (λ y. test y ≡ true) (filter test xs) x (filter_passes test xs) kept
+
+-- what a list of numbers doesn't contain differs from each of them
+pub unlike : (x : ℕ) (ys : List ℕ) → (¬ Contains ys x) → All (λ y. nat_eq x y ≡ false) ys
+unlike x ys none k d inside =
+    elim (cases_Bool (nat_eq x (get_or ys k d))) [
+      | inl same ↦ absurd (none (subst (Contains ys) (sym (eqb-true x (get_or ys k d) same)) (Contains-get_or ys k d inside)))
+      | inr other ↦ other
+    ]
 
 -- what was there and passes is kept
 pub Contains-filter : {X : Type 0} (test : X → Bool) (xs : List X) (x : X) → Contains xs x → test x ≡ true → Contains (filter test xs) x

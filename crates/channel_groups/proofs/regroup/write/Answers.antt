@@ -6,7 +6,7 @@ use Rattle.channel_groups.specs.Grouping.{class_at, slot_at}
 use Rattle.channel_groups.specs.Changes.{nodes_before}
 use Rattle.channel_groups.specs.Writing.{Clears}
 use Rattle.channel_groups.proofs.RegroupedLemmas.{AreApart-groups}
-use Rattle.channel_groups.proofs.StoreLemmas.{gone_inside, seen_storage, fresh_inside, IsHeld-written, AreGroups-written}
+use Rattle.channel_groups.proofs.StoreLemmas.{gone_inside, seen_storage, fresh_inside, written}
 use Rattle.channel_groups.proofs.HeldLemmas.{held-from_slot}
 use Rattle.channel_groups.proofs.regroup.write.Goals as goal
 
@@ -55,15 +55,13 @@ returns g c =
     let slot_gone = subst (λ (xs : List ℕ). Clears Group xs (slot_at c.args.held.now.slots.items) (slot_at c.clear.new.held.slots.items)) c.as_slice.ensures.keys one.slots in
     let class_seen = subst (λ (xs : List ℕ). Clears ℕ xs (class_at c.clear.new.held.classes.items) (class_at c.clear-2.new.held.classes.items)) c.as_slice-2.ensures.keys two.classes in
     let slot_seen = subst (λ (xs : List ℕ). Clears Group xs (slot_at c.clear.new.held.slots.items) (slot_at c.clear-2.new.held.slots.items)) c.as_slice-2.ensures.keys two.slots in
+    let groups = written c.args.graph.now c.args.change.now c.args.held.now.classes.items c.args.held.now.slots.items c.requires.held c.requires.groups
+    c.args.plan.gone.keys c.args.plan.found.seen.keys c.args.plan.found.fresh.items c.requires.plan
+    c.clear.new.held.classes.items c.clear-2.new.held.classes.items c.put_all.new.held.classes.items
+    c.clear.new.held.slots.items c.clear-2.new.held.slots.items c.put_all.new.held.slots.items class_gone slot_gone class_seen slot_seen puts in
     record {
-      held = IsHeld-written c.args.graph.now c.args.change.now c.args.held.now.classes.items c.args.held.now.slots.items c.requires.held c.requires.groups
-          c.args.plan.gone.keys c.args.plan.found.seen.keys c.args.plan.found.fresh.items c.requires.plan
-          c.clear.new.held.classes.items c.clear-2.new.held.classes.items c.put_all.new.held.classes.items
-          c.clear.new.held.slots.items c.clear-2.new.held.slots.items c.put_all.new.held.slots.items class_gone slot_gone class_seen slot_seen puts;
-      groups = AreGroups-written c.args.graph.now c.args.change.now c.args.held.now.classes.items c.args.held.now.slots.items c.requires.held c.requires.groups
-          c.args.plan.gone.keys c.args.plan.found.seen.keys c.args.plan.found.fresh.items c.requires.plan
-          c.clear.new.held.classes.items c.clear-2.new.held.classes.items c.put_all.new.held.classes.items
-          c.clear.new.held.slots.items c.clear-2.new.held.slots.items c.put_all.new.held.slots.items class_gone slot_gone class_seen slot_seen puts;
+      held = groups.0;
+      groups = groups.1;
       classes = puts.classes_count ∙ two.classes_count ∙ one.classes_count;
       slots = puts.slots_count ∙ two.slots_count ∙ one.slots_count;
       fresh = λ group there. held-from_slot c.put_all.new.held.slots.items (id_of group) group (puts.slot group there);

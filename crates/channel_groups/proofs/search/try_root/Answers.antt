@@ -4,8 +4,10 @@ use Rattle.std.proofs.lemmas.Bool.{eqb-true}
 use Rattle.std.proofs.lemmas.List.Sums.{sum_by_push}
 use Rattle.indexmap.proofs.CallerLemmas.{Contains-list_any}
 use Rattle.group_meaning.specs.Groups.{Group}
-use Rattle.channel_groups.specs.Search.{Notes, is_storage, search_cost}
+use Rattle.channel_groups.specs.Search.{Notes, is_storage, search_cost, IsCutShort}
 use Rattle.channel_groups.proofs.SearchLemmas.{IsStorage-from_test, test-from_IsStorage, unseen_root, IsCutShort-flooded, IsCutShort-noted, on_err, AreFound-more, AreFoundFrom-none, AreFoundFrom-one, Finds-one}
+use Rattle.channel_groups.proofs.search.try_root.Given.{Over}
+use Rattle.channel_groups.proofs.search.try_root.Goals.{After-note}
 use Rattle.channel_groups.proofs.search.try_root.Goals as goal
 
 pub returns-then-not-is_storage-clause-finds : goal.returns-then-not-is_storage-clause-finds
@@ -61,24 +63,19 @@ returns-in_err-group-clause-err g c =
     (unseen_root seen c.args.root (sym c.contains.ensures ∙ c.if-contains.false))
     c.args.steps.now c.tick.new.self c.group_at.new.steps c.tick.ensures c.group_at.ensures.steps)
 
-pub returns-in_err-note-clause-err : goal.returns-in_err-note-clause-err
-returns-in_err-note-clause-err g c =
+-- where it ends after the flood, the group that was found pays
+cut_short : (g : Over) (c : After-note g) → IsCutShort c.args.graph.now c.args.root c.args.found.now.seen.keys c.args.steps.now c.note.new.steps
+cut_short g c =
     let seen = c.args.found.now.seen.keys in
     let noted : c.note.new.steps ≤ c.group_at.new.steps + length c.in_ok-group.group.members = rw c.members.ensures at c.note.ensures.most in
-    on_err c.from_residual-in_err-note.result
-    (IsCutShort-noted c.args.graph.now c.args.root seen
+    IsCutShort-noted c.args.graph.now c.args.root seen
     (IsStorage-from_test c.args.graph.now c.args.root (sym c.is_storage.ensures ∙ c.if-not-is_storage.false))
     (unseen_root seen c.args.root (sym c.contains.ensures ∙ c.if-contains.false))
     c.args.steps.now c.tick.new.self c.group_at.new.steps c.note.new.steps c.tick.ensures c.group_at.ensures.steps
-    c.in_ok-group.group c.in_ok-group.ensures.group c.in_ok-group.ensures.root noted)
+    c.in_ok-group.group c.in_ok-group.ensures.group c.in_ok-group.ensures.root noted
+
+pub returns-in_err-note-clause-err : goal.returns-in_err-note-clause-err
+returns-in_err-note-clause-err g c = on_err c.from_residual-in_err-note.result (cut_short g (goal.at.returns-in_err-note-clause-err g c).After-note)
 
 pub returns-in_err-push-clause-err : goal.returns-in_err-push-clause-err
-returns-in_err-push-clause-err g c =
-    let seen = c.args.found.now.seen.keys in
-    let noted : c.note.new.steps ≤ c.group_at.new.steps + length c.in_ok-group.group.members = rw c.members.ensures at c.note.ensures.most in
-    on_err c.from_residual-in_err-push.result
-    (IsCutShort-noted c.args.graph.now c.args.root seen
-    (IsStorage-from_test c.args.graph.now c.args.root (sym c.is_storage.ensures ∙ c.if-not-is_storage.false))
-    (unseen_root seen c.args.root (sym c.contains.ensures ∙ c.if-contains.false))
-    c.args.steps.now c.tick.new.self c.group_at.new.steps c.note.new.steps c.tick.ensures c.group_at.ensures.steps
-    c.in_ok-group.group c.in_ok-group.ensures.group c.in_ok-group.ensures.root noted)
+returns-in_err-push-clause-err g c = on_err c.from_residual-in_err-push.result (cut_short g (goal.at.returns-in_err-push-clause-err g c).After-note)

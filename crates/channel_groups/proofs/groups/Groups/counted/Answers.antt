@@ -1,10 +1,22 @@
 -- All groups are found, and put in where there were none.
 use Rattle.std.proofs.Common.{length, get_or, arith}
 use Rattle.std.proofs.lemmas.List.Elements.{Contains-get_or}
+use Rattle.group_meaning.specs.Groups.{AreGroups}
 use Rattle.channel_groups.specs.Listing.{places_of}
+use Rattle.channel_groups.specs.Grouping.{IsHeld, held}
 use Rattle.channel_groups.proofs.RegroupedLemmas.{AreApart-groups}
-use Rattle.channel_groups.proofs.StoreLemmas.{fresh_inside, IsHeld-found, AreGroups-found, AreListed-shown, nothing_past, first_inside, second_inside}
+use Rattle.channel_groups.proofs.StoreLemmas.{fresh_inside, all_found, AreListed-shown, nothing_past, first_inside, second_inside}
+use Rattle.channel_groups.proofs.groups.Groups.counted.Given.{Over}
+use Rattle.channel_groups.proofs.groups.Groups.counted.Goals.{After-put_all}
 use Rattle.channel_groups.proofs.groups.Groups.counted.Goals as goal
+
+-- all groups are held
+all_held : (g : Over) (c : After-put_all g) → IsHeld c.put_all.new.held.classes.items c.put_all.new.held.slots.items ×
+    AreGroups c.args.graph.now (held c.put_all.new.held.slots.items)
+all_held g c =
+    all_found c.args.graph.now c.graphs_are_wired.ensures c.in_ok-held.held.classes.items c.put_all.new.held.classes.items
+    c.in_ok-held.held.slots.items c.put_all.new.held.slots.items c.in_ok-held.ensures.classes c.in_ok-held.ensures.slots
+    c.in_ok-found.found.seen.keys c.in_ok-found.found.fresh.items c.in_ok-found.ensures.found c.in_ok-found.ensures.rooted c.put_all.ensures.puts
 
 pub put_all-requires : goal.put_all-requires
 put_all-requires g c =
@@ -24,10 +36,7 @@ invariant_of-result g c =
     let graph = c.args.graph.now in
     let puts = c.put_all.ensures.puts in
     record {
-      held =
-          IsHeld-found graph c.graphs_are_wired.ensures c.in_ok-held.held.classes.items c.put_all.new.held.classes.items
-          c.in_ok-held.held.slots.items c.put_all.new.held.slots.items c.in_ok-held.ensures.classes c.in_ok-held.ensures.slots
-          c.in_ok-found.found.seen.keys c.in_ok-found.found.fresh.items c.in_ok-found.ensures.found c.in_ok-found.ensures.rooted puts;
+      held = (all_held g (goal.at.invariant_of-result g c).After-put_all).0;
       counted = omega (arith, puts.classes_count, puts.slots_count, c.in_ok-held.ensures.counted);
       nodes_in = omega (arith, puts.classes_count, c.in_ok-held.ensures.classes_count, c.nodes.ensures, c.nodes-2.ensures);
       firsts_past = λ n past.
@@ -45,10 +54,7 @@ returns g c =
     let firsts = c.in_ok-ends.ends.firsts.items in
     let seconds = c.in_ok-ends.ends.seconds.items in
     record {
-      are =
-          AreGroups-found graph wired c.in_ok-held.held.classes.items c.put_all.new.held.classes.items
-          c.in_ok-held.held.slots.items c.put_all.new.held.slots.items c.in_ok-held.ensures.classes c.in_ok-held.ensures.slots
-          c.in_ok-found.found.seen.keys c.in_ok-found.found.fresh.items c.in_ok-found.ensures.found c.in_ok-found.ensures.rooted c.put_all.ensures.puts;
+      are = (all_held g (goal.at.returns g c).After-put_all).1;
       nodes = c.nodes-2.ensures;
       firsts =
           AreListed-shown (λ switch. switch.a) graph c.nodes-2.result firsts

@@ -6,36 +6,32 @@ use Rattle.channel_groups.specs.Changes.{undo}
 use Rattle.channel_groups.specs.Grouping.{AreOf, GroupsData, held}
 use Rattle.channel_groups.specs.Writing.{IsCheap}
 use Rattle.channel_groups.proofs.SearchLemmas.{on_err}
-use Rattle.channel_groups.proofs.StoreLemmas.{IsHeld-same, held-same, same_function, AreListed-seen, AreListed-shown, first_lists-same, nothing_past, first_inside, second_inside}
+use Rattle.channel_groups.proofs.StoreLemmas.{IsHeld-same, held-same, same_function, AreListed-held, AreListed-shown, first_lists-same, nothing_past, first_inside, second_inside}
 use Rattle.channel_groups.proofs.TickLemmas.{few_ticks}
 use Rattle.channel_groups.proofs.groups.Groups.regroup.Goals as goal
 
 pub prepare-requires : goal.prepare-requires
 prepare-requires g c =
     let i = c.self.inside in
-    let graph = undo c.args.graph.now c.args.change.now in
-    let before = subst (AreOf graph) (sym c.self.view_is) c.requires.before in
-    record {
-      held = c.self.invariant.held;
-      counted = c.self.invariant.counted;
-      firsts = AreListed-seen (λ switch. switch.a) graph i.nodes i.ends.firsts.items c.self.invariant.firsts_past before.firsts;
-      seconds = AreListed-seen (λ switch. switch.b) graph i.nodes i.ends.seconds.items c.self.invariant.seconds_past before.seconds;
-    }
+    let listed = AreListed-held (undo c.args.graph.now c.args.change.now) c.args.self.now i.nodes (held i.held.slots.items) i.ends.firsts.items
+    i.ends.seconds.items c.self.invariant.firsts_past c.self.invariant.seconds_past c.self.view_is c.requires.before in
+    record { held = c.self.invariant.held; counted = c.self.invariant.counted; firsts = listed.0; seconds = listed.1 }
 
 pub relist-requires : goal.relist-requires
 relist-requires g c =
     let i = c.self.inside in
     let graph = undo c.args.graph.now c.args.change.now in
-    let before = subst (AreOf graph) (sym c.self.view_is) c.requires.before in
+    let listed = AreListed-held graph c.args.self.now i.nodes (held i.held.slots.items) i.ends.firsts.items i.ends.seconds.items
+    c.self.invariant.firsts_past c.self.invariant.seconds_past c.self.view_is c.requires.before in
     let same = c.prepare.ensures.ends in
     let room = c.in_ok-plan.ensures.room in
     record {
       firsts =
           subst (AreListed (λ switch. switch.a) graph None) (sym (same_function (places_of c.prepare.new.ends.firsts.items) (places_of i.ends.firsts.items) same.first))
-          (AreListed-seen (λ switch. switch.a) graph i.nodes i.ends.firsts.items c.self.invariant.firsts_past before.firsts);
+          listed.0;
       seconds =
           subst (AreListed (λ switch. switch.b) graph None) (sym (same_function (places_of c.prepare.new.ends.seconds.items) (places_of i.ends.seconds.items) same.second))
-          (AreListed-seen (λ switch. switch.b) graph i.nodes i.ends.seconds.items c.self.invariant.seconds_past before.seconds);
+          listed.1;
       first = room.first;
       second = room.second;
     }
@@ -44,12 +40,12 @@ pub write-requires : goal.write-requires
 write-requires g c =
     let i = c.self.inside in
     let graph = undo c.args.graph.now c.args.change.now in
-    let before = subst (AreOf graph) (sym c.self.view_is) c.requires.before in
     let same = c.prepare.ensures.held in
     record {
       held = IsHeld-same i.held.classes.items c.prepare.new.held.classes.items i.held.slots.items c.prepare.new.held.slots.items same c.self.invariant.held;
       groups =
-          subst (λ (groups : List Group). AreGroups graph groups) (sym (held-same i.held.slots.items c.prepare.new.held.slots.items same.slot)) before.are;
+          subst (λ (groups : List Group). AreGroups graph groups) (sym (held-same i.held.slots.items c.prepare.new.held.slots.items same.slot))
+          (subst (AreOf graph) (sym c.self.view_is) c.requires.before).are;
       counted = same.counted;
       room = c.in_ok-plan.ensures.room.classes_in;
       plan = c.in_ok-plan.ensures.plan;

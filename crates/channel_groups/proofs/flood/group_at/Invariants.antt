@@ -4,7 +4,7 @@ use Rattle.std.specs.List.{flat_map}
 use Rattle.path_meaning.specs.Graphs.{nodes}
 use Rattle.channel_groups.specs.Listing.{places_of, others_at}
 use Rattle.channel_groups.specs.Flood.{IsFlooding}
-use Rattle.channel_groups.proofs.flood.flood_from.Given as goal
+use Rattle.channel_groups.proofs.flood.group_at.Given as goal
 
 abbrev pub invariant-loop-count : goal.invariant-loop-count
 invariant-loop-count g l = record {
