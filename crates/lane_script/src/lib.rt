@@ -16,8 +16,6 @@
 mod command;
 mod laws;
 mod reader;
-#[cfg(test)]
-mod tests;
 
 pub use command::LaneCommand;
 pub use laws::columns_are_refused_alike;

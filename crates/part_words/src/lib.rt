@@ -16,8 +16,6 @@
 mod change;
 mod gather;
 mod note;
-#[cfg(test)]
-mod tests;
 mod together;
 
 pub use change::Change;

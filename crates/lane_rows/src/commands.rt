@@ -1,4 +1,4 @@
-use crate::read_lane_command;
+use lane_script::read_lane_command;
 use script_lang::ScriptFault;
 use std::test::Fail;
 

@@ -1,8 +1,8 @@
 ghost use Rattle.std.specs.Prelude.{◌≡◌, ◌≢◌, length, IfOk};
 
-use crate::{Change, run_together};
 use bool_pool::{Pool, Rails};
 use dual_rail::var_rails;
+use part_words::{Change, run_together};
 use std::alloc::{AllocError, Global};
 use std::marker::Brand;
 use std::process::Abort;
