@@ -21,9 +21,10 @@ use Rattle.script_lang.specs.declared.command.Command.TheVariants.{Input, Store,
 use Rattle.script_lang.specs.declared.command.ScriptFault.{ScriptFault}
 use Rattle.script_lang.specs.declared.command.ScriptFault.TheVariants.{BadValue, BadNumber}
 use Rattle.script_lang.specs.Parts.{all_of, assignment_of, beats_of, is_equals, parts_of, state_of, states_of, times_of, times_within}
-use Rattle.script_lang.specs.Commands.{add_by, alone, assignments_given, clocks_given, command_by, commanded, commanded_by, del_by, kind_by, kind_given, names_given, number_given, reading_of_words, some_command, store_by, strength_by, times_given, verb_of, wire_by}
+use Rattle.script_lang.specs.Commands.{add_with, alone, by_terminals, assignments_given, clocks_given, command_by, commanded, commanded_by, del_by, kind_by, kind_given, names_given, number_given, reading_of_words, some_command, store_by, strength_by, times_given, verb_of, wire_with}
 use Rattle.script_lang.specs.Forms.{AreAssignments, AreBeats, AreNames, AreTerminalNames, IsFormed, IsTimes}
 use Rattle.line_words.specs.Visible.{IsVisibleName}
+use Rattle.script_lang.proofs.GivenLemmas.{pair_given, terminals_given}
 
 -- ---- what words give
 
@@ -150,12 +151,10 @@ formed_alone command (word ∷ words) made formed is = cc
 
 -- the name of `store` is a word
 formed_store : (words : List (List ℕ)) (made : Command) → All IsVisibleName words → store_by words ≡ Ok made → IsFormed made
-formed_store [] made are is = cc
-formed_store (name ∷ []) made are is = cc
-formed_store (name ∷ size ∷ other ∷ words) made are is = cc
-formed_store (name ∷ size ∷ []) made are is =
-    let stored = mapped (Store name) (decimal_of size) made (given_some (option_map (Store name) (decimal_of size)) BadNumber made is) in
-    subst IsFormed stored.2 (All-head IsVisibleName name (size ∷ []) are)
+formed_store words made are is =
+    let of = pair_given (λ name size. ok_or (option_map (Store name) (decimal_of size)) BadNumber) words made is in
+    let stored = mapped (Store of.one) (decimal_of of.other) made (given_some (option_map (Store of.one) (decimal_of of.other)) BadNumber made of.makes) in
+    subst IsFormed stored.2 (All-head IsVisibleName of.one (of.other ∷ []) (subst (All IsVisibleName) of.are are))
 
 -- what a command was made of in two parts is well formed, and so it is
 formed_of_two : {X Y : Type 0} (command : X → Y → Command) (first : Result X ScriptFault) (second : Result Y ScriptFault) (made : Command) →
@@ -174,19 +173,28 @@ terminals_of gate source drain words are =
       All-head IsVisibleName drain words (All-tail IsVisibleName source (drain ∷ words) later),
     )
 
--- the terminals of `add` are words
-formed_add : (words : List (List ℕ)) (made : Command) → All IsVisibleName words → add_by words ≡ Ok made → IsFormed made
-formed_add [] made are is = cc
-formed_add (kind ∷ []) made are is = cc
-formed_add (kind ∷ gate ∷ []) made are is = cc
-formed_add (kind ∷ gate ∷ source ∷ []) made are is = cc
-formed_add (kind ∷ gate ∷ source ∷ drain ∷ []) made are is =
-    let names = terminals_of gate source drain [] (All-tail IsVisibleName kind (gate ∷ source ∷ drain ∷ []) are) in
+-- so are the terminals of a command
+formed_terminals : (command : List ℕ → List ℕ → List ℕ → List ℕ → List (List ℕ) → Result Command ScriptFault) (words : List (List ℕ)) (made : Command) →
+    ((word gate source drain : List ℕ) (rest : List (List ℕ)) → AreTerminalNames gate source drain → command word gate source drain rest ≡ Ok made → IsFormed made) →
+    All IsVisibleName words → by_terminals command words ≡ Ok made → IsFormed made
+formed_terminals command words made each are is =
+    let of = terminals_given command words made is in
+    let later = All-tail IsVisibleName of.word (of.gate ∷ of.source ∷ of.drain ∷ of.rest) (subst (All IsVisibleName) of.are are) in
+    each of.word of.gate of.source of.drain of.rest (terminals_of of.gate of.source of.drain of.rest later) of.makes
+
+formed_add : (made : Command) (kind gate source drain : List ℕ) (rest : List (List ℕ)) → AreTerminalNames gate source drain →
+    add_with kind gate source drain rest ≡ Ok made → IsFormed made
+formed_add made kind gate source drain [] names is =
     formed_of (λ k. Add k gate source drain None) (kind_given kind) made (λ _ _. names) is
-formed_add (kind ∷ gate ∷ source ∷ drain ∷ strength ∷ []) made are is =
-    let names = terminals_of gate source drain (strength ∷ []) (All-tail IsVisibleName kind (gate ∷ source ∷ drain ∷ strength ∷ []) are) in
+formed_add made kind gate source drain (strength ∷ []) names is =
     formed_of_two (λ k s. Add k gate source drain (Some s)) (kind_given kind) (number_given strength) made (λ _ _. names) is
-formed_add (kind ∷ gate ∷ source ∷ drain ∷ strength ∷ other ∷ words) made are is = cc
+formed_add made kind gate source drain (strength ∷ other ∷ words) names is = cc
+
+formed_wire : (made : Command) (number gate source drain : List ℕ) (rest : List (List ℕ)) → AreTerminalNames gate source drain →
+    wire_with number gate source drain rest ≡ Ok made → IsFormed made
+formed_wire made number gate source drain [] names is =
+    formed_of (λ n. Wire n gate source drain) (number_given number) made (λ _ _. names) is
+formed_wire made number gate source drain (other ∷ words) names is = cc
 
 -- numbers and kinds are well formed, whatever they are
 formed_del : (words : List (List ℕ)) (made : Command) → del_by words ≡ Ok made → IsFormed made
@@ -195,27 +203,14 @@ formed_del (number ∷ []) made is = formed_of Del (number_given number) made (�
 formed_del (number ∷ other ∷ words) made is = cc
 
 formed_strength : (words : List (List ℕ)) (made : Command) → strength_by words ≡ Ok made → IsFormed made
-formed_strength [] made is = cc
-formed_strength (number ∷ []) made is = cc
-formed_strength (number ∷ strength ∷ []) made is = formed_of_two Strength (number_given number) (number_given strength) made (λ _ _. tt) is
-formed_strength (number ∷ strength ∷ other ∷ words) made is = cc
+formed_strength words made is =
+    let of = pair_given (λ number strength. commanded_by Strength (number_given number) (number_given strength)) words made is in
+    formed_of_two Strength (number_given of.one) (number_given of.other) made (λ _ _. tt) of.makes
 
 formed_kind : (words : List (List ℕ)) (made : Command) → kind_by words ≡ Ok made → IsFormed made
-formed_kind [] made is = cc
-formed_kind (number ∷ []) made is = cc
-formed_kind (number ∷ kind ∷ []) made is = formed_of_two Kind (number_given number) (kind_given kind) made (λ _ _. tt) is
-formed_kind (number ∷ kind ∷ other ∷ words) made is = cc
-
--- the terminals of `wire` are words
-formed_wire : (words : List (List ℕ)) (made : Command) → All IsVisibleName words → wire_by words ≡ Ok made → IsFormed made
-formed_wire [] made are is = cc
-formed_wire (number ∷ []) made are is = cc
-formed_wire (number ∷ gate ∷ []) made are is = cc
-formed_wire (number ∷ gate ∷ source ∷ []) made are is = cc
-formed_wire (number ∷ gate ∷ source ∷ drain ∷ []) made are is =
-    let names = terminals_of gate source drain [] (All-tail IsVisibleName number (gate ∷ source ∷ drain ∷ []) are) in
-    formed_of (λ n. Wire n gate source drain) (number_given number) made (λ _ _. names) is
-formed_wire (number ∷ gate ∷ source ∷ drain ∷ other ∷ words) made are is = cc
+formed_kind words made is =
+    let of = pair_given (λ number kind. commanded_by Kind (number_given number) (kind_given kind)) words made is in
+    formed_of_two Kind (number_given of.one) (kind_given of.other) made (λ _ _. tt) of.makes
 
 -- the command of a verb with names after it is well formed
 formed_by : (verb : Option Verb) (words : List (List ℕ)) (made : Command) → All IsVisibleName words → command_by verb words ≡ Ok made → IsFormed made
@@ -231,11 +226,11 @@ formed_by (Some verb.Phase) words made are is = formed_alone Phase words made tt
 formed_by (Some verb.Clock) words made are is = formed_of Clock (clocks_given words) made (λ list given. formed_clocks words list are given) is
 formed_by (Some verb.Cycle) words made are is = formed_of Cycle (times_given words) made (formed_times words) is
 formed_by (Some verb.Expect) words made are is = formed_of Expect (assignments_given words) made (λ list given. formed_assignments words list are given) is
-formed_by (Some verb.Add) words made are is = formed_add words made are is
+formed_by (Some verb.Add) words made are is = formed_terminals add_with words made (formed_add made) are is
 formed_by (Some verb.Del) words made are is = formed_del words made is
 formed_by (Some verb.Strength) words made are is = formed_strength words made is
 formed_by (Some verb.Kind) words made are is = formed_kind words made is
-formed_by (Some verb.Wire) words made are is = formed_wire words made are is
+formed_by (Some verb.Wire) words made are is = formed_terminals wire_with words made (formed_wire made) are is
 formed_by (Some verb.Report) words made are is = formed_alone Report words made tt is
 formed_by (Some verb.Keep) words made are is = formed_of Keep (times_given words) made (formed_times words) is
 

@@ -1,5 +1,6 @@
 pub mod CutLemmas
 pub mod FormLemmas
+mod GivenLemmas
 pub mod ListLemmas
 pub mod ReadingLemmas
 pub mod VerbLemmas

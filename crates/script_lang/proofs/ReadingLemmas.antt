@@ -14,7 +14,7 @@ use Rattle.script_lang.specs.declared.command.Command.TheVariants.{Input, Store,
 use Rattle.script_lang.specs.declared.command.ScriptFault.{ScriptFault}
 use Rattle.script_lang.specs.declared.command.ScriptFault.TheVariants.{NoMemory, BadValue, BadNumber}
 use Rattle.script_lang.specs.Parts.{all_of, assignment_of, beats_of, kind_of, times_of}
-use Rattle.script_lang.specs.Commands.{verb_of, names_given, assignments_given, clocks_given, times_given, kind_given, number_given, commanded, commanded_by, alone, store_by, add_by, del_by, strength_by, kind_by, wire_by, command_by, some_command, reading_of_words, reading_by, reading_of}
+use Rattle.script_lang.specs.Commands.{verb_of, names_given, assignments_given, clocks_given, times_given, kind_given, number_given, commanded, commanded_by, alone, by_pair, by_terminals, store_by, add_with, del_by, strength_by, kind_by, wire_with, command_by, some_command, reading_of_words, reading_by, reading_of}
 use Rattle.script_lang.specs.Forms.{IsFormed}
 use Rattle.script_lang.proofs.FormLemmas.{formed_words}
 
@@ -49,12 +49,6 @@ alone-named : (command : Command) (words : List (List ℕ)) → alone command wo
 alone-named command [] same = cc
 alone-named command (word ∷ words) same = cc
 
-store-named : (words : List (List ℕ)) → store_by words ≢ Err NoMemory
-store-named [] same = cc
-store-named (name ∷ []) same = cc
-store-named (name ∷ size ∷ []) same = missing (option_map (Store name) (decimal_of size)) BadNumber (λ e. cc) same
-store-named (name ∷ size ∷ other ∷ words) same = cc
-
 -- a command's fault is that of one of the two things that were given
 two-named : {X Y : Type 0} (command : X → Y → Command) (first : Result X ScriptFault) (second : Result Y ScriptFault) →
     first ≢ Err NoMemory → second ≢ Err NoMemory → commanded_by command first second ≢ Err NoMemory
@@ -68,43 +62,50 @@ kind-named word same = missing (kind_of word) BadValue (λ e. cc) same
 number-named : (word : List ℕ) → number_given word ≢ Err NoMemory
 number-named word same = missing (decimal_of word) BadNumber (λ e. cc) same
 
-add-named : (words : List (List ℕ)) → add_by words ≢ Err NoMemory
-add-named [] same = cc
-add-named (kind ∷ []) same = cc
-add-named (kind ∷ gate ∷ []) same = cc
-add-named (kind ∷ gate ∷ source ∷ []) same = cc
-add-named (kind ∷ gate ∷ source ∷ drain ∷ []) same =
+-- so is that of two words
+pair-named : (command : List ℕ → List ℕ → Result Command ScriptFault) → ((one other : List ℕ) → command one other ≢ Err NoMemory) →
+    (words : List (List ℕ)) → by_pair command words ≢ Err NoMemory
+pair-named command each [] same = cc
+pair-named command each (one ∷ []) same = cc
+pair-named command each (one ∷ other ∷ []) same = each one other same
+pair-named command each (one ∷ other ∷ more ∷ words) same = cc
+
+store-named : (words : List (List ℕ)) → store_by words ≢ Err NoMemory
+store-named words = pair-named _ (λ name size. missing (option_map (Store name) (decimal_of size)) BadNumber (λ e. cc)) words
+
+strength-named : (words : List (List ℕ)) → strength_by words ≢ Err NoMemory
+strength-named words =
+    pair-named _ (λ number strength. two-named Strength (number_given number) (number_given strength) (number-named number) (number-named strength)) words
+
+type-named : (words : List (List ℕ)) → kind_by words ≢ Err NoMemory
+type-named words = pair-named _ (λ number kind. two-named Kind (number_given number) (kind_given kind) (number-named number) (kind-named kind)) words
+
+-- and that of a word and three names
+terminals-named : (command : List ℕ → List ℕ → List ℕ → List ℕ → List (List ℕ) → Result Command ScriptFault) →
+    ((word gate source drain : List ℕ) (rest : List (List ℕ)) → command word gate source drain rest ≢ Err NoMemory) →
+    (words : List (List ℕ)) → by_terminals command words ≢ Err NoMemory
+terminals-named command each [] same = cc
+terminals-named command each (word ∷ []) same = cc
+terminals-named command each (word ∷ gate ∷ []) same = cc
+terminals-named command each (word ∷ gate ∷ source ∷ []) same = cc
+terminals-named command each (word ∷ gate ∷ source ∷ drain ∷ rest) same = each word gate source drain rest same
+
+add-named : (kind gate source drain : List ℕ) (rest : List (List ℕ)) → add_with kind gate source drain rest ≢ Err NoMemory
+add-named kind gate source drain [] same =
     commanded-named (λ k. Add k gate source drain None) (kind_given kind) (kind-named kind) same
-add-named (kind ∷ gate ∷ source ∷ drain ∷ strength ∷ []) same =
+add-named kind gate source drain (strength ∷ []) same =
     two-named (λ k s. Add k gate source drain (Some s)) (kind_given kind) (number_given strength) (kind-named kind) (number-named strength) same
-add-named (kind ∷ gate ∷ source ∷ drain ∷ strength ∷ other ∷ words) same = cc
+add-named kind gate source drain (strength ∷ other ∷ words) same = cc
+
+wire-named : (number gate source drain : List ℕ) (rest : List (List ℕ)) → wire_with number gate source drain rest ≢ Err NoMemory
+wire-named number gate source drain [] same =
+    commanded-named (λ n. Wire n gate source drain) (number_given number) (number-named number) same
+wire-named number gate source drain (other ∷ words) same = cc
 
 del-named : (words : List (List ℕ)) → del_by words ≢ Err NoMemory
 del-named [] same = cc
 del-named (number ∷ []) same = commanded-named Del (number_given number) (number-named number) same
 del-named (number ∷ other ∷ words) same = cc
-
-strength-named : (words : List (List ℕ)) → strength_by words ≢ Err NoMemory
-strength-named [] same = cc
-strength-named (number ∷ []) same = cc
-strength-named (number ∷ strength ∷ []) same =
-    two-named Strength (number_given number) (number_given strength) (number-named number) (number-named strength) same
-strength-named (number ∷ strength ∷ other ∷ words) same = cc
-
-type-named : (words : List (List ℕ)) → kind_by words ≢ Err NoMemory
-type-named [] same = cc
-type-named (number ∷ []) same = cc
-type-named (number ∷ kind ∷ []) same = two-named Kind (number_given number) (kind_given kind) (number-named number) (kind-named kind) same
-type-named (number ∷ kind ∷ other ∷ words) same = cc
-
-wire-named : (words : List (List ℕ)) → wire_by words ≢ Err NoMemory
-wire-named [] same = cc
-wire-named (number ∷ []) same = cc
-wire-named (number ∷ gate ∷ []) same = cc
-wire-named (number ∷ gate ∷ source ∷ []) same = cc
-wire-named (number ∷ gate ∷ source ∷ drain ∷ []) same =
-    commanded-named (λ n. Wire n gate source drain) (number_given number) (number-named number) same
-wire-named (number ∷ gate ∷ source ∷ drain ∷ other ∷ words) same = cc
 
 command-named : (found : Option Verb) (words : List (List ℕ)) → command_by found words ≢ Err NoMemory
 command-named None words same = cc
@@ -119,11 +120,11 @@ command-named (Some verb.Phase) words same = alone-named Phase words same
 command-named (Some verb.Clock) words same = commanded-named Clock (clocks_given words) (clocks-named words) same
 command-named (Some verb.Cycle) words same = commanded-named Cycle (times_given words) (times-named words) same
 command-named (Some verb.Expect) words same = commanded-named Expect (assignments_given words) (assignments-named words) same
-command-named (Some verb.Add) words same = add-named words same
+command-named (Some verb.Add) words same = terminals-named add_with add-named words same
 command-named (Some verb.Del) words same = del-named words same
 command-named (Some verb.Strength) words same = strength-named words same
 command-named (Some verb.Kind) words same = type-named words same
-command-named (Some verb.Wire) words same = wire-named words same
+command-named (Some verb.Wire) words same = terminals-named wire_with wire-named words same
 command-named (Some verb.Report) words same = alone-named Report words same
 command-named (Some verb.Keep) words same = commanded-named Keep (times_given words) (times-named words) same
 

@@ -10,7 +10,8 @@ use Rattle.script_lang.specs.declared.command.Command.{Command}
 use Rattle.script_lang.specs.declared.command.Command.TheVariants.{Input, Store, Set, Charge, Watch, Limit, Step, Phase, Clock, Cycle, Expect, Add, Del, Strength, Kind, Wire, Report, Keep}
 use Rattle.script_lang.specs.declared.command.ScriptFault.{ScriptFault}
 use Rattle.script_lang.specs.declared.command.ScriptFault.TheVariants.{BadNumber}
-use Rattle.script_lang.specs.Commands.{add_by, alone, assignments_given, clocks_given, command_by, commanded, commanded_by, del_by, kind_by, kind_given, names_given, number_given, reading_of_words, some_command, store_by, strength_by, times_given, verb_of, wire_by, word_of}
+use Rattle.script_lang.specs.Commands.{add_with, alone, by_terminals, assignments_given, clocks_given, command_by, commanded, commanded_by, del_by, kind_by, kind_given, names_given, number_given, reading_of_words, some_command, store_by, strength_by, times_given, verb_of, wire_with, word_of}
+use Rattle.script_lang.proofs.GivenLemmas.{pair_given, terminals_given}
 
 -- the word of a verb
 abbrev text_of : Verb → List ℕ
@@ -86,25 +87,19 @@ module _ (made : Command) (text : List ℕ) where
   by_none command (word ∷ words) own is = cc
 
 store_word : (words : List (List ℕ)) (made : Command) → store_by words ≡ Ok made → word_of made ≡ codes "store"
-store_word [] made is = cc
-store_word (name ∷ []) made is = cc
-store_word (name ∷ size ∷ other ∷ words) made is = cc
-store_word (name ∷ size ∷ []) made is = by (decimal_of size) is
+store_word words made is =
+    let of = pair_given (λ name size. ok_or (option_map (Store name) (decimal_of size)) BadNumber) words made is in
+    by of.one (decimal_of of.other) of.makes
   where
-    by : (found : Option ℕ) → ok_or (option_map (Store name) found) BadNumber ≡ Ok made → word_of made ≡ codes "store"
-    by None is = cc
-    by (Some number) is = subst (λ (c : Command). word_of c ≡ codes "store") (let same : Store name number ≡ made = cc in same) refl
+    by : (name : List ℕ) (found : Option ℕ) → ok_or (option_map (Store name) found) BadNumber ≡ Ok made → word_of made ≡ codes "store"
+    by name None is = cc
+    by name (Some number) is = subst (λ (c : Command). word_of c ≡ codes "store") (let same : Store name number ≡ made = cc in same) refl
 
-add_word : (words : List (List ℕ)) (made : Command) → add_by words ≡ Ok made → word_of made ≡ codes "add"
-add_word [] made is = cc
-add_word (kind ∷ []) made is = cc
-add_word (kind ∷ gate ∷ []) made is = cc
-add_word (kind ∷ gate ∷ source ∷ []) made is = cc
-add_word (kind ∷ gate ∷ source ∷ drain ∷ []) made is =
-    by_one made (codes "add") (λ k. Add k gate source drain None) (kind_given kind) (λ _. refl) is
-add_word (kind ∷ gate ∷ source ∷ drain ∷ strength ∷ []) made is =
+add_word : (made : Command) (kind gate source drain : List ℕ) (rest : List (List ℕ)) → add_with kind gate source drain rest ≡ Ok made → word_of made ≡ codes "add"
+add_word made kind gate source drain [] is = by_one made (codes "add") (λ k. Add k gate source drain None) (kind_given kind) (λ _. refl) is
+add_word made kind gate source drain (strength ∷ []) is =
     by_two made (codes "add") (λ k s. Add k gate source drain (Some s)) (kind_given kind) (number_given strength) (λ _ _. refl) is
-add_word (kind ∷ gate ∷ source ∷ drain ∷ strength ∷ other ∷ words) made is = cc
+add_word made kind gate source drain (strength ∷ other ∷ words) is = cc
 
 del_word : (words : List (List ℕ)) (made : Command) → del_by words ≡ Ok made → word_of made ≡ codes "del"
 del_word [] made is = cc
@@ -112,26 +107,25 @@ del_word (number ∷ []) made is = by_one made (codes "del") Del (number_given n
 del_word (number ∷ other ∷ words) made is = cc
 
 strength_word : (words : List (List ℕ)) (made : Command) → strength_by words ≡ Ok made → word_of made ≡ codes "strength"
-strength_word [] made is = cc
-strength_word (number ∷ []) made is = cc
-strength_word (number ∷ strength ∷ []) made is =
-    by_two made (codes "strength") Strength (number_given number) (number_given strength) (λ _ _. refl) is
-strength_word (number ∷ strength ∷ other ∷ words) made is = cc
+strength_word words made is =
+    let of = pair_given (λ number strength. commanded_by Strength (number_given number) (number_given strength)) words made is in
+    by_two made (codes "strength") Strength (number_given of.one) (number_given of.other) (λ _ _. refl) of.makes
 
 kind_word : (words : List (List ℕ)) (made : Command) → kind_by words ≡ Ok made → word_of made ≡ codes "type"
-kind_word [] made is = cc
-kind_word (number ∷ []) made is = cc
-kind_word (number ∷ kind ∷ []) made is = by_two made (codes "type") Kind (number_given number) (kind_given kind) (λ _ _. refl) is
-kind_word (number ∷ kind ∷ other ∷ words) made is = cc
+kind_word words made is =
+    let of = pair_given (λ number kind. commanded_by Kind (number_given number) (kind_given kind)) words made is in
+    by_two made (codes "type") Kind (number_given of.one) (kind_given of.other) (λ _ _. refl) of.makes
 
-wire_word : (words : List (List ℕ)) (made : Command) → wire_by words ≡ Ok made → word_of made ≡ codes "wire"
-wire_word [] made is = cc
-wire_word (number ∷ []) made is = cc
-wire_word (number ∷ gate ∷ []) made is = cc
-wire_word (number ∷ gate ∷ source ∷ []) made is = cc
-wire_word (number ∷ gate ∷ source ∷ drain ∷ []) made is =
-    by_one made (codes "wire") (λ n. Wire n gate source drain) (number_given number) (λ _. refl) is
-wire_word (number ∷ gate ∷ source ∷ drain ∷ other ∷ words) made is = cc
+wire_word : (made : Command) (number gate source drain : List ℕ) (rest : List (List ℕ)) → wire_with number gate source drain rest ≡ Ok made → word_of made ≡ codes "wire"
+wire_word made number gate source drain [] is = by_one made (codes "wire") (λ n. Wire n gate source drain) (number_given number) (λ _. refl) is
+wire_word made number gate source drain (other ∷ words) is = cc
+
+-- so has one that is given the names of terminals
+terminals_word : (command : List ℕ → List ℕ → List ℕ → List ℕ → List (List ℕ) → Result Command ScriptFault) (text : List ℕ) (words : List (List ℕ)) (made : Command) →
+    ((word gate source drain : List ℕ) (rest : List (List ℕ)) → command word gate source drain rest ≡ Ok made → word_of made ≡ text) →
+    by_terminals command words ≡ Ok made → word_of made ≡ text
+terminals_word command text words made each is =
+    let of = terminals_given command words made is in each of.word of.gate of.source of.drain of.rest of.makes
 
 -- the command of a verb has the verb's word
 command_word : (v : Verb) (words : List (List ℕ)) (made : Command) → command_by (Some v) words ≡ Ok made → word_of made ≡ text_of v
@@ -146,11 +140,11 @@ command_word verb.Phase words made is = by_none made (codes "phase") Phase words
 command_word verb.Clock words made is = by_one made (codes "clock") Clock (clocks_given words) (λ _. refl) is
 command_word verb.Cycle words made is = by_one made (codes "cycle") Cycle (times_given words) (λ _. refl) is
 command_word verb.Expect words made is = by_one made (codes "expect") Expect (assignments_given words) (λ _. refl) is
-command_word verb.Add words made is = add_word words made is
+command_word verb.Add words made is = terminals_word add_with (codes "add") words made (add_word made) is
 command_word verb.Del words made is = del_word words made is
 command_word verb.Strength words made is = strength_word words made is
 command_word verb.Kind words made is = kind_word words made is
-command_word verb.Wire words made is = wire_word words made is
+command_word verb.Wire words made is = terminals_word wire_with (codes "wire") words made (wire_word made) is
 command_word verb.Report words made is = by_none made (codes "report") Report words refl is
 command_word verb.Keep words made is = by_one made (codes "keep") Keep (times_given words) (λ _. refl) is
 

@@ -84,23 +84,34 @@ abbrev pub alone : Command → List (List ℕ) → Result Command ScriptFault
 alone command [] = Ok command
 alone command (word ∷ words) = Err ManyWords
 
+-- a command that is given two words
+abbrev pub by_pair : (List ℕ → List ℕ → Result Command ScriptFault) → List (List ℕ) → Result Command ScriptFault
+by_pair command [] = Err FewWords
+by_pair command (one ∷ []) = Err FewWords
+by_pair command (one ∷ other ∷ []) = command one other
+by_pair command (one ∷ other ∷ more ∷ words) = Err ManyWords
+
 -- `store`, which is given a name and a size
 abbrev pub store_by : List (List ℕ) → Result Command ScriptFault
-store_by [] = Err FewWords
-store_by (name ∷ []) = Err FewWords
-store_by (name ∷ size ∷ []) = ok_or (option_map (Store name) (decimal_of size)) BadNumber
-store_by (name ∷ size ∷ other ∷ words) = Err ManyWords
+store_by words = by_pair (λ name size. ok_or (option_map (Store name) (decimal_of size)) BadNumber) words
+
+-- a command that is given a word, the names of a transistor's gate, source and drain, and perhaps more
+abbrev pub by_terminals : (List ℕ → List ℕ → List ℕ → List ℕ → List (List ℕ) → Result Command ScriptFault) → List (List ℕ) → Result Command ScriptFault
+by_terminals command [] = Err FewWords
+by_terminals command (word ∷ []) = Err FewWords
+by_terminals command (word ∷ gate ∷ []) = Err FewWords
+by_terminals command (word ∷ gate ∷ source ∷ []) = Err FewWords
+by_terminals command (word ∷ gate ∷ source ∷ drain ∷ words) = command word gate source drain words
 
 -- `add`, which is given a kind, three names and perhaps a strength
-abbrev pub add_by : List (List ℕ) → Result Command ScriptFault
-add_by [] = Err FewWords
-add_by (kind ∷ []) = Err FewWords
-add_by (kind ∷ gate ∷ []) = Err FewWords
-add_by (kind ∷ gate ∷ source ∷ []) = Err FewWords
-add_by (kind ∷ gate ∷ source ∷ drain ∷ []) = commanded (λ kind. Add kind gate source drain None) (kind_given kind)
-add_by (kind ∷ gate ∷ source ∷ drain ∷ strength ∷ []) =
+abbrev pub add_with : List ℕ → List ℕ → List ℕ → List ℕ → List (List ℕ) → Result Command ScriptFault
+add_with kind gate source drain [] = commanded (λ kind. Add kind gate source drain None) (kind_given kind)
+add_with kind gate source drain (strength ∷ []) =
     commanded_by (λ kind strength. Add kind gate source drain (Some strength)) (kind_given kind) (number_given strength)
-add_by (kind ∷ gate ∷ source ∷ drain ∷ strength ∷ other ∷ words) = Err ManyWords
+add_with kind gate source drain (strength ∷ other ∷ words) = Err ManyWords
+
+abbrev pub add_by : List (List ℕ) → Result Command ScriptFault
+add_by words = by_terminals add_with words
 
 -- `del`, which is given a number
 abbrev pub del_by : List (List ℕ) → Result Command ScriptFault
@@ -110,26 +121,19 @@ del_by (number ∷ other ∷ words) = Err ManyWords
 
 -- `strength`, which is given a number and a strength
 abbrev pub strength_by : List (List ℕ) → Result Command ScriptFault
-strength_by [] = Err FewWords
-strength_by (number ∷ []) = Err FewWords
-strength_by (number ∷ strength ∷ []) = commanded_by Strength (number_given number) (number_given strength)
-strength_by (number ∷ strength ∷ other ∷ words) = Err ManyWords
+strength_by words = by_pair (λ number strength. commanded_by Strength (number_given number) (number_given strength)) words
 
 -- `type`, which is given a number and a kind
 abbrev pub kind_by : List (List ℕ) → Result Command ScriptFault
-kind_by [] = Err FewWords
-kind_by (number ∷ []) = Err FewWords
-kind_by (number ∷ kind ∷ []) = commanded_by Kind (number_given number) (kind_given kind)
-kind_by (number ∷ kind ∷ other ∷ words) = Err ManyWords
+kind_by words = by_pair (λ number kind. commanded_by Kind (number_given number) (kind_given kind)) words
 
 -- `wire`, which is given a number and three names
+abbrev pub wire_with : List ℕ → List ℕ → List ℕ → List ℕ → List (List ℕ) → Result Command ScriptFault
+wire_with number gate source drain [] = commanded (λ number. Wire number gate source drain) (number_given number)
+wire_with number gate source drain (other ∷ words) = Err ManyWords
+
 abbrev pub wire_by : List (List ℕ) → Result Command ScriptFault
-wire_by [] = Err FewWords
-wire_by (number ∷ []) = Err FewWords
-wire_by (number ∷ gate ∷ []) = Err FewWords
-wire_by (number ∷ gate ∷ source ∷ []) = Err FewWords
-wire_by (number ∷ gate ∷ source ∷ drain ∷ []) = commanded (λ number. Wire number gate source drain) (number_given number)
-wire_by (number ∷ gate ∷ source ∷ drain ∷ other ∷ words) = Err ManyWords
+wire_by words = by_terminals wire_with words
 
 -- the command of a verb with the words after it
 abbrev pub command_by : Option Verb → List (List ℕ) → Result Command ScriptFault

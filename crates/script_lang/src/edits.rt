@@ -1,5 +1,5 @@
 //! Reading the words of the commands that edit the circuit's transistors.
-ghost use Rattle.std.specs.Prelude.{◌≡◌, IfOk};
+ghost use Rattle.std.specs.Prelude.{◌≡◌, ◌∷◌, Err, IfOk, IfSome, IsNone};
 ghost use Rattle.script_lang.specs.Commands.{add_by, del_by, kind_by, strength_by, wire_by};
 
 use crate::command::{Command, ScriptFault};
@@ -16,16 +16,7 @@ pub(crate) fn read_add(
 ) -> Result<Result<Command, ScriptFault>, NoMemory>
     ensures { IfOk result (λ answer. answer ≡ add_by words.entry) }
 {
-    let Some(kind) = words.next() else {
-        return Ok(Err(ScriptFault::FewWords));
-    };
-    let Some(gate) = words.next() else {
-        return Ok(Err(ScriptFault::FewWords));
-    };
-    let Some(source) = words.next() else {
-        return Ok(Err(ScriptFault::FewWords));
-    };
-    let Some(drain) = words.next() else {
+    let Some((kind, gate, source, drain)) = with_terminals(&mut words) else {
         return Ok(Err(ScriptFault::FewWords));
     };
     let strength = words.next();
@@ -54,6 +45,21 @@ pub(crate) fn read_add(
         drain,
         strength,
     }))
+}
+
+// The first word, and those of a transistor's gate, source and drain behind it; None where there are
+// fewer.
+fn with_terminals<'a>(words: &mut Words<'a>) -> Option<(&'a [u8], &'a [u8], &'a [u8], &'a [u8])>
+    ensures some { IfSome result (λ found. words.old
+        ≡ found.0.now ∷ found.1.now ∷ found.2.now ∷ found.3.now ∷ words.new) }
+    ensures none { IsNone result → (add_by words.old ≡ Err ScriptFault.FewWords)
+        × (wire_by words.old ≡ Err ScriptFault.FewWords) }
+{
+    let word = words.next()?;
+    let gate = words.next()?;
+    let source = words.next()?;
+    let drain = words.next()?;
+    Some((word, gate, source, drain))
 }
 
 /// Reads the number of `del`.
@@ -120,16 +126,7 @@ pub(crate) fn read_wire(
 ) -> Result<Result<Command, ScriptFault>, NoMemory>
     ensures { IfOk result (λ answer. answer ≡ wire_by words.entry) }
 {
-    let Some(number) = words.next() else {
-        return Ok(Err(ScriptFault::FewWords));
-    };
-    let Some(gate) = words.next() else {
-        return Ok(Err(ScriptFault::FewWords));
-    };
-    let Some(source) = words.next() else {
-        return Ok(Err(ScriptFault::FewWords));
-    };
-    let Some(drain) = words.next() else {
+    let Some((number, gate, source, drain)) = with_terminals(&mut words) else {
         return Ok(Err(ScriptFault::FewWords));
     };
     if words.next().is_some() {
