@@ -1,5 +1,5 @@
 -- Walks that are blocked, and walks that aren't, hop by hop.
-use Rattle.std.proofs.Common.{◌≡◌, ℕ, ◌+◌, ◌<◌, ◌≤◌, List, length, take, drop, get_or, sym, arith}
+use Rattle.std.proofs.Common.{◌≡◌, ℕ, ◌+◌, ◌<◌, ◌≤◌, List, length, take, drop, get_or, sym}
 use Rattle.std.specs.Prelude.{slice_index}
 use Rattle.std.proofs.lemmas.List.{drop_more, take_more, take-append-drop}
 use Rattle.ternary.specs.declared.tern.Tern.{Tern}
@@ -7,7 +7,7 @@ use Rattle.path_meaning.specs.Graphs.{GraphData, nodes}
 use Rattle.path_meaning.specs.Path.{Stand, Hop, Leads, at_root, IsBlocked}
 use Rattle.path_meaning.specs.Plain.{AreStrongest}
 use Rattle.path_meaning.proofs.PathLemmas.{Hop-unique, Leads-more, Goes, Goes-leads, Goes-more}
-use Rattle.path_meaning.proofs.TableMeaning.{unbeaten}
+use Rattle.path_meaning.proofs.TableMeaning.{unbeaten, beaten_below}
 
 -- where something is left of a walk, a hop leads on, and the rest leads on from there
 pub led : (g : GraphData) (state : List Tern) (here there : Stand) (hops : List ℕ) (k : ℕ) → k < length hops →
@@ -30,22 +30,13 @@ module _ (g : GraphData) (state : List Tern) (best : List ℕ) (strongest : AreS
       Leads g state (at_root g root) (take k hops) here → here.node < nodes g →
       here.strength < slice_index best here.node → IsBlocked g state root hops
   blocks root in_range hops k here leads inside less =
-      let way = strongest.found here.node inside in
       record {
         front = take k hops;
         back = drop k hops;
         splits = sym (take-append-drop k hops);
         there = here;
         prefix = record { in_range = in_range; leads = leads };
-        beaten = record {
-          root = way.0;
-          hops = way.1;
-          there = way.2;
-          path = way.3;
-          ends = way.4;
-          definite = way.5;
-          stronger = omega (arith, way.6);
-        };
+        beaten = beaten_below g state best strongest here.node here.strength inside less;
       }
 
   -- a walk that isn't blocked so far goes on to where nothing stronger leads

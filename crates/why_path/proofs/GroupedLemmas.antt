@@ -7,22 +7,8 @@ use Rattle.path_meaning.specs.Graphs.{GraphData}
 use Rattle.group_meaning.specs.Groups.{Group, IsGroup, AreGroups, id_of}
 use Rattle.group_meaning.proofs.UniqueGroups.{same_by_id}
 use Rattle.channel_groups.specs.Grouping.{has_member, group_with, IsId}
-use Rattle.channel_groups.proofs.HeldLemmas.{has_member-from, has_member-Contains}
+use Rattle.channel_groups.proofs.HeldLemmas.{has_member-from, has_member-Contains, found_place}
 use Rattle.why_path.specs.Near.{IsNear}
-
--- what is found stands in the list and passes
-found_place : {X : Type 0} → (p : X → Bool) (xs : List X) (x : X) → find p xs ≡ Some x → Contains xs x × (p x ≡ true)
-found_place p [] x found = absurd (cc)
-found_place p (y ∷ xs) x found =
-    elim (cases_Bool (p y)) [
-      | inl passes ↦
-          let here : Some y ≡ Some x = rw passes at found in
-          let same : y ≡ x = cc in
-          ((0, omega arith, same), ap p (sym same) ∙ passes)
-      | inr fails ↦
-          let rest = found_place p xs x (rw fails at found) in
-          ((suc rest.0.0, omega (arith, rest.0.1), rest.0.2), rest.1)
-    ]
 
 -- where one passes one is found
 passing : {X : Type 0} → (p : X → Bool) (xs : List X) (k : ℕ) (x : X) → k < length xs → get_or xs k x ≡ x → p x ≡ true → is_some (find p xs) ≡ true
@@ -58,14 +44,14 @@ module _ (g : GraphData) (groups : List Group) (are : AreGroups g groups) (node 
       let has = found_place (has_member node) groups one.0 one.1 in
       let two = by_some (group_with groups id) (λ group. members ≡ group.members) (λ group. switches ≡ group.switches) is_id members_is switches_is in
       let at = found_place (λ group. id_of group == id) groups two.0 two.1 in
-      let first : IsGroup g one.0 = All-contains (IsGroup g) groups one.0 are.each has.0 in
-      let second : IsGroup g two.0 = All-contains (IsGroup g) groups two.0 are.each at.0 in
-      let same : one.0 ≡ two.0 = same_by_id g one.0 two.0 first second (one.2 ∙ sym (eqb-true (id_of two.0) id at.1)) in
+      let first : IsGroup g one.0 = All-contains (IsGroup g) groups one.0 are.each (has.0, has.1, has.2) in
+      let second : IsGroup g two.0 = All-contains (IsGroup g) groups two.0 are.each (at.0, at.1, at.2) in
+      let same : one.0 ≡ two.0 = same_by_id g one.0 two.0 first second (one.2 ∙ sym (eqb-true (id_of two.0) id at.3)) in
       let whole : two.0 ≡ record { members = members; switches = switches } =
       ap (λ (xs : List ℕ). record { members = xs; switches = two.0.switches }) (sym two.2)
       ∙ ap (λ (xs : List ℕ). record { members = members; switches = xs }) (sym two.3) in
       let member : Contains two.0.members node =
-      subst (λ (group : Group). Contains group.members node) same (has_member-Contains node one.0 has.1) in
+      subst (λ (group : Group). Contains group.members node) same (has_member-Contains node one.0 has.3) in
       λ storage. (subst (IsGroup g) whole second, subst (λ (xs : List ℕ). Contains xs node) (sym two.2) member)
 
   -- a node for which no group is found is no storage node

@@ -1,28 +1,28 @@
 -- Reasons are local: a best reason for a rail of a member in its group's local graph stands for a best reason in the
 -- whole graph, and where there is none in the one there is none in the other.
 -- Unblocked paths to a member are the same in both graphs, hop by hop and with the same strengths.
-use Rattle.std.proofs.Common.{◌≡◌, ℕ, ◌<◌, Bool, true, List, [], ◌∷◌, ◌++◌, length, map, take, drop, All, Option, Some, None, refl, sym, ap, subst, ◌∙◌, arith}
-use Rattle.std.specs.Prelude.{slice_index, Contains}
+use Rattle.std.proofs.Common.{◌≡◌, ℕ, ◌<◌, Bool, true, List, [], ◌∷◌, ◌++◌, length, map, take, drop, All, Option, refl, sym, ap, subst, ◌∙◌, arith}
+use Rattle.std.specs.Prelude.{slice_index}
 use Rattle.std.proofs.lemmas.List.{take-map, take-append-drop, length-map}
-use Rattle.std.proofs.lemmas.List.Elements.{All-nil, All-cons, Contains-get_or}
+use Rattle.std.proofs.lemmas.List.Elements.{All-nil, All-cons}
 use Rattle.ternary.specs.declared.tern.Tern.{Tern}
 use Rattle.strength_order.specs.declared.TheConstants.{INPUT_LEVEL}
 use Rattle.path_meaning.specs.declared.walks.Walk.{Walk}
 use Rattle.path_meaning.specs.Switching.{state_at}
 use Rattle.path_meaning.specs.Graphs.{GraphData, IsWired, nodes, level_of}
-use Rattle.path_meaning.specs.Path.{Stand, Leads, at_root, LivePath}
-use Rattle.path_meaning.proofs.PathLemmas.{place_inside, same_stand, Leads-cut, Leads-unique, Leads-in_range, Goes, Goes-front, Goes-leads, Goes-from_unblocked, unblocked-from_Goes}
+use Rattle.path_meaning.specs.Path.{Stand, Leads, at_root, LivePath, Reaches}
+use Rattle.path_meaning.proofs.PathLemmas.{place_inside, Leads-cut, Leads-unique, Leads-in_range, Goes, Goes-front, Goes-leads, Goes-from_unblocked, unblocked-from_Goes}
 use Rattle.path_meaning.proofs.StrongestPaths.{best_table}
 use Rattle.path_meaning.proofs.InputNodes.{unbeaten}
 use Rattle.group_meaning.proofs.StoragePaths.{from_itself}
 use Rattle.group_meaning.specs.Groups.{Group, IsGroup}
-use Rattle.group_text.specs.Texts.{local_nodes, local_of, local_graph, local_state}
-use Rattle.group_text.proofs.LocalNodes.{same_place, local_of-stands, local_of-at, locals_apart, member_at, members_within}
+use Rattle.group_text.specs.Texts.{local_nodes, local_graph, local_state}
+use Rattle.group_text.proofs.LocalNodes.{same_place, locals_apart, member_at}
 use Rattle.group_text.proofs.LocalEdges.{state_local, nodes_local}
 use Rattle.group_text.proofs.WellFormedTexts.{local_wired}
 use Rattle.group_text.proofs.AlikeNodes.{IsAlike}
-use Rattle.group_text.proofs.LocalHops.{whole_stand, local_stand, whole_root}
-use Rattle.group_text.proofs.Locality.{alike_start, goes_whole, goes_local}
+use Rattle.group_text.proofs.LocalHops.{whole_stand, whole_root}
+use Rattle.group_text.proofs.Locality.{alike_start, goes_whole, reaches_local}
 use Rattle.why_path.specs.Reasons.{IsReason, PassesTwice, IsBestReason, Explains}
 
 -- a path goes over places of the graph
@@ -38,9 +38,6 @@ module _ (rail : Tern → Bool) (g : GraphData) (wired : IsWired g) (group : Gro
   abbrev locals : List ℕ
   locals = local_nodes g group
 
-  abbrev text_graph : GraphData
-  text_graph = local_graph g group
-
   abbrev local_states : List Tern
   local_states = local_state (local_nodes g group) state
 
@@ -50,31 +47,31 @@ module _ (rail : Tern → Bool) (g : GraphData) (wired : IsWired g) (group : Gro
   abbrev over : List ℕ → List ℕ
   over hops = map (slice_index group.switches) hops
 
-  text_wired : IsWired text_graph
+  text_wired : IsWired (local_graph g group)
   text_wired = local_wired g wired group is_group
 
   -- an unblocked path of the local graph is one of the whole graph
-  whole_goes : (hops : List ℕ) (root : ℕ) (there : Stand) → Goes text_graph local_states (at_root text_graph root) hops there →
+  whole_goes : (hops : List ℕ) (root : ℕ) (there : Stand) → Goes (local_graph g group) local_states (at_root (local_graph g group) root) hops there →
       IsAlike g group root → Goes g state (at_root g (slice_index locals root)) (over hops) (whole_stand locals there)
   whole_goes hops root there goes alike =
       let best = best_table g wired state in
-      let local_best = best_table text_graph text_wired local_states in
-      let whole = goes_whole g wired group is_group state best.0 local_best.0 best.1 local_best.1 hops (at_root text_graph root) there
+      let local_best = best_table (local_graph g group) text_wired local_states in
+      let whole = goes_whole g wired group is_group state best.0 local_best.0 best.1 local_best.1 hops (at_root (local_graph g group) root) there
       goes alike in
       rw (whole_root g group root alike) at whole
 
   -- a local reason, and that its root has the level of what it stands for
-  local_goes : (root : ℕ) (hops : List ℕ) → (reason : IsReason rail text_graph local_states k root hops) →
-      Goes text_graph local_states (at_root text_graph root) hops reason.there
-  local_goes root hops reason = Goes-from_unblocked text_graph local_states root hops reason.there reason.path reason.unblocked
+  local_goes : (root : ℕ) (hops : List ℕ) → (reason : IsReason rail (local_graph g group) local_states k root hops) →
+      Goes (local_graph g group) local_states (at_root (local_graph g group) root) hops reason.there
+  local_goes root hops reason = Goes-from_unblocked (local_graph g group) local_states root hops reason.there reason.path reason.unblocked
 
-  alike_root : (root : ℕ) (hops : List ℕ) → IsReason rail text_graph local_states k root hops → IsAlike g group root
+  alike_root : (root : ℕ) (hops : List ℕ) → IsReason rail (local_graph g group) local_states k root hops → IsAlike g group root
   alike_root root hops reason =
-      alike_start g wired group is_group state hops (at_root text_graph root) reason.there (local_goes root hops reason)
+      alike_start g wired group is_group state hops (at_root (local_graph g group) root) reason.there (local_goes root hops reason)
       (rw reason.ends first)
 
   -- a local reason stands for a reason
-  abbrev whole_reason : (root : ℕ) (hops : List ℕ) → IsReason rail text_graph local_states k root hops →
+  abbrev whole_reason : (root : ℕ) (hops : List ℕ) → IsReason rail (local_graph g group) local_states k root hops →
       IsReason rail g state member (slice_index locals root) (over hops)
   whole_reason root hops reason =
       let alike = alike_root root hops reason in
@@ -93,67 +90,54 @@ module _ (rail : Tern → Bool) (g : GraphData) (wired : IsWired g) (group : Gro
   record IsCopy (strength : ℕ) : Type 0 where
     root : ℕ
     hops : List ℕ
-    reason : IsReason rail text_graph local_states k root hops
+    reason : IsReason rail (local_graph g group) local_states k root hops
     strong : reason.there.strength ≡ strength
 
   local_reason : (root : ℕ) (hops : List ℕ) → (reason : IsReason rail g state member root hops) → IsCopy reason.there.strength
   local_reason root hops reason =
       let best = best_table g wired state in
-      let local_best = best_table text_graph text_wired local_states in
-      let goes = Goes-from_unblocked g state root hops reason.there reason.path reason.unblocked in
-      let inside : Contains group.members reason.there.node = rw reason.ends (Contains-get_or group.members k 0 first) in
-      let copied = goes_local g wired group is_group state best.0 local_best.0 best.1 local_best.1 hops (at_root g root) reason.there
-      goes inside in
-      let local = local_of locals root in
-      let stands : slice_index locals local ≡ root = local_of-stands locals root copied.near in
-      let start : local_stand locals (at_root g root) ≡ at_root text_graph local =
-      same_stand (local_stand locals (at_root g root)) (at_root text_graph local) refl
-      (sym (copied.alike.level ∙ ap (level_of g) stands)) refl in
-      let within : k < length locals = omega (arith, members_within g group is_group) in
-      let ends : local_of locals reason.there.node ≡ k =
-      ap (local_of locals) (reason.ends ∙ sym (member_at g group is_group k first)) ∙ local_of-at locals
-      (locals_apart g group) k within in
-      let in_range : local < nodes text_graph = rw (nodes_local g group is_group) copied.alike.inside in
-      let there = local_stand locals reason.there in
-      let way : Goes text_graph local_states (at_root text_graph local) copied.hops there = rw start at copied.goes in
+      let local_best = best_table (local_graph g group) text_wired local_states in
+      let reached : Reaches g state root member =
+      record { hops = hops; there = reason.there; path = reason.path; ends = reason.ends; unblocked = reason.unblocked } in
+      let copied = reaches_local g wired group is_group state best.0 local_best.0 best.1 local_best.1 root k first reached in
       record {
-        root = local;
-        hops = copied.hops;
+        root = copied.local;
+        hops = copied.reaches.hops;
         reason = record {
-          there = there;
-          path = record { in_range = in_range; leads = Goes-leads text_graph local_states copied.hops (at_root text_graph local) there way };
-          ends = ends;
-          unblocked = unblocked-from_Goes text_graph local_states local copied.hops there way;
-          set = ap rail (state_local locals state local copied.alike.inside ∙ ap (state_at state) stands) ∙ reason.set;
+          there = copied.reaches.there;
+          path = copied.reaches.path;
+          ends = copied.reaches.ends;
+          unblocked = copied.reaches.unblocked;
+          set = ap rail (state_local locals state copied.local copied.inside ∙ ap (state_at state) copied.stands) ∙ reason.set;
         };
-        strong = refl;
+        strong = copied.strong;
       }
 
   -- a front of a local reason, and where it stands in both graphs
   record IsFront (root : ℕ) (hops : List ℕ) (count : ℕ) (there : Stand) : Type 0 where
     mid : Stand
-    path : LivePath text_graph local_states root (take count hops) mid
+    path : LivePath (local_graph g group) local_states root (take count hops) mid
     inside : mid.node < length locals
     named : slice_index locals mid.node ≡ there.node
 
-  front : (root : ℕ) (hops : List ℕ) → IsReason rail text_graph local_states k root hops → (count : ℕ) (there : Stand) →
+  front : (root : ℕ) (hops : List ℕ) → IsReason rail (local_graph g group) local_states k root hops → (count : ℕ) (there : Stand) →
       LivePath g state (slice_index locals root) (take count (over hops)) there → IsFront root hops count there
   front root hops reason count there whole =
-      let start = at_root text_graph root in
+      let start = at_root (local_graph g group) root in
       let goes = local_goes root hops reason in
-      let split : Leads text_graph local_states start (take count hops ++ drop count hops) reason.there =
+      let split : Leads (local_graph g group) local_states start (take count hops ++ drop count hops) reason.there =
       rw (take-append-drop count hops) reason.path.leads in
-      let cut = Leads-cut text_graph local_states (take count hops) (drop count hops) start reason.there split in
-      let both : Goes text_graph local_states start (take count hops ++ drop count hops) reason.there = rw (take-append-drop count hops) goes in
-      let before = Goes-front text_graph local_states (take count hops) (drop count hops) start cut.0 reason.there both cut.1 in
+      let cut = Leads-cut (local_graph g group) local_states (take count hops) (drop count hops) start reason.there split in
+      let both : Goes (local_graph g group) local_states start (take count hops ++ drop count hops) reason.there = rw (take-append-drop count hops) goes in
+      let before = Goes-front (local_graph g group) local_states (take count hops) (drop count hops) start cut.0 reason.there both cut.1 in
       let moved = whole_goes (take count hops) root cut.0 before (alike_root root hops reason) in
       let begin = at_root g (slice_index locals root) in
       let leads = Goes-leads g state (over (take count hops)) begin (whole_stand locals cut.0) moved in
       let same_hops : take count (over hops) ≡ over (take count hops) = take-map (slice_index group.switches) count hops in
       let same : whole_stand locals cut.0 ≡ there =
       Leads-unique g state (over (take count hops)) begin (whole_stand locals cut.0) there leads (rw same_hops at whole.leads) in
-      let in_range : cut.0.node < nodes text_graph =
-      Leads-in_range text_graph local_states text_wired (take count hops) start cut.0 cut.1 reason.path.in_range in
+      let in_range : cut.0.node < nodes (local_graph g group) =
+      Leads-in_range (local_graph g group) local_states text_wired (take count hops) start cut.0 cut.1 reason.path.in_range in
       record {
         mid = cut.0;
         path = record { in_range = reason.path.in_range; leads = cut.1 };
@@ -162,8 +146,8 @@ module _ (rail : Tern → Bool) (g : GraphData) (wired : IsWired g) (group : Gro
       }
 
   -- what passes no node twice in the local graph passes none twice in the whole graph
-  whole_once : (root : ℕ) (hops : List ℕ) → IsReason rail text_graph local_states k root hops →
-      (¬ PassesTwice text_graph local_states root hops) → ¬ PassesTwice g state (slice_index locals root) (over hops)
+  whole_once : (root : ℕ) (hops : List ℕ) → IsReason rail (local_graph g group) local_states k root hops →
+      (¬ PassesTwice (local_graph g group) local_states root hops) → ¬ PassesTwice g state (slice_index locals root) (over hops)
   whole_once root hops reason once twice =
       let before = front root hops reason twice.first twice.before twice.to_before in
       let after = front root hops reason twice.second twice.after twice.to_after in
@@ -181,7 +165,7 @@ module _ (rail : Tern → Bool) (g : GraphData) (wired : IsWired g) (group : Gro
       })
 
   -- a best local reason stands for a best reason
-  pub whole_best : (root : ℕ) (hops : List ℕ) → IsBestReason rail text_graph local_states k root hops →
+  pub whole_best : (root : ℕ) (hops : List ℕ) → IsBestReason rail (local_graph g group) local_states k root hops →
       IsBestReason rail g state member (slice_index locals root) (over hops)
   whole_best root hops found = record {
     reason = whole_reason root hops found.reason;
@@ -192,34 +176,18 @@ module _ (rail : Tern → Bool) (g : GraphData) (wired : IsWired g) (group : Gro
   }
 
   -- and where there is no local reason there is none
-  pub whole_none : ((root : ℕ) (hops : List ℕ) → ¬ IsReason rail text_graph local_states k root hops) →
+  pub whole_none : ((root : ℕ) (hops : List ℕ) → ¬ IsReason rail (local_graph g group) local_states k root hops) →
       (root : ℕ) (hops : List ℕ) → ¬ IsReason rail g state member root hops
   whole_none none root hops reason =
       let copy = local_reason root hops reason in
       none copy.root copy.hops copy.reason
 
--- a local answer, by whatever equals the local graph and the local state
-pub local_best : (rail : Tern → Bool) (g : GraphData) (group : Group) (state : List Tern) (graph : GraphData) (states : List Tern)
-    (k : ℕ) (found : Option Walk) (walk : Walk) → graph ≡ local_graph g group → states ≡ local_state (local_nodes g group) state →
-    Explains rail graph states k found → found ≡ Some walk →
-    IsBestReason rail (local_graph g group) (local_state (local_nodes g group) state) k walk.root walk.hops.items
-local_best rail g group state graph states k found walk same_graph same_state explains is =
-    let P : GraphData → List Tern → Option Walk → Type 0 = λ a b o. Explains rail a b k o in
-    let one : P (local_graph g group) states found = subst (λ (a : GraphData). P a states found) same_graph explains in
-    let two : P (local_graph g group) (local_state (local_nodes g group) state) found =
-    subst (λ (b : List Tern). P (local_graph g group) b found) same_state one in
-    subst (λ (o : Option Walk). P (local_graph g group) (local_state (local_nodes g group) state) o) is two
-
-pub local_none : (rail : Tern → Bool) (g : GraphData) (group : Group) (state : List Tern) (graph : GraphData) (states : List Tern)
-    (k : ℕ) (found : Option Walk) → graph ≡ local_graph g group → states ≡ local_state (local_nodes g group) state →
-    Explains rail graph states k found → found ≡ None →
-    (root : ℕ) (hops : List ℕ) → ¬ IsReason rail (local_graph g group) (local_state (local_nodes g group) state) k root hops
-local_none rail g group state graph states k found same_graph same_state explains is =
-    let P : GraphData → List Tern → Option Walk → Type 0 = λ a b o. Explains rail a b k o in
-    let one : P (local_graph g group) states found = subst (λ (a : GraphData). P a states found) same_graph explains in
-    let two : P (local_graph g group) (local_state (local_nodes g group) state) found =
-    subst (λ (b : List Tern). P (local_graph g group) b found) same_state one in
-    subst (λ (o : Option Walk). P (local_graph g group) (local_state (local_nodes g group) state) o) is two
+-- what explains a rail over a graph and a state explains it over whatever equals them
+pub Explains-same : (rail : Tern → Bool) (graph other : GraphData) (states others : List Tern) (k : ℕ) (found : Option Walk) →
+    graph ≡ other → states ≡ others → Explains rail graph states k found → Explains rail other others k found
+Explains-same rail graph other states others k found same_graph same_states explains =
+    subst (λ (s : List Tern). Explains rail other s k found) same_states
+    (subst (λ (g : GraphData). Explains rail g states k found) same_graph explains)
 
 -- the empty path of an input node
 module _ (rail : Tern → Bool) (g : GraphData) (wired : IsWired g) (state : List Tern) (node : ℕ) (in_range : node < nodes g)

@@ -43,7 +43,7 @@ fn no_reason_line(alloc: Global, one: bool) -> Result<Vec<u8>, NoMemory>
     ensures { IfOk result (λ line. line.items ≡ no_reason_line_of one) }
 {
     let mut line = Vec::new(alloc);
-    append_rail(&mut line, one)?;
+    append(&mut line, rail_word(one))?;
     append(&mut line, b" none\n")?;
     Ok(line)
 }
@@ -64,11 +64,11 @@ fn walk_line(
         unreachable!();
     };
     let mut line = Vec::new(alloc);
-    append_rail(&mut line, one)?;
+    append(&mut line, rail_word(one))?;
     append(&mut line, b" ")?;
     append_number(&mut line, u64::from(facts.strength))?;
     append(&mut line, b" ")?;
-    append_sort(&mut line, facts.definite)?;
+    append(&mut line, sort_word(facts.definite))?;
     append(&mut line, b" ")?;
     append(&mut line, circuit.name_of(walk.root))?;
     append_hops(&mut line, circuit, state, walk)?;
@@ -133,26 +133,18 @@ fn number_of(graph: &Graph, place: usize) -> u64
     place as u64 + 1
 }
 
-// Appends the word for a rail.
-fn append_rail(line: &mut Vec<u8>, one: bool) -> Result<(), NoMemory>
-    ensures { OnOk result (line.new.items ≡ line.old.items ++ rail_word one) }
+// The word for a rail.
+fn rail_word(one: bool) -> &'static [u8]
+    ensures { result.now ≡ rail_word one }
 {
-    if one {
-        append(line, b"one")
-    } else {
-        append(line, b"zero")
-    }
+    if one { b"one" } else { b"zero" }
 }
 
-// Appends the word for a path that is definite, or only possible.
-fn append_sort(line: &mut Vec<u8>, definite: bool) -> Result<(), NoMemory>
-    ensures { OnOk result (line.new.items ≡ line.old.items ++ sort_word definite) }
+// The word for a path that is definite, or only possible.
+fn sort_word(definite: bool) -> &'static [u8]
+    ensures { result.now ≡ sort_word definite }
 {
-    if definite {
-        append(line, b"definite")
-    } else {
-        append(line, b"possible")
-    }
+    if definite { b"definite" } else { b"possible" }
 }
 
 // Appends a number as a decimal without leading zeros.
