@@ -16,12 +16,14 @@ use Rattle.script_lang.specs.declared.command.Command.TheVariants as plain
 use Rattle.script_lang.specs.declared.command.ScriptFault.{ScriptFault}
 use Rattle.script_lang.specs.declared.command.ScriptFault.TheVariants as fault
 use Rattle.script_lang.specs.Parts.{all_of, beats_of}
-use Rattle.script_lang.specs.Commands.{commanded, reading_by, reading_of, reading_of_words, some_command}
+use Rattle.script_lang.specs.Commands.{assignments_given, commanded, reading_by, reading_of, reading_of_words, some_command}
 use Rattle.script_lang.proofs.FormLemmas.{all_given, given_some, named_beats}
+use Rattle.lane_script.specs.declared.command.ValueCommand.{ValueCommand}
+use Rattle.lane_script.specs.declared.command.ValueCommand.TheVariants as value
 use Rattle.lane_script.specs.declared.reader.Sort.{Sort}
 use Rattle.lane_script.specs.declared.reader.Sort.TheVariants as sort
 use Rattle.lane_script.specs.Columns.{column_reading, column_reading_by, column_reading_of, is_left_out, word_in, words_in}
-use Rattle.lane_script.specs.Commands.{IsShared}
+use Rattle.lane_script.specs.Commands.{plain_of, IsShared}
 use Rattle.lane_script.specs.Forms.{AreLaneValues, IsLaneValue}
 use Rattle.lane_script.specs.Values.{are_fit, lane_value_of, sort_of, values_given}
 use Rattle.lane_script.specs.Laws.{ColumnsAreRefusedAlike, ColumnsPassAlike}
@@ -42,19 +44,30 @@ column_words lanes lane line sound other =
 abbrev pub values_asked : (List (List ℕ × Tern) → Command) → ℕ → Result (List (List ℕ × List Tern)) ScriptFault → Result (Option Command) ScriptFault
 values_asked command lane given = some_command (commanded command (given_in lane given))
 
--- the words of `set` in a column
+-- the verb of a command that gives values
+abbrev pub verb_of_values : ValueCommand → List ℕ
+verb_of_values value.Set = codes "set"
+verb_of_values value.Charge = codes "charge"
+
+-- its words in a column
+pub valued_words : (command : ValueCommand) (lanes lane : ℕ) (word : List ℕ) (words : List (List ℕ)) → lane < lanes → word ≡ verb_of_values command →
+    column_reading lanes lane (word ∷ words) ≡ values_asked (plain_of command) lane (values_given lanes words)
+valued_words command lanes lane word words inside is =
+    ap (λ (verb : List ℕ). column_reading lanes lane (verb ∷ words)) is ∙ by command
+    ∙ ap (λ given. some_command (commanded (plain_of command) given)) (given_in_column lanes lane words inside)
+  where
+    by : (command : ValueCommand) → column_reading lanes lane (verb_of_values command ∷ words)
+        ≡ some_command (commanded (plain_of command) (assignments_given (map (word_in lanes lane) words)))
+    by value.Set = refl
+    by value.Charge = refl
+
 pub set_words : (lanes lane : ℕ) (word : List ℕ) (words : List (List ℕ)) → lane < lanes → word ≡ codes "set" →
     column_reading lanes lane (word ∷ words) ≡ values_asked plain.Set lane (values_given lanes words)
-set_words lanes lane word words inside is =
-    ap (λ (verb : List ℕ). column_reading lanes lane (verb ∷ words)) is
-    ∙ ap (λ given. some_command (commanded plain.Set given)) (given_in_column lanes lane words inside)
+set_words = valued_words value.Set
 
--- and of `charge`
 pub charge_words : (lanes lane : ℕ) (word : List ℕ) (words : List (List ℕ)) → lane < lanes → word ≡ codes "charge" →
     column_reading lanes lane (word ∷ words) ≡ values_asked plain.Charge lane (values_given lanes words)
-charge_words lanes lane word words inside is =
-    ap (λ (verb : List ℕ). column_reading lanes lane (verb ∷ words)) is
-    ∙ ap (λ given. some_command (commanded plain.Charge given)) (given_in_column lanes lane words inside)
+charge_words = valued_words value.Charge
 
 -- what is left out is no command
 pub out_words : (lanes lane : ℕ) (word : List ℕ) (words : List (List ℕ)) → is_left_out word ≡ true →
@@ -72,31 +85,22 @@ other_words lanes lane word words other =
 
 -- ---- the sorts of words
 
-pub set_sort : (word : List ℕ) → sort_of word ≡ sort.Set → word ≡ codes "set"
-set_sort word is = by (bytes_eq word (codes "set")) (bytes_eq word (codes "charge")) (is_left_out word) refl is
+pub valued_sort : (command : ValueCommand) (word : List ℕ) → sort_of word ≡ sort.Valued command → word ≡ verb_of_values command
+valued_sort command word is = by (bytes_eq word (codes "set")) (bytes_eq word (codes "charge")) (is_left_out word) refl refl is
   where
-    by : (set charge out : Bool) → bytes_eq word (codes "set") ≡ set →
-        (if set then sort.Set else (if charge then sort.Charge else (if out then sort.LeftOut else sort.Shared))) ≡ sort.Set → word ≡ codes "set"
-    by true charge out a is = (bytes_eq-Decides word (codes "set")).0 a
-    by false true out a is = cc
-    by false false true a is = cc
-    by false false false a is = cc
-
-pub charge_sort : (word : List ℕ) → sort_of word ≡ sort.Charge → word ≡ codes "charge"
-charge_sort word is = by (bytes_eq word (codes "set")) (bytes_eq word (codes "charge")) (is_left_out word) refl is
-  where
-    by : (set charge out : Bool) → bytes_eq word (codes "charge") ≡ charge →
-        (if set then sort.Set else (if charge then sort.Charge else (if out then sort.LeftOut else sort.Shared))) ≡ sort.Charge → word ≡ codes "charge"
-    by true charge out a is = cc
-    by false true out a is = (bytes_eq-Decides word (codes "charge")).0 a
-    by false false true a is = cc
-    by false false false a is = cc
+    by : (set charge out : Bool) → bytes_eq word (codes "set") ≡ set → bytes_eq word (codes "charge") ≡ charge →
+        (if set then sort.Valued value.Set else (if charge then sort.Valued value.Charge else (if out then sort.LeftOut else sort.Shared))) ≡ sort.Valued command →
+        word ≡ verb_of_values command
+    by true charge out a b is = (bytes_eq-Decides word (codes "set")).0 a ∙ ap verb_of_values (let same : value.Set ≡ command = cc in same)
+    by false true out a b is = (bytes_eq-Decides word (codes "charge")).0 b ∙ ap verb_of_values (let same : value.Charge ≡ command = cc in same)
+    by false false true a b is = cc
+    by false false false a b is = cc
 
 pub out_sort : (word : List ℕ) → sort_of word ≡ sort.LeftOut → is_left_out word ≡ true
 out_sort word is = by (bytes_eq word (codes "set")) (bytes_eq word (codes "charge")) (is_left_out word) is
   where
     by : (set charge out : Bool) →
-        (if set then sort.Set else (if charge then sort.Charge else (if out then sort.LeftOut else sort.Shared))) ≡ sort.LeftOut → out ≡ true
+        (if set then sort.Valued value.Set else (if charge then sort.Valued value.Charge else (if out then sort.LeftOut else sort.Shared))) ≡ sort.LeftOut → out ≡ true
     by true charge out is = cc
     by false true out is = cc
     by false false true is = refl
@@ -141,21 +145,16 @@ rest_visible line word words sound other is =
 
 -- ---- lines with values
 
--- what a line of `set` or `charge` is in a column, by the values that are given
+-- what a line that gives values is in a column, by the values that are given
 module _ (lanes : ℕ) (line word : List ℕ) (rest : List (List ℕ)) (sound : line_fault line ≡ None) (other : is_comment line ≡ false)
     (cut : words_of line ≡ word ∷ rest) where
   pub line_words : (lane : ℕ) → column_reading_of lanes lane line ≡ column_reading lanes lane (word ∷ rest)
   line_words lane = column_words lanes lane line sound other ∙ ap (column_reading lanes lane) cut
 
-  pub set_line : sort_of word ≡ sort.Set → (given : Result (List (List ℕ × List Tern)) ScriptFault) → given ≡ values_given lanes rest →
-      (lane : ℕ) → lane < lanes → column_reading_of lanes lane line ≡ values_asked plain.Set lane given
-  set_line kind given is lane inside =
-      line_words lane ∙ set_words lanes lane word rest inside (set_sort word kind) ∙ ap (values_asked plain.Set lane) (sym is)
-
-  pub charge_line : sort_of word ≡ sort.Charge → (given : Result (List (List ℕ × List Tern)) ScriptFault) → given ≡ values_given lanes rest →
-      (lane : ℕ) → lane < lanes → column_reading_of lanes lane line ≡ values_asked plain.Charge lane given
-  charge_line kind given is lane inside =
-      line_words lane ∙ charge_words lanes lane word rest inside (charge_sort word kind) ∙ ap (values_asked plain.Charge lane) (sym is)
+  pub valued_line : (command : ValueCommand) → sort_of word ≡ sort.Valued command → (given : Result (List (List ℕ × List Tern)) ScriptFault) →
+      given ≡ values_given lanes rest → (lane : ℕ) → lane < lanes → column_reading_of lanes lane line ≡ values_asked (plain_of command) lane given
+  valued_line command kind given is lane inside =
+      line_words lane ∙ valued_words command lanes lane word rest inside (valued_sort command word kind) ∙ ap (values_asked (plain_of command) lane) (sym is)
 
   pub values_formed : (list : List (List ℕ × List Tern)) → Ok list ≡ values_given lanes rest → AreLaneValues lanes list
   values_formed list is = formed_values lanes rest list (rest_visible line word rest sound other cut) (sym is)
@@ -197,8 +196,9 @@ words-alike lanes lane other (word ∷ words) inside within = by (sort_of word) 
     pair {a} {b} {c} {d} one two alike = subst (λ (x : Result (Option Command) ScriptFault). AreAlike x b) (sym one) (subst (λ (y : Result (Option Command) ScriptFault). AreAlike c y) (sym two) alike)
 
     by : (kind : Sort) → sort_of word ≡ kind → AreAlike (column_reading lanes lane (word ∷ words)) (column_reading lanes other (word ∷ words))
-    by sort.Set is = pair (set_words lanes lane word words inside (set_sort word is)) (set_words lanes other word words within (set_sort word is)) (asked-alike plain.Set lane other (values_given lanes words))
-    by sort.Charge is = pair (charge_words lanes lane word words inside (charge_sort word is)) (charge_words lanes other word words within (charge_sort word is)) (asked-alike plain.Charge lane other (values_given lanes words))
+    by (sort.Valued command) is =
+        pair (valued_words command lanes lane word words inside (valued_sort command word is))
+        (valued_words command lanes other word words within (valued_sort command word is)) (asked-alike (plain_of command) lane other (values_given lanes words))
     by sort.LeftOut is = pair (out_words lanes lane word words (out_sort word is)) (out_words lanes other word words (out_sort word is)) refl
     by sort.Shared is = pair (other_words lanes lane word words (other_sort word is)) (other_words lanes other word words (other_sort word is)) (same-alike (reading_of_words (word ∷ words)))
 

@@ -6,6 +6,7 @@ use Rattle.script_lang.specs.declared.command.Command.{Command}
 use Rattle.script_lang.specs.declared.command.Command.TheVariants as plain
 use Rattle.script_lang.specs.Commands.{reading_of_words, word_of}
 use Rattle.script_lang.proofs.VerbLemmas.{first_word}
+use Rattle.lane_script.specs.declared.command.ValueCommand.TheVariants as value
 use Rattle.lane_script.specs.declared.reader.Sort.TheVariants as sort
 use Rattle.lane_script.specs.Columns.{is_left_out}
 use Rattle.lane_script.specs.Commands.{IsShared}
@@ -22,7 +23,7 @@ pub other_sort : (word : List ℕ) → sort_of word ≡ sort.Shared → IsOther 
 other_sort word is = by (bytes_eq word (codes "set")) (bytes_eq word (codes "charge")) (is_left_out word) refl refl refl is
   where
     by : (set charge out : Bool) → bytes_eq word (codes "set") ≡ set → bytes_eq word (codes "charge") ≡ charge → is_left_out word ≡ out →
-        (if set then sort.Set else (if charge then sort.Charge else (if out then sort.LeftOut else sort.Shared))) ≡ sort.Shared → IsOther word
+        (if set then sort.Valued value.Set else (if charge then sort.Valued value.Charge else (if out then sort.LeftOut else sort.Shared))) ≡ sort.Shared → IsOther word
     by true charge out a b c is = cc
     by false true out a b c is = cc
     by false false true a b c is = cc

@@ -4,6 +4,8 @@ use Rattle.ternary.specs.declared.tern.Tern.{Tern}
 use Rattle.path_meaning.specs.Switching.{state_at}
 use Rattle.script_lang.specs.declared.command.Command.{Command}
 use Rattle.script_lang.specs.declared.command.Command.TheVariants as plain
+use Rattle.lane_script.specs.declared.command.ValueCommand.{ValueCommand}
+use Rattle.lane_script.specs.declared.command.ValueCommand.TheVariants as value
 use Rattle.lane_script.specs.declared.command.LaneCommand.{LaneCommand}
 use Rattle.lane_script.specs.declared.command.LaneCommand.TheVariants.{Input, Store, Set, Charge, Watch, Limit, Step, Phase, Clock, Cycle, Add, Del, Strength, Kind, Wire}
 
@@ -14,6 +16,15 @@ state_in lane states = if length states == 1 then state_at states 0 else state_a
 -- the node's name, and the state that the column is given
 abbrev pub value_in : ℕ → List ℕ × List Tern → List ℕ × Tern
 value_in lane value = (value.0, state_in lane value.1)
+
+-- the plain command that gives such values
+abbrev pub plain_of : ValueCommand → List (List ℕ × Tern) → Command
+plain_of value.Set = plain.Set
+plain_of value.Charge = plain.Charge
+
+-- what a column is given of a command that gives nodes these values
+abbrev pub values_in : ℕ → ValueCommand → List (List ℕ × List Tern) → Command
+values_in lane command list = plain_of command (map (value_in lane) list)
 
 -- what a column is given of a command
 abbrev pub in_column : ℕ → LaneCommand → Command

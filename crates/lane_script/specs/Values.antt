@@ -5,6 +5,7 @@ use Rattle.ternary.specs.declared.tern.Tern.{Tern}
 use Rattle.script_lang.specs.declared.command.ScriptFault.{ScriptFault}
 use Rattle.script_lang.specs.declared.command.ScriptFault.TheVariants.{FewWords, BadValue}
 use Rattle.script_lang.specs.Parts.{all_of, beats_of}
+use Rattle.lane_script.specs.declared.command.ValueCommand.TheVariants as value
 use Rattle.lane_script.specs.declared.reader.Sort.{Sort}
 use Rattle.lane_script.specs.declared.reader.Sort.TheVariants as sort
 use Rattle.lane_script.specs.Columns.{is_left_out}
@@ -12,8 +13,8 @@ use Rattle.lane_script.specs.Columns.{is_left_out}
 -- the sort of the command that a word names
 abbrev pub sort_of : List ℕ → Sort
 sort_of verb =
-    if bytes_eq verb (codes "set") then sort.Set
-    else (if bytes_eq verb (codes "charge") then sort.Charge
+    if bytes_eq verb (codes "set") then sort.Valued value.Set
+    else (if bytes_eq verb (codes "charge") then sort.Valued value.Charge
     else (if is_left_out verb then sort.LeftOut else sort.Shared))
 
 -- the states are one for all columns, or one for each

@@ -1,7 +1,7 @@
 ghost use Rattle.std.specs.Prelude.{◌≡◌, ℕ};
 ghost use Rattle.script_lang.specs.Forms as form;
-ghost use Rattle.lane_script.specs.Commands.{in_column, IsShared};
-ghost use Rattle.lane_script.specs.Forms.{IsFormed};
+ghost use Rattle.lane_script.specs.Commands.{in_column, values_in, IsShared};
+ghost use Rattle.lane_script.specs.Forms.{AreLaneValues, IsFormed};
 
 use path_meaning::SwitchKind;
 use script_lang::{ClockList, Command, Name, NameList};
@@ -56,6 +56,24 @@ pub enum LaneCommand {
         source: Name,
         drain: Name,
     },
+}
+
+/// A command that gives values to nodes.
+#[derive(Clone, Copy, Debug, PartialEq, Eq)]
+pub(crate) enum ValueCommand {
+    Set,
+    Charge,
+}
+
+/// The command that gives nodes these values.
+pub(crate) fn valued(command: ValueCommand, list: ClockList) -> LaneCommand
+    ensures columns { (lane : ℕ) → in_column lane result ≡ values_in lane command list }
+    ensures formed { (lanes : ℕ) → AreLaneValues lanes list → IsFormed lanes result }
+{
+    match command {
+        ValueCommand::Set => LaneCommand::Set(list),
+        ValueCommand::Charge => LaneCommand::Charge(list),
+    }
 }
 
 /// The command that gives each column this one.

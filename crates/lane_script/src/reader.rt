@@ -6,7 +6,7 @@ ghost use Rattle.lane_script.specs.Commands.{in_column};
 ghost use Rattle.lane_script.specs.Forms.{IsFormed};
 ghost use Rattle.lane_script.specs.Values.{sort_of, lane_value_of, values_given};
 
-use crate::command::{LaneCommand, shared};
+use crate::command::{LaneCommand, ValueCommand, shared, valued};
 use line_words::{LineFault, Words, check_line, is_comment, words};
 use script_lang::{ClockList, Name, ScriptFault, StateList, beats, read_command};
 use std::alloc::Global;
@@ -42,8 +42,10 @@ pub fn read_lane_command(
         return Ok(None);
     };
     match sort_of(verb) {
-        Sort::Set => Ok(Some(LaneCommand::Set(read_values(alloc, words, lanes)??))),
-        Sort::Charge => Ok(Some(LaneCommand::Charge(read_values(alloc, words, lanes)??))),
+        Sort::Valued(command) => {
+            let list = read_values(alloc, words, lanes)??;
+            Ok(Some(valued(command, list)))
+        }
         Sort::LeftOut => Err(ScriptFault::BadCommand),
         Sort::Shared => Ok(read_command(alloc, bytes)?.map(shared)),
     }
@@ -53,8 +55,7 @@ pub fn read_lane_command(
 #[derive(Clone, Copy, Debug, PartialEq, Eq)]
 enum Sort {
     // nodes get values, which can differ from column to column
-    Set,
-    Charge,
+    Valued(ValueCommand),
     // it isn't there for columns
     LeftOut,
     // all alike, as in a plain script
@@ -66,8 +67,8 @@ fn sort_of(verb: &[u8]) -> Sort
     ensures { result ≡ sort_of verb.now }
 {
     match verb {
-        b"set" => Sort::Set,
-        b"charge" => Sort::Charge,
+        b"set" => Sort::Valued(ValueCommand::Set),
+        b"charge" => Sort::Valued(ValueCommand::Charge),
         b"expect" | b"report" | b"keep" => Sort::LeftOut,
         _ => Sort::Shared,
     }
