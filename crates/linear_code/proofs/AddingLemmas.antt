@@ -12,7 +12,7 @@ use Rattle.straight_code.specs.declared.code.Output.{Output}
 use Rattle.straight_code.specs.Code.{AreAllowed, IsOutput}
 use Rattle.linear_code.specs.Listing.{Entry, ListingData, storage_before}
 use Rattle.line_words.specs.Visible.{IsVisibleName}
-use Rattle.linear_code.specs.ListingText.{node_line, node_lines, instruction_line, instruction_lines, instruction_text, next_line, storage_nodes, kind_letter}
+use Rattle.linear_code.specs.ListingText.{node_line, node_lines, lines_from, instruction_line, instruction_lines, instruction_text, next_line, storage_nodes, kind_letter}
 use Rattle.linear_code.specs.Reading.{IsPartial, partial_text, line_count}
 use Rattle.linear_code.specs.Adding.{Added, with_added, output_text, bare_line, Fits}
 use Rattle.linear_code.specs.Adding.Added.{entry, instruction, next}
@@ -39,23 +39,14 @@ next_line-bare : (node : ℕ) (added : Output)
     → next_line node added ≡ (codes "next " ++ (decimal node ++ (codes " " ++ output_text added))) ++ 10 ∷ []
 next_line-bare node added = simp append_assoc
 
--- the lines of nodes and one more
-node_lines-push : (k : ℕ) (entries : List Entry) (added : Entry)
-    → node_lines k (entries ++ added ∷ []) ≡ node_lines k entries ++ node_line (k + length entries) added
-node_lines-push k [] added = append-nil (node_line k added) ∙ ap (λ n. node_line n added) (omega arith)
-node_lines-push k (first ∷ entries) added =
-    let more = node_lines-push (k + 1) entries added in
-    let place : k + 1 + length entries ≡ k + length (first ∷ entries) = omega arith in
-    rw (more, place) (sym (append_assoc (node_line k first) (node_lines (k + 1) entries) (node_line (k + length (first ∷ entries)) added)))
-
--- the lines of instructions and one more
-instruction_lines-push : (k : ℕ) (instructions : List Instruction) (added : Instruction)
-    → instruction_lines k (instructions ++ added ∷ []) ≡ instruction_lines k instructions ++ instruction_line (k + length instructions) added
-instruction_lines-push k [] added = append-nil (instruction_line k added) ∙ ap (λ n. instruction_line n added) (omega arith)
-instruction_lines-push k (first ∷ instructions) added =
-    let more = instruction_lines-push (k + 1) instructions added in
-    let place : k + 1 + length instructions ≡ k + length (first ∷ instructions) = omega arith in
-    rw (more, place) (sym (append_assoc (instruction_line k first) (instruction_lines (k + 1) instructions) (instruction_line (k + length (first ∷ instructions)) added)))
+-- numbered lines and one more
+lines_from-push : {X : Type 0} (line : ℕ → X → List ℕ) (k : ℕ) (xs : List X) (added : X)
+    → lines_from line k (xs ++ added ∷ []) ≡ lines_from line k xs ++ line (k + length xs) added
+lines_from-push line k [] added = append-nil (line k added) ∙ ap (λ n. line n added) (omega arith)
+lines_from-push line k (first ∷ xs) added =
+    let more = lines_from-push line (k + 1) xs added in
+    let place : k + 1 + length xs ≡ k + length (first ∷ xs) = omega arith in
+    rw (more, place) (sym (append_assoc (line k first) (lines_from line (k + 1) xs) (line (k + length (first ∷ xs)) added)))
 
 -- neither rail is ever set
 abbrev no_rails : Output
@@ -118,7 +109,7 @@ pub partial_text-added : (listing : ListingData) (added : Added) → Fits listin
 partial_text-added listing (entry added) fits =
     let line = node_line (length listing.entries) added in
     let more : node_lines 0 (listing.entries ++ added ∷ []) ≡ node_lines 0 listing.entries ++ line =
-    node_lines-push 0 listing.entries added ∙ ap (λ k. node_lines 0 listing.entries ++ node_line k added) (omega arith) in
+    lines_from-push node_line 0 listing.entries added ∙ ap (λ k. node_lines 0 listing.entries ++ node_line k added) (omega arith) in
     rw (fits.0, fits.1)
     (append-nil (node_lines 0 (listing.entries ++ added ∷ [])) ∙ more ∙ ap (λ front. front ++ line) (sym (append-nil (node_lines 0 listing.entries)))
     ∙ ap (λ last. node_lines 0 listing.entries ++ [] ++ last) (node_line-bare (length listing.entries) added))
@@ -127,7 +118,7 @@ partial_text-added listing (instruction added) fits =
     let before = instruction_lines 0 listing.instructions in
     let line = instruction_line (length listing.instructions) added in
     let more : instruction_lines 0 (listing.instructions ++ added ∷ []) ≡ before ++ line =
-    instruction_lines-push 0 listing.instructions added ∙ ap (λ k. before ++ instruction_line k added) (omega arith) in
+    lines_from-push instruction_line 0 listing.instructions added ∙ ap (λ k. before ++ instruction_line k added) (omega arith) in
     rw fits.0
     (ap (λ lines. nodes ++ lines) (append-nil (instruction_lines 0 (listing.instructions ++ added ∷ [])) ∙ more ∙ ap (λ front. front ++ line) (sym (append-nil before)))
     ∙ sym (append_assoc nodes (before ++ []) line)

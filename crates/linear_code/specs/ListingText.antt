@@ -40,15 +40,18 @@ abbrev pub next_line : ℕ → Output → List ℕ
 next_line node output =
     codes "next " ++ decimal node ++ codes " " ++ operand_text output.hi ++ codes " " ++ operand_text output.lo ++ codes "\n"
 
+-- a line for each, numbered from k on
+abbrev pub lines_from : {X : Type 0} → (ℕ → X → List ℕ) → ℕ → List X → List ℕ
+lines_from line k [] = []
+lines_from line k (x ∷ xs) = line k x ++ lines_from line (k + 1) xs
+
 -- the lines of nodes, numbered from k on
 abbrev pub node_lines : ℕ → List Entry → List ℕ
-node_lines k [] = []
-node_lines k (entry ∷ entries) = node_line k entry ++ node_lines (k + 1) entries
+node_lines = lines_from node_line
 
 -- the lines of instructions, numbered from k on
 abbrev pub instruction_lines : ℕ → List Instruction → List ℕ
-instruction_lines k [] = []
-instruction_lines k (instruction ∷ instructions) = instruction_line k instruction ++ instruction_lines (k + 1) instructions
+instruction_lines = lines_from instruction_line
 
 -- the numbers of the storage nodes, ascending
 abbrev pub storage_nodes : List Entry → List ℕ

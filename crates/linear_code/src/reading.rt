@@ -142,7 +142,7 @@ impl Reader {
         if !self.instructions.is_empty() || !self.nexts.is_empty() {
             return None;
         }
-        let rest = after(bytes, b"node ", self.nodes.len(), b" ")?;
+        let rest = after(bytes, b"node ", self.node_count(), b" ")?;
         let (is_storage, name) = kind_and_name(rest)?;
         Some(Line::Node { is_storage, name })
     }
@@ -154,8 +154,9 @@ impl Reader {
         if !self.nexts.is_empty() {
             return None;
         }
-        let rest = after(bytes, b"t", self.instructions.len(), b" = ")?;
-        let instruction = read_instruction(rest, self.nodes.len(), self.instructions.len())?;
+        let count = self.instruction_count();
+        let rest = after(bytes, b"t", count, b" = ")?;
+        let instruction = read_instruction(rest, self.node_count(), count)?;
         Some(Line::Code(instruction))
     }
 
@@ -165,8 +166,22 @@ impl Reader {
     {
         let node = self.next_node()?;
         let rest = after(bytes, b"next ", node, b" ")?;
-        let output = read_output(rest, self.nodes.len(), self.instructions.len())?;
+        let output = read_output(rest, self.node_count(), self.instruction_count())?;
         Some(Line::Next { node, output })
+    }
+
+    // How many nodes there are so far.
+    fn node_count(&self) -> usize
+        ensures { result ≡ length self.now.entries }
+    {
+        self.nodes.len()
+    }
+
+    // How many instructions there are so far.
+    fn instruction_count(&self) -> usize
+        ensures { result ≡ length self.now.instructions }
+    {
+        self.instructions.len()
     }
 
     // The first storage node without a next state.

@@ -7,7 +7,9 @@ use Rattle.path_meaning.specs.Graphs.{nodes}
 use Rattle.line_words.specs.Visible.{IsVisibleName}
 use Rattle.straight_code.specs.Parts.{IsPart}
 use Rattle.linear_code.proofs.BuildLemmas.{AreAdded-next}
-use Rattle.linear_code.proofs.BuiltLemmas.{AreListed-nodes, AreListed-listing, AreListed-built}
+use Rattle.linear_code.proofs.ListingTextLemmas.{entry_of}
+use Rattle.linear_code.proofs.BuiltLemmas.{AreListed, AreListed-nodes, AreListed-listing, AreListed-built}
+use Rattle.linear_code.proofs.listing.Listing.build.Goals.{In_ok-nexts}
 use Rattle.linear_code.proofs.listing.Listing.build.Goals as goal
 
 pub loop-part-preserved : goal.loop-part-preserved
@@ -27,24 +29,22 @@ loop-part-preserved c =
     (AreAdded-next count parts k part c.loop-part.instructions.items c.add_part.new.instructions.items old new
     c.requires.members.once stands fits c.in_ok-add_part.ensures.program adds c.loop-part.invariant)
 
+-- all parts are added, and the next states of the storage nodes stand in their order
+all_listed : (c : In_ok-nexts) → AreListed c.args.graph.now (map (λ name. name.items) c.args.names.items) c.args.parts.now
+    (map entry_of c.in_ok-nodes.nodes.items) c.loop-part.instructions.items c.loop-part.outputs.items c.in_ok-nexts.nexts.items
+all_listed c =
+    let last : c.loop-part.part-index ≡ length c.args.parts.now = omega arith in
+    AreListed-nodes c.args.graph.now (map (λ name. name.items) c.args.names.items) c.args.parts.now c.in_ok-nodes.nodes.items
+    c.loop-part.instructions.items c.loop-part.outputs.items c.in_ok-nexts.nexts.items c.in_ok-nodes.ensures.kinds c.in_ok-nodes.ensures.named
+    (rw last at c.loop-part.invariant) (rw (c.deref.ensures.value, c.deref-2.ensures.value) at c.in_ok-nexts.ensures)
+
 pub invariant_of-result : goal.invariant_of-result
 invariant_of-result c =
-    let last : c.loop-part.part-index ≡ length c.args.parts.now = omega arith in
-    let added = rw last at c.loop-part.invariant in
-    let stand = rw (c.deref.ensures.value, c.deref-2.ensures.value) at c.in_ok-nexts.ensures in
-    let names = map (λ name. name.items) c.args.names.items in
-    let all = AreListed-nodes c.args.graph.now names c.args.parts.now c.in_ok-nodes.nodes.items
-    c.loop-part.instructions.items c.loop-part.outputs.items c.in_ok-nexts.nexts.items c.in_ok-nodes.ensures.kinds c.in_ok-nodes.ensures.named added stand in
-    AreListed-listing c.args.graph.now names c.args.parts.now _ c.loop-part.instructions.items c.loop-part.outputs.items c.in_ok-nexts.nexts.items
-    (All-map IsVisibleName (λ name. name.items) c.args.names.items c.requires.visible) all
+    AreListed-listing c.args.graph.now (map (λ name. name.items) c.args.names.items) c.args.parts.now _ c.loop-part.instructions.items
+    c.loop-part.outputs.items c.in_ok-nexts.nexts.items (All-map IsVisibleName (λ name. name.items) c.args.names.items c.requires.visible)
+    (all_listed (goal.at.invariant_of-result c).In_ok-nexts)
 
 pub returns : goal.returns
 returns c =
-    let last : c.loop-part.part-index ≡ length c.args.parts.now = omega arith in
-    let added = rw last at c.loop-part.invariant in
-    let stand = rw (c.deref.ensures.value, c.deref-2.ensures.value) at c.in_ok-nexts.ensures in
-    let names = map (λ name. name.items) c.args.names.items in
-    let all = AreListed-nodes c.args.graph.now names c.args.parts.now c.in_ok-nodes.nodes.items
-    c.loop-part.instructions.items c.loop-part.outputs.items c.in_ok-nexts.nexts.items c.in_ok-nodes.ensures.kinds c.in_ok-nodes.ensures.named added stand in
-    AreListed-built c.args.graph.now names c.args.parts.now _ c.loop-part.instructions.items c.loop-part.outputs.items c.in_ok-nexts.nexts.items
-    c.requires.fit c.requires.members all
+    AreListed-built c.args.graph.now (map (λ name. name.items) c.args.names.items) c.args.parts.now _ c.loop-part.instructions.items
+    c.loop-part.outputs.items c.in_ok-nexts.nexts.items c.requires.fit c.requires.members (all_listed (goal.at.returns c).In_ok-nexts)

@@ -7,33 +7,31 @@ use Rattle.linear_code.specs.Listing.{next_of, IsListing}
 use Rattle.straight_code.proofs.ResultLemmas.{length-results}
 use Rattle.linear_code.proofs.ListingLemmas.{is_storage_at-node, storage_before-storage, storage_before-input, turn-below, turn-below_node, storage-moves, next_of-input, each-next}
 use Rattle.linear_code.proofs.listing.Listing.step.Goals as goal
-use Rattle.linear_code.proofs.listing.Listing.step.Goals.{then-listed+in_ok-map_err, else-listed+in_ok-map_err-2}
+use Rattle.linear_code.proofs.listing.Listing.step.Goals.{Then-listed, then-listed+in_ok-map_err, else-listed+in_ok-map_err-2}
 
-pub index-requires : goal.index-requires
-index-requires c =
-    let node = c.loop-node.node in
+-- at a storage node a next state is in turn
+in_turn : (c : Then-listed) → c.loop-node.moved < length c.args.self.now.nexts
+in_turn c =
     let listing = c.args.self.now in
     let good : IsListing listing = subst IsListing c.self.view_is c.self.invariant in
     let listed = c.deref-listed-items.ensures.value in
-    let inside : node < length c.self.inside.nodes.items = omega (arith, ap length listed) in
-    let below = turn-below_node listing c.self.inside.nodes.items node c.loop-node.moved c.listed-item.result good
-    (ap (λ all. all.entries) c.self.view_is) inside (rw listed at c.listed-item.is) c.if-listed.true c.loop-node.invariant.moved in
-    omega (arith, below, ap (λ all. length all.nexts) c.self.view_is)
+    let inside : c.loop-node.node < length c.self.inside.nodes.items = omega (arith, ap length listed) in
+    turn-below_node listing c.self.inside.nodes.items c.loop-node.node c.loop-node.moved c.listed-item.result good
+    (ap (λ all. all.entries) c.self.view_is) inside (rw listed at c.listed-item.is) c.if-listed.true c.loop-node.invariant.moved
+
+pub index-requires : goal.index-requires
+index-requires c = omega (arith, in_turn (goal.at.index-requires c).Then-listed, ap (λ all. length all.nexts) c.self.view_is)
 
 pub output_state-requires : goal.output_state-requires
 output_state-requires c =
-    let node = c.loop-node.node in
     let listing = c.args.self.now in
     let good : IsListing listing = subst IsListing c.self.view_is c.self.invariant in
-    let listed = c.deref-listed-items.ensures.value in
-    let inside : node < length c.self.inside.nodes.items = omega (arith, ap length listed) in
-    let below = turn-below_node listing c.self.inside.nodes.items node c.loop-node.moved c.listed-item.result good
-    (ap (λ all. all.entries) c.self.view_is) inside (rw listed at c.listed-item.is) c.if-listed.true c.loop-node.invariant.moved in
     let instructions = c.deref.ensures.value ∙ ap (λ all. all.instructions) c.self.view_is in
     let done : length c.deref-then-listed.result.now ≡ length listing.instructions =
     ap length (c.deref-then-listed.ensures.value ∙ c.in_ok-results.ensures) ∙ length-results c.args.state.now c.deref.result.now ∙ ap length instructions in
     let output = rw (ap (λ all. all.nexts) c.self.view_is) at c.index.ensures in
-    rw (c.requires, done, output) (good.nexts c.loop-node.moved c.index.result.now below)
+    rw (c.requires, done, output)
+    (good.nexts c.loop-node.moved c.index.result.now (in_turn (goal.at.output_state-requires c).Then-listed))
 
 pub loop-node-preserved : goal.loop-node-preserved
 loop-node-preserved c =

@@ -4,6 +4,7 @@ use Rattle.std.proofs.lemmas.List.{length-map}
 use Rattle.linear_code.proofs.WritesLemmas.{IsLeft-all, WritesFront-more, at_err}
 use Rattle.linear_code.proofs.ListingTextLemmas.{IsEntry-read, entry_of, storage_before-lt}
 use Rattle.linear_code.proofs.TextPlaceLemmas.{splits_node, passes_node, splits_instruction, passes_instruction, splits_storage, passes_storage, passes_input}
+use Rattle.linear_code.proofs.listing.Listing.write_line.Goals.{Else-place-nodes-2}
 use Rattle.linear_code.proofs.listing.Listing.write_line.Goals as goal
 
 pub returns-in_err-put_node-clause-part : goal.returns-in_err-put_node-clause-part
@@ -40,38 +41,34 @@ bounds-nexts-place c =
     rw (c.requires.moved, c.nexts.ensures)
     (storage_before-lt c.args.self.now c.args.place.now.passed _ c.listed-nodes.ensures.listing is storage)
 
+-- the lines of the nodes and those of the instructions are passed
+passed : (c : Else-place-nodes-2) →
+    (length c.args.self.now.entries ≤ c.args.place.now.nodes) × (length c.args.self.now.instructions ≤ c.args.place.now.instructions)
+passed c = (
+  omega (arith, ap length c.listed-nodes.ensures.nodes, length-map c.listed-nodes.result.now entry_of),
+  omega (arith, ap length c.instructions-instructions.ensures),
+)
+
 pub returns-in_err-put_next-clause-part : goal.returns-in_err-put_next-clause-part
 returns-in_err-put_next-clause-part c =
-    let listing = c.args.self.now in
-    let place = c.args.place.now in
-    let past : length listing.entries ≤ place.nodes =
-    omega (arith, ap length c.listed-nodes.ensures.nodes, length-map c.listed-nodes.result.now entry_of) in
-    let done : length listing.instructions ≤ place.instructions = omega (arith, ap length c.instructions-instructions.ensures) in
-    let is = IsEntry-read _ _ place.passed _ c.listed-nodes.ensures.nodes c.if-place-nodes-2.false c.index-nodes-place-2.is in
+    let here = passed (goal.at.returns-in_err-put_next-clause-part c).Else-place-nodes-2 in
+    let is = IsEntry-read _ _ c.args.place.now.passed _ c.listed-nodes.ensures.nodes c.if-place-nodes-2.false c.index-nodes-place-2.is in
     let storage = ap (λ node. node.is_storage) c.index-nodes-place-2.is ∙ c.if-nodes-place.true in
     at_err c.from_residual-in_err-put_next.result
     (WritesFront-more _ (IsLeft-all c.args.out.now.items _)
-    (splits_storage listing place past done _ _ c.requires c.nexts.ensures is storage) c.in_err-put_next.ensures.part)
+    (splits_storage c.args.self.now c.args.place.now here.0 here.1 _ _ c.requires c.nexts.ensures is storage) c.in_err-put_next.ensures.part)
 
 pub returns-then-nodes-place-clause-ok : goal.returns-then-nodes-place-clause-ok
 returns-then-nodes-place-clause-ok c =
-    let listing = c.args.self.now in
-    let place = c.args.place.now in
-    let past : length listing.entries ≤ place.nodes =
-    omega (arith, ap length c.listed-nodes.ensures.nodes, length-map c.listed-nodes.result.now entry_of) in
-    let done : length listing.instructions ≤ place.instructions = omega (arith, ap length c.instructions-instructions.ensures) in
-    let is = IsEntry-read _ _ place.passed _ c.listed-nodes.ensures.nodes c.if-place-nodes-2.false c.index-nodes-place-2.is in
+    let here = passed (goal.at.returns-then-nodes-place-clause-ok c).Else-place-nodes-2 in
+    let is = IsEntry-read _ _ c.args.place.now.passed _ c.listed-nodes.ensures.nodes c.if-place-nodes-2.false c.index-nodes-place-2.is in
     let storage = ap (λ node. node.is_storage) c.index-nodes-place-2.is ∙ c.if-nodes-place.true in
-    passes_storage listing place past done c.args.out.now.items c.put_next.new.out.items _ _ c.requires c.nexts.ensures is storage
-    c.in_ok-put_next.ensures.ok
+    passes_storage c.args.self.now c.args.place.now here.0 here.1 c.args.out.now.items c.put_next.new.out.items _ _ c.requires
+    c.nexts.ensures is storage c.in_ok-put_next.ensures.ok
 
 pub returns-clause-ok : goal.returns-clause-ok
 returns-clause-ok c =
-    let listing = c.args.self.now in
-    let place = c.args.place.now in
-    let past : length listing.entries ≤ place.nodes =
-    omega (arith, ap length c.listed-nodes.ensures.nodes, length-map c.listed-nodes.result.now entry_of) in
-    let done : length listing.instructions ≤ place.instructions = omega (arith, ap length c.instructions-instructions.ensures) in
-    let is = IsEntry-read _ _ place.passed _ c.listed-nodes.ensures.nodes c.if-place-nodes-2.false c.index-nodes-place-2.is in
+    let here = passed (goal.at.returns-clause-ok c).Else-place-nodes-2 in
+    let is = IsEntry-read _ _ c.args.place.now.passed _ c.listed-nodes.ensures.nodes c.if-place-nodes-2.false c.index-nodes-place-2.is in
     let input = ap (λ node. node.is_storage) c.index-nodes-place-2.is ∙ c.if-nodes-place.false in
-    passes_input listing place past done c.args.out.now.items _ c.requires is input
+    passes_input c.args.self.now c.args.place.now here.0 here.1 c.args.out.now.items _ c.requires is input
