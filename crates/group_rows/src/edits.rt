@@ -3,6 +3,7 @@
 ghost use Rattle.std.specs.Prelude.{◌≡◌, ◌≢◌, IfOk};
 ghost use Rattle.channel_groups.specs.Grouping.{AreOf};
 
+use crate::regrouping::shown;
 use channel_groups::{Change, Groups};
 use net_gen::{GenKind, GenPart, generate};
 use netlist::Circuit;
@@ -53,17 +54,6 @@ fn del<L: Ledger>(net: Net, place: usize, steps: &mut Steps<L>) -> Result<Net, F
     circuit.del(place as u64 + 1)?;
     groups.regroup(circuit.graph(), &change, steps)?;
     Ok(Net { circuit, groups })
-}
-
-// The members and the switches of all groups.
-fn shown(alloc: Global, groups: &Groups) -> Result<Vec<(Vec<usize>, Vec<usize>)>, NoMemory> {
-    let mut all = Vec::new(alloc);
-    for &id in &groups.ids(alloc)? {
-        let members = Vec::from_slice(alloc, groups.members(id))?;
-        let switches = Vec::from_slice(alloc, groups.switches(id))?;
-        all.push((members, switches)).map_err(|_| NoMemory)?;
-    }
-    Ok(all)
 }
 
 // The groups are those that are found anew.

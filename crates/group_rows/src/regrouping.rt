@@ -2,6 +2,7 @@
 
 ghost use Rattle.std.specs.Prelude.{◌≡◌, ◌≢◌, ℕ, ◌<◌, length, IfOk};
 ghost use Rattle.strength_order.specs.Levels.{IsLevel};
+ghost use Rattle.channel_groups.specs.Changes.{undo};
 ghost use Rattle.channel_groups.specs.Grouping.{AreOf};
 ghost use Rattle.path_meaning.specs.Graphs.{nodes, Fits, FitsPlace};
 
@@ -128,6 +129,21 @@ fn net_of(alloc: Global, graph: Graph) -> Result<Net, NoMemory>
     Ok(Net { graph, groups })
 }
 
+// The edited graph with its groups, made from those of the graph before the edit.
+fn regrouped<L: Ledger>(
+    graph: Graph,
+    groups: Groups,
+    change: &Change,
+    steps: &mut Steps<L>,
+) -> Result<Net, NoMemory>
+    requires { AreOf (undo graph change.now) groups }
+    ensures { IfOk result (λ after. AreOf after.graph after.groups) }
+{
+    let mut groups = groups;
+    groups.regroup(&graph, change, steps)?;
+    Ok(Net { graph, groups })
+}
+
 // Puts a switch, or nothing, at a place.
 fn put<L: Ledger>(
     net: Net,
@@ -140,18 +156,14 @@ fn put<L: Ledger>(
     requires fits { FitsPlace (nodes net.graph) switch }
     ensures { IfOk result (λ after. AreOf after.graph after.groups) }
 {
-    let Net {
-        mut graph,
-        mut groups,
-    } = net;
+    let Net { mut graph, groups } = net;
     let change = Change {
         nodes: graph.nodes(),
         place: Some((place, graph.switch_at(place))),
         level: None,
     };
     graph.put_switch(place, switch);
-    groups.regroup(&graph, &change, steps)?;
-    Ok(Net { graph, groups })
+    regrouped(graph, groups, &change, steps)
 }
 
 // Gives a node a level.
@@ -166,18 +178,14 @@ fn set_level<L: Ledger>(
     requires level { IsLevel level }
     ensures { IfOk result (λ after. AreOf after.graph after.groups) }
 {
-    let Net {
-        mut graph,
-        mut groups,
-    } = net;
+    let Net { mut graph, groups } = net;
     let change = Change {
         nodes: graph.nodes(),
         place: None,
         level: Some((node, graph.level(node))),
     };
     graph.set_level(node, level);
-    groups.regroup(&graph, &change, steps)?;
-    Ok(Net { graph, groups })
+    regrouped(graph, groups, &change, steps)
 }
 
 // Adds a node.
@@ -186,18 +194,14 @@ fn add_node<L: Ledger>(net: Net, level: u8, steps: &mut Steps<L>) -> Result<Net,
     requires level { IsLevel level }
     ensures { IfOk result (λ after. AreOf after.graph after.groups) }
 {
-    let Net {
-        mut graph,
-        mut groups,
-    } = net;
+    let Net { mut graph, groups } = net;
     let change = Change {
         nodes: graph.nodes(),
         place: None,
         level: None,
     };
     graph.add_node(level)?;
-    groups.regroup(&graph, &change, steps)?;
-    Ok(Net { graph, groups })
+    regrouped(graph, groups, &change, steps)
 }
 
 // Adds a place with a switch.
@@ -206,18 +210,14 @@ fn add_switch<L: Ledger>(net: Net, switch: Switch, steps: &mut Steps<L>) -> Resu
     requires fits { Fits (nodes net.graph) switch }
     ensures { IfOk result (λ after. AreOf after.graph after.groups) }
 {
-    let Net {
-        mut graph,
-        mut groups,
-    } = net;
+    let Net { mut graph, groups } = net;
     let change = Change {
         nodes: graph.nodes(),
         place: Some((graph.places(), None)),
         level: None,
     };
     graph.add_switch(switch)?;
-    groups.regroup(&graph, &change, steps)?;
-    Ok(Net { graph, groups })
+    regrouped(graph, groups, &change, steps)
 }
 
 // Numbers that are the same at each run.
@@ -289,8 +289,11 @@ fn random_graph(
     Ok(graph)
 }
 
-// The members and the switches of all groups.
-fn shown(alloc: Global, groups: &Groups) -> Result<Vec<(Vec<usize>, Vec<usize>)>, NoMemory> {
+/// The members and the switches of all groups.
+pub(crate) fn shown(
+    alloc: Global,
+    groups: &Groups,
+) -> Result<Vec<(Vec<usize>, Vec<usize>)>, NoMemory> {
     let mut all = Vec::new(alloc);
     for &id in &groups.ids(alloc)? {
         let members = Vec::from_slice(alloc, groups.members(id))?;

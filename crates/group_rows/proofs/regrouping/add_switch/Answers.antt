@@ -6,9 +6,9 @@ use Rattle.channel_groups.specs.Grouping.{AreOf}
 use Rattle.channel_groups.proofs.EditLemmas.{undo-switch, AreOf-empty_place}
 use Rattle.group_rows.proofs.regrouping.add_switch.Goals as goal
 
-pub regroup-requires : goal.regroup-requires
-regroup-requires g c =
+pub regrouped-requires : goal.regrouped-requires
+regrouped-requires g c =
     let graph = c.args.net.graph in
     let before = (λ i. undo (c.in_ok-add_switch.ensures.ok i) (record { nodes = c.nodes.ensures i; place = Some (c.places.ensures i, None); level = None }))
     ∙ undo-switch graph c.args.switch in
-    record { before = subst (λ (h : GraphData). AreOf h c.args.net.groups) (sym before) (AreOf-empty_place graph c.args.net.groups c.requires.are) }
+    subst (λ (h : GraphData). AreOf h c.args.net.groups) (sym before) (AreOf-empty_place graph c.args.net.groups c.requires.are)

@@ -6,10 +6,10 @@ use Rattle.channel_groups.specs.Grouping.{AreOf}
 use Rattle.channel_groups.proofs.EditLemmas.{undo-level}
 use Rattle.group_rows.proofs.regrouping.set_level.Goals as goal
 
-pub regroup-requires : goal.regroup-requires
-regroup-requires g c =
+pub regrouped-requires : goal.regrouped-requires
+regrouped-requires g c =
     let graph = c.args.net.graph in
     let before : undo c.set_level.new.self (record { nodes = c.nodes.result; place = None; level = Some (c.args.node, c.level.result) }) ≡ graph =
     (λ i. undo (c.set_level.ensures i) (record { nodes = c.nodes.ensures i; place = None; level = Some (c.args.node, c.level.ensures.value i) }))
     ∙ undo-level graph c.args.node c.args.level in
-    record { before = subst (λ (h : GraphData). AreOf h c.args.net.groups) (sym before) c.requires.are }
+    subst (λ (h : GraphData). AreOf h c.args.net.groups) (sym before) c.requires.are
