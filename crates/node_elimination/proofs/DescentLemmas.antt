@@ -281,6 +281,13 @@ Grows-drives inputs above next p0 p1 p2 p3 clear t1 t2 t3 total e1 e2 e3 g1 g2 g
     joined : (a b c d : List ℕ) → (a ++ (b ++ c)) ++ d ≡ a ++ (b ++ (c ++ d))
     joined a b c d = simp append_assoc
 
+    -- what a rail is solved from
+    all_held : (P : Id → Type 0) (drives rails : List Id) → All P drives → All P clear → All P inputs.live.items → All P rails →
+        All P (drives ++ (clear ++ (inputs.live.items ++ rails)))
+    all_held P drives rails of_drives of_clear of_live of_rails =
+        All-append P drives (clear ++ (inputs.live.items ++ rails)) of_drives
+        (All-append P clear (inputs.live.items ++ rails) of_clear (All-append P inputs.live.items rails of_live of_rails))
+
     grown : (listed : List ℕ) (bound : ℕ) → AreWithin p0 listed bound (input_formulas inputs ++ level_formulas above) →
         AreGrown p3 listed bound total (driven_formulas next)
     grown listed bound within =
@@ -299,10 +306,8 @@ Grows-drives inputs above next p0 p1 p2 p3 clear t1 t2 t3 total e1 e2 e3 g1 g2 g
         AreWithin-moved p0 p1 m1.more listed bound (driven_formulas above.drives) e1 drives0 in
         let m2 : AreGrown p2 l1 bound t2 next.one.items =
         g2.grown l1 bound
-        (All-append P1 above.drives.one.items (clear ++ (inputs.live.items ++ inputs.hi.items))
-        (all_one P1 above.drives drives1)
-        (All-append P1 clear (inputs.live.items ++ inputs.hi.items) m1.within
-        (All-append P1 inputs.live.items inputs.hi.items (all_live P1 inputs inputs1) (all_hi P1 inputs inputs1)))) in
+        (all_held P1 above.drives.one.items inputs.hi.items (all_one P1 above.drives drives1) m1.within (all_live P1 inputs inputs1)
+        (all_hi P1 inputs inputs1)) in
         let l2 : List ℕ = m2.more ++ l1 in
         let P2 : Id → Type 0 = λ id. IsWithin p2 l2 bound id.place in
         let inputs2 : AreWithin p2 l2 bound (input_formulas inputs) =
@@ -312,10 +317,8 @@ Grows-drives inputs above next p0 p1 p2 p3 clear t1 t2 t3 total e1 e2 e3 g1 g2 g
         let clear2 : AreWithin p2 l2 bound clear = AreWithin-moved p1 p2 m2.more l1 bound clear e2 m1.within in
         let m3 : AreGrown p3 l2 bound t3 next.zero.items =
         g3.grown l2 bound
-        (All-append P2 above.drives.zero.items (clear ++ (inputs.live.items ++ inputs.lo.items))
-        (all_zero P2 above.drives drives2)
-        (All-append P2 clear (inputs.live.items ++ inputs.lo.items) clear2
-        (All-append P2 inputs.live.items inputs.lo.items (all_live P2 inputs inputs2) (all_lo P2 inputs inputs2)))) in
+        (all_held P2 above.drives.zero.items inputs.lo.items (all_zero P2 above.drives drives2) clear2 (all_live P2 inputs inputs2)
+        (all_lo P2 inputs inputs2)) in
         let l3 : List ℕ = m3.more ++ l2 in
         let one3 : AreWithin p3 l3 bound next.one.items =
         AreWithin-moved p2 p3 m3.more l2 bound next.one.items e3 m2.within in

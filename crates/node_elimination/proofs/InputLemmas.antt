@@ -316,6 +316,11 @@ pass_steps g place inside =
 pub all_steps : (g : GraphData) (count : ℕ) → count_by is_some (take count g.places) ≤ count_by is_some g.places
 all_steps g count = sum_by-take-le (λ (place : Option Switch). if is_some place then 1 else 0) g.places count
 
+-- so the places so far and the next one take no more than all
+pub steps_within : (g : GraphData) (place : ℕ) → place < length g.places →
+    2 * count_by is_some (take place g.places) + (if is_some (place_at g.places place) then 2 else 0) ≤ 2 * count_by is_some g.places
+steps_within g place inside = omega (arith, pass_steps g place inside, all_steps g (place + 1))
+
 -- what holds of the formula of each index holds of all
 formulas-each : (P : ℕ → Type 0) (ids : List Id) (count : ℕ) → length ids ≡ count →
     ((k : ℕ) → k < count → P (place_of ids k)) → All (λ id. P id.place) ids

@@ -62,24 +62,19 @@ module _ (g : GraphData) (wired : IsWired g) (state : List Tern) where
       (over here.node place hop.switch hop.at_place hop.joins closed (omega (arith, hop.strength)) reached)
 
   -- where a definite path leads, D holds
+  reached_by : (s n from : ℕ) (hops : List ℕ) (there : Stand) → Leads g state (at_root g from) hops there → there.node ≡ n →
+      there.definite ≡ true → s ≤ there.strength → Reached g state s n
+  reached_by s n from hops there leads ends definite strong =
+      let weaker : there.strength ≤ (at_root g from).strength = Leads-weaker g state hops (at_root g from) there leads in
+      rw ends at (reached_along s hops (at_root g from) there leads definite strong (own (omega (arith, strong, weaker))))
+
   reached-from_path : (s n : ℕ) → HasDefinitePath g state s n → Reached g state s n
-  reached-from_path s n way =
-      let start : Stand = at_root g way.root in
-      let weaker : way.there.strength ≤ start.strength = Leads-weaker g state way.hops start way.there way.path.leads in
-      rw way.ends at (reached_along s way.hops start way.there way.path.leads way.definite way.strong
-      (own (omega (arith, way.strong))))
+  reached-from_path s n way = reached_by s n way.root way.hops way.there way.path.leads way.ends way.definite way.strong
 
   -- a node that is beaten isn't clear
   reached-from_beaten : (s n : ℕ) → IsBeaten g state n s → Reached g state (s + 1) n
-  reached-from_beaten s n beaten = reached-from_path (s + 1) n (record {
-    root = beaten.root;
-    hops = beaten.hops;
-    there = beaten.there;
-    path = beaten.path;
-    ends = beaten.ends;
-    definite = beaten.definite;
-    strong = omega (arith, beaten.stronger);
-  })
+  reached-from_beaten s n beaten =
+      reached_by (s + 1) n beaten.root beaten.hops beaten.there beaten.path.leads beaten.ends beaten.definite (omega (arith, beaten.stronger))
 
   -- and a node that isn't beaten is clear
   clear-from_unbeaten : (s n : ℕ) → (¬ IsBeaten g state n s) → IsClear g state s n

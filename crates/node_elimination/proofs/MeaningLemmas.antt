@@ -1,5 +1,5 @@
 -- From formulas and the code that means them to code that means a text.
-use Rattle.std.proofs.Common.{◌≡◌, ℕ, ◌+◌, ◌*◌, ◌/◌, ◌%◌, ◌<◌, ◌≤◌, ◌==◌, Bool, true, false, List, length, refl, sym, ap, ◌∙◌, subst, true≢false, arith}
+use Rattle.std.proofs.Common.{◌≡◌, ℕ, ◌+◌, ◌*◌, ◌/◌, ◌%◌, ◌<◌, ◌≤◌, ◌==◌, Bool, true, false, List, length, refl, sym, ap₂, ◌∙◌, subst, true≢false, arith}
 use Rattle.std.specs.Prelude.{◌↔◌, All, slice_index_or, if◌then◌else◌}
 use Rattle.std.proofs.lemmas.List.{get_or-map}
 use Rattle.std.proofs.lemmas.List.Elements.{All-contains_itself}
@@ -28,25 +28,16 @@ use Rattle.node_elimination.specs.Analysis.{AreRailsOfResponse, AreResponses}
 abbrev variable_of : List Tern → ℕ → Bool
 variable_of state v = if v % 2 == 0 then may_one (state_at state (v / 2)) else may_zero (state_at state (v / 2))
 
--- an even variable
-even_variable : (state : List Tern) (v node : ℕ) → v % 2 ≡ 0 → v / 2 ≡ node →
-    variable_of state v ≡ may_one (state_at state node)
-even_variable state v node even half =
-    ap (λ r. if r == 0 then may_one (state_at state (v / 2)) else may_zero (state_at state (v / 2))) even
-    ∙ ap (λ n. may_one (state_at state n)) half
-
--- an odd variable
-odd_variable : (state : List Tern) (v node : ℕ) → v % 2 ≡ 1 → v / 2 ≡ node →
-    variable_of state v ≡ may_zero (state_at state node)
-odd_variable state v node odd half =
-    ap (λ r. if r == 0 then may_one (state_at state (v / 2)) else may_zero (state_at state (v / 2))) odd
-    ∙ ap (λ n. may_zero (state_at state n)) half
+-- a variable by its node, and by what is left of its half
+variable_is : (state : List Tern) (v node left : ℕ) → v % 2 ≡ left → v / 2 ≡ node →
+    variable_of state v ≡ (if left == 0 then may_one (state_at state node) else may_zero (state_at state node))
+variable_is state v node left odd half = ap₂ (λ r n. if r == 0 then may_one (state_at state n) else may_zero (state_at state n)) odd half
 
 -- these are the variables of the state
 AreVariables-state : (state : List Tern) → AreVariables state (variable_of state)
 AreVariables-state state = record {
-  one = λ node inside. even_variable state (2 * node) node (omega arith) (omega arith);
-  zero = λ node inside. odd_variable state (2 * node + 1) node (omega arith) (omega arith);
+  one = λ node inside. variable_is state (2 * node) node 0 (omega arith) (omega arith);
+  zero = λ node inside. variable_is state (2 * node + 1) node 1 (omega arith) (omega arith);
 }
 
 -- a steady state has a rail, so some path answers for one

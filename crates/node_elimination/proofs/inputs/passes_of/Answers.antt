@@ -1,8 +1,8 @@
 -- One place more.
-use Rattle.std.proofs.Common.{◌+◌, arith}
+use Rattle.std.proofs.Common.{arith}
 use Rattle.path_meaning.proofs.PathLemmas.{switch_fits}
 use Rattle.node_elimination.proofs.GrowthLemmas.{Extends-trans}
-use Rattle.node_elimination.proofs.InputLemmas.{IsConstant-extends, ArePasses-push, pass_steps, all_steps}
+use Rattle.node_elimination.proofs.InputLemmas.{IsConstant-extends, ArePasses-push, pass_steps, steps_within}
 use Rattle.node_elimination.proofs.inputs.passes_of.Goals as goal
 
 pub pass_of-requires-clause-falsehood : goal.pass_of-requires-clause-falsehood
@@ -11,25 +11,11 @@ pass_of-requires-clause-falsehood g c =
 
 pub returns-in_err-pass-clause-few : goal.returns-in_err-pass-clause-few
 returns-in_err-pass-clause-few g c =
-    omega (
-      arith,
-      c.loop-place.invariant.few,
-      c.pass_of.ensures.few,
-      pass_steps c.args.graph.now c.loop-place.place
-          (omega arith),
-      all_steps c.args.graph.now (c.loop-place.place + 1),
-    )
+    omega (arith, c.loop-place.invariant.few, c.pass_of.ensures.few, steps_within c.args.graph.now c.loop-place.place (omega arith))
 
 pub returns-in_err-add_to-clause-few : goal.returns-in_err-add_to-clause-few
 returns-in_err-add_to-clause-few g c =
-    omega (
-      arith,
-      c.loop-place.invariant.few,
-      c.pass_of.ensures.few,
-      pass_steps c.args.graph.now c.loop-place.place
-          (omega arith),
-      all_steps c.args.graph.now (c.loop-place.place + 1),
-    )
+    omega (arith, c.loop-place.invariant.few, c.pass_of.ensures.few, steps_within c.args.graph.now c.loop-place.place (omega arith))
 
 pub loop-place-preserved : goal.loop-place-preserved
 loop-place-preserved g c =
