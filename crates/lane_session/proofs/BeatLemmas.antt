@@ -17,7 +17,7 @@ use Rattle.cosmos_session.proofs.EffectLemmas.{beats-ready, beats_exist}
 use Rattle.oscillation_x.specs.declared.settling.Settled.{Settled}
 use Rattle.lane_session.specs.LaneSessions.{LaneSessionData, session_in}
 use Rattle.lane_session.specs.Rows.{Interleaves, row_text}
-use Rattle.lane_session.specs.Stages.{AreSettled, BeatPut, PhasesSent, BeatsDoneTogether, BeatsBegunTogether, SharesAll, wave_in}
+use Rattle.lane_session.specs.Stages.{AreSettled, BeatPut, PhasesSent, BeatsDoneTogether, BeatsDoneInAll, BeatsBegunTogether, SharesAll, wave_in}
 use Rattle.lane_session.proofs.RowLemmas.{rows-none, rows-one, rows-append, rows_exist, choose}
 use Rattle.lane_session.proofs.StepLemmas.{column_beats}
 
@@ -97,7 +97,7 @@ together-part lanes start now next last all done more rest before mid after line
 
 -- as many columns are ready after phases at places as before them
 pub ready_later : (start now : LaneSessionData) (done : List ℕ) (before after : Option (List ℕ)) → now.lanes ≡ start.lanes →
-    BeatsDoneTogether start.lanes (session_in start) (session_in now) done before after → ((lane : ℕ) → lane < start.lanes → IsReady (session_in start lane)) →
+    BeatsDoneInAll start now done before after → ((lane : ℕ) → lane < start.lanes → IsReady (session_in start lane)) →
     (lane : ℕ) → lane < now.lanes → IsReady (session_in now lane)
 ready_later start now done before after lanes so_far ready lane inside =
     let within : lane < start.lanes = subst (λ (n : ℕ). lane < n) lanes inside in
@@ -110,18 +110,18 @@ module _ (start now next : LaneSessionData) (cycle : ℕ) where
 
   -- one cycle more was run
   pub together-next_cycle : (before mid after : Option (List ℕ)) → SharesAll start now →
-      BeatsDoneTogether start.lanes (session_in start) (session_in now) (places_in (places_of start.clocks) cycle) before mid →
-      BeatsDoneTogether now.lanes (session_in now) (session_in next) (places_here now) mid after →
-      BeatsDoneTogether start.lanes (session_in start) (session_in next) (places_in (places_of start.clocks) (cycle + 1)) before after
+      BeatsDoneInAll start now (places_in (places_of start.clocks) cycle) before mid →
+      BeatsDoneInAll now next (places_here now) mid after →
+      BeatsDoneInAll start next (places_in (places_of start.clocks) (cycle + 1)) before after
   together-next_cycle before mid after shares so_far last =
       let more = subst (λ (s : LaneSessionData). BeatsDoneTogether s.lanes (session_in now) (session_in next) (places_here s) mid after) shares.rest last in
-      subst (λ (places : List ℕ). BeatsDoneTogether start.lanes (session_in start) (session_in next) places before after) (sym (cycles-next (places_of start.clocks) cycle))
+      subst (λ (places : List ℕ). BeatsDoneInAll start next places before after) (sym (cycles-next (places_of start.clocks) cycle))
       (together-joined start.lanes (session_in start) (session_in now) (session_in next) (places_in (places_of start.clocks) cycle) (places_here start) before mid after
       more.lines more.text so_far more.beats more.rows more.grew)
 
   -- the sink ended a cycle
   pub together-stopped_cycle : (times : ℕ) (before mid after : Option (List ℕ)) → ((lane : ℕ) → lane < start.lanes → IsReady (session_in start lane)) → cycle < times →
-      SharesAll start now → BeatsDoneTogether start.lanes (session_in start) (session_in now) (places_in (places_of start.clocks) cycle) before mid →
+      SharesAll start now → BeatsDoneInAll start now (places_in (places_of start.clocks) cycle) before mid →
       BeatsBegunTogether now.lanes (places_here now) (session_in now) (session_in next) mid after →
       BeatsBegunTogether start.lanes (places_in (places_of start.clocks) times) (session_in start) (session_in next) before after
   together-stopped_cycle times before mid after ready inside shares so_far last =
@@ -140,7 +140,7 @@ together-no_cycle lanes start count before =
 
 -- columns that go through a cycle, the one place at which clocks were put and a phase done
 module _ (start now put next : LaneSessionData) (place : ℕ) (before mid after : Option (List ℕ)) (lanes : now.lanes ≡ start.lanes)
-    (done : BeatsDoneTogether start.lanes (session_in start) (session_in now) (range_with_len 0 place) before mid) (beat : BeatPut now put place) where
+    (done : BeatsDoneInAll start now (range_with_len 0 place) before mid) (beat : BeatPut now put place) where
   -- the lines of the columns
   abbrev waves : List Settled → ℕ → List Line
   waves counts lane = wave_in next counts lane ∷ []
@@ -160,9 +160,9 @@ module _ (start now put next : LaneSessionData) (place : ℕ) (before mid after 
   row counts = subst (λ (n : ℕ). Interleaves start.lanes (waves counts) (row_text (wave_in next counts) n)) (sym still_lanes) (rows-one start.lanes (wave_in next counts))
 
   -- it was done in all, and its row sent
-  pub together-beat : PhasesSent put next mid after (Ok tt) → BeatsDoneTogether start.lanes (session_in start) (session_in next) (range_with_len 0 (place + 1)) before after
+  pub together-beat : PhasesSent put next mid after (Ok tt) → BeatsDoneInAll start next (range_with_len 0 (place + 1)) before after
   together-beat sent =
-      subst (λ (places : List ℕ). BeatsDoneTogether start.lanes (session_in start) (session_in next) places before after) (sym (places-next place))
+      subst (λ (places : List ℕ). BeatsDoneInAll start next places before after) (sym (places-next place))
       (together-joined start.lanes (session_in start) (session_in now) (session_in next) (range_with_len 0 place) (place ∷ []) before mid after (waves sent.counts)
       (row_text (wave_in next sent.counts) put.lanes) done (phases sent.counts sent.settled) (row sent.counts) sent.sent)
 

@@ -1,7 +1,7 @@
 -- Builds: once one was done, the texts of the graph stand in front of what is kept, and a further build leaves it; and a build keeps so many
 -- texts more as were new.
-use Rattle.std.proofs.Common.{◌≡◌, ℕ, ◌+◌, Bool, true, false, not, cond, ◌&&◌, List, [], ◌∷◌, ◌++◌, filter, length, Option, None, refl, sym, ap, ◌∙◌, append-nil, length-append, arith}
-use Rattle.std.specs.List.{IsDistinct, AllByRecursion}
+use Rattle.std.proofs.Common.{◌≡◌, ℕ, ◌+◌, Bool, not, ◌&&◌, List, ◌++◌, filter, length, Option, None, refl, sym, ap, ◌∙◌, append-nil, length-append, arith}
+use Rattle.std.specs.List.{IsDistinct}
 use Rattle.std.proofs.Math.Bool.{and_comm}
 use Rattle.std.proofs.lemmas.List.Filters.{length-filter_both}
 use Rattle.std.proofs.lemmas.Map.Made.{length-from_same_keys}
@@ -11,7 +11,7 @@ use Rattle.group_text.specs.Compared.{same_text, same_text_equivalence}
 use Rattle.group_text.specs.FirstTexts.{is_among, first_texts, new_texts}
 use Rattle.group_analysis.specs.Using.{used_texts}
 use Rattle.analysis_cache.proofs.NewTextLemmas.{list_any-filter, alike_text, is_among-first}
-use Rattle.analysis_cache.proofs.OrderLemmas.{without, IsDistinct-first}
+use Rattle.analysis_cache.proofs.OrderLemmas.{without, IsDistinct-filter, IsDistinct-first}
 use Rattle.analysis_cache.proofs.SettleLemmas.{none_is_new_again, used_texts-again}
 use Rattle.lane_machine.specs.Building.{HasBuilt}
 use Rattle.lane_session.specs.Stages.{StandFirst}
@@ -37,26 +37,6 @@ first_builds g kept asked first = (
     number = ap length (sym first.none);
   },
 )
-
--- what a test leaves of distinct texts is distinct
-IsDistinct-filter : (test : GroupTextData → Bool) (texts : List GroupTextData) → IsDistinct same_text texts → IsDistinct same_text (filter test texts)
-unfolding IsDistinct
-IsDistinct-filter test [] apart = tt
-IsDistinct-filter test (text ∷ texts) apart = by (test text) (IsDistinct-filter test texts apart.1)
-  where
-    left : (others : List GroupTextData) → AllByRecursion (λ other. same_text text other ≡ false) others →
-        AllByRecursion (λ other. same_text text other ≡ false) (filter test others)
-    left [] each = tt
-    left (other ∷ others) each = some (test other) (left others each.1)
-      where
-        some : (b : Bool) → AllByRecursion (λ one. same_text text one ≡ false) (filter test others) →
-            AllByRecursion (λ one. same_text text one ≡ false) (cond b (other ∷ filter test others) (filter test others))
-        some true rest = (each.0, rest)
-        some false rest = rest
-
-    by : (b : Bool) → IsDistinct same_text (filter test texts) → IsDistinct same_text (cond b (text ∷ filter test texts) (filter test texts))
-    by true rest = (left texts apart.0, rest)
-    by false rest = rest
 
 -- of those texts that are present and kept there are as many among the distinct present ones as among the kept ones
 length-both : (present kept : List GroupTextData) → IsDistinct same_text kept →

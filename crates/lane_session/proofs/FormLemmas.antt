@@ -6,7 +6,7 @@ use Rattle.ternary.specs.declared.tern.Tern.{Tern}
 use Rattle.line_words.specs.Visible.{IsVisibleName}
 use Rattle.script_lang.specs.Forms as form
 use Rattle.lane_script.specs.declared.command.LaneCommand.{LaneCommand}
-use Rattle.lane_script.specs.declared.command.LaneCommand.TheVariants.{Input, Store, Set, Charge, Watch, Limit, Step, Phase, Clock, Cycle, Add, Del, Strength, Kind, Wire}
+use Rattle.lane_script.specs.declared.command.LaneCommand.TheVariants.{Set, Charge}
 use Rattle.lane_script.specs.Commands.{in_column, value_in}
 use Rattle.lane_script.specs.Forms.{IsFormed, AreLaneValues, IsLaneValue}
 
@@ -19,18 +19,6 @@ values_formed lanes lane list (some, each) = (
 )
 
 pub formed_in : (lanes lane : ℕ) (command : LaneCommand) → IsFormed lanes command → form.IsFormed (in_column lane command)
-formed_in lanes lane (Input names) formed = formed
-formed_in lanes lane (Store name size) formed = formed
 formed_in lanes lane (Set list) formed = values_formed lanes lane list formed
 formed_in lanes lane (Charge list) formed = values_formed lanes lane list formed
-formed_in lanes lane (Watch names) formed = formed
-formed_in lanes lane (Limit number) formed = formed
-formed_in lanes lane Step formed = formed
-formed_in lanes lane Phase formed = formed
-formed_in lanes lane (Clock list) formed = formed
-formed_in lanes lane (Cycle number) formed = formed
-formed_in lanes lane (Add kind gate source drain strength) formed = formed
-formed_in lanes lane (Del number) formed = formed
-formed_in lanes lane (Strength number strength) formed = formed
-formed_in lanes lane (Kind number kind) formed = formed
-formed_in lanes lane (Wire number gate source drain) formed = formed
+formed_in lanes lane other formed = formed

@@ -1,17 +1,16 @@
 -- Commands that take no step: what the plain session does of them, and what the parts of a session of columns are then.
-use Rattle.std.proofs.Common.{◌≡◌, ℕ, suc, ◌+◌, ◌-◌, ◌<◌, ◌≤◌, Bool, true, false, List, [], ◌∷◌, length, map, replicate, All, is_some, Option, None, Result, Ok, Err, IfSome, refl, sym, ap, subst, ◌∙◌, inl, inr, arith}
+use Rattle.std.proofs.Common.{◌≡◌, ℕ, suc, ◌+◌, ◌-◌, ◌<◌, ◌≤◌, Bool, true, false, List, [], ◌∷◌, length, map, replicate, All, Option, None, Result, Ok, Err, IfSome, refl, sym, ap, subst, ◌∙◌, inl, inr, arith}
 use Rattle.std.specs.Prelude.{◌⊎◌}
 use Rattle.std.proofs.lemmas.List.Elements.{All-nil, All-cons, All-weaker}
 use Rattle.ternary.specs.declared.tern.Tern.{Tern}
 use Rattle.ternary.specs.declared.tern.Tern.TheVariants.{Zero, One, Unk}
 use Rattle.path_meaning.specs.declared.TheConstants.{RAILS}
 use Rattle.path_meaning.specs.Graphs.{nodes}
-use Rattle.netlist.specs.Names.{node_of}
 use Rattle.netlist.specs.Circuits.{CircuitData, IsCircuit}
-use Rattle.netlist.specs.Edits.{node_named}
 use Rattle.group_text.specs.Texts.{GroupTextData}
+use Rattle.script_lang.specs.declared.command.Command.{Command}
 use Rattle.lane_script.specs.declared.command.LaneCommand.{LaneCommand}
-use Rattle.lane_script.specs.declared.command.LaneCommand.TheVariants.{Input, Store, Set, Charge, Watch, Limit, Step, Phase, Clock, Cycle, Add, Del, Strength, Kind, Wire}
+use Rattle.lane_script.specs.declared.command.LaneCommand.TheVariants.{Set, Charge, Watch, Limit, Step, Phase, Clock, Cycle}
 use Rattle.lane_script.specs.Commands.{in_column, value_in}
 use Rattle.lane_script.specs.Forms.{IsFormed, AreLaneValues, IsLaneValue}
 use Rattle.cosmos_session.specs.declared.fault.ApplyFault.{ApplyFault}
@@ -27,7 +26,7 @@ use Rattle.cosmos_session.proofs.EffectLemmas.{ready-start}
 use Rattle.cosmos_session.proofs.RefusalLemmas.{set_known, charged_known}
 use Rattle.cosmos_session.proofs.StateLemmas.{set_past, charged_past}
 use Rattle.lane_session.specs.LaneSessions.{LaneSessionData, session_in}
-use Rattle.lane_session.specs.Stages.{HeldLanes, StageData, states_in, AreSound, IsSoundState, Serves, AreInside, Shares, QuietlyTogether, one_column, with_columns, is_edit}
+use Rattle.lane_session.specs.Stages.{HeldLanes, StageData, states_in, AreSound, IsSoundState, Serves, AreInside, NamesFree, Shares, QuietlyTogether, one_column, with_columns, is_edit}
 use Rattle.lane_session.proofs.SharedLemmas.{effect-watch, effect-limit, effect-clock}
 use Rattle.lane_session.proofs.EditLemmas.{edit_does}
 use Rattle.lane_session.proofs.InsideLemmas.{data_of, done_quietly, unshared, unshared_inside, same_itself, none_serves}
@@ -37,21 +36,10 @@ use Rattle.lane_session.proofs.InsideLemmas.{data_of, done_quietly, unshared, un
 -- a command that builds nothing tells no lines
 quiet_effect : (command : LaneCommand) (old new : SessionData) (lines : List Line) → builds (in_column 0 command) ≡ false → Effect old (in_column 0 command) new lines →
     Effect old (in_column 0 command) new []
-quiet_effect (Input names) old new lines still effect = (effect.0, refl)
-quiet_effect (Store name size) old new lines still effect = (effect.0, refl)
-quiet_effect (Set list) old new lines still effect = (effect.0, refl)
-quiet_effect (Charge list) old new lines still effect = (effect.0, refl)
-quiet_effect (Watch names) old new lines still effect = (effect.0, refl)
-quiet_effect (Limit number) old new lines still effect = (effect.0, refl)
-quiet_effect (Clock list) old new lines still effect = (effect.0, refl)
-quiet_effect (Add kind gate source drain strength) old new lines still effect = (effect.0, refl)
-quiet_effect (Del number) old new lines still effect = (effect.0, refl)
-quiet_effect (Strength number strength) old new lines still effect = (effect.0, refl)
-quiet_effect (Kind number kind) old new lines still effect = (effect.0, refl)
-quiet_effect (Wire number gate source drain) old new lines still effect = (effect.0, refl)
 quiet_effect Step old new lines still effect = absurd (cc)
 quiet_effect Phase old new lines still effect = absurd (cc)
 quiet_effect (Cycle number) old new lines still effect = absurd (cc)
+quiet_effect other old new lines still effect = (effect.0, refl)
 
 -- what a plain session does of a command that builds nothing, over a sink that takes everything
 pub obeys_shared : (old new : HeldSession) (command : LaneCommand) (before after : Option (List ℕ)) (asked told : List GroupTextData) (result : Result (Unit {0}) ApplyFault) →
@@ -108,29 +96,17 @@ module _ (plain after : SessionData) (lanes : ℕ) (command : LaneCommand) (list
         by (inl set) = subst (IsFormed lanes) set formed
         by (inr charge) = subst (IsFormed lanes) charge formed
 
-    -- the names of values that aren't refused are in use
-    pub values_known : refusal_of plain (in_column 0 command) ≡ None → All (λ item. is_some (node_of plain.circuit.names item.0) ≡ true) list
-    values_known allowed = by values
+    -- the names of values that aren't refused are in use, and no rails'
+    pub values_free : refusal_of plain (in_column 0 command) ≡ None → All (λ item. NamesFree plain.circuit item.0) list
+    values_free allowed = All-unmap (λ (item : List ℕ × Tern). NamesFree plain.circuit item.0) (value_in 0) list (free values)
       where
-        by : (command ≡ Set list) ⊎ (command ≡ Charge list) → All (λ item. is_some (node_of plain.circuit.names item.0) ≡ true) list
-        by (inl set) =
-            All-unmap (λ (item : List ℕ × Tern). is_some (node_of plain.circuit.names item.0) ≡ true) (value_in 0) list
-            (set_known plain.circuit (map (value_in 0) list) (sym (ap (λ (c : LaneCommand). refusal_of plain (in_column 0 c)) set) ∙ allowed))
-        by (inr charge) =
-            All-unmap (λ (item : List ℕ × Tern). is_some (node_of plain.circuit.names item.0) ≡ true) (value_in 0) list
-            (charged_known plain.circuit (map (value_in 0) list) (sym (ap (λ (c : LaneCommand). refusal_of plain (in_column 0 c)) charge) ∙ allowed))
-
-    -- and no rails
-    pub values_past : refusal_of plain (in_column 0 command) ≡ None → All (λ item. RAILS ≤ node_named plain.circuit item.0) list
-    values_past allowed = by values
-      where
-        by : (command ≡ Set list) ⊎ (command ≡ Charge list) → All (λ item. RAILS ≤ node_named plain.circuit item.0) list
-        by (inl set) =
-            All-unmap (λ (item : List ℕ × Tern). RAILS ≤ node_named plain.circuit item.0) (value_in 0) list
-            (set_past plain.circuit (map (value_in 0) list) (sym (ap (λ (c : LaneCommand). refusal_of plain (in_column 0 c)) set) ∙ allowed))
-        by (inr charge) =
-            All-unmap (λ (item : List ℕ × Tern). RAILS ≤ node_named plain.circuit item.0) (value_in 0) list
-            (charged_past plain.circuit (map (value_in 0) list) (sym (ap (λ (c : LaneCommand). refusal_of plain (in_column 0 c)) charge) ∙ allowed))
+        free : (command ≡ Set list) ⊎ (command ≡ Charge list) → All (λ (item : List ℕ × Tern). NamesFree plain.circuit item.0) (map (value_in 0) list)
+        free (inl set) k d inside =
+            let none = sym (ap (λ (c : LaneCommand). refusal_of plain (in_column 0 c)) set) ∙ allowed in
+            (set_known plain.circuit (map (value_in 0) list) none k d inside, set_past plain.circuit (map (value_in 0) list) none k d inside)
+        free (inr charge) k d inside =
+            let none = sym (ap (λ (c : LaneCommand). refusal_of plain (in_column 0 c)) charge) ∙ allowed in
+            (charged_known plain.circuit (map (value_in 0) list) none k d inside, charged_past plain.circuit (map (value_in 0) list) none k d inside)
 
     -- the circuit stays
     pub values_circuit : Effect plain (in_column 0 command) after [] → after.circuit ≡ plain.circuit
@@ -151,6 +127,12 @@ moved_apart plain after stage clocks more limit next kept inside same clocks_are
   sound = subst (λ (c : CircuitData). AreSound c.graph stage) (sym same) inside.sound;
   machine = subst (λ (c : CircuitData). IfSome stage.machine (Serves c.graph kept)) (sym same) inside.machine;
 }
+
+-- a command that the plain session didn't do leaves them so too
+pub unmoved_inside : (plain after : SessionData) (stage : StageData) (clocks : List ClockData) (limit : ℕ) (kept : List GroupTextData) (command : Command)
+    (fault : ApplyFault) → AreInside plain stage clocks limit kept → Shares plain command after (Err fault) → AreInside after stage clocks limit kept
+unmoved_inside plain after stage clocks limit kept command fault inside shares =
+    unshared_inside plain after stage stage clocks limit kept command fault inside (same_itself stage) shares (λ serves. serves)
 
 module _ (plain after : SessionData) (is : IsSession plain) (stage : StageData) (clocks : List ClockData) (limit : ℕ) (kept : List GroupTextData) (count : ℕ)
     (inside : AreInside plain stage clocks limit kept) (command : LaneCommand) where
@@ -189,19 +171,14 @@ module _ (plain after : SessionData) (is : IsSession plain) (stage : StageData) 
       Comes result
   clock_quietly list clock = came_as (Clock list) clock (λ effect lane. effect-clock plain after (states_in stage lane) count kept lane list effect)
 
-  -- where it had no effect, the parts are in step as before
-  pub unmoved_inside : (fault : ApplyFault) → Shares plain (in_column 0 command) after (Err fault) → AreInside after stage clocks limit kept
-  unmoved_inside fault shares =
-      unshared_inside plain after stage stage clocks limit kept (in_column 0 command) fault inside (same_itself stage) shares (λ serves. serves)
-
-  -- and so they are after each of them
+  -- and the parts are in step after each of them
   pub watch_inside : (names : List (List ℕ)) → command ≡ Watch names → (result : Result (Unit {0}) ApplyFault) → Shares plain (in_column 0 command) after result →
       AreInside after stage clocks limit kept
   watch_inside names watch (Ok done) shares =
       let effect : Effect plain (in_column 0 (Watch names)) after [] = subst (λ (c : LaneCommand). Effect plain (in_column 0 c) after []) watch shares.1 in
       moved_apart plain after stage clocks clocks limit limit kept inside (ap (λ (s : SessionData). s.circuit) effect.0)
       (inside.clocks_are ∙ sym (ap (λ (s : SessionData). s.clocks) effect.0)) (inside.limit_is ∙ sym (ap (λ (s : SessionData). s.limit) effect.0))
-  watch_inside names watch (Err fault) shares = unmoved_inside fault shares
+  watch_inside names watch (Err fault) shares = unmoved_inside plain after stage clocks limit kept (in_column 0 command) fault inside shares
 
   pub limit_inside : (number : ℕ) → command ≡ Limit number → Effect plain (in_column 0 command) after [] → AreInside after stage clocks number kept
   limit_inside number limited done =

@@ -3,7 +3,7 @@ use Rattle.std.proofs.Common.{◌≡◌, ℕ, Bool, List, [], ◌∷◌, map, Op
 use Rattle.ternary.specs.declared.tern.Tern.{Tern}
 use Rattle.netlist.specs.Names.{node_of}
 use Rattle.lane_script.specs.declared.command.LaneCommand.{LaneCommand}
-use Rattle.lane_script.specs.declared.command.LaneCommand.TheVariants.{Input, Store, Set, Charge, Watch, Limit, Step, Phase, Clock, Cycle, Add, Del, Strength, Kind, Wire}
+use Rattle.lane_script.specs.declared.command.LaneCommand.TheVariants.{Input, Set, Charge}
 use Rattle.lane_script.specs.Commands.{in_column, value_in}
 use Rattle.cosmos_session.specs.declared.fault.Refusal.{Refusal}
 use Rattle.cosmos_session.specs.Sessions.{SessionData}
@@ -24,25 +24,13 @@ module _ (session : SessionData) (state : List Tern) (limit count : ℕ) (missed
   beside = record session { state = state; limit = limit; count = count; missed = missed; bound = bound; kept = kept; fresh = fresh }
 
   pub refused_alike : (command : LaneCommand) (lane other : ℕ) → refusal_of beside (in_column lane command) ≡ refusal_of session (in_column other command)
-  refused_alike (Input names) lane other = refl
-  refused_alike (Store name size) lane other = refl
   refused_alike (Set list) lane other =
       first_refusal-map (value_in lane) (λ item. set_refusal session.circuit (node_of session.circuit.names item.0)) list
       ∙ sym (first_refusal-map (value_in other) (λ item. set_refusal session.circuit (node_of session.circuit.names item.0)) list)
   refused_alike (Charge list) lane other =
       first_refusal-map (value_in lane) (λ item. charge_refusal session.circuit (node_of session.circuit.names item.0)) list
       ∙ sym (first_refusal-map (value_in other) (λ item. charge_refusal session.circuit (node_of session.circuit.names item.0)) list)
-  refused_alike (Watch names) lane other = refl
-  refused_alike (Limit number) lane other = refl
-  refused_alike Step lane other = refl
-  refused_alike Phase lane other = refl
-  refused_alike (Clock list) lane other = refl
-  refused_alike (Cycle number) lane other = refl
-  refused_alike (Add kind gate source drain strength) lane other = refl
-  refused_alike (Del number) lane other = refl
-  refused_alike (Strength number strength) lane other = refl
-  refused_alike (Kind number kind) lane other = refl
-  refused_alike (Wire number gate source drain) lane other = refl
+  refused_alike command lane other = refl
 
 -- so all columns refuse a command alike
 pub columns_refuse : ColumnsRefuseAlike
@@ -53,17 +41,4 @@ columns_refuse session command lane other =
 -- whether a command builds doesn't depend on the column
 pub builds_alike : (command : LaneCommand) (lane other : ℕ) → builds (in_column lane command) ≡ builds (in_column other command)
 builds_alike (Input names) lane other = refl
-builds_alike (Store name size) lane other = refl
-builds_alike (Set list) lane other = refl
-builds_alike (Charge list) lane other = refl
-builds_alike (Watch names) lane other = refl
-builds_alike (Limit number) lane other = refl
-builds_alike Step lane other = refl
-builds_alike Phase lane other = refl
-builds_alike (Clock list) lane other = refl
-builds_alike (Cycle number) lane other = refl
-builds_alike (Add kind gate source drain strength) lane other = refl
-builds_alike (Del number) lane other = refl
-builds_alike (Strength number strength) lane other = refl
-builds_alike (Kind number kind) lane other = refl
-builds_alike (Wire number gate source drain) lane other = refl
+builds_alike command lane other = refl

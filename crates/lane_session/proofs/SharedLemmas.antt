@@ -11,7 +11,7 @@ use Rattle.netlist.specs.Circuits.{CircuitData}
 use Rattle.netlist.specs.Edits.{node_named, with_store, without_switch, with_strength, with_kind}
 use Rattle.group_text.specs.Texts.{GroupTextData}
 use Rattle.lane_script.specs.declared.command.LaneCommand.{LaneCommand}
-use Rattle.lane_script.specs.declared.command.LaneCommand.TheVariants.{Input, Store, Set, Charge, Watch, Limit, Step, Phase, Clock, Cycle, Add, Del, Strength, Kind, Wire}
+use Rattle.lane_script.specs.declared.command.LaneCommand.TheVariants.{Input, Store, Set, Charge, Watch, Limit, Clock, Add, Del, Strength, Kind, Wire}
 use Rattle.lane_script.specs.Commands.{in_column, value_in}
 use Rattle.cosmos_session.specs.Sessions.{SessionData}
 use Rattle.cosmos_session.specs.Refusals.{refusal_of}
@@ -50,14 +50,7 @@ module _ (plain after : SessionData) (state : List Tern) (count : ℕ) (kept : L
   effect-edit (Strength number strength) is counted effect = (still_edited (with_strength plain.circuit number strength) (omega (arith, counted)) effect.0, refl)
   effect-edit (Kind number kind) is counted effect = (still_edited (with_kind plain.circuit number kind) (omega (arith, counted)) effect.0, refl)
   effect-edit (Wire number gate source drain) is counted effect = (ap edited effect.0, refl)
-  effect-edit (Set list) is counted effect = absurd (cc)
-  effect-edit (Charge list) is counted effect = absurd (cc)
-  effect-edit (Watch names) is counted effect = absurd (cc)
-  effect-edit (Limit number) is counted effect = absurd (cc)
-  effect-edit Step is counted effect = absurd (cc)
-  effect-edit Phase is counted effect = absurd (cc)
-  effect-edit (Clock list) is counted effect = absurd (cc)
-  effect-edit (Cycle number) is counted effect = absurd (cc)
+  effect-edit other is counted effect = absurd (cc)
 
   -- and of a command that gives values
   pub effect-set : (list : List (List ℕ × List Tern)) → Effect plain (in_column 0 (Set list)) after [] →

@@ -25,21 +25,26 @@ pub record LaneSessionData : Type 0 where
 abbrev pub states_of : LaneSessionData → ℕ → List Tern
 states_of session lane = column lane session.hi session.lo
 
--- a column, as the session of a plain script: no expectation was missed, there is no bound on what is kept, and all of that was analysed
+-- the session of a plain script with these data: no expectation was missed, there is no bound on what is kept, and all of that was analysed
 -- since the last report, since a script for columns has none of the three
-abbrev pub session_in : LaneSessionData → ℕ → SessionData
-session_in session lane = record {
-  circuit = session.circuit;
-  state = states_of session lane;
-  watched = session.watched;
-  clocks = session.clocks;
-  limit = session.limit;
-  count = session.count;
+abbrev pub script_session : CircuitData → List Tern → List ℕ → List ClockData → ℕ → ℕ → List GroupTextData → SessionData
+script_session circuit state watched clocks limit count kept = record {
+  circuit = circuit;
+  state = state;
+  watched = watched;
+  clocks = clocks;
+  limit = limit;
+  count = count;
   missed = false;
   bound = None;
-  kept = session.kept;
-  fresh = raised 0 (length session.kept);
+  kept = kept;
+  fresh = raised 0 (length kept);
 }
+
+-- a column, as the session of a plain script
+abbrev pub session_in : LaneSessionData → ℕ → SessionData
+session_in session lane =
+    script_session session.circuit (states_of session lane) session.watched session.clocks session.limit session.count session.kept
 
 -- each column is a session, and there are 1 to 64 of them
 pub record IsLaneSession (session : LaneSessionData) : Type 0 where

@@ -1,11 +1,9 @@
 -- What a call of a command comes to in columns: in each of them it is what the column's command comes to in the session of a plain script.
-use Rattle.std.specs.Prelude.{◌≡◌, ℕ, ◌<◌, ◌⊎◌, true, List, ◌++◌, Option, None, Some, Result, Ok, Err}
+use Rattle.std.specs.Prelude.{◌≡◌, ℕ, ◌<◌, true, List, ◌++◌, Option, None, Some, Result}
 use Rattle.std.specs.Io.KnownBytes.{append_known}
-use Rattle.ternary.specs.Counts.{raised}
 use Rattle.port_edge.specs.Sending.{WritesPart}
 use Rattle.group_text.specs.Texts.{GroupTextData}
 use Rattle.circuit_texts.specs.declared.texts.BuildFault.{BuildFault}
-use Rattle.circuit_texts.specs.declared.texts.BuildFault.TheVariants as build
 use Rattle.circuit_texts.specs.Sizes.{TellsTooLarge}
 use Rattle.lane_machine.specs.Building.{IsCutInColumns}
 use Rattle.script_lang.specs.declared.command.Command.{Command}
@@ -13,12 +11,11 @@ use Rattle.lane_script.specs.declared.command.LaneCommand.{LaneCommand}
 use Rattle.lane_script.specs.Commands.{in_column}
 use Rattle.cosmos_session.specs.declared.fault.Refusal.{Refusal}
 use Rattle.cosmos_session.specs.declared.fault.ApplyFault.{ApplyFault}
-use Rattle.cosmos_session.specs.declared.fault.ApplyFault.TheVariants.{Refused, GroupNodes, GroupSwitches, WriteFault, NoMemory}
 use Rattle.cosmos_session.specs.Sessions.{SessionData}
 use Rattle.cosmos_session.specs.Refusals.{refusal_of}
 use Rattle.cosmos_session.specs.Preparing.{builds}
 use Rattle.cosmos_session.specs.Lines.{Line}
-use Rattle.cosmos_session.specs.Outcomes.{Performs, DoesPart}
+use Rattle.cosmos_session.specs.Outcomes.{Outcome, Performs, DoesPart}
 use Rattle.lane_session.specs.LaneSessions.{LaneSessionData, session_in, Stands}
 use Rattle.lane_session.specs.Rows.{Interleaves}
 
@@ -79,18 +76,10 @@ pub record BeginsTogether (old : LaneSessionData) (command : LaneCommand) (new :
   pub done : (lane : ℕ) → (inside : lane < old.lanes) → DoesPart (performs.each lane inside).performs.mid (in_column lane command) (session_in new lane)
   pub analysed : told ≡ asked ++ texts
 
--- what any command comes to, and how often the sink lacked memory by then: where the command itself wants memory, all is as before but
--- for what is kept
+-- what a command comes to: where the command itself wants memory, all is as before but for what is kept
 abbrev pub ObeysTogether : LaneSessionData → LaneCommand → LaneSessionData → Option (List ℕ) → Option (List ℕ) → List GroupTextData → List GroupTextData →
     ℕ → ℕ → Result (Unit {0}) ApplyFault → Type 0
-ObeysTogether old command new before after asked told refusals now (Ok _) = AcceptsTogether old command new before after asked told × (now ≡ refusals)
-ObeysTogether old command new before after asked told refusals now (Err (Refused refusal)) =
-    RefusesTogether old command new before after asked told refusal × (now ≡ refusals)
-ObeysTogether old command new before after asked told refusals now (Err (GroupNodes node count)) =
-    RefusesSizeTogether old command new before after asked told (build.GroupNodes node count) × (now ≡ refusals)
-ObeysTogether old command new before after asked told refusals now (Err (GroupSwitches node count)) =
-    RefusesSizeTogether old command new before after asked told (build.GroupSwitches node count) × (now ≡ refusals)
-ObeysTogether old command new before after asked told refusals now (Err WriteFault) =
-    BeginsTogether old command new before after asked told × (now ≡ refusals)
-ObeysTogether old command new before after asked told refusals now (Err NoMemory) =
-    (StaysTogether old new before after asked told × (now ≡ refusals)) ⊎ (BeginsTogether old command new before after asked told × (now ≡ raised refusals 1))
+ObeysTogether old command new before after asked told refusals now result =
+    Outcome (AcceptsTogether old command new before after asked told) (RefusesTogether old command new before after asked told)
+    (RefusesSizeTogether old command new before after asked told) (StaysTogether old new before after asked told)
+    (BeginsTogether old command new before after asked told) refusals now result

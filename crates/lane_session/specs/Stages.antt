@@ -1,13 +1,16 @@
 -- The states of all columns in words, and the machine that moves them, where there is one: what calls inside the session do to both.
 use Rattle.std.specs.Io.KnownBytes.{append_known}
-use Rattle.std.specs.Prelude.{◌≡◌, ℕ, ◌+◌, ◌-◌, ◌*◌, ◌<◌, ◌≤◌, Bool, true, false, List, [], ◌++◌, length, map, min, slice_index_or, Option, None, Some, Result, Ok, Err, IfSome, IfNone, vec_len, vec_capacity}
+use Rattle.std.specs.Prelude.{◌≡◌, ℕ, ◌+◌, ◌-◌, ◌*◌, ◌<◌, ◌≤◌, Bool, List, [], ◌++◌, length, map, min, slice_index_or, Option, None, Some, Result, Ok, Err, IfSome, IfNone, is_some, true, vec_len, vec_capacity}
 use Rattle.ternary.specs.declared.tern.Tern.{Tern}
 use Rattle.ternary.specs.Tern.{may_one, may_zero}
-use Rattle.ternary.specs.Counts.{raised}
 use Rattle.path_meaning.specs.Graphs.{GraphData, nodes}
 use Rattle.path_meaning.specs.Rails.{IsSound}
 use Rattle.path_meaning.specs.Step.{IsStep}
 use Rattle.path_meaning.specs.Switching.{state_at}
+use Rattle.path_meaning.specs.declared.TheConstants.{RAILS}
+use Rattle.netlist.specs.Names.{node_of}
+use Rattle.netlist.specs.Circuits.{CircuitData}
+use Rattle.netlist.specs.Edits.{node_named}
 use Rattle.oscillation_x.specs.declared.settling.Settled.{Settled}
 use Rattle.oscillation_x.specs.Settling.{Settles}
 use Rattle.group_text.specs.Texts.{GroupTextData}
@@ -24,7 +27,6 @@ use Rattle.lane_machine.specs.Running.{AreColumns}
 use Rattle.batch_lanes.specs.Settling.{none_yet}
 use Rattle.script_lang.specs.declared.command.Command.{Command}
 use Rattle.lane_script.specs.declared.command.LaneCommand.{LaneCommand}
-use Rattle.lane_script.specs.declared.command.LaneCommand.TheVariants as asked
 use Rattle.lane_script.specs.Commands.{in_column}
 use Rattle.port_edge.specs.Sending.{WritesPart}
 use Rattle.cosmos_session.specs.declared.fault.ApplyFault.{ApplyFault}
@@ -32,6 +34,7 @@ use Rattle.cosmos_session.specs.declared.fault.ApplyFault.TheVariants.{Refused, 
 use Rattle.cosmos_session.specs.Sessions.{SessionData, ClockData}
 use Rattle.cosmos_session.specs.Refusals.{refusal_of}
 use Rattle.cosmos_session.specs.Lines.{Line, Wave}
+use Rattle.cosmos_session.specs.Machines.{edits}
 use Rattle.cosmos_session.specs.Effects.{Effect, AreBeats, one_more, states_with, wave_by}
 use Rattle.cosmos_session.specs.Outcomes.{FrontDone}
 use Rattle.lane_session.specs.declared.rows.TheConstants.{LANE_LINE_ROOM}
@@ -39,7 +42,7 @@ use Rattle.lane_session.specs.declared.words.Words.{Words}
 use Rattle.lane_session.specs.declared.stage.Rails.{Rails}
 use Rattle.lane_session.specs.declared.stage.Held.{Held}
 use Rattle.lane_session.specs.declared.stage.Held.TheVariants.{Still, Built}
-use Rattle.lane_session.specs.LaneSessions.{LaneSessionData, states_of, session_in, Stands}
+use Rattle.lane_session.specs.LaneSessions.{LaneSessionData, states_of, script_session, session_in, Stands}
 use Rattle.lane_session.specs.Rows.{row_text, Interleaves}
 
 -- ---- words
@@ -172,18 +175,11 @@ with_columns plain stage count kept = record {
 
 -- a column of one, by what it shares with the others and its state
 abbrev pub one_column : SessionData → List Tern → ℕ → List GroupTextData → SessionData
-one_column plain state count kept = record {
-  circuit = plain.circuit;
-  state = state;
-  watched = plain.watched;
-  clocks = plain.clocks;
-  limit = plain.limit;
-  count = count;
-  missed = false;
-  bound = None;
-  kept = kept;
-  fresh = raised 0 (length kept);
-}
+one_column plain state count kept = script_session plain.circuit state plain.watched plain.clocks plain.limit count kept
+
+-- a name is in use, and no rail's
+abbrev pub NamesFree : CircuitData → List ℕ → Type 0
+NamesFree c name = (is_some (node_of c.names name) ≡ true) × (RAILS ≤ node_named c name)
 
 -- a session of columns as calls inside it see it: its data, and the machine, where there is one
 pub record HeldLanes : Type 0 where
@@ -207,23 +203,9 @@ Shares old command new (Err (GroupSwitches node count)) = ⊥
 Shares old command new (Err NoMemory) = new ≡ record old { kept = new.kept }
 Shares old command new (Err WriteFault) = ⊥
 
--- the command edits the circuit
+-- the command edits the circuit, whatever the column
 abbrev pub is_edit : LaneCommand → Bool
-is_edit (asked.Input names) = true
-is_edit (asked.Store name size) = true
-is_edit (asked.Set list) = false
-is_edit (asked.Charge list) = false
-is_edit (asked.Watch names) = false
-is_edit (asked.Limit number) = false
-is_edit asked.Step = false
-is_edit asked.Phase = false
-is_edit (asked.Clock list) = false
-is_edit (asked.Cycle number) = false
-is_edit (asked.Add kind gate source drain strength) = true
-is_edit (asked.Del number) = true
-is_edit (asked.Strength number strength) = true
-is_edit (asked.Kind number kind) = true
-is_edit (asked.Wire number gate source drain) = true
+is_edit command = edits (in_column 0 command)
 
 -- what a command that builds nothing and writes nothing comes to in columns
 abbrev pub QuietlyTogether : LaneSessionData → LaneCommand → LaneSessionData → Result (Unit {0}) ApplyFault → Type 0
@@ -324,6 +306,10 @@ pub record BeatsDoneTogether (lanes : ℕ) (start now : ℕ → SessionData) (do
   pub text : List ℕ
   pub rows : Interleaves lanes lines text
   pub grew : after ≡ append_known before text
+
+-- so it is in all columns of a session
+abbrev pub BeatsDoneInAll : LaneSessionData → LaneSessionData → List ℕ → Option (List ℕ) → Option (List ℕ) → Type 0
+BeatsDoneInAll start now done before after = BeatsDoneTogether start.lanes (session_in start) (session_in now) done before after
 
 -- in each column the phases at a front of these places were done, and a part of the rows of all was sent, from the start
 pub record BeatsBegunTogether (lanes : ℕ) (places : List ℕ) (start now : ℕ → SessionData) (before after : Option (List ℕ)) : Type 0 where

@@ -1,8 +1,6 @@
 //! The room of a row of waveform lines, one for each column, taken before the first unit step.
 
-ghost use Rattle.std.specs.Prelude.{◌≡◌, ℕ, ◌<◌, ◌≤◌, ◌+◌, ◌*◌, ◌++◌, codes, decimal, length, map, vec_len, vec_capacity, slice_index_or, All, OnOk, OnErr, IfErr, IfOk};
-ghost use Rattle.std.specs.Io.KnownBytes.{append_known};
-ghost use Rattle.port_edge.specs.Sending.{WritesPart};
+ghost use Rattle.std.specs.Prelude.{◌≡◌, ℕ, ◌<◌, ◌≤◌, ◌+◌, ◌*◌, ◌++◌, codes, decimal, length, map, vec_len, vec_capacity, slice_index_or, All, IfErr, IfOk};
 ghost use Rattle.path_meaning.specs.Switching.{state_at};
 ghost use Rattle.oscillation_x.specs.declared.settling.Settled.{Settled};
 ghost use Rattle.lane_machine.specs.Columns.{column};
@@ -13,10 +11,10 @@ ghost use Rattle.lane_session.specs.Rows.{row_text, lane_line};
 ghost use Rattle.lane_session.specs.Stages.{IsRoomFor, SentText, wave_of};
 
 use crate::words::{Words, state_in};
-use cosmos_session::{ApplyFault, MOST_WATCHED};
+use cosmos_session::{ApplyFault, MOST_WATCHED, send_text};
 use itoa::Buffer;
 use oscillation_x::Settled;
-use port_edge::{PortFault, Sink, send};
+use port_edge::Sink;
 use std::alloc::Global;
 use std::marker::Model;
 use ternary::{NoMemory, Tern};
@@ -118,21 +116,6 @@ impl RowRoom {
         append_line(&mut self.text, lane, self.line.bytes());
         self.values.clear();
         self.line.clear();
-    }
-}
-
-// Sends a text to the sink.
-fn send_text<S: Sink>(out: &mut S, text: &[u8]) -> Result<(), ApplyFault>
-    ensures ok { OnOk result (S.written out.new ≡ append_known (S.written out.old) text.now) }
-    ensures part { OnErr result (WritesPart (S.written out.old) (S.written out.new) text.now) }
-    ensures cause { IfErr result IsSinkFault }
-    ensures faults { S.faults out.new ≡ faults_applied (S.faults out.old) result }
-    ensures refusals { S.refusals out.new ≡ refusals_sent (S.refusals out.old) result }
-{
-    match send(out, text) {
-        Ok(()) => Ok(()),
-        Err(PortFault::Failed) => Err(ApplyFault::WriteFault),
-        Err(PortFault::NoMemory) => Err(ApplyFault::NoMemory),
     }
 }
 

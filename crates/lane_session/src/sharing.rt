@@ -1,10 +1,7 @@
 //! The commands that take no step: the plain session obeys them for all columns, and tells their refusals.
 
-ghost use Rattle.std.specs.Prelude.{◌≡◌, ◌⊎◌, ℕ, ◌<◌, ◌≤◌, true, false, is_some, length, map, All, IfOk};
-ghost use Rattle.path_meaning.specs.declared.TheConstants.{RAILS};
+ghost use Rattle.std.specs.Prelude.{◌≡◌, ◌⊎◌, ℕ, ◌<◌, true, false, length, map, All, IfOk};
 ghost use Rattle.path_meaning.specs.Graphs.{nodes};
-ghost use Rattle.netlist.specs.Names.{node_of};
-ghost use Rattle.netlist.specs.Edits.{node_named};
 ghost use Rattle.script_lang.specs.Forms as form;
 ghost use Rattle.lane_script.specs.declared.command.LaneCommand.TheVariants as asked;
 ghost use Rattle.lane_script.specs.Commands.{in_column, value_in};
@@ -12,7 +9,7 @@ ghost use Rattle.lane_script.specs.Forms.{IsFormed};
 ghost use Rattle.cosmos_session.specs.Sessions.{IsSession};
 ghost use Rattle.cosmos_session.specs.Preparing.{builds};
 ghost use Rattle.cosmos_session.specs.Effects.{assigned, clock_of};
-ghost use Rattle.lane_session.specs.Stages.{AreSound, KeepsFit, Shares, QuietlyTogether, is_edit, states_in};
+ghost use Rattle.lane_session.specs.Stages.{AreSound, KeepsFit, NamesFree, Shares, QuietlyTogether, is_edit, states_in};
 
 use crate::given::first_given;
 use crate::session::LaneSession;
@@ -67,6 +64,7 @@ impl LaneSession {
     }
 
     // `set` and `charge`: gives the named nodes their states in each column, from left to right.
+    #[tactic(auto, using(crate::proofs::QuietLemmas::unmoved_inside, crate::proofs::QuietLemmas::unmoved_quietly))]
     fn assign(&mut self, command: &LaneCommand, list: &ClockList) -> Result<(), ApplyFault>
         requires formed { IsFormed self.old.core.lanes command.now }
         requires first { form.IsFormed (in_column 0 command.now) }
@@ -91,6 +89,7 @@ impl LaneSession {
     }
 
     // `limit`: sets the limit of a phase.
+    #[tactic(auto, using(crate::proofs::QuietLemmas::unmoved_inside, crate::proofs::QuietLemmas::unmoved_quietly))]
     fn set_limit(&mut self, command: &LaneCommand, limit: u64) -> Result<(), ApplyFault>
         requires first { form.IsFormed (in_column 0 command.now) }
         requires still { builds (in_column 0 command.now) ≡ false }
@@ -103,6 +102,7 @@ impl LaneSession {
     }
 
     // `clock`: puts these clocks in place of all others.
+    #[tactic(auto, using(crate::proofs::QuietLemmas::unmoved_inside, crate::proofs::QuietLemmas::unmoved_quietly))]
     fn set_clocks(&mut self, command: &LaneCommand, list: &ClockList) -> Result<(), ApplyFault>
         requires first { form.IsFormed (in_column 0 command.now) }
         requires still { builds (in_column 0 command.now) ≡ false }
@@ -134,8 +134,7 @@ fn share(alloc: Global, command: &LaneCommand, plain: &mut Session) -> Result<()
 fn assign_all(circuit: &Circuit, list: &[(Name, StateList)], stage: &mut LaneStage)
     requires sound { AreSound circuit.now.graph stage.old }
     requires fit { All (λ item. (length item.1 ≡ 1) ⊎ (length item.1 ≡ stage.old.lanes)) list.now }
-    requires known { All (λ item. is_some (node_of circuit.now.names item.0) ≡ true) list.now }
-    requires past { All (λ item. RAILS ≤ node_named circuit.now item.0) list.now }
+    requires free { All (λ item. NamesFree circuit.now item.0) list.now }
     ensures lanes { stage.new.lanes ≡ stage.old.lanes }
     ensures states { (lane : ℕ) → lane < stage.old.lanes
         → states_in stage.new lane ≡ assigned circuit.now (states_in stage.old lane) (map (value_in lane) list.now) }

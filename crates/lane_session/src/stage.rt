@@ -181,8 +181,7 @@ impl LaneStage {
 
     /// Gives a node that is no rail the states that the words have in each column.
     pub(crate) fn set_node(&mut self, graph: &Graph, node: usize, words: Words)
-        requires high { node < length self.old.hi }
-        requires low { node < length self.old.lo }
+        requires inside { node < length (states_in self.old 0) }
         requires no_rail { RAILS ≤ node }
         requires states { HasStates self.old.lanes words.hi words.lo }
         ensures hi { self.new.hi ≡ slice_set self.old.hi node words.hi }

@@ -19,8 +19,7 @@ use crate::session::LaneSession;
 use crate::stage::LaneStage;
 use crate::words::shared_words;
 use analysis_cache::Analyst;
-use circuit_texts::BuildFault;
-use cosmos_session::{ApplyFault, Clock, cycle_refusal};
+use cosmos_session::{ApplyFault, Clock, cycle_refusal, places_of};
 use oscillation_x::Settled;
 use path_meaning::Graph;
 use port_edge::Sink;
@@ -30,6 +29,7 @@ use ternary::NoMemory;
 
 impl LaneSession {
     /// `step`: one unit step in each column, and a row of waveform lines.
+    #[tactic(auto, using(crate::proofs::OutcomeLemmas::unready_obeys, crate::proofs::OutcomeLemmas::readies_faults))]
     pub(crate) fn step<A: Analyst, S: Sink>(
         &mut self,
         analyst: &mut A,
@@ -47,6 +47,7 @@ impl LaneSession {
 
     /// `phase`: in each column unit steps until nothing changes, past the limit joining ones, and a row of
     /// waveform lines.
+    #[tactic(auto, using(crate::proofs::OutcomeLemmas::unready_obeys, crate::proofs::OutcomeLemmas::readies_faults))]
     pub(crate) fn phase<A: Analyst, S: Sink>(
         &mut self,
         analyst: &mut A,
@@ -63,6 +64,7 @@ impl LaneSession {
 
     /// `cycle`: so many times, for each place of the clocks in order, sets their nodes in each column and does
     /// what a phase does.
+    #[tactic(auto, using(crate::proofs::OutcomeLemmas::unready_obeys, crate::proofs::OutcomeLemmas::readies_faults))]
     pub(crate) fn cycle<A: Analyst, S: Sink>(
         &mut self,
         times: u64,
@@ -125,13 +127,7 @@ impl LaneSession {
         let graph = self.plain.circuit().graph();
         match self.stage.build(self.alloc, graph, &mut self.kept, analyst) {
             Ok(()) => Ok(()),
-            Err(BuildFault::GroupNodes { node, count }) => {
-                Err(ApplyFault::GroupNodes { node, count })
-            }
-            Err(BuildFault::GroupSwitches { node, count }) => {
-                Err(ApplyFault::GroupSwitches { node, count })
-            }
-            Err(BuildFault::NoMemory) => Err(ApplyFault::NoMemory),
+            Err(fault) => Err(ApplyFault::of_build(fault)),
         }
     }
 
@@ -182,7 +178,7 @@ impl LaneSession {
         ensures faults { S.faults out.new ≡ faults_applied (S.faults out.old) result }
         ensures refusals { S.refusals out.new ≡ refusals_sent (S.refusals out.old) result }
     {
-        for place in 0..places(&self.clocks) {
+        for place in 0..places_of(&self.clocks) {
             self.put_clocks(place);
             self.settle_and_send(counts, room, out)?;
         }
@@ -268,13 +264,6 @@ impl LaneSession {
         let (hi, lo) = (self.stage.hi(), self.stage.lo());
         room.send(self.count, counts, hi, lo, self.plain.watched(), out)
     }
-}
-
-// How many places a cycle of these clocks has.
-fn places(clocks: &[Clock]) -> usize
-    ensures { result ≡ places_of clocks.now }
-{
-    clocks.first().map_or(0, |clock| clock.states.len())
 }
 
 // Gives each clock's node its state at a place, in each column.

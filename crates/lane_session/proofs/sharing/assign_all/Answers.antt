@@ -10,7 +10,7 @@ use Rattle.netlist.specs.Edits.{node_named}
 use Rattle.lane_script.specs.Commands as script
 use Rattle.cosmos_session.specs.Effects.{assigned}
 use Rattle.lane_session.specs.Stages.{HasValue, states_in}
-use Rattle.lane_session.proofs.ColumnLemmas.{within_high, within_low, HasStates-value, placed_value}
+use Rattle.lane_session.proofs.ColumnLemmas.{HasStates-value, placed_value}
 use Rattle.lane_session.proofs.FitLemmas.{keeps_fit}
 use Rattle.lane_session.proofs.sharing.assign_all.Goals as goal
 
@@ -30,26 +30,17 @@ assigned_next c lane list k item state new inside is set =
 
 pub unwrap-node-requires : goal.unwrap-node-requires
 unwrap-node-requires c =
-    rw (c.find.ensures.value, c.items.ensures, c.loop-name-item.is) (c.requires.known c.loop-name.name-index c.loop-name-item.result (omega arith))
+    rw (c.find.ensures.value, c.items.ensures, c.loop-name-item.is) (c.requires.free c.loop-name.name-index c.loop-name-item.result (omega arith)).0
 
 pub value_words-words-requires-clause-fit : goal.value_words-words-requires-clause-fit
 value_words-words-requires-clause-fit c =
     rw (c.items-in-loop-name.ensures, c.loop-name-item.is, c.lanes.ensures.value, c.loop-name.invariant.lanes)
     (c.requires.fit c.loop-name.name-index c.loop-name-item.result (omega arith))
 
-pub set_node-requires-clause-high : goal.set_node-requires-clause-high
-set_node-requires-clause-high c =
-    let g = c.args.circuit.now.graph in
-    let stage = c.loop-name.stage in
-    let inside : c.unwrap-node.result < nodes g = rw c.unwrap-node.ensures at c.find.ensures.within in
-    within_high 0 c.unwrap-node.result (nodes g) stage.hi stage.lo (c.loop-name.invariant.counted 0 (omega arith)) inside
-
-pub set_node-requires-clause-low : goal.set_node-requires-clause-low
-set_node-requires-clause-low c =
-    let g = c.args.circuit.now.graph in
-    let stage = c.loop-name.stage in
-    let inside : c.unwrap-node.result < nodes g = rw c.unwrap-node.ensures at c.find.ensures.within in
-    within_low 0 c.unwrap-node.result (nodes g) stage.hi stage.lo (c.loop-name.invariant.counted 0 (omega arith)) inside
+pub set_node-requires-clause-inside : goal.set_node-requires-clause-inside
+set_node-requires-clause-inside c =
+    let inside : c.unwrap-node.result < nodes c.args.circuit.now.graph = rw c.unwrap-node.ensures at c.find.ensures.within in
+    omega (arith, inside, c.loop-name.invariant.counted 0 (omega arith))
 
 pub set_node-requires-clause-no_rail : goal.set_node-requires-clause-no_rail
 set_node-requires-clause-no_rail c =
@@ -57,7 +48,7 @@ set_node-requires-clause-no_rail c =
     let item = c.loop-name-item.result in
     let past : RAILS ≤ node_named circuit item.0 =
     subst (λ (one : List ℕ × List Tern). RAILS ≤ node_named circuit one.0) (sym c.loop-name-item.is)
-    (c.requires.past c.loop-name.name-index item (omega arith)) in
+    (c.requires.free c.loop-name.name-index item (omega arith)).1 in
     subst (λ (node : ℕ). RAILS ≤ node)
     (node_found circuit item.0 c.items.result.now c.find.result c.unwrap-node.result c.items.ensures c.find.ensures.value c.unwrap-node.ensures) past
 

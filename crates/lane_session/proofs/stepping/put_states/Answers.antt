@@ -7,27 +7,16 @@ use Rattle.path_meaning.specs.Switching.{state_at}
 use Rattle.cosmos_session.specs.Sessions.{ClockData}
 use Rattle.cosmos_session.proofs.StateLemmas.{states_with-more}
 use Rattle.lane_session.specs.Stages.{states_in}
-use Rattle.lane_session.proofs.ColumnLemmas.{within_high, within_low, HasStates-value, placed_value}
+use Rattle.lane_session.proofs.ColumnLemmas.{HasStates-value, placed_value}
 use Rattle.lane_session.proofs.FitLemmas.{keeps_fit}
 use Rattle.lane_session.proofs.stepping.put_states.Goals as goal
 
-pub set_node-requires-clause-high : goal.set_node-requires-clause-high
-set_node-requires-clause-high c =
-    let g = c.args.graph.now in
-    let stage = c.loop-clock.stage in
-    let inside : c.clock.inside.node < nodes g =
-    subst (λ (clock : ClockData). clock.node < nodes g) (sym (c.clock.view_is ∙ c.clock-item.is))
+pub set_node-requires-clause-inside : goal.set_node-requires-clause-inside
+set_node-requires-clause-inside c =
+    let inside : c.clock.inside.node < nodes c.args.graph.now =
+    subst (λ (clock : ClockData). clock.node < nodes c.args.graph.now) (sym (c.clock.view_is ∙ c.clock-item.is))
     (c.requires.within c.loop-clock.clock-index c.clock-item.result (omega arith)) in
-    within_high 0 c.clock.inside.node (nodes g) stage.hi stage.lo (c.loop-clock.invariant.counted 0 (omega arith)) inside
-
-pub set_node-requires-clause-low : goal.set_node-requires-clause-low
-set_node-requires-clause-low c =
-    let g = c.args.graph.now in
-    let stage = c.loop-clock.stage in
-    let inside : c.clock.inside.node < nodes g =
-    subst (λ (clock : ClockData). clock.node < nodes g) (sym (c.clock.view_is ∙ c.clock-item.is))
-    (c.requires.within c.loop-clock.clock-index c.clock-item.result (omega arith)) in
-    within_low 0 c.clock.inside.node (nodes g) stage.hi stage.lo (c.loop-clock.invariant.counted 0 (omega arith)) inside
+    omega (arith, inside, c.loop-clock.invariant.counted 0 (omega arith))
 
 pub set_node-requires-clause-states : goal.set_node-requires-clause-states
 set_node-requires-clause-states c =

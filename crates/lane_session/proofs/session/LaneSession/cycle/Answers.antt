@@ -1,5 +1,5 @@
 -- A cycle that isn't refused has clocks, whose nodes are input nodes; a build changes neither.
-use Rattle.std.proofs.Common.{◌≡◌, ℕ, ◌<◌, None, Some, Err, refl, sym, subst, ◌∙◌}
+use Rattle.std.proofs.Common.{◌≡◌, ℕ, ◌<◌, None, Some, refl, sym, subst, ◌∙◌}
 use Rattle.std.proofs.lemmas.Result.{err_from_is_err_and}
 use Rattle.analysis_cache.specs.Keeping.{texts_of}
 use Rattle.lane_script.specs.declared.command.LaneCommand.TheVariants as asked
@@ -11,7 +11,7 @@ use Rattle.lane_session.specs.LaneSessions.{session_in}
 use Rattle.lane_session.specs.Stages.{HeldLanes, TakesBeatsTogether}
 use Rattle.lane_session.proofs.InsideLemmas.{column_ready}
 use Rattle.lane_session.proofs.StepLemmas.{inputs_readied, columns_readied}
-use Rattle.lane_session.proofs.OutcomeLemmas.{cycle_obeys, refused_obeys, unready_obeys, readies_faults}
+use Rattle.lane_session.proofs.OutcomeLemmas.{cycle_obeys, refused_obeys, unready_obeys}
 use Rattle.lane_session.proofs.session.LaneSession.cycle.Goals as goal
 
 pub cycle_refusal-requires : goal.cycle_refusal-requires
@@ -49,12 +49,6 @@ returns-in_err-counts-clause-obeys g c =
     let none = subst (λ (s : HeldLanes). None ≡ cycle_refusal s.core.circuit s.core.clocks) c.self.view_is here in
     rw (stopped.1, stopped.2)
     (unready_obeys c.args.self.now c.begin.new.self (asked.Cycle c.args.times) _ _ _ _ c.in_err-counts.field-0.0 refl (λ lane inside. sym none) c.in_err-counts.ensures.refused)
-
-pub returns-in_err-counts-clause-faults : goal.returns-in_err-counts-clause-faults
-returns-in_err-counts-clause-faults g c =
-    let stopped = err_from_is_err_and c.from_residual.result c.from_residual.ensures.1 in
-    rw (stopped.1, stopped.2) (readies_faults c.args.self.now c.begin.new.self (g.A.Analyst.analysed c.args.analyst.now) (g.A.Analyst.analysed c.begin.new.analyst) _ (Err c.in_err-counts.field-0.0)
-    c.in_err-counts.ensures.refused)
 
 pub returns-clause-obeys : goal.returns-clause-obeys
 returns-clause-obeys g c =

@@ -1,11 +1,10 @@
 -- What a build comes to in the parts, by what it answers.
 use Rattle.std.proofs.Common.{◌≡◌, Err, ap, subst, sym, ◌∙◌}
-use Rattle.circuit_texts.specs.declared.texts.BuildFault.{BuildFault}
 use Rattle.analysis_cache.specs.Keeping.{texts_of}
 use Rattle.lane_session.specs.Stages.{HeldLanes, ReadiesTogether}
 use Rattle.lane_session.proofs.InsideLemmas.{data_of, answer_of, built_inside, serves_either, build_readies}
 use Rattle.lane_session.proofs.session.LaneSession.prepare.Goals as goal
-use Rattle.lane_session.proofs.session.LaneSession.prepare.Goals.{in-Ok, in-Err-GroupNodes, in-Err-GroupSwitches, in-Err-NoMemory}
+use Rattle.lane_session.proofs.session.LaneSession.prepare.Goals.{in-Ok, in-Err}
 
 pub build-requires-clause-sound : goal.build-requires-clause-sound
 build-requires-clause-sound g c = rw (c.graph-graph.ensures.value, c.circuit.ensures.value) c.self.invariant.0.sound
@@ -32,9 +31,7 @@ returns g c =
     let told = g.A.Analyst.analysed c.build.new.analyst in
     let answered : answer_of c.build.result ≡ c.match-build.result = elim c.match-build.branch [
       | in-Ok w ↦ ap answer_of w.in-Ok.is ∙ sym w.result-is
-      | in-Err-GroupNodes w ↦ ap answer_of w.in-Err-GroupNodes.is ∙ ap (λ (fault : BuildFault). answer_of (Err fault)) w.in-Err-GroupNodes.field-0-is ∙ sym w.result-is
-      | in-Err-GroupSwitches w ↦ ap answer_of w.in-Err-GroupSwitches.is ∙ ap (λ (fault : BuildFault). answer_of (Err fault)) w.in-Err-GroupSwitches.field-0-is ∙ sym w.result-is
-      | in-Err-NoMemory w ↦ ap answer_of w.in-Err-NoMemory.is ∙ ap (λ (fault : BuildFault). answer_of (Err fault)) w.in-Err-NoMemory.field-0-is ∙ sym w.result-is
+      | in-Err w ↦ ap answer_of w.in-Err.is ∙ sym (ap Err w.of_build.ensures) ∙ sym w.result-is
     ] in
     let readies = build_readies plain i.stage c.build.new.self i.count i.kept c.build.new.kept asked told c.size-size.ensures.kept.apart c.build.ensures.same c.build.result
     (rw (c.graph-graph.ensures.value, c.circuit.ensures.value) at c.build.ensures.built) (rw (c.graph-graph.ensures.value, c.circuit.ensures.value) at c.build.ensures.builds)

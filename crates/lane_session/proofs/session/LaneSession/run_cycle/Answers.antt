@@ -4,7 +4,7 @@ use Rattle.std.specs.List.{range_with_len}
 use Rattle.std.proofs.lemmas.Result.{err_from_is_err_and}
 use Rattle.cosmos_session.specs.Sessions.{places_of}
 use Rattle.lane_session.specs.LaneSessions.{LaneSessionData, session_in}
-use Rattle.lane_session.specs.Stages.{BeatsDoneTogether}
+use Rattle.lane_session.specs.Stages.{BeatsDoneInAll}
 use Rattle.lane_session.proofs.StepLemmas.{shares-none, shares-put, shares-settled, lanes_shared, inputs_shared, room_shared}
 use Rattle.lane_session.proofs.BeatLemmas.{together-none, together-beat, together-beat_stopped}
 use Rattle.lane_session.proofs.session.LaneSession.run_cycle.Goals as goal
@@ -19,9 +19,6 @@ loop-place-init g c = record {
   faults = refl;
   refusals = refl;
 }
-
-pub put_clocks-requires-clause-built : goal.put_clocks-requires-clause-built
-put_clocks-requires-clause-built g c = c.loop-place.invariant.built
 
 pub put_clocks-requires-clause-place : goal.put_clocks-requires-clause-place
 put_clocks-requires-clause-place g c =
@@ -90,6 +87,6 @@ returns-clause-beats g c =
     let start = c.args.self.now.core in
     let all : c.loop-place.place ≡ places_of start.clocks = omega (arith, c.loop-place.invariant.end) in
     subst
-    (λ (count : ℕ). BeatsDoneTogether start.lanes (session_in start) (session_in c.loop-place.self.core) (range_with_len 0 count) (g.S.Sink.written c.args.out.now)
+    (λ (count : ℕ). BeatsDoneInAll start c.loop-place.self.core (range_with_len 0 count) (g.S.Sink.written c.args.out.now)
     (g.S.Sink.written c.loop-place.out))
     all c.loop-place.invariant.done

@@ -2,15 +2,13 @@
 use Rattle.std.proofs.Common.{◌≡◌}
 use Rattle.std.specs.List.{range_with_len}
 use Rattle.cosmos_session.specs.Sessions.{places_of}
-use Rattle.lane_session.specs.LaneSessions.{session_in}
-use Rattle.lane_session.specs.Stages.{IsBuilt, BeatsDoneTogether, SharesAll}
+use Rattle.lane_session.specs.Stages.{IsBuilt, BeatsDoneInAll, SharesAll}
 use Rattle.lane_session.proofs.session.LaneSession.run_cycle.Given as goal
 
 abbrev pub invariant-loop-place : goal.invariant-loop-place
 invariant-loop-place g l = record {
   end : l.place-end ≡ places_of l.fn.self.core.clocks;
-  done : BeatsDoneTogether l.fn.self.core.lanes (session_in l.fn.self.core) (session_in l.self.core) (range_with_len 0 l.place)
-      (g.S.Sink.written l.fn.out) (g.S.Sink.written l.out);
+  done : BeatsDoneInAll l.fn.self.core l.self.core (range_with_len 0 l.place) (g.S.Sink.written l.fn.out) (g.S.Sink.written l.out);
   built : IsBuilt l.self;
   shares : SharesAll l.fn.self.core l.self.core;
   room : l.room ≡ l.fn.room;

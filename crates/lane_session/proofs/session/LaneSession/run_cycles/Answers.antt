@@ -4,7 +4,7 @@ use Rattle.std.proofs.lemmas.Result.{err_from_is_err_and}
 use Rattle.cosmos_session.specs.Sessions.{places_of}
 use Rattle.cosmos_session.specs.Effects.{places_in}
 use Rattle.lane_session.specs.LaneSessions.{session_in}
-use Rattle.lane_session.specs.Stages.{BeatsDoneTogether}
+use Rattle.lane_session.specs.Stages.{BeatsDoneInAll}
 use Rattle.lane_session.proofs.StepLemmas.{shares-none, shares-more, lanes_shared, inputs_shared, room_shared}
 use Rattle.lane_session.proofs.BeatLemmas.{together-no_cycle, together-next_cycle, together-stopped_cycle, ready_later}
 use Rattle.lane_session.proofs.session.LaneSession.run_cycles.Goals as goal
@@ -20,9 +20,6 @@ loop-cycle-init g c =
       faults = refl;
       refusals = refl;
     }
-
-pub run_cycle-requires-clause-built : goal.run_cycle-requires-clause-built
-run_cycle-requires-clause-built g c = c.loop-cycle.invariant.built
 
 pub run_cycle-requires-clause-inputs : goal.run_cycle-requires-clause-inputs
 run_cycle-requires-clause-inputs g c = inputs_shared c.args.self.now.core c.loop-cycle.self.core c.loop-cycle.invariant.shares c.requires.inputs
@@ -77,7 +74,7 @@ returns-clause-beats g c =
     let start = c.args.self.now.core in
     let all : c.loop-cycle._cycle ≡ c.args.times = omega arith in
     subst
-    (λ (cycle : ℕ). BeatsDoneTogether start.lanes (session_in start) (session_in c.loop-cycle.self.core) (places_in (places_of start.clocks) cycle)
+    (λ (cycle : ℕ). BeatsDoneInAll start c.loop-cycle.self.core (places_in (places_of start.clocks) cycle)
     (g.S.Sink.written c.args.out.now) (g.S.Sink.written c.loop-cycle.out))
     all c.loop-cycle.invariant.done
 

@@ -2,14 +2,12 @@
 use Rattle.std.proofs.Common.{◌≡◌}
 use Rattle.cosmos_session.specs.Sessions.{places_of}
 use Rattle.cosmos_session.specs.Effects.{places_in}
-use Rattle.lane_session.specs.LaneSessions.{session_in}
-use Rattle.lane_session.specs.Stages.{IsBuilt, BeatsDoneTogether, SharesAll}
+use Rattle.lane_session.specs.Stages.{IsBuilt, BeatsDoneInAll, SharesAll}
 use Rattle.lane_session.proofs.session.LaneSession.run_cycles.Given as goal
 
 abbrev pub invariant-loop-cycle : goal.invariant-loop-cycle
 invariant-loop-cycle g l = record {
-  done : BeatsDoneTogether l.fn.self.core.lanes (session_in l.fn.self.core) (session_in l.self.core) (places_in (places_of l.fn.self.core.clocks) l._cycle)
-      (g.S.Sink.written l.fn.out) (g.S.Sink.written l.out);
+  done : BeatsDoneInAll l.fn.self.core l.self.core (places_in (places_of l.fn.self.core.clocks) l._cycle) (g.S.Sink.written l.fn.out) (g.S.Sink.written l.out);
   built : IsBuilt l.self;
   shares : SharesAll l.fn.self.core l.self.core;
   room : l.room ≡ l.fn.room;

@@ -1,10 +1,8 @@
 -- What all share stays in a build and in a step: so the row has room still, and a place for each column.
-use Rattle.std.proofs.Common.{Err, sym, ap, subst, refl, length, ◌∙◌}
-use Rattle.std.proofs.lemmas.Result.{err_from_is_err_and}
-use Rattle.lane_script.specs.declared.command.LaneCommand.TheVariants as asked
+use Rattle.std.proofs.Common.{sym, ap, subst, length, ◌∙◌}
 use Rattle.lane_session.specs.LaneSessions.{LaneSessionData}
 use Rattle.lane_session.specs.Stages.{IsRoomFor}
-use Rattle.lane_session.proofs.OutcomeLemmas.{step_obeys, unready_obeys, readies_faults}
+use Rattle.lane_session.proofs.OutcomeLemmas.{step_obeys}
 use Rattle.lane_session.proofs.session.LaneSession.step.Goals as goal
 
 pub take_step-requires : goal.take_step-requires
@@ -17,18 +15,6 @@ send_row-requires-clause-counts g c =
 pub send_row-requires-clause-room : goal.send_row-requires-clause-room
 send_row-requires-clause-room g c =
     subst (λ (s : LaneSessionData). IsRoomFor s.lanes (length s.watched) c.in_ok-counts.room) (sym c.take_step.ensures.rest) c.in_ok-counts.ensures.room
-
-pub returns-in_err-counts-clause-obeys : goal.returns-in_err-counts-clause-obeys
-returns-in_err-counts-clause-obeys g c =
-    let stopped = err_from_is_err_and c.from_residual.result c.from_residual.ensures.1 in
-    rw (stopped.1, stopped.2)
-    (unready_obeys c.args.self.now c.begin.new.self asked.Step _ _ _ _ c.in_err-counts.field-0.0 refl (λ lane inside. refl) c.in_err-counts.ensures.refused)
-
-pub returns-in_err-counts-clause-faults : goal.returns-in_err-counts-clause-faults
-returns-in_err-counts-clause-faults g c =
-    let stopped = err_from_is_err_and c.from_residual.result c.from_residual.ensures.1 in
-    rw (stopped.1, stopped.2) (readies_faults c.args.self.now c.begin.new.self (g.A.Analyst.analysed c.args.analyst.now) (g.A.Analyst.analysed c.begin.new.analyst) _ (Err c.in_err-counts.field-0.0)
-    c.in_err-counts.ensures.refused)
 
 pub returns-clause-obeys : goal.returns-clause-obeys
 returns-clause-obeys g c =

@@ -1,9 +1,19 @@
-use Rattle.std.proofs.Common.{sym, subst, ◌∙◌}
-use Rattle.lane_machine.specs.Columns.{HasStates}
-use Rattle.lane_session.specs.Stages.{StageData}
-use Rattle.lane_session.proofs.ColumnLemmas.{AreColumns-set}
+use Rattle.std.proofs.Common.{◌<◌, length, refl, sym, subst, ◌∙◌}
+use Rattle.lane_machine.specs.Columns.{column, HasStates}
+use Rattle.lane_session.specs.declared.stage.Held.{Held}
+use Rattle.lane_session.specs.Stages.{StageData, hi_held, lo_held, states_in}
+use Rattle.lane_session.proofs.ColumnLemmas.{AreColumns-set, within_high}
 use Rattle.lane_session.proofs.stage.LaneStage.set_node.Goals as goal
 use Rattle.lane_session.proofs.stage.LaneStage.set_node.Goals.{in-Still, in-Built}
+
+pub place-requires-clause-inside : goal.place-requires-clause-inside
+place-requires-clause-inside c =
+    let hi = c.in-Built.machine.hi in
+    let lo = c.in-Built.machine.lo in
+    let inside : c.args.node < length (column 0 hi lo) =
+    subst (λ (held : Held). c.args.node < length (column 0 (hi_held held) (lo_held held))) c.in-Built.is
+    (subst (λ (stage : StageData). c.args.node < length (states_in stage 0)) (sym c.self.view_is) c.requires.inside) in
+    within_high 0 c.args.node (length (column 0 hi lo)) hi lo refl inside
 
 pub invariant_of-self : goal.invariant_of-self
 invariant_of-self c =
