@@ -22,18 +22,26 @@ items_of-cut word at found =
 pub items_of-whole : (word : List ℕ) → position is_comma word ≡ None → items_of word ≡ word ∷ []
 items_of-whole word absent = slice_split_none is_comma word (none_passes is_comma word absent)
 
--- the strength after two rows of settings
+-- what is after two rows of items, where each item goes on from what is before it: what the second row makes of what is after the first
+after-append : {S : Type 0} (after : S → List (List ℕ) → Option S) (step : S → List ℕ → Option S) → ((s : S) → after s [] ≡ Some s)
+    → ((s : S) (item : List ℕ) (items : List (List ℕ)) → after s (item ∷ items) ≡ option_and_then (λ next. after next items) (step s item))
+    → (s : S) (xs ys : List (List ℕ)) → after s (xs ++ ys) ≡ option_and_then (λ next. after next ys) (after s xs)
+after-append after step none more s [] ys = ap (option_and_then (λ next. after next ys)) (sym (none s))
+after-append {S} after step none more s (item ∷ xs) ys =
+    more s item (xs ++ ys) ∙ go (step s item) (λ next. after-append after step none more next xs ys)
+    ∙ ap (option_and_then (λ next. after next ys)) (sym (more s item xs))
+  where
+    go : (set : Option S) → ((next : S) → after next (xs ++ ys) ≡ option_and_then (λ last. after last ys) (after next xs))
+        → option_and_then (λ next. after next (xs ++ ys)) set
+        ≡ option_and_then (λ last. after last ys) (option_and_then (λ next. after next xs) set)
+    go None each = refl
+    go (Some next) each = each next
+
+-- so the strength, after two rows of settings
 strength_after-append : (profile : Profile) (strength : ℕ) (xs ys : List (List ℕ))
     → strength_after profile strength (xs ++ ys) ≡ option_and_then (λ next. strength_after profile next ys) (strength_after profile strength xs)
-strength_after-append profile strength [] ys = refl
-strength_after-append profile strength (text ∷ xs) ys =
-    go (number_that (is_strength profile) text) (λ next. strength_after-append profile next xs ys) where
-      go : (read : Option ℕ)
-          → ((next : ℕ) → strength_after profile next (xs ++ ys) ≡ option_and_then (λ k. strength_after profile k ys) (strength_after profile next xs))
-          → option_and_then (λ next. strength_after profile next (xs ++ ys)) read
-          ≡ option_and_then (λ k. strength_after profile k ys) (option_and_then (λ next. strength_after profile next xs) read)
-      go None more = refl
-      go (Some next) more = more next
+strength_after-append profile =
+    after-append (strength_after profile) (λ strength. number_that (is_strength profile)) (λ strength. refl) (λ strength text texts. refl)
 
 -- the last of several accepted settings is the strength
 pub strength_after-last : (profile : Profile) (usual strength : ℕ) (texts : List (List ℕ)) (text : List ℕ)
@@ -66,18 +74,11 @@ strength_of-gate profile strength {all} {words} {items} {word} {part} set first 
     ∙ ap (λ found. strength_after profile strength (strength_texts (flat_map items_of (cons_option found (filter_map (after_prefix (codes "g=")) words))))) gate
     ∙ ap (strength_of profile strength) (sym first)
 
--- what is set after two rows of items
+-- and what is set, after two rows of items
 setting_after-append : (profile : Profile) (setting : Setting) (xs ys : List (List ℕ))
     → setting_after profile setting (xs ++ ys) ≡ option_and_then (λ next. setting_after profile next ys) (setting_after profile setting xs)
-setting_after-append profile setting [] ys = refl
-setting_after-append profile setting (item ∷ xs) ys =
-    go (setting_after_item profile setting item) (λ next. setting_after-append profile next xs ys) where
-      go : (set : Option Setting)
-          → ((next : Setting) → setting_after profile next (xs ++ ys) ≡ option_and_then (λ s. setting_after profile s ys) (setting_after profile next xs))
-          → option_and_then (λ next. setting_after profile next (xs ++ ys)) set
-          ≡ option_and_then (λ s. setting_after profile s ys) (option_and_then (λ next. setting_after profile next xs) set)
-      go None more = refl
-      go (Some next) more = more next
+setting_after-append profile =
+    after-append (setting_after profile) (setting_after_item profile) (λ setting. refl) (λ setting item items. refl)
 
 -- a word sets what its items set, and the words after it go on from there
 pub setting_after-word : (profile : Profile) (setting : Setting) {all words items : List (List ℕ)} {word : List ℕ} (set : Option Setting)

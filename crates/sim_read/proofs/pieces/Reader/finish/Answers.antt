@@ -6,6 +6,7 @@ use Rattle.sim_read.specs.Reading.{IsFault}
 use Rattle.sim_read.specs.Standing.{IsRead, ReaderData, StandsFor}
 use Rattle.sim_read.proofs.CircuitLemmas.{netlist_of-visible}
 use Rattle.sim_read.proofs.StandingLemmas.{finishes_ended, finishes_last, refuses_last, finishes_refused, if_err, if_ok, no_bytes, none_left, some_bytes}
+use Rattle.sim_read.proofs.pieces.Reader.finish.Goals.{In_ok-fault}
 use Rattle.sim_read.proofs.pieces.Reader.finish.Goals as goal
 
 pub returns-in-Some-clause-refused : goal.returns-in-Some-clause-refused
@@ -31,20 +32,27 @@ returns-then-is_empty-clause-visible c =
     returns-then-is_empty-clause-ok c in
     if_ok c.finish_draft.result (λ circuit each text stood. netlist_of-visible text circuit (each text stood)) means
 
+-- there are bytes of a last line, which is read as it is held
+some_held : (c : In_ok-fault) → 0 < length c.self.inside.held.items
+some_held c =
+    let left = some_bytes _ (sym c.is_empty.ensures ∙ c.if-is_empty.false) in
+    omega arith
+
+reads_held : (c : In_ok-fault) → IsRead (line_meaning None c.self.inside.draft (c.self.inside.ended + 1, without_return c.self.inside.held.items))
+    (c.self.inside.ended + 1) c.read_held.new.draft c.in_ok-fault.field-0
+reads_held c =
+    subst (λ line. IsRead (line_meaning None c.self.inside.draft (c.self.inside.ended + 1, without_return line)) (c.self.inside.ended + 1)
+    c.read_held.new.draft c.in_ok-fault.field-0)
+    c.deref.ensures.value c.in_ok-fault.ensures.reads
+
 pub returns-in-Some-2-clause-refused : goal.returns-in-Some-2-clause-refused
 returns-in-Some-2-clause-refused c =
-    let held = c.self.inside.held.items in
+    let read = (goal.at.returns-in-Some-2-clause-refused c).In_ok-fault in
     let number : ℕ = c.self.inside.ended + 1 in
-    let left = some_bytes _ (sym c.is_empty.ensures ∙ c.if-is_empty.false) in
-    let some : 0 < length held = omega arith in
-    let reads : IsRead (line_meaning None c.self.inside.draft (number, without_return c.deref.result.now)) number c.read_held.new.draft c.in_ok-fault.field-0 =
-    c.in_ok-fault.ensures.reads in
-    let refuses : IsRead (line_meaning None c.self.inside.draft (number, without_return held)) number c.read_held.new.draft (Some c.in-Some-2.fault) =
-    subst (IsRead (line_meaning None c.self.inside.draft (number, without_return held)) number c.read_held.new.draft) c.in-Some-2.is
-    (subst (λ line. IsRead (line_meaning None c.self.inside.draft (number, without_return line)) number c.read_held.new.draft c.in_ok-fault.field-0)
-    c.deref.ensures.value reads) in
+    let refuses : IsRead (line_meaning None c.self.inside.draft (number, without_return c.self.inside.held.items)) number c.read_held.new.draft (Some c.in-Some-2.fault) =
+    subst (IsRead (line_meaning None c.self.inside.draft (number, without_return c.self.inside.held.items)) number c.read_held.new.draft) c.in-Some-2.is (reads_held read) in
     subst (λ (r : ReaderData). (text : List ℕ) → StandsFor r text → IsFault (netlist_of text) c.in-Some-2.fault) c.self.view_is
-    (refuses_last _ c.read_held.new.draft c.in-Some-2.fault c.in_default.is some refuses)
+    (refuses_last _ c.read_held.new.draft c.in-Some-2.fault c.in_default.is (some_held read) refuses)
 
 -- what the held line added is bounded by its bytes
 pub finish_draft-requires-in-None : goal.finish_draft-requires-in-None
@@ -56,19 +64,13 @@ finish_draft-requires-in-None c =
 
 pub returns-in-None-clause-ok : goal.returns-in-None-clause-ok
 returns-in-None-clause-ok c =
-    let held = c.self.inside.held.items in
+    let read = (goal.at.returns-in-None-clause-ok c).In_ok-fault in
     let number : ℕ = c.self.inside.ended + 1 in
-    let left = some_bytes _ (sym c.is_empty.ensures ∙ c.if-is_empty.false) in
-    let some : 0 < length held = omega arith in
-    let reads : IsRead (line_meaning None c.self.inside.draft (number, without_return c.deref.result.now)) number c.read_held.new.draft c.in_ok-fault.field-0 =
-    c.in_ok-fault.ensures.reads in
-    let made : IsRead (line_meaning None c.self.inside.draft (number, without_return held)) number c.read_held.new.draft None =
-    subst (IsRead (line_meaning None c.self.inside.draft (number, without_return held)) number c.read_held.new.draft) c.in-None.is
-    (subst (λ line. IsRead (line_meaning None c.self.inside.draft (number, without_return line)) number c.read_held.new.draft c.in_ok-fault.field-0)
-    c.deref.ensures.value reads) in
+    let made : IsRead (line_meaning None c.self.inside.draft (number, without_return c.self.inside.held.items)) number c.read_held.new.draft None =
+    subst (IsRead (line_meaning None c.self.inside.draft (number, without_return c.self.inside.held.items)) number c.read_held.new.draft) c.in-None.is (reads_held read) in
     subst (λ (r : ReaderData). IfOk c.finish_draft-in-None.result (λ circuit. (text : List ℕ) → StandsFor r text → netlist_of text ≡ Ok circuit)) c.self.view_is
     (if_ok c.finish_draft-in-None.result
-    (λ circuit same text stood. finishes_last _ c.read_held.new.draft c.in_default.is some made text stood ∙ ap Ok (sym same))
+    (λ circuit same text stood. finishes_last _ c.read_held.new.draft c.in_default.is (some_held read) made text stood ∙ ap Ok (sym same))
     c.finish_draft-in-None.ensures.ok)
 
 pub returns-in-None-clause-refused : goal.returns-in-None-clause-refused
