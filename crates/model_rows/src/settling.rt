@@ -1,8 +1,9 @@
 ghost use Rattle.std.specs.Prelude.{◌≡◌, ◌≢◌, ◌≤◌};
 ghost use Rattle.oscillation_x.specs.declared.settling.TheConstants.{MOST_LIMIT};
 
+use crate::drawn::drawn;
 use oscillation_x::{MOST_LIMIT, PlainStepper, Settled, Stepper, settle};
-use path_meaning::{Graph, Switch, SwitchKind};
+use path_meaning::{GND, Graph, SwitchKind, VDD};
 use std::alloc::Global;
 use std::marker::Brand;
 use std::sync::ledger::{Blank, Ledger};
@@ -40,7 +41,7 @@ const ROWS: [Row; 6] = [
 #[test]
 fn a_state_settles_or_becomes_x(rt: HostRuntime) -> Result<(), Fail> {
     for (drawing, before, limit, after, steps, joined) in &ROWS {
-        let graph = drawn(rt.alloc(), drawing)?;
+        let graph = inverters(rt.alloc(), drawing)?;
         let state = vec![in rt.alloc(); Tern::Unk; graph.nodes()]?;
         let mut stepper = PlainStepper::new(rt.alloc(), &graph, &state)?;
         for (node, letter) in before.iter().enumerate() {
@@ -71,28 +72,13 @@ fn counted<M: Stepper, L: Ledger>(m: &mut M, graph: &Graph, limit: u64, blank: B
     settle(m, graph, limit, &mut Steps::<L>::new(blank))
 }
 
-// The graph of a drawing; what doesn't fit is left out.
-fn drawn(alloc: Global, drawing: &Drawing) -> Result<Graph, Fail> {
-    let mut graph = Graph::new(alloc);
+// The graph of a drawing: each inverter is a p-channel switch from Vdd and an n-channel switch from Gnd.
+fn inverters(alloc: Global, drawing: &Drawing) -> Result<Graph, Fail> {
     let (levels, inverters) = drawing;
-    for level in *levels {
-        if (1..=16).contains(level) {
-            graph.add_node(*level)?;
-        }
-    }
+    let mut switches = Vec::new(alloc);
     for (input, output) in *inverters {
-        for (kind, rail) in [(SwitchKind::PChan, 1), (SwitchKind::NChan, 0)] {
-            let nodes = graph.nodes();
-            if *input < nodes && *output < nodes && rail < nodes {
-                graph.add_switch(Switch {
-                    kind,
-                    level: 10,
-                    gate: *input,
-                    a: rail,
-                    b: *output,
-                })?;
-            }
-        }
+        switches.push((SwitchKind::PChan, 10, *input, VDD, *output))?;
+        switches.push((SwitchKind::NChan, 10, *input, GND, *output))?;
     }
-    Ok(graph)
+    drawn(alloc, levels, &switches)
 }
