@@ -43,33 +43,23 @@ lane-with_other word lane false inside other differs =
 
 -- ---- states
 
-join-one : (s t : Tern) → (may_one s || may_one t) ≡ may_one (join s t)
-join-one Zero Zero = refl
-join-one Zero One = refl
-join-one Zero Unk = refl
-join-one One Zero = refl
-join-one One One = refl
-join-one One Unk = refl
-join-one Unk Zero = refl
-join-one Unk One = refl
-join-one Unk Unk = refl
-
-join-other : (s t : Tern) → (may_zero s || may_zero t) ≡ may_zero (join s t)
-join-other Zero Zero = refl
-join-other Zero One = refl
-join-other Zero Unk = refl
-join-other One Zero = refl
-join-other One One = refl
-join-other One Unk = refl
-join-other Unk Zero = refl
-join-other Unk One = refl
-join-other Unk Unk = refl
+-- the rails of the join are those of both states together
+join_rails : (s t : Tern) → ((may_one s || may_one t) ≡ may_one (join s t)) × ((may_zero s || may_zero t) ≡ may_zero (join s t))
+join_rails Zero Zero = (refl, refl)
+join_rails Zero One = (refl, refl)
+join_rails Zero Unk = (refl, refl)
+join_rails One Zero = (refl, refl)
+join_rails One One = (refl, refl)
+join_rails One Unk = (refl, refl)
+join_rails Unk Zero = (refl, refl)
+join_rails Unk One = (refl, refl)
+join_rails Unk Unk = (refl, refl)
 
 -- the bits of both words together are the rails of the join
 pub HasState-join : (lane a b c d : ℕ) (s t : Tern) → HasState lane a b s → HasState lane c d t → HasState lane (bit_or a c) (bit_or b d) (join s t)
 HasState-join lane a b c d s t first second = record {
-  one = lane-or lane a c ∙ (ap₂ (λ x y. x || y) first.one second.one ∙ join-one s t);
-  other = lane-or lane b d ∙ (ap₂ (λ x y. x || y) first.other second.other ∙ join-other s t);
+  one = lane-or lane a c ∙ (ap₂ (λ x y. x || y) first.one second.one ∙ (join_rails s t).0);
+  other = lane-or lane b d ∙ (ap₂ (λ x y. x || y) first.other second.other ∙ (join_rails s t).1);
 }
 
 settled-rails : (s : Tern) → settled (may_one s) (may_zero s) ≡ s
