@@ -1,5 +1,5 @@
 -- What the evaluation of parts notes in each column: of one part, and part by part.
-use Rattle.std.proofs.Common.{◌≡◌, ℕ, ◌<◌, ◌≤◌, Bool, false, inl, inr, List, [], ◌∷◌, ◌++◌, length, map, All, Some, None, Global, Vec, refl, sym, ap, subst, ◌∙◌, arith}
+use Rattle.std.proofs.Common.{◌≡◌, ℕ, ◌+◌, ◌<◌, ◌≤◌, Bool, false, inl, inr, List, [], ◌∷◌, ◌++◌, length, map, All, Some, None, Global, Vec, vec_len, refl, sym, ap, subst, ◌∙◌, arith}
 use Rattle.std.specs.Prelude.{Contains, slice_index, slice_set, vec_capacity}
 use Rattle.std.specs.declared.rc.Rc.{Rc}
 use Rattle.std.proofs.lemmas.List.Elements.{Contains-push, Contains-push_cases, Contains-append_left}
@@ -12,11 +12,11 @@ use Rattle.batch_words.specs.Lanes.{is_in_lane, HasLane}
 use Rattle.batch_words.proofs.RunLemmas.{high_at_node, low_at_node}
 use Rattle.unit_step.specs.declared.part.HeldPart.{HeldPart}
 use Rattle.unit_step.specs.Parts.{Stands, IsMemberAt}
-use Rattle.unit_step.specs.Machines.{IsMarked}
+use Rattle.unit_step.specs.Machines.{IsMarked, count_marked}
 use Rattle.unit_step.specs.Stepping.{Gives}
 use Rattle.part_words.specs.Noting.{after}
 use Rattle.unit_step.proofs.PartLemmas.{same_part}
-use Rattle.unit_step.proofs.MarkLemmas.{marked-cleared_was, marked-cleared_cases}
+use Rattle.unit_step.proofs.MarkLemmas.{count_marked-cleared, marked-cleared_was, marked-cleared_cases}
 use Rattle.lane_machine.specs.declared.evaluation.WordChange.{WordChange}
 use Rattle.lane_machine.specs.declared.evaluation.Desk.{Desk}
 use Rattle.lane_machine.specs.Columns.{HasColumn}
@@ -202,3 +202,17 @@ cleared_rooms desk changes done changes_same done_same = λ i. record {
   changes = changes_same i;
   parts = done_same i;
 }
+
+-- there is room still for the parts that are marked, once one of them is done
+pub done_room-more : (marks : List Bool) (k : ℕ) (old mid new : Vec ℕ Global) → IsMarked marks k → vec_len old + count_marked marks ≤ vec_capacity old →
+    mid ≡ old → vec_len new ≡ vec_len mid + 1 → vec_capacity new ≡ vec_capacity mid → vec_len new + count_marked (slice_set marks k false) ≤ vec_capacity new
+done_room-more marks k old mid new marked room same longer capacity =
+    omega (
+      arith,
+      count_marked-cleared marks k marked,
+      room,
+      longer,
+      capacity,
+      ap (λ (list : Vec ℕ Global). vec_len list) same,
+      ap (λ (list : Vec ℕ Global). vec_capacity list) same,
+    )

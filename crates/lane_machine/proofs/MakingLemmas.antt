@@ -125,15 +125,7 @@ AreListed-more members parts i part stands count lists new lists_it so_far = rec
 -- the parts are seated in room for their codes
 pub seated_in : (count : ℕ) (parts : List HeldPart) (room : Rooms) → AreSeated count parts → HasRoomFor parts room → All (IsSeated count room) parts
 seated_in count parts room (other, seated) fits k d inside =
-    let seat = seated k d inside in
-    record {
-      below = seat.below;
-      members = seat.members;
-      apart = seat.apart;
-      coded = λ code is.
-          let one = seat.coded code is in
-          record { inputs = one.inputs; outputs = one.outputs; value_room = fits.values k d inside code is; out_room = fits.outs k d inside };
-    }
+    record { other = other; seated = seated k d inside; value_room = fits.values k d inside; out_room = fits.outs k d inside }
 
 -- the nodes of the parts are there
 pub nodes_inside : (members : Bool) (count : ℕ) (parts : List HeldPart) → AreSeated count parts →
@@ -212,7 +204,7 @@ MarksAll-concerned parts count room readers owners node old mid new seated own r
   set = λ k concerned.
       elim concerned [
         | inl has ↦
-            let few = subst (λ (p : HeldPart). p.members ≤ length p.map.items) has.stands.here (seated k has.part has.stands.inside).members in
+            let few = subst (λ (p : HeldPart). p.members ≤ length p.map.items) has.stands.here (seated k has.part has.stands.inside).seated.members in
             let among : IsAmong true parts k node =
             record { part = has.part; stands = has.stands; among = front_of_member parts k has.part has.stands few node has } in
             two.stays k (one.set k (subst (λ xs. Contains xs k) (sym first_is) (own.listed node k among)))
@@ -227,7 +219,7 @@ MarksAll-concerned parts count room readers owners node old mid new seated own r
               | inl was ↦ inl was
               | inr there ↦
                   let among = own.only node k (subst (λ xs. Contains xs k) first_is there) in
-                  let few = subst (λ (p : HeldPart). p.members ≤ length p.map.items) among.stands.here (seated k among.part among.stands.inside).members in
+                  let few = subst (λ (p : HeldPart). p.members ≤ length p.map.items) among.stands.here (seated k among.part among.stands.inside).seated.members in
                   inr (inl (member_at_front parts k among.part among.stands few node among.among))
             ]
         | inr there ↦

@@ -42,14 +42,14 @@ module _ (joining : Bool) (used : ℕ) (parts : List HeldPart) (marks : List Boo
 
     -- all marked parts together give a node one value
     given_one : (node : ℕ) (v w : Tern) → IsGiven parts marks state node v → IsGiven parts marks state node w → v ≡ w
-    given_one = given_once parts state (λ k part stands. (subst (IsSeated (length hi) room) stands.here (runs.seated k part stands.inside)).apart) marks runs.apart
+    given_one = given_once parts state (λ k part stands. (subst (IsSeated (length hi) room) stands.here (runs.seated k part stands.inside)).seated.apart) marks runs.apart
 
     -- a node to which a value is given is there
     given_inside : (node : ℕ) (value : Tern) → IsGiven parts marks state node value → node < length hi
     given_inside node value given =
         let gives = given.gives in
         let seat = subst (IsSeated (length hi) room) gives.stands.here (runs.seated given.k gives.part gives.stands.inside) in
-        subst (λ n. n < length hi) gives.member.here (seat.below gives.place 0 gives.member.within)
+        subst (λ n. n < length hi) gives.member.here (seat.seated.below gives.place 0 gives.member.within)
 
     -- what a change is to: a value that is given to its node
     record IsTo (change : WordChange) : Type 0 where

@@ -1,16 +1,14 @@
 -- Evaluation of parts on words: what is noted in each column before any word of a state is written.
-use Rattle.std.specs.Prelude.{◌≡◌, ℕ, ◌+◌, ◌*◌, ◌<◌, ◌≤◌, ◌⊎◌, Bool, List, length, All, Contains, Some, slice_index, vec_capacity}
+use Rattle.std.specs.Prelude.{◌≡◌, ℕ, ◌<◌, ◌≤◌, ◌⊎◌, Bool, List, length, All, Contains, vec_capacity}
 use Rattle.std.specs.List.{sum_by}
-use Rattle.std.specs.declared.rc.Rc.{Rc}
-use Rattle.std.proofs.Common.{Global}
 use Rattle.ternary.specs.declared.tern.Tern.{Tern}
 use Rattle.ternary.specs.Tern.{may_one, may_zero}
 use Rattle.path_meaning.specs.Switching.{state_at}
-use Rattle.straight_code.specs.Code.{CodeData}
 use Rattle.batch_words.specs.Lanes.{is_in_lane}
 use Rattle.unit_step.specs.declared.part.HeldPart.{HeldPart}
 use Rattle.unit_step.specs.Machines.{IsMarked, members_of}
 use Rattle.unit_step.specs.Stepping.{Gives}
+use Rattle.unit_step.specs.Evaluating as single
 use Rattle.part_words.specs.Noting.{after}
 use Rattle.unit_step.specs.Making.{IsCodeRoom}
 use Rattle.lane_machine.specs.declared.evaluation.WordChange.{WordChange}
@@ -33,20 +31,13 @@ rooms desk = record {
   parts = vec_capacity desk.done;
 }
 
--- the code has an input for each node of the part's map and an output for each member, and there is room for it
-pub record IsSeatedCode (room : Rooms) (part : HeldPart) (code : CodeData) : Type 0 where
-  pub inputs : length part.map.items ≡ code.inputs
-  pub outputs : length code.outputs ≡ part.members
-  pub value_room : 2 + 2 * code.inputs + length code.instructions ≤ room.values
-  pub out_room : part.members ≤ room.outs
-
--- the part's nodes are there, no two places of its map have one node, and its code fits it
+-- the part's nodes are there, no two places of its map have one node, and its code fits it, as in a machine of one simulation; there is room
+-- for its code and its outputs
 pub record IsSeated (count : ℕ) (room : Rooms) (part : HeldPart) : Type 0 where
-  pub below : All (λ node. node < count) part.map.items
-  pub members : part.members ≤ length part.map.items
-  pub apart : (i j : ℕ) → i < length part.map.items → j < length part.map.items →
-      slice_index part.map.items i ≡ slice_index part.map.items j → i ≡ j
-  pub coded : (code : Rc CodeData Global) → part.code ≡ Some code → IsSeatedCode room part code.value
+  pub other : single.Rooms
+  pub seated : single.IsSeated count other part
+  pub value_room : IsCodeRoom room.values part
+  pub out_room : part.members ≤ room.outs
 
 -- there is room for the steps of these parts
 pub record HasRoomFor (parts : List HeldPart) (room : Rooms) : Type 0 where

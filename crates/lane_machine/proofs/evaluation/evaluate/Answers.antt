@@ -12,19 +12,16 @@ use Rattle.lane_machine.proofs.evaluation.evaluate.Goals as goal
 
 pub run_part-requires-clause-nodes : goal.run_part-requires-clause-nodes
 run_part-requires-clause-nodes c =
-    let seat = c.requires.seated.coded c.in-Some.code c.in-Some.is in
-    rw (c.deref-in-Some.ensures.value, c.deref.ensures) seat.inputs
+    rw (c.deref-in-Some.ensures.value, c.deref.ensures) (c.requires.seated.seated.coded c.in-Some.code c.in-Some.is).inputs
 
 pub run_part-requires-clause-values : goal.run_part-requires-clause-values
-run_part-requires-clause-values c =
-    let seat = c.requires.seated.coded c.in-Some.code c.in-Some.is in
-    rw c.deref.ensures seat.value_room
+run_part-requires-clause-values c = rw c.deref.ensures (c.requires.seated.value_room c.in-Some.code c.in-Some.is)
 
 pub returns-in-Some-clause-changes : goal.returns-in-Some-clause-changes
 returns-in-Some-clause-changes c = λ parts k stands.
     let part = c.args.part.now in
     let code = c.in-Some.code in
-    let seat = c.requires.seated.coded code c.in-Some.is in
+    let seat = c.requires.seated.seated in
     let hi = c.args.hi.now in
     let lo = c.args.lo.now in
     let highs = c.run_part.new.desk.out_hi.items in
@@ -40,16 +37,16 @@ returns-in-Some-clause-changes c = λ parts k stands.
     rw (c.deref.ensures, c.deref-in-Some.ensures.value) at c.run_part.ensures.value lane state inside has in
     subst (λ list. HasLane lane (take part.members list) others (values state)) (sym high_are)
     (subst (λ list. HasLane lane (take part.members highs) (take part.members list) (values state)) (sym low_are)
-    (subst (λ n. HasLane lane (take n highs) (take n lows) (values state)) seat.outputs value)) in
+    (subst (λ n. HasLane lane (take n highs) (take n lows) (values state)) (seat.coded code c.in-Some.is).outputs value)) in
     let room : length highs ≡ length c.args.desk.now.out_hi.items = ap (λ room. room.outs) c.run_part.ensures.rooms in
     let high_count : length ones ≡ part.members =
-    length-take-le part.members c.deref-in-Some-2.result.now (omega (arith, seat.out_room, room, ap length high_are)) in
+    length-take-le part.members c.deref-in-Some-2.result.now (omega (arith, c.requires.seated.out_room, room, ap length high_are)) in
     let low_count : length others ≡ part.members =
-    length-take-le part.members c.deref-in-Some-3.result.now (omega (arith, seat.out_room, room, ap length low_are, c.run_part.ensures.rails)) in
+    length-take-le part.members c.deref-in-Some-3.result.now (omega (arith, c.requires.seated.out_room, room, ap length low_are, c.run_part.ensures.rails)) in
     let before = ap (λ (list : Vec WordChange Global). list.items) c.run_part.ensures.changes in
     let notes : Notes c.args.joining c.args.used part.map.items hi lo ones others (length ones) c.args.desk.now.changes.items c.note_all.new.changes.items =
     subst (λ old. Notes c.args.joining c.args.used part.map.items hi lo ones others (length ones) old c.note_all.new.changes.items) before
     (subst (λ nodes. Notes c.args.joining c.args.used nodes hi lo ones others (length ones) c.run_part.new.desk.changes.items c.note_all.new.changes.items)
     c.deref-in-Some-4.ensures.value c.note_all.ensures.changes) in
-    Reports-from_Notes c.args.joining parts c.args.used hi lo c.requires.words k part code stands c.in-Some.is c.requires.seated.members
-    c.requires.seated.below ones others high_count (low_count ∙ sym high_count) given c.args.desk.now.changes.items c.note_all.new.changes.items notes
+    Reports-from_Notes c.args.joining parts c.args.used hi lo c.requires.words k part code stands c.in-Some.is seat.members
+    seat.below ones others high_count (low_count ∙ sym high_count) given c.args.desk.now.changes.items c.note_all.new.changes.items notes

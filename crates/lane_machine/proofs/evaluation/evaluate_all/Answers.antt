@@ -1,11 +1,11 @@
 -- One part more is evaluated.
-use Rattle.std.proofs.Common.{◌≡◌, ◌<◌, ℕ, [], ◌∷◌, ◌++◌, Vec, Global, vec_len, false, length, sym, ap, subst, ◌∙◌, arith}
-use Rattle.std.specs.Prelude.{slice_index_or, vec_capacity}
+use Rattle.std.proofs.Common.{◌≡◌, ◌<◌, ℕ, [], ◌∷◌, ◌++◌, Vec, Global, false, length, sym, ap, subst, ◌∙◌, arith}
+use Rattle.std.specs.Prelude.{slice_index_or}
 use Rattle.std.proofs.lemmas.List.{length-set}
 use Rattle.unit_step.specs.Machines.{members_of}
-use Rattle.unit_step.proofs.MarkLemmas.{marked_inside, count_marked-cleared, marked_sum-cleared}
+use Rattle.unit_step.proofs.MarkLemmas.{marked_inside, marked_sum-cleared}
 use Rattle.lane_machine.specs.Evaluating.{rooms, Rooms, IsSeated}
-use Rattle.lane_machine.proofs.EvaluationLemmas.{Evaluated-more}
+use Rattle.lane_machine.proofs.EvaluationLemmas.{Evaluated-more, done_room-more}
 use Rattle.lane_machine.proofs.evaluation.evaluate_all.Goals as goal
 
 pub evaluate-requires-clause-seated : goal.evaluate-requires-clause-seated
@@ -57,13 +57,6 @@ loop-k-preserved c =
       changes_room = rw cleared
           (omega (arith, marked_sum-cleared members_of parts marks k part inside here marked, so_far.changes_room, c.evaluate.ensures.few, changes_room));
       done_room = rw cleared
-          (omega (
-            arith,
-            count_marked-cleared marks k marked,
-            so_far.done_room,
-            c.push_reserved.ensures.len,
-            c.push_reserved.ensures.capacity,
-            ap (λ (list : Vec ℕ Global). vec_len list) done,
-            ap (λ (list : Vec ℕ Global). vec_capacity list) done,
-          ));
+          (done_room-more marks k c.loop-k.desk.done c.evaluate.new.desk.done c.push_reserved.new.self marked so_far.done_room done
+          c.push_reserved.ensures.len c.push_reserved.ensures.capacity);
     }
