@@ -22,7 +22,7 @@ use group_analysis::Analyst;
 use netlist::Circuit;
 use path_meaning::Walk;
 use port_edge::{DropSink, Sink, send};
-use script_run::{End, Halt, Stop, obey_lines, refuse, refuse_size};
+use script_run::{End, Halt, Stop, obey_lines, refuse, refuse_halt};
 use std::alloc::Global;
 use ternary::NoMemory;
 use wave_print::{FaultCode, FaultPlace};
@@ -85,15 +85,7 @@ fn explain_at<S: Sink>(
 {
     match halt {
         Halt::End => explain_name(alloc, session, name, out),
-        Halt::Refused(line, code) => {
-            let place = FaultPlace::Script(line);
-            refuse(alloc, place, code, End::ScriptRefused, out)
-        }
-        Halt::TooLarge(line, fault) => {
-            let place = FaultPlace::Script(line);
-            let circuit = session.circuit();
-            refuse_size(alloc, place, circuit, fault, End::ScriptRefused, out)
-        }
+        _ => refuse_halt(alloc, session.circuit(), halt, out),
     }
 }
 

@@ -21,8 +21,9 @@ use script_run::Stop;
 use sim_read::{NetFault, NetRefusal, Reader};
 use spice_cards::{DeckFault, DeckWhat};
 use spice_read::read_deck;
-use std::alloc::{AllocError, Global};
+use std::alloc::Global;
 use table_keys::TableKeys;
+use ternary::NoMemory;
 
 // How many bytes of a netlist are read at a time.
 const PIECE: usize = 65_536;
@@ -159,10 +160,10 @@ fn feed_file<F: Files>(
 }
 
 // So many zeros.
-fn zeros(alloc: Global, count: usize) -> Result<Vec<u8>, AllocError>
+fn zeros(alloc: Global, count: usize) -> Result<Vec<u8>, NoMemory>
     ensures { IfOk result (λ bytes. vec_len bytes ≡ count) }
 {
-    vec![in alloc; 0; count]
+    Ok(vec![in alloc; 0; count]?)
 }
 
 // Starts the file of this name.

@@ -196,6 +196,7 @@ fn answer_about<F: Files, S: Sink, A: Analyst>(
 }
 
 // Reads the deck, and runs the script in its circuit.
+#[tactic(auto, using(script_run::proofs::EndLemmas::read_none, crate::proofs::EndLemmas::untouched_none))]
 fn simulate_deck<F: Files, S: Sink, A: Analyst>(
     alloc: Global,
     deck: &str,

@@ -1,5 +1,5 @@
 -- What is answered of a script for columns whose lines were obeyed: their rows, and the line of the refusal that ended them, if one did.
-use Rattle.std.proofs.Common.{◌≡◌, ℕ, ◌⊎◌, inl, inr, List, [], ◌++◌, Option, None, Some, Result, Ok, Err, refl, sym, ap, subst, ◌∙◌, append-nil}
+use Rattle.std.proofs.Common.{◌≡◌, ◌≢◌, ℕ, ◌⊎◌, inl, inr, List, [], ◌++◌, Option, None, Some, Result, Ok, Err, refl, sym, ap, subst, ◌∙◌, append-nil}
 use Rattle.std.specs.Io.KnownBytes.{append_known}
 use Rattle.port_edge.specs.Sending.{WritesPart}
 use Rattle.port_edge.proofs.SendingLemmas.{append_known-append, sends_part, part_whole, part_longer}
@@ -8,17 +8,20 @@ use Rattle.group_text.specs.Texts.{GroupTextData}
 use Rattle.circuit_texts.specs.declared.texts.BuildFault.{BuildFault}
 use Rattle.wave_print.specs.declared.faults.FaultPlace.TheVariants.{Script}
 use Rattle.cosmos_session.specs.Sessions.{SessionData}
+use Rattle.script_run.specs.declared.halt.Halt.{Halt}
+use Rattle.script_run.specs.declared.halt.Halt.TheVariants.{End, Refused, TooLarge}
 use Rattle.script_run.specs.declared.status.Status.TheVariants.{ScriptRefused}
 use Rattle.script_run.specs.declared.stop.Stop.{Stop}
 use Rattle.script_run.specs.declared.stop.End as end
 use Rattle.script_run.specs.declared.stop.End.TheVariants as ended
-use Rattle.script_run.specs.Codes.{Cause, cause_line}
+use Rattle.script_run.specs.Codes.{Cause, plain_cause, cause_line}
 use Rattle.script_run.specs.Runs.{RefusedLine, Answer, refusal_text}
 use Rattle.script_run.specs.Answers.{IsRefusalFor, IsTooLarge, IsStopped}
+use Rattle.script_run.specs.Halts.{IsCutShort, TellsCutShort}
 use Rattle.script_run.specs.Ends.{IsTold, IsToldBy}
 use Rattle.script_run.proofs.SizeLemmas.{size_caused}
 use Rattle.lane_run.specs.Batches.{IsBatchAnswer, RunsTogether, status_ended}
-use Rattle.lane_run.specs.Turns.{HaveObeyed, HaveOutgrown, BreakOff}
+use Rattle.lane_run.specs.Turns.{HaveObeyed, HaveOutgrown, HaltsAt, BreakOff}
 
 -- the answer of columns that ran
 abbrev answer_of : List ℕ → List GroupTextData → Option RefusedLine → Answer
@@ -40,7 +43,7 @@ module _ (lanes : ℕ) (cut : Option ℕ) (start : ℕ → SessionData) (lines :
   }
 
   -- a line was refused for this cause, and the line of its refusal was written
-  pub told_refused : (number : ℕ) (cause : Cause) (last : Option (List ℕ)) (result : Result end.End Stop) →
+  told_refused : (number : ℕ) (cause : Cause) (last : Option (List ℕ)) (result : Result end.End Stop) →
       HaveObeyed lanes cut start lines before mid asked told (Some (record { line = number; cause = cause })) →
       IsTold (IsRefusalFor (Script number) cause ScriptRefused) mid last result → IsToldBy (IsBatchAnswer lanes cut start lines) before last asked told result
   told_refused number cause last (Ok ending) obeyed written =
@@ -68,7 +71,7 @@ module _ (lanes : ℕ) (cut : Option ℕ) (start : ℕ → SessionData) (lines :
       })
 
   -- the circuit was too large for a line, and the line of the first group that is was written
-  pub told_large : (circuit : CircuitData) (number : ℕ) (fault : BuildFault) (last : Option (List ℕ)) (result : Result end.End Stop) →
+  told_large : (circuit : CircuitData) (number : ℕ) (fault : BuildFault) (last : Option (List ℕ)) (result : Result end.End Stop) →
       HaveOutgrown lanes cut start lines circuit before mid asked told number fault →
       IsTold (IsTooLarge circuit (Script number) ScriptRefused) mid last result → IsToldBy (IsBatchAnswer lanes cut start lines) before last asked told result
   told_large circuit number fault last (Ok ending) outgrown written =
@@ -82,6 +85,21 @@ module _ (lanes : ℕ) (cut : Option ℕ) (start : ℕ → SessionData) (lines :
       let large = begun.right in
       told_refused number large.cause last (Err stop) (outgrown.halted large.fault large.cause large.first large.named)
       (inr (record { answer = begun.answer; right = large.told; part = begun.part }))
+
+  -- lines that weren't all obeyed were cut short
+  pub cut_short : (circuit : CircuitData) (halt : Halt) → halt ≢ End → HaltsAt lanes cut start lines circuit before mid asked told halt →
+      IsCutShort circuit halt
+  cut_short circuit End other halts = absurd (other refl)
+  cut_short circuit (Refused number code) other halts = tt
+  cut_short circuit (TooLarge number size) other halts = halts.first
+
+  -- and the line of that refusal was written
+  pub told_cut : (circuit : CircuitData) (halt : Halt) (last : Option (List ℕ)) (result : Result end.End Stop) → halt ≢ End →
+      HaltsAt lanes cut start lines circuit before mid asked told halt → IsTold (TellsCutShort circuit halt) mid last result →
+      IsToldBy (IsBatchAnswer lanes cut start lines) before last asked told result
+  told_cut circuit End last result other halts written = absurd (other refl)
+  told_cut circuit (Refused number code) last result other halts written = told_refused number (plain_cause code) last result halts written
+  told_cut circuit (TooLarge number size) last result other halts written = told_large circuit number size last result halts written
 
   -- the lines broke off
   pub told_stop : (mid ≡ before) ⊎ BreakOff lanes cut start lines before mid → IsStopped (IsBatchAnswer lanes cut start lines) before mid

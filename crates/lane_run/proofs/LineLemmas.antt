@@ -20,7 +20,7 @@ use Rattle.lane_script.specs.declared.command.LaneCommand.{LaneCommand}
 use Rattle.lane_script.specs.declared.command.LaneCommand.TheVariants.{Input, Store, Set, Charge, Watch, Limit, Step, Phase, Clock, Cycle, Add, Del, Strength, Kind, Wire}
 use Rattle.lane_script.specs.Columns.{column_reading, column_reading_by, column_reading_of, is_left_out}
 use Rattle.lane_script.specs.Commands.{in_column, IsShared}
-use Rattle.lane_script.specs.Forms.{IsFormed}
+use Rattle.lane_script.specs.Forms.{AreLaneValues, IsFormed}
 use Rattle.lane_script.specs.Values.{lane_value_of, values_given}
 use Rattle.lane_script.proofs.ColumnLemmas.{column_words, line_words, values_asked, set_words, charge_words, out_words, values_formed, shared_line, shared_command}
 
@@ -77,27 +77,27 @@ module _ (lanes : ℕ) (line : List ℕ) where
   shared_reads same shared (Err what) is = fails what (λ want. reading-named line (is ∙ ap Err want)) (λ lane inside. same lane ∙ is)
 
   module _ (word : List ℕ) (rest : List (List ℕ)) (sound : line_fault line ≡ None) (other : is_comment line ≡ false) (cut : words_of line ≡ word ∷ rest) where
-    -- a line with values
-    set_reads : word ≡ codes "set" → (given : Result (List (List ℕ × List Tern)) ScriptFault) → values_given lanes rest ≡ given → LineReads lanes line
-    set_reads verb (Ok list) is =
-        commands (Set list) (values_formed lanes line word rest sound other cut list (sym is))
-        (λ lane inside. line_words lanes line word rest sound other cut lane ∙ set_words lanes lane word rest inside verb ∙ ap (values_asked plain.Set lane) is)
-    set_reads verb (Err what) is =
+    -- a line with values, whose first word asks for this
+    values_read : (asked : List (List ℕ × Tern) → Command) →
+        ((lane : ℕ) → lane < lanes → column_reading lanes lane (word ∷ rest) ≡ values_asked asked lane (values_given lanes rest)) →
+        ((list : List (List ℕ × List Tern)) → AreLaneValues lanes list →
+        ((lane : ℕ) → lane < lanes → column_reading_of lanes lane line ≡ values_asked asked lane (Ok list)) → LineReads lanes line) →
+        (given : Result (List (List ℕ × List Tern)) ScriptFault) → values_given lanes rest ≡ given → LineReads lanes line
+    values_read asked words obeys (Ok list) is =
+        obeys list (values_formed lanes line word rest sound other cut list (sym is))
+        (λ lane inside. line_words lanes line word rest sound other cut lane ∙ words lane inside ∙ ap (values_asked asked lane) is)
+    values_read asked words obeys (Err what) is =
         fails what (given-named lanes rest what is)
-        (λ lane inside. line_words lanes line word rest sound other cut lane ∙ set_words lanes lane word rest inside verb ∙ ap (values_asked plain.Set lane) is)
-
-    charge_reads : word ≡ codes "charge" → (given : Result (List (List ℕ × List Tern)) ScriptFault) → values_given lanes rest ≡ given → LineReads lanes line
-    charge_reads verb (Ok list) is =
-        commands (Charge list) (values_formed lanes line word rest sound other cut list (sym is))
-        (λ lane inside. line_words lanes line word rest sound other cut lane ∙ charge_words lanes lane word rest inside verb ∙ ap (values_asked plain.Charge lane) is)
-    charge_reads verb (Err what) is =
-        fails what (given-named lanes rest what is)
-        (λ lane inside. line_words lanes line word rest sound other cut lane ∙ charge_words lanes lane word rest inside verb ∙ ap (values_asked plain.Charge lane) is)
+        (λ lane inside. line_words lanes line word rest sound other cut lane ∙ words lane inside ∙ ap (values_asked asked lane) is)
 
     -- a line by its first word
     word_reads : (set charge out : Bool) → bytes_eq word (codes "set") ≡ set → bytes_eq word (codes "charge") ≡ charge → is_left_out word ≡ out → LineReads lanes line
-    word_reads true charge out is_set is_charge is_out = set_reads ((bytes_eq-Decides word (codes "set")).0 is_set) (values_given lanes rest) refl
-    word_reads false true out is_set is_charge is_out = charge_reads ((bytes_eq-Decides word (codes "charge")).0 is_charge) (values_given lanes rest) refl
+    word_reads true charge out is_set is_charge is_out =
+        values_read plain.Set (λ lane inside. set_words lanes lane word rest inside ((bytes_eq-Decides word (codes "set")).0 is_set))
+        (λ list formed reads. commands (Set list) formed reads) (values_given lanes rest) refl
+    word_reads false true out is_set is_charge is_out =
+        values_read plain.Charge (λ lane inside. charge_words lanes lane word rest inside ((bytes_eq-Decides word (codes "charge")).0 is_charge))
+        (λ list formed reads. commands (Charge list) formed reads) (values_given lanes rest) refl
     word_reads false false true is_set is_charge is_out =
         fails fault.BadCommand (λ same. cc) (λ lane inside. line_words lanes line word rest sound other cut lane ∙ out_words lanes lane word rest is_out)
     word_reads false false false is_set is_charge is_out =

@@ -2,37 +2,46 @@
 use Rattle.std.proofs.Common.{◌≡◌, ℕ, ◌<◌, ◌⊎◌, inl, inr, false, List, Option, None, Some, option_map, IfSome, Result, Ok, Err, refl, sym, ap, subst, ◌∙◌}
 use Rattle.line_words.specs.Files.{is_cut}
 use Rattle.script_lang.specs.declared.command.ScriptFault.{ScriptFault}
-use Rattle.script_lang.specs.declared.command.ScriptFault.TheVariants.{NoMemory}
+use Rattle.script_lang.specs.declared.command.ScriptFault.TheVariants as script
 use Rattle.group_text.specs.Texts.{GroupTextData}
 use Rattle.lane_script.specs.declared.command.LaneCommand.{LaneCommand}
 use Rattle.lane_script.specs.Columns.{column_reading_of}
 use Rattle.lane_script.specs.Commands.{in_column}
 use Rattle.lane_script.specs.Forms.{IsFormed}
+use Rattle.cosmos_session.specs.declared.fault.ApplyFault.{ApplyFault}
+use Rattle.cosmos_session.specs.declared.fault.ApplyFault.TheVariants.{Refused, GroupNodes, GroupSwitches, WriteFault, NoMemory}
 use Rattle.cosmos_session.specs.Sessions.{SessionData}
 use Rattle.wave_print.specs.declared.faults.FaultCode.{FaultCode}
 use Rattle.lane_session.specs.LaneSessions.{LaneSessionData, session_in}
-use Rattle.lane_session.specs.Outcomes.{KeepsTogether}
-use Rattle.script_run.specs.declared.stop.Stop.{Stop}
-use Rattle.script_run.specs.declared.script.Turn.{Turn}
-use Rattle.script_run.specs.declared.script.Turn.TheVariants.{Accepted, Refused, TooLarge}
+use Rattle.lane_session.specs.Outcomes.{KeepsTogether, ObeysTogether}
 use Rattle.script_run.specs.Codes.{plain_cause, script_code}
 use Rattle.script_run.specs.Runs.{refused, unread}
-use Rattle.lane_run.specs.Turns.{AreIdle, AskTogether, AreRefused, TakesTurn, TakesCommand}
+use Rattle.script_run.specs.Stops.{IsRefusedOnce}
+use Rattle.script_run.specs.Turns.{turn_after}
+use Rattle.lane_run.specs.Turns.{AreIdle, AskTogether, AreRefused, TakesTurn}
 
--- a line that asks for a command comes to what the command comes to
+-- a line that asks for a command comes to what the command comes to, and the sink lacked memory once at the most
 pub takes_turn : (cut : Option ℕ) (line : ℕ × List ℕ) (command : LaneCommand) (old new : LaneSessionData) (before after : Option (List ℕ)) (asked told : List GroupTextData)
-    (result : Result Turn Stop) → AskTogether old.lanes cut (session_in old) line command → TakesCommand old command new before after asked told result →
-    TakesTurn cut line old new before after asked told result
-takes_turn cut line command old new before after asked told (Ok Accepted) asks accepts = inr (record { command = command; asks = asks; accepts = accepts })
-takes_turn cut line command old new before after asked told (Ok (Refused code)) asks (is, keeps) =
-    (λ lane inside. refused _ is.refusal (asks.each lane inside) (is.cause lane inside) (ap plain_cause is.coded), keeps)
-takes_turn cut line command old new before after asked told (Ok (TooLarge fault)) asks refuses = record { command = command; asks = asks; refuses = refuses }
-takes_turn cut line command old new before after asked told (Err stop) asks (inl same) = inl same
-takes_turn cut line command old new before after asked told (Err stop) asks (inr begins) = inr (record { command = command; asks = asks; begins = begins })
+    (refusals now : ℕ) (ended : Result (Unit {0}) ApplyFault) → AskTogether old.lanes cut (session_in old) line command →
+    ObeysTogether old command new before after asked told refusals now ended →
+    TakesTurn cut line old new before after asked told (turn_after ended) × IsRefusedOnce refusals now (turn_after ended)
+takes_turn cut line command old new before after asked told refusals now (Ok _) asks (accepts, same) =
+    (inr (record { command = command; asks = asks; accepts = accepts }), same)
+takes_turn cut line command old new before after asked told refusals now (Err (Refused refusal)) asks (refuses, same) =
+    ((λ lane inside. refused _ refusal (asks.each lane inside) (refuses.cause lane inside) refl, refuses.keeps), same)
+takes_turn cut line command old new before after asked told refusals now (Err (GroupNodes node count)) asks (refuses, same) =
+    (record { command = command; asks = asks; refuses = refuses }, same)
+takes_turn cut line command old new before after asked told refusals now (Err (GroupSwitches node count)) asks (refuses, same) =
+    (record { command = command; asks = asks; refuses = refuses }, same)
+takes_turn cut line command old new before after asked told refusals now (Err WriteFault) asks (begins, same) =
+    (inr (record { command = command; asks = asks; begins = begins }), same)
+takes_turn cut line command old new before after asked told refusals now (Err NoMemory) asks (inl (stays, same)) = (inl stays.unwritten, inl same)
+takes_turn cut line command old new before after asked told refusals now (Err NoMemory) asks (inr (begins, more)) =
+    (inr (record { command = command; asks = asks; begins = begins }), inr more)
 
 -- a line that can't be read is refused in each column, where its fault has a code
 pub are_unread : (lanes : ℕ) (cut : Option ℕ) (columns : ℕ → SessionData) (line : ℕ × List ℕ) (fault : ScriptFault) (code : FaultCode) → is_cut cut line.0 ≡ false →
-    (fault ≡ NoMemory) ⊎ ((lane : ℕ) → lane < lanes → column_reading_of lanes lane line.1 ≡ Err fault) → script_code fault ≡ Some code →
+    (fault ≡ script.NoMemory) ⊎ ((lane : ℕ) → lane < lanes → column_reading_of lanes lane line.1 ≡ Err fault) → script_code fault ≡ Some code →
     AreRefused lanes cut columns line (plain_cause code)
 are_unread lanes cut columns line fault code inside (inl want) coded =
     let none : None ≡ Some code = sym (ap script_code want) ∙ coded in absurd (cc)
@@ -69,7 +78,7 @@ module _ (lanes count : ℕ) (cut : Option ℕ) (columns : ℕ → SessionData) 
 
 -- or a refusal
 pub unread_in : (lanes count : ℕ) (bytes : List ℕ) (fault : ScriptFault) → count ≡ lanes →
-    (fault ≡ NoMemory) ⊎ ((lane : ℕ) → lane < count → column_reading_of count lane bytes ≡ Err fault) →
-    (fault ≡ NoMemory) ⊎ ((lane : ℕ) → lane < lanes → column_reading_of lanes lane bytes ≡ Err fault)
+    (fault ≡ script.NoMemory) ⊎ ((lane : ℕ) → lane < count → column_reading_of count lane bytes ≡ Err fault) →
+    (fault ≡ script.NoMemory) ⊎ ((lane : ℕ) → lane < lanes → column_reading_of lanes lane bytes ≡ Err fault)
 unread_in lanes count bytes fault same read =
-    subst (λ n. (fault ≡ NoMemory) ⊎ ((lane : ℕ) → lane < n → column_reading_of n lane bytes ≡ Err fault)) same read
+    subst (λ n. (fault ≡ script.NoMemory) ⊎ ((lane : ℕ) → lane < n → column_reading_of n lane bytes ≡ Err fault)) same read

@@ -9,10 +9,7 @@ use Rattle.circuit_texts.specs.Sizes.{TellsTooLarge}
 use Rattle.lane_script.specs.declared.command.LaneCommand.{LaneCommand}
 use Rattle.lane_script.specs.Commands.{in_column}
 use Rattle.lane_script.specs.Forms.{IsFormed}
-use Rattle.cosmos_session.specs.declared.fault.Refusal.{Refusal}
 use Rattle.cosmos_session.specs.Sessions.{SessionData}
-use Rattle.cosmos_session.specs.Refusals.{refusal_of}
-use Rattle.wave_print.specs.declared.faults.FaultCode.{FaultCode}
 use Rattle.lane_session.specs.LaneSessions.{LaneSessionData, session_in}
 use Rattle.lane_session.specs.Outcomes.{AcceptsTogether, KeepsTogether, RefusesSizeTogether, BeginsTogether}
 use Rattle.script_run.specs.declared.halt.Halt.{Halt}
@@ -20,7 +17,7 @@ use Rattle.script_run.specs.declared.halt.Halt.TheVariants as halt
 use Rattle.script_run.specs.declared.stop.Stop.{Stop}
 use Rattle.script_run.specs.declared.script.Turn.{Turn}
 use Rattle.script_run.specs.declared.script.Turn.TheVariants.{Accepted, Refused, TooLarge}
-use Rattle.script_run.specs.Codes.{plain_cause, size_cause, refusal_code, Cause}
+use Rattle.script_run.specs.Codes.{plain_cause, size_cause, Cause}
 use Rattle.script_run.specs.Runs.{IsIdle, Asks, IsRefused, RefusedLine}
 use Rattle.lane_run.specs.Batches.{reading_in, RunsTogether}
 
@@ -68,21 +65,6 @@ TakesTurn cut line old new before after asked told (Ok (Refused code)) =
     AreRefused old.lanes cut (session_in old) line (plain_cause code) × KeepsTogether old new before after asked told
 TakesTurn cut line old new before after asked told (Ok (TooLarge fault)) = Outgrows cut line old new before after asked told fault
 TakesTurn cut line old new before after asked told (Err stop) = (after ≡ before) ⊎ Starts cut line old new before after asked told
-
--- a command is refused under this code in each column
-pub record AreRefusedCommands (session : LaneSessionData) (command : LaneCommand) (code : FaultCode) : Type 0 where
-  pub refusal : Refusal
-  pub cause : (lane : ℕ) → lane < session.lanes → refusal_of (session_in session lane) (in_column lane command) ≡ Some refusal
-  pub coded : code ≡ refusal_code refusal
-
--- what one command comes to
-abbrev pub TakesCommand : LaneSessionData → LaneCommand → LaneSessionData → Option (List ℕ) → Option (List ℕ) → List GroupTextData → List GroupTextData →
-    Result Turn Stop → Type 0
-TakesCommand old command new before after asked told (Ok Accepted) = AcceptsTogether old command new before after asked told
-TakesCommand old command new before after asked told (Ok (Refused code)) =
-    AreRefusedCommands old command code × KeepsTogether old new before after asked told
-TakesCommand old command new before after asked told (Ok (TooLarge fault)) = RefusesSizeTogether old command new before after asked told fault
-TakesCommand old command new before after asked told (Err stop) = (after ≡ before) ⊎ BeginsTogether old command new before after asked told
 
 -- the lines of a script were obeyed in each column, to this refused line, if one ended them: their rows were written, and their texts analysed
 pub record HaveObeyed (lanes : ℕ) (cut : Option ℕ) (start : ℕ → SessionData) (lines : List (ℕ × List ℕ)) (before after : Option (List ℕ))

@@ -1,24 +1,21 @@
 //! Running the lines of a script in columns.
 
-ghost use Rattle.std.specs.Prelude.{◌≡◌, ◌≢◌, IfOk, IfErr};
+ghost use Rattle.std.specs.Prelude.{◌≡◌, ◌≢◌, IfErr};
 ghost use Rattle.line_words.specs.Files as file;
-ghost use Rattle.lane_script.specs.Forms.{IsFormed};
 ghost use Rattle.lane_session.specs.LaneSessions.{session_in};
 ghost use Rattle.script_run.specs.Stops.{faults_written, IsRefusedOnce};
 ghost use Rattle.lane_run.specs.Batches.{IsBatchAnswer};
-ghost use Rattle.lane_run.specs.Turns.{TakesTurn, TakesCommand, TellsHalt};
+ghost use Rattle.lane_run.specs.Turns.{TakesTurn, TellsHalt};
 ghost use Rattle.script_run.specs.Ends.{IsToldBy};
 
-use circuit_texts::BuildFault;
-use cosmos_session::ApplyFault;
 use group_analysis::Analyst;
-use lane_script::{LaneCommand, read_lane_command};
+use lane_script::read_lane_command;
 use lane_session::LaneSession;
 use line_words::{Line, cut_line, front, lines};
 use port_edge::Sink;
-use script_run::{End, Halt, Stop, Turn, refusal_code, refuse, refuse_size, script_code};
+use script_run::{End, Halt, Stop, Turn, refuse_halt, script_code, turn_of};
 use std::alloc::Global;
-use wave_print::{FaultCode, FaultPlace};
+use wave_print::FaultCode;
 
 /// Runs the lines of a script in each column, in order, to the end or to the first that is refused, and writes the
 /// line of its refusal.
@@ -35,17 +32,10 @@ pub fn run_batch<S: Sink, A: Analyst>(
     ensures write { S.faults out.new ≡ faults_written (S.faults out.old) result }
     ensures refused { IsRefusedOnce (S.refusals out.old) (S.refusals out.new) result }
 {
-    match obey_batch(alloc, session, text, out, analyst)? {
+    let halt = obey_batch(alloc, session, text, out, analyst)?;
+    match halt {
         Halt::End => Ok(End::Done),
-        Halt::Refused(line, code) => {
-            let place = FaultPlace::Script(line);
-            refuse(alloc, place, code, End::ScriptRefused, out)
-        }
-        Halt::TooLarge(line, fault) => {
-            let place = FaultPlace::Script(line);
-            let circuit = session.circuit();
-            refuse_size(alloc, place, circuit, fault, End::ScriptRefused, out)
-        }
+        _ => refuse_halt(alloc, session.circuit(), halt, out),
     }
 }
 
@@ -97,40 +87,11 @@ fn run_line<S: Sink, A: Analyst>(
         return Ok(Turn::Refused(FaultCode::S11TooLong));
     }
     match read_lane_command(alloc, line.bytes, session.lanes()) {
-        Ok(Some(command)) => run_command(session, &command, out, analyst),
+        Ok(Some(command)) => turn_of(session.apply(&command, analyst, out)),
         Ok(None) => Ok(Turn::Accepted),
         Err(fault) => match script_code(fault) {
             Some(code) => Ok(Turn::Refused(code)),
             None => Err(Stop::Memory),
         },
-    }
-}
-
-// Does a command in each column.
-fn run_command<S: Sink, A: Analyst>(
-    session: &mut LaneSession,
-    command: &LaneCommand,
-    out: &mut S,
-    analyst: &mut A,
-) -> Result<Turn, Stop>
-    requires { IsFormed session.old.core.lanes command.now }
-    ensures turn { TakesCommand session.old.core command.now session.new.core
-        (S.written out.old) (S.written out.new) (A.analysed analyst.old) (A.analysed analyst.new) result }
-    ensures lanes { session.new.core.lanes ≡ session.old.core.lanes }
-    ensures no_read { IfErr result (λ stop. stop ≢ Stop.Read) }
-    ensures write { S.faults out.new ≡ faults_written (S.faults out.old) result }
-    ensures refused { IsRefusedOnce (S.refusals out.old) (S.refusals out.new) result }
-{
-    match session.apply(command, analyst, out) {
-        Ok(()) => Ok(Turn::Accepted),
-        Err(ApplyFault::Refused(refusal)) => Ok(Turn::Refused(refusal_code(refusal))),
-        Err(ApplyFault::GroupNodes { node, count }) => {
-            Ok(Turn::TooLarge(BuildFault::GroupNodes { node, count }))
-        }
-        Err(ApplyFault::GroupSwitches { node, count }) => {
-            Ok(Turn::TooLarge(BuildFault::GroupSwitches { node, count }))
-        }
-        Err(ApplyFault::WriteFault) => Err(Stop::Write),
-        Err(ApplyFault::NoMemory) => Err(Stop::Memory),
     }
 }

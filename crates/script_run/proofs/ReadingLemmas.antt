@@ -1,5 +1,5 @@
 -- How lines are read while a node may be stuck: what a line asks for is well formed, and where no node is stuck lines are read as ever.
-use Rattle.std.proofs.Common.{◌≡◌, ◌≢◌, ℕ, ◌⊎◌, inl, inr, List, Option, None, Some, Result, Ok, Err, refl, sym, ap, subst, ◌∙◌, IfSome, IfOk, IfErr}
+use Rattle.std.proofs.Common.{◌≡◌, ◌≢◌, ℕ, List, Option, None, Some, Result, Ok, Err, refl, subst, ◌∙◌, IfSome}
 use Rattle.ternary.specs.declared.tern.Tern.{Tern}
 use Rattle.netlist.specs.Circuits.{CircuitData}
 use Rattle.script_lang.specs.declared.command.Command.{Command}
@@ -41,20 +41,3 @@ masked-sound stuck = record {
   named = λ c line. still_named stuck c line (reading_of line) refl;
   formed = λ c line. still_formed stuck c line (reading_of line) refl;
 }
-
--- what is read of a line where no node is stuck
-pub read_plain : (stuck : Option (ℕ × Tern)) (c : CircuitData) (line : List ℕ) → stuck ≡ None → masked_reading stuck c line ≡ reading_of line
-read_plain stuck c line none = ap (λ at. masked_reading at c line) none ∙ unmasked-reading c line
-
--- so what was read as ever was read where no node is stuck
-pub read_as : (stuck : Option (ℕ × Tern)) (c : CircuitData) (line : List ℕ) → stuck ≡ None → (result : Result (Option Command) ScriptFault) →
-    IfOk result (λ left. reading_of line ≡ Ok left) → IfOk result (λ left. masked_reading stuck c line ≡ Ok left)
-read_as stuck c line none (Ok left) is = read_plain stuck c line none ∙ is
-read_as stuck c line none (Err fault) is = tt
-
-pub refused_as : (stuck : Option (ℕ × Tern)) (c : CircuitData) (line : List ℕ) → stuck ≡ None → (result : Result (Option Command) ScriptFault) →
-    IfErr result (λ fault. (fault ≡ NoMemory) ⊎ (reading_of line ≡ Err fault)) →
-    IfErr result (λ fault. (fault ≡ NoMemory) ⊎ (masked_reading stuck c line ≡ Err fault))
-refused_as stuck c line none (Ok left) is = tt
-refused_as stuck c line none (Err fault) (inl want) = inl want
-refused_as stuck c line none (Err fault) (inr is) = inr (read_plain stuck c line none ∙ is)

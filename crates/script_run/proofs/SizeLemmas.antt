@@ -6,6 +6,7 @@ use Rattle.path_meaning.specs.Graphs.{GraphData, nodes}
 use Rattle.netlist.specs.Names.{name_at}
 use Rattle.netlist.specs.Circuits.{CircuitData}
 use Rattle.wave_print.specs.declared.faults.FaultPlace.{FaultPlace}
+use Rattle.wave_print.specs.declared.faults.FaultCode.{FaultCode}
 use Rattle.wave_print.specs.declared.faults.FaultCode.TheVariants.{G1GroupNodes, G2GroupSwitches}
 use Rattle.group_meaning.specs.Groups.{id_of}
 use Rattle.group_meaning.proofs.UniqueGroups.{unique}
@@ -76,20 +77,23 @@ module _ (c : CircuitData) (place : FaultPlace) (ended : Status) (fault : BuildF
   named : name ≡ unwrap_or (name_at c.names node) []
   named = sym (ap (λ known. unwrap_or known []) found)
 
-  -- the line of a group with too many members is told of the circuit
+  -- the line of its group is told of the circuit, under the code of the fault
+  told_named : (size : BuildFault) (code : FaultCode) → fault ≡ size → TellsTooLarge c.graph fault →
+      size_cause c size ≡ Some (record { code = code; name = unwrap_or (name_at c.names node) []; count = count }) →
+      IsTold (IsRefusalFor place (record { code = code; name = name; count = count }) ended) old new result →
+      IsTold (IsTooLarge c place ended) old new result
+  told_named size code is tells caused told =
+      told_size c place ended size _ old new result (subst (TellsTooLarge c.graph) is tells) caused
+      (subst (λ called. IsTold (IsRefusalFor place (record { code = code; name = called; count = count }) ended) old new result) named told)
+
+  -- so of a group with too many members
   pub told_nodes : fault ≡ GroupNodes node count →
       IsTold (IsRefusalFor place (record { code = G1GroupNodes; name = name; count = count }) ended) old new result →
       IsTold (IsTooLarge c place ended) old new result
-  told_nodes is told =
-      told_size c place ended (GroupNodes node count) _ old new result
-      (subst (TellsTooLarge c.graph) is (is_too_large c.graph fault node count refused (inl is))) refl
-      (subst (λ called. IsTold (IsRefusalFor place (record { code = G1GroupNodes; name = called; count = count }) ended) old new result) named told)
+  told_nodes is told = told_named (GroupNodes node count) G1GroupNodes is (is_too_large c.graph fault node count refused (inl is)) refl told
 
-  -- and that of a group with too many switches
+  -- and of one with too many switches
   pub told_switches : fault ≡ GroupSwitches node count →
       IsTold (IsRefusalFor place (record { code = G2GroupSwitches; name = name; count = count }) ended) old new result →
       IsTold (IsTooLarge c place ended) old new result
-  told_switches is told =
-      told_size c place ended (GroupSwitches node count) _ old new result
-      (subst (TellsTooLarge c.graph) is (is_too_large c.graph fault node count refused (inr is))) refl
-      (subst (λ called. IsTold (IsRefusalFor place (record { code = G2GroupSwitches; name = called; count = count }) ended) old new result) named told)
+  told_switches is told = told_named (GroupSwitches node count) G2GroupSwitches is (is_too_large c.graph fault node count refused (inr is)) refl told

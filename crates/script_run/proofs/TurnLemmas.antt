@@ -4,34 +4,40 @@ use Rattle.std.specs.Option.{option_eq}
 use Rattle.line_words.specs.Files.{is_cut}
 use Rattle.script_lang.specs.declared.command.Command.{Command}
 use Rattle.script_lang.specs.declared.command.ScriptFault.{ScriptFault}
-use Rattle.script_lang.specs.declared.command.ScriptFault.TheVariants.{NoMemory}
+use Rattle.script_lang.specs.declared.command.ScriptFault.TheVariants as script
 use Rattle.group_text.specs.Texts.{GroupTextData}
+use Rattle.cosmos_session.specs.declared.fault.ApplyFault.{ApplyFault}
+use Rattle.cosmos_session.specs.declared.fault.ApplyFault.TheVariants.{Refused, GroupNodes, GroupSwitches, WriteFault, NoMemory}
 use Rattle.cosmos_session.specs.Sessions.{SessionData, HeldSession}
+use Rattle.cosmos_session.specs.Outcomes.{Obeys}
 use Rattle.wave_print.specs.declared.faults.FaultCode.{FaultCode}
-use Rattle.script_run.specs.declared.stop.Stop.{Stop}
-use Rattle.script_run.specs.declared.script.Turn.{Turn}
-use Rattle.script_run.specs.declared.script.Turn.TheVariants.{Accepted, Refused, TooLarge}
 use Rattle.script_run.specs.Codes.{plain_cause, script_code}
 use Rattle.script_run.specs.Runs.{Reading, Asks, IsRefused, unread, refused}
-use Rattle.script_run.specs.Turns.{TakesTurn, TakesCommand}
+use Rattle.script_run.specs.Stops.{IsRefusedOnce}
+use Rattle.script_run.specs.Turns.{TakesTurn, turn_after}
 
--- a line that asks for a command comes to what the command comes to
-pub takes_turn : (reading : Reading) (cut : Option ℕ) (line : ℕ × List ℕ) (command : Command) (old new : HeldSession) (before after : Option (List ℕ)) (asked told : List GroupTextData) (result : Result Turn Stop) →
-    Asks reading cut old.core line command → TakesCommand old command new before after asked told result →
-    TakesTurn reading cut line old new before after asked told result
-takes_turn reading cut line command old new before after asked told (Ok Accepted) asks accepts =
-    inr (record { command = command; asks = asks; accepts = accepts })
-takes_turn reading cut line command old new before after asked told (Ok (Refused code)) asks (is, keeps) =
-    (refused command is.refusal asks is.cause (ap plain_cause is.coded), keeps)
-takes_turn reading cut line command old new before after asked told (Ok (TooLarge fault)) asks refuses =
-    record { command = command; asks = asks; refuses = refuses }
-takes_turn reading cut line command old new before after asked told (Err stop) asks (inl same) = inl same
-takes_turn reading cut line command old new before after asked told (Err stop) asks (inr begins) =
-    inr (record { command = command; asks = asks; begins = begins })
+-- a line that asks for a command comes to what the command comes to, and the sink lacked memory once at the most
+pub takes_turn : (reading : Reading) (cut : Option ℕ) (line : ℕ × List ℕ) (command : Command) (old new : HeldSession) (before after : Option (List ℕ)) (asked told : List GroupTextData)
+    (refusals now : ℕ) (ended : Result (Unit {0}) ApplyFault) → Asks reading cut old.core line command →
+    Obeys old command new before after asked told refusals now ended →
+    TakesTurn reading cut line old new before after asked told (turn_after ended) × IsRefusedOnce refusals now (turn_after ended)
+takes_turn reading cut line command old new before after asked told refusals now (Ok _) asks (accepts, same) =
+    (inr (record { command = command; asks = asks; accepts = accepts }), same)
+takes_turn reading cut line command old new before after asked told refusals now (Err (Refused refusal)) asks (refuses, same) =
+    ((refused command refusal asks refuses.cause refl, refuses.keeps), same)
+takes_turn reading cut line command old new before after asked told refusals now (Err (GroupNodes node count)) asks (refuses, same) =
+    (record { command = command; asks = asks; refuses = refuses }, same)
+takes_turn reading cut line command old new before after asked told refusals now (Err (GroupSwitches node count)) asks (refuses, same) =
+    (record { command = command; asks = asks; refuses = refuses }, same)
+takes_turn reading cut line command old new before after asked told refusals now (Err WriteFault) asks (begins, same) =
+    (inr (record { command = command; asks = asks; begins = begins }), same)
+takes_turn reading cut line command old new before after asked told refusals now (Err NoMemory) asks (inl (stays, same)) = (inl stays.unwritten, inl same)
+takes_turn reading cut line command old new before after asked told refusals now (Err NoMemory) asks (inr (begins, more)) =
+    (inr (record { command = command; asks = asks; begins = begins }), inr more)
 
 -- a line that can't be read is refused, where its fault has a code
 pub is_unread : (reading : Reading) (cut : Option ℕ) (session : SessionData) (line : ℕ × List ℕ) (fault : ScriptFault) (code : FaultCode) → is_cut cut line.0 ≡ false →
-    (fault ≡ NoMemory) ⊎ (reading session.circuit line.1 ≡ Err fault) → script_code fault ≡ Some code → IsRefused reading cut session line (plain_cause code)
+    (fault ≡ script.NoMemory) ⊎ (reading session.circuit line.1 ≡ Err fault) → script_code fault ≡ Some code → IsRefused reading cut session line (plain_cause code)
 is_unread reading cut session line fault code inside (inl want) coded =
     let none : None ≡ Some code = sym (ap script_code want) ∙ coded in absurd (cc)
 is_unread reading cut session line fault code inside (inr is) coded = unread fault code inside is coded refl

@@ -1,16 +1,17 @@
 -- What running one line of a script comes to, by how lines are read, with what it wrote and which texts of groups were analysed.
-use Rattle.std.specs.Prelude.{◌≡◌, ℕ, ◌⊎◌, List, Option, Some, Result, Ok, Err}
+use Rattle.std.specs.Prelude.{◌≡◌, ℕ, ◌⊎◌, List, Option, Result, Ok, Err}
 use Rattle.group_text.specs.Texts.{GroupTextData}
 use Rattle.circuit_texts.specs.declared.texts.BuildFault.{BuildFault}
+use Rattle.circuit_texts.specs.declared.texts.BuildFault.TheVariants as build
 use Rattle.script_lang.specs.declared.command.Command.{Command}
-use Rattle.cosmos_session.specs.Sessions.{SessionData, HeldSession}
+use Rattle.cosmos_session.specs.Sessions.{HeldSession}
 use Rattle.cosmos_session.specs.Outcomes.{Accepts, Begins, Keeps, RefusesSize}
 use Rattle.script_run.specs.declared.stop.Stop.{Stop}
+use Rattle.script_run.specs.declared.stop.Stop.TheVariants as stop
 use Rattle.script_run.specs.declared.script.Turn.{Turn}
 use Rattle.script_run.specs.declared.script.Turn.TheVariants.{Accepted, Refused, TooLarge}
-use Rattle.cosmos_session.specs.declared.fault.Refusal.{Refusal}
-use Rattle.cosmos_session.specs.Refusals.{refusal_of}
-use Rattle.wave_print.specs.declared.faults.FaultCode.{FaultCode}
+use Rattle.cosmos_session.specs.declared.fault.ApplyFault.{ApplyFault}
+use Rattle.cosmos_session.specs.declared.fault.ApplyFault.TheVariants as apply
 use Rattle.script_run.specs.Codes.{plain_cause, refusal_code}
 use Rattle.script_run.specs.Runs.{Reading, IsIdle, Asks, IsRefused}
 
@@ -46,19 +47,13 @@ TakesTurn reading cut line old new before after asked told (Ok Accepted) =
 TakesTurn reading cut line old new before after asked told (Ok (Refused code)) =
     IsRefused reading cut old.core line (plain_cause code) × Keeps old new before after asked told
 TakesTurn reading cut line old new before after asked told (Ok (TooLarge fault)) = Outgrows reading cut line old new before after asked told fault
-TakesTurn reading cut line old new before after asked told (Err stop) = (after ≡ before) ⊎ Starts reading cut line old new before after asked told
+TakesTurn reading cut line old new before after asked told (Err fault) = (after ≡ before) ⊎ Starts reading cut line old new before after asked told
 
--- a command is refused under this code
-pub record IsRefusedCommand (session : SessionData) (command : Command) (code : FaultCode) : Type 0 where
-  pub refusal : Refusal
-  pub cause : refusal_of session command ≡ Some refusal
-  pub coded : code ≡ refusal_code refusal
-
--- what one command comes to
-abbrev pub TakesCommand : HeldSession → Command → HeldSession → Option (List ℕ) → Option (List ℕ) → List GroupTextData → List GroupTextData →
-    Result Turn Stop → Type 0
-TakesCommand old command new before after asked told (Ok Accepted) = Accepts old command new before after asked told
-TakesCommand old command new before after asked told (Ok (Refused code)) =
-    IsRefusedCommand old.core command code × Keeps old new before after asked told
-TakesCommand old command new before after asked told (Ok (TooLarge fault)) = RefusesSize old command new before after asked told fault
-TakesCommand old command new before after asked told (Err stop) = (after ≡ before) ⊎ Begins old command new before after asked told
+-- what becomes of a line whose command ended so
+abbrev pub turn_after : Result (Unit {0}) ApplyFault → Result Turn Stop
+turn_after (Ok _) = Ok Accepted
+turn_after (Err (apply.Refused refusal)) = Ok (Refused (refusal_code refusal))
+turn_after (Err (apply.GroupNodes node count)) = Ok (TooLarge (build.GroupNodes node count))
+turn_after (Err (apply.GroupSwitches node count)) = Ok (TooLarge (build.GroupSwitches node count))
+turn_after (Err apply.WriteFault) = Err stop.Write
+turn_after (Err apply.NoMemory) = Err stop.Memory

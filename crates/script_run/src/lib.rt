@@ -30,6 +30,6 @@ pub use codes::{refusal_code, script_code};
 pub use halt::Halt;
 pub use laws::scripts_end_at_their_first_refused_line;
 pub use refusal::{refuse, refuse_halt, refuse_size};
-pub use script::{Turn, obey_lines, run_line, run_lines};
+pub use script::{Turn, obey_lines, run_line, run_lines, turn_of};
 pub use status::Status;
 pub use stop::{End, Stop};

@@ -1,12 +1,12 @@
 //! Running the lines of a script.
 
-ghost use Rattle.std.specs.Prelude.{◌≡◌, ◌≢◌, ◌⊎◌, None, Ok, Err, IfOk, IfErr, IfSome};
+ghost use Rattle.std.specs.Prelude.{◌≡◌, ◌≢◌, ℕ, None, IfErr};
 ghost use Rattle.line_words.specs.Files as file;
-ghost use Rattle.script_lang.specs.Forms.{IsFormed};
 ghost use Rattle.fault_sim.specs.Masks.{masked_reading};
 ghost use Rattle.cosmos_session.specs.Sessions.{IsReady};
+ghost use Rattle.cosmos_session.specs.Sinks.{faults_applied};
 ghost use Rattle.script_run.specs.Runs.{plain_reading, status_told};
-ghost use Rattle.script_run.specs.Turns.{TakesTurn, TakesCommand};
+ghost use Rattle.script_run.specs.Turns.{TakesTurn, turn_after};
 ghost use Rattle.script_run.specs.Halts.{TellsHalt};
 ghost use Rattle.script_run.specs.Ends.{TellsRun, status_of};
 ghost use Rattle.script_run.specs.Stops.{faults_written, IsRefusedOnce};
@@ -20,9 +20,7 @@ use cosmos_session::{ApplyFault, Session};
 use fault_sim::read_masked;
 use group_analysis::Analyst;
 use line_words::{Line, cut_line, front, lines};
-use netlist::Circuit;
 use port_edge::Sink;
-use script_lang::{Command, ScriptFault, read_command};
 use std::alloc::Global;
 use ternary::Tern;
 use wave_print::FaultCode;
@@ -126,8 +124,8 @@ pub fn run_line<S: Sink, A: Analyst>(
     if cut == Some(line.number) {
         return Ok(Turn::Refused(FaultCode::S11TooLong));
     }
-    match read_line(alloc, line.bytes, session.circuit(), stuck) {
-        Ok(Some(command)) => run_command(session, &command, out, analyst),
+    match read_masked(alloc, line.bytes, session.circuit(), stuck) {
+        Ok(Some(command)) => turn_of(session.apply(&command, analyst, out)),
         Ok(None) => Ok(Turn::Accepted),
         Err(fault) => match script_code(fault) {
             Some(code) => Ok(Turn::Refused(code)),
@@ -136,40 +134,13 @@ pub fn run_line<S: Sink, A: Analyst>(
     }
 }
 
-// Reads a line. Where no node is stuck its command is taken as it is, and not copied.
-fn read_line(
-    alloc: Global,
-    bytes: &[u8],
-    circuit: &Circuit,
-    stuck: Option<(usize, Tern)>,
-) -> Result<Option<Command>, ScriptFault>
-    ensures ok { IfOk result (λ left. masked_reading stuck circuit.now bytes.now ≡ Ok left) }
-    ensures refused { IfErr result (λ fault. (fault ≡ ScriptFault.NoMemory)
-        ⊎ (masked_reading stuck circuit.now bytes.now ≡ Err fault)) }
-    ensures formed { IfOk result (λ left. IfSome left IsFormed) }
-{
-    match stuck {
-        Some(_) => read_masked(alloc, bytes, circuit, stuck),
-        None => read_command(alloc, bytes),
-    }
-}
-
-// Does a command.
-fn run_command<S: Sink, A: Analyst>(
-    session: &mut Session,
-    command: &Command,
-    out: &mut S,
-    analyst: &mut A,
-) -> Result<Turn, Stop>
-    requires { IsFormed command.now }
-    ensures turn { TakesCommand
-        session.old command.now session.new
-        (S.written out.old) (S.written out.new) (A.analysed analyst.old) (A.analysed analyst.new) result }
+/// What becomes of a line whose command ended so.
+pub fn turn_of(ended: Result<(), ApplyFault>) -> Result<Turn, Stop>
+    ensures turn { result ≡ turn_after ended }
     ensures no_read { IfErr result (λ stop. stop ≢ Stop.Read) }
-    ensures write { S.faults out.new ≡ faults_written (S.faults out.old) result }
-    ensures refused { IsRefusedOnce (S.refusals out.old) (S.refusals out.new) result }
+    ensures write { (faults : ℕ) → faults_written faults result ≡ faults_applied faults ended }
 {
-    match session.apply(command, analyst, out) {
+    match ended {
         Ok(()) => Ok(Turn::Accepted),
         Err(ApplyFault::Refused(refusal)) => Ok(Turn::Refused(refusal_code(refusal))),
         Err(ApplyFault::GroupNodes { node, count }) => {

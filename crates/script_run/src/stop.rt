@@ -2,7 +2,6 @@ ghost use Rattle.std.specs.Prelude.{◌≡◌};
 ghost use Rattle.script_run.specs.Stops.{read_stop_of, write_stop_of};
 
 use port_edge::PortFault;
-use std::alloc::AllocError;
 use ternary::NoMemory;
 
 /// How a run ends that meets no fault and no want of memory.
@@ -59,16 +58,6 @@ impl From<NoMemory> for Stop {
     ghost from_gives = { λ _ stop. stop ≡ Memory };
 
     fn from(_want: NoMemory) -> Stop {
-        Stop::Memory
-    }
-}
-
-impl From<AllocError> for Stop {
-    ghost use Rattle.script_run.specs.declared.stop.Stop.TheVariants.{Memory};
-
-    ghost from_gives = { λ _ stop. stop ≡ Memory };
-
-    fn from(_error: AllocError) -> Stop {
         Stop::Memory
     }
 }

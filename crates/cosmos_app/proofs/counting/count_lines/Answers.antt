@@ -1,10 +1,15 @@
 -- Each line takes the counts one step on; at each exit what was counted so far becomes what is told of the whole script.
-use Rattle.std.proofs.Common.{List, ℕ, Some, ap, ◌∙◌}
+use Rattle.std.proofs.Common.{◌≡◌, List, [], ℕ, Some, Ok, ap, ◌∙◌}
 use Rattle.std.specs.List.{enumerate_from}
 use Rattle.line_words.specs.Lines.{lines_of}
 use Rattle.line_words.specs.Files as file
+use Rattle.script_run.specs.declared.script.Turn.{Turn}
 use Rattle.script_run.specs.declared.script.Turn.TheVariants.{Accepted, Refused, TooLarge}
+use Rattle.script_run.specs.Runs.{plain_reading}
+use Rattle.script_run.specs.Turns.{TakesTurn}
 use Rattle.cosmos_app.proofs.CountingLemmas.{tallies_first, turn_plain, tallies_on, tallies_all, halts_refused, halts_large}
+use Rattle.cosmos_app.proofs.counting.count_lines.Given.{Over}
+use Rattle.cosmos_app.proofs.counting.count_lines.Goals.{In_ok-run_line}
 use Rattle.cosmos_app.proofs.counting.count_lines.Goals as goal
 
 pub loop-line-init : goal.loop-line-init
@@ -15,38 +20,32 @@ loop-line-init g c =
     ∙ ap (λ (front : List ℕ). enumerate_from 1 (lines_of front)) c.front.ensures)
     c.requires
 
+-- what the line came to, read as ever over a new sink
+line_taken : (g : Over) (c : In_ok-run_line g) (turn : Turn) → c.in_ok-run_line.field-0 ≡ turn →
+    TakesTurn plain_reading (file.cut_line c.args.text.now) (c.in-Some.line.number, c.in-Some.line.bytes.now) c.loop-line.session c.run_line.new.session
+    (Some []) (Some c.run_line.new.out.written) (g.A.Analyst.analysed c.loop-line.analyst) (g.A.Analyst.analysed c.run_line.new.analyst) (Ok turn)
+line_taken g c turn is =
+    turn_plain c.cut_line-cut.result (file.cut_line c.args.text.now) (c.in-Some.line.number, c.in-Some.line.bytes.now) c.loop-line.session
+    c.run_line.new.session c.new-out.result (Some c.run_line.new.out.written) (g.A.Analyst.analysed c.loop-line.analyst)
+    (g.A.Analyst.analysed c.run_line.new.analyst) c.in_ok-run_line.field-0 turn c.cut_line-cut.ensures c.new-out.ensures is c.in_ok-run_line.ensures.turn
+
 pub returns-in-Refused-clause-told : goal.returns-in-Refused-clause-told
 returns-in-Refused-clause-told g c =
-    let line : ℕ × List ℕ = (c.in-Some.line.number, c.in-Some.line.bytes.now) in
-    let further = g.A.Analyst.analysed c.run_line.new.analyst in
-    let more = Some c.run_line.new.out.written in
-    halts_refused _ _ _ _ _ _ c.loop-line.session line _ _ _ _ c.in-Some.ensures.steps c.loop-line.invariant c.run_line.new.session more further
-    c.in-Refused.code
-    (turn_plain c.cut_line-cut.result (file.cut_line c.args.text.now) line c.loop-line.session c.run_line.new.session c.new-out.result more
-    (g.A.Analyst.analysed c.loop-line.analyst) further c.in_ok-run_line.field-0 (Refused c.in-Refused.code) c.cut_line-cut.ensures c.new-out.ensures
-    c.in-Refused.is c.in_ok-run_line.ensures.turn)
+    halts_refused _ _ _ _ _ _ c.loop-line.session (c.in-Some.line.number, c.in-Some.line.bytes.now) _ _ _ _ c.in-Some.ensures.steps c.loop-line.invariant
+    c.run_line.new.session (Some c.run_line.new.out.written) (g.A.Analyst.analysed c.run_line.new.analyst) c.in-Refused.code
+    (line_taken g (goal.at.returns-in-Refused-clause-told g c).In_ok-run_line (Refused c.in-Refused.code) c.in-Refused.is)
 
 pub returns-in-TooLarge-clause-told : goal.returns-in-TooLarge-clause-told
 returns-in-TooLarge-clause-told g c =
-    let line : ℕ × List ℕ = (c.in-Some.line.number, c.in-Some.line.bytes.now) in
-    let further = g.A.Analyst.analysed c.run_line.new.analyst in
-    let more = Some c.run_line.new.out.written in
-    halts_large _ _ _ _ _ _ c.loop-line.session line _ _ _ _ c.in-Some.ensures.steps c.loop-line.invariant c.run_line.new.session more further
-    c.in-TooLarge.fault
-    (turn_plain c.cut_line-cut.result (file.cut_line c.args.text.now) line c.loop-line.session c.run_line.new.session c.new-out.result more
-    (g.A.Analyst.analysed c.loop-line.analyst) further c.in_ok-run_line.field-0 (TooLarge c.in-TooLarge.fault) c.cut_line-cut.ensures c.new-out.ensures
-    c.in-TooLarge.is c.in_ok-run_line.ensures.turn)
+    halts_large _ _ _ _ _ _ c.loop-line.session (c.in-Some.line.number, c.in-Some.line.bytes.now) _ _ _ _ c.in-Some.ensures.steps c.loop-line.invariant
+    c.run_line.new.session (Some c.run_line.new.out.written) (g.A.Analyst.analysed c.run_line.new.analyst) c.in-TooLarge.fault
+    (line_taken g (goal.at.returns-in-TooLarge-clause-told g c).In_ok-run_line (TooLarge c.in-TooLarge.fault) c.in-TooLarge.is)
 
 pub loop-line-preserved : goal.loop-line-preserved
 loop-line-preserved g c =
-    let line : ℕ × List ℕ = (c.in-Some.line.number, c.in-Some.line.bytes.now) in
-    let further = g.A.Analyst.analysed c.run_line.new.analyst in
-    let text = c.run_line.new.out.written in
-    tallies_on _ _ _ _ _ _ c.loop-line.session line _ _ _ _ c.in-Some.ensures.steps c.loop-line.invariant c.run_line.new.session text further
-    c.count_text.new.summary
-    (turn_plain c.cut_line-cut.result (file.cut_line c.args.text.now) line c.loop-line.session c.run_line.new.session c.new-out.result (Some text)
-    (g.A.Analyst.analysed c.loop-line.analyst) further c.in_ok-run_line.field-0 Accepted c.cut_line-cut.ensures c.new-out.ensures
-    c.in-Accepted.is c.in_ok-run_line.ensures.turn)
+    tallies_on _ _ _ _ _ _ c.loop-line.session (c.in-Some.line.number, c.in-Some.line.bytes.now) _ _ _ _ c.in-Some.ensures.steps c.loop-line.invariant
+    c.run_line.new.session c.run_line.new.out.written (g.A.Analyst.analysed c.run_line.new.analyst) c.count_text.new.summary
+    (line_taken g (goal.at.loop-line-preserved g c).In_ok-run_line Accepted c.in-Accepted.is)
     c.are_bounded.ensures
     (λ nodes switches before some is same alike. c.count_text.ensures nodes switches before some is (c.written.ensures ∙ same) alike)
 

@@ -1,41 +1,43 @@
 -- What was told of the case is told of what is asked.
-use Rattle.std.proofs.Common.{sym, ap, subst}
+use Rattle.std.proofs.Common.{◌≡◌, ℕ, List, [], Option, Result, sym, ap, subst}
+use Rattle.netlist.specs.Circuits.{CircuitData}
+use Rattle.group_text.specs.Texts.{GroupTextData}
+use Rattle.script_run.specs.declared.stop.End as end
+use Rattle.script_run.specs.declared.stop.Stop.{Stop}
 use Rattle.script_run.specs.Runs.{Answer}
-use Rattle.script_run.specs.Ends.{IsToldBy}
+use Rattle.script_run.specs.Ends.{IsTold, IsToldBy}
 use Rattle.script_run.proofs.EndLemmas.{told_by_none}
 use Rattle.cosmos_app.specs.declared.request.Report.{Report}
 use Rattle.cosmos_app.specs.Requests.{report_seen}
 use Rattle.cosmos_app.specs.Answers.{IsAnswerIn, IsCheck, IsGroups}
 use Rattle.cosmos_app.proofs.reports.report_on.Goals as goal
 
+told_for : {report other : Report} → report ≡ other → (holds : List ℕ → List ℕ) (circuit : CircuitData) (old new : Option (List ℕ))
+    (before after : List GroupTextData) (result : Result end.End Stop) → IsToldBy (IsAnswerIn (report_seen other) holds circuit) old new before after result →
+    IsToldBy (IsAnswerIn (report_seen report) holds circuit) old new before after result
+told_for is holds circuit old new before after result told =
+    subst (λ (asked : Report). IsToldBy (IsAnswerIn (report_seen asked) holds circuit) old new before after result) (sym is) told
+
+-- the same where no texts are analysed
+told_alone : {report other : Report} → report ≡ other → (IsRight : Answer → Type 0) (holds : List ℕ → List ℕ) (circuit : CircuitData)
+    (old new : Option (List ℕ)) (before : List GroupTextData) (result : Result end.End Stop) →
+    ((answer : Answer) → IsRight answer → IsAnswerIn (report_seen other) holds circuit answer × (answer.texts ≡ [])) → IsTold IsRight old new result →
+    IsToldBy (IsAnswerIn (report_seen report) holds circuit) old new before before result
+told_alone {report} {other} is IsRight holds circuit old new before result means told =
+    told_for is holds circuit old new before before result
+    (told_by_none IsRight (IsAnswerIn (report_seen other) holds circuit) old new before result means told)
+
 pub returns-in-Check-clause-told : goal.returns-in-Check-clause-told
 returns-in-Check-clause-told g c = λ holds.
-    subst
-    (λ (report : Report). IsToldBy (IsAnswerIn (report_seen report) holds c.args.circuit.now) (g.S.Sink.written c.args.out.now)
-    (g.S.Sink.written c.report_check.new.out)
-    (g.A.Analyst.analysed c.args.analyst.now) (g.A.Analyst.analysed c.args.analyst.now) c.report_check.result)
-    (sym c.in-Check.is)
-    (told_by_none (IsCheck c.args.circuit.now) (IsCheck c.args.circuit.now) (g.S.Sink.written c.args.out.now)
-    (g.S.Sink.written c.report_check.new.out)
-    (g.A.Analyst.analysed c.args.analyst.now) c.report_check.result (λ answer is. (is, ap (λ (told : Answer). told.texts) is))
-    c.report_check.ensures.told)
+    told_alone c.in-Check.is (IsCheck c.args.circuit.now) holds c.args.circuit.now (g.S.Sink.written c.args.out.now) (g.S.Sink.written c.report_check.new.out)
+    (g.A.Analyst.analysed c.args.analyst.now) c.report_check.result (λ answer is. (is, ap (λ (told : Answer). told.texts) is)) c.report_check.ensures.told
 
 pub returns-in-Groups-clause-told : goal.returns-in-Groups-clause-told
 returns-in-Groups-clause-told g c = λ holds.
-    subst
-    (λ (report : Report). IsToldBy (IsAnswerIn (report_seen report) holds c.args.circuit.now) (g.S.Sink.written c.args.out.now)
-    (g.S.Sink.written c.list_groups.new.out)
-    (g.A.Analyst.analysed c.args.analyst.now) (g.A.Analyst.analysed c.args.analyst.now) c.list_groups.result)
-    (sym c.in-Groups.is)
-    (told_by_none (IsGroups c.args.circuit.now) (IsGroups c.args.circuit.now) (g.S.Sink.written c.args.out.now)
-    (g.S.Sink.written c.list_groups.new.out)
-    (g.A.Analyst.analysed c.args.analyst.now) c.list_groups.result (λ answer is. (is, ap (λ (told : Answer). told.texts) is.2))
-    c.list_groups.ensures.told)
+    told_alone c.in-Groups.is (IsGroups c.args.circuit.now) holds c.args.circuit.now (g.S.Sink.written c.args.out.now) (g.S.Sink.written c.list_groups.new.out)
+    (g.A.Analyst.analysed c.args.analyst.now) c.list_groups.result (λ answer is. (is, ap (λ (told : Answer). told.texts) is.2)) c.list_groups.ensures.told
 
 pub returns-in-Compile-clause-told : goal.returns-in-Compile-clause-told
 returns-in-Compile-clause-told g c = λ holds.
-    subst
-    (λ (report : Report). IsToldBy (IsAnswerIn (report_seen report) holds c.args.circuit.now) (g.S.Sink.written c.args.out.now)
-    (g.S.Sink.written c.write_listing.new.out)
-    (g.A.Analyst.analysed c.args.analyst.now) (g.A.Analyst.analysed c.write_listing.new.analyst) c.write_listing.result)
-    (sym c.in-Compile.is) c.write_listing.ensures.told
+    told_for c.in-Compile.is holds c.args.circuit.now (g.S.Sink.written c.args.out.now) (g.S.Sink.written c.write_listing.new.out)
+    (g.A.Analyst.analysed c.args.analyst.now) (g.A.Analyst.analysed c.write_listing.new.analyst) c.write_listing.result c.write_listing.ensures.told

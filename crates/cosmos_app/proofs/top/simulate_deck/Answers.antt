@@ -1,12 +1,9 @@
 -- What was told of the circuit that was read, or of its refusal, is told of the deck.
-use Rattle.std.proofs.Common.{Ok, Err, ap, inl, inr, ◌∙◌}
+use Rattle.std.proofs.Common.{Ok, Err, inl, inr}
 use Rattle.port_edge.proofs.ResultLemmas.{at_ok}
 use Rattle.port_edge.proofs.TakenLemmas.{files_both}
 use Rattle.spice_cards.specs.declared.fault.DeckFault.TheVariants.{At}
-use Rattle.script_run.specs.Stops.{faults_read}
-use Rattle.script_run.proofs.EndLemmas.{read_none}
 use Rattle.cosmos_app.proofs.DeckLemmas.{deck_means_as, told_deck, told_deck_refusal, starts_script, whole_script, whole_refused_deck}
-use Rattle.cosmos_app.proofs.EndLemmas.{untouched_none}
 use Rattle.cosmos_app.proofs.FeedingLemmas.{at_each}
 use Rattle.cosmos_app.proofs.top.simulate_deck.Goals as goal
 
@@ -14,15 +11,14 @@ pub returns-in-Ok-clause-told : goal.returns-in-Ok-clause-told
 returns-in-Ok-clause-told g c =
     told_deck (g.F.Files.holds c.args.files.now) (g.F.Files.holds c.read_deck_file.new.files) c.args.deck.now c.args.script.now (Ok c.in-Ok.circuit)
     (g.S.Sink.written c.args.out.now) (g.S.Sink.written c.run_script.new.out) (g.A.Analyst.analysed c.args.analyst.now)
-    (g.A.Analyst.analysed c.run_script.new.analyst)
-    c.run_script.result
+    (g.A.Analyst.analysed c.run_script.new.analyst) c.run_script.result
     (deck_means_as (g.F.Files.holds c.args.files.now) c.args.deck.now _ (Ok c.in-Ok.circuit) c.in-Ok.is c.in_ok-circuit.ensures.means)
     c.in_ok-circuit.ensures.holds c.run_script.ensures.told
 
 pub returns-in-Ok-clause-started : goal.returns-in-Ok-clause-started
 returns-in-Ok-clause-started g c =
-    starts_script (g.F.Files.holds c.args.files.now) c.args.deck.now c.args.script.now c.in-Ok.circuit (g.F.Files.started c.args.files.now)
-    (g.F.Files.started c.read_deck_file.new.files) (g.F.Files.started c.run_script.new.files)
+    starts_script (g.F.Files.holds c.args.files.now) c.args.deck.now c.args.script.now c.in-Ok.circuit
+    (g.F.Files.started c.args.files.now) (g.F.Files.started c.read_deck_file.new.files) (g.F.Files.started c.run_script.new.files)
     (deck_means_as (g.F.Files.holds c.args.files.now) c.args.deck.now _ (Ok c.in-Ok.circuit) c.in-Ok.is c.in_ok-circuit.ensures.means)
     c.in_ok-circuit.ensures.started c.run_script.ensures.started
 
@@ -30,8 +26,7 @@ pub returns-in-Ok-clause-whole : goal.returns-in-Ok-clause-whole
 returns-in-Ok-clause-whole g c =
     at_each c.run_script.result
     (λ ended after. whole_script (g.F.Files.holds c.args.files.now) (g.F.Files.holds c.read_deck_file.new.files) c.args.deck.now c.args.script.now
-    c.in-Ok.circuit
-    (g.F.Files.taken c.args.files.now) (g.F.Files.taken c.read_deck_file.new.files) (g.F.Files.taken c.run_script.new.files)
+    c.in-Ok.circuit (g.F.Files.taken c.args.files.now) (g.F.Files.taken c.read_deck_file.new.files) (g.F.Files.taken c.run_script.new.files)
     (deck_means_as (g.F.Files.holds c.args.files.now) c.args.deck.now _ (Ok c.in-Ok.circuit) c.in-Ok.is c.in_ok-circuit.ensures.means)
     c.in_ok-circuit.ensures.holds c.in_ok-circuit.ensures.whole after)
     c.run_script.ensures.whole
@@ -51,23 +46,11 @@ returns-in-Err-clause-whole g c =
     (deck_means_as (g.F.Files.holds c.args.files.now) c.args.deck.now _ (Err c.in-Err.refusal) c.in-Err.is c.in_ok-circuit.ensures.means)
     c.in_ok-circuit.ensures.whole)
 
-pub returns-in-Ok-clause-taken : goal.returns-in-Ok-clause-taken
-returns-in-Ok-clause-taken g c =
-    files_both (g.F.Files.taken c.args.files.now) (g.F.Files.taken c.read_deck_file.new.files) (g.F.Files.taken c.run_script.new.files) _
-    c.in_ok-circuit.ensures.taken c.run_script.ensures.taken
-
-pub returns-in-Ok-clause-read : goal.returns-in-Ok-clause-read
-returns-in-Ok-clause-read g c =
-    c.run_script.ensures.read ∙ ap (λ n. faults_read n c.run_script.result) c.in_ok-circuit.ensures.read
-
 pub returns-in-Err-clause-started : goal.returns-in-Err-clause-started
 returns-in-Err-clause-started g c =
     inl (inr c.in_ok-circuit.ensures.started)
 
-pub returns-in-Err-clause-read : goal.returns-in-Err-clause-read
-returns-in-Err-clause-read g c =
-    c.in_ok-circuit.ensures.read ∙ read_none (g.F.Files.faults c.args.files.now) c.refuse_deck.result c.refuse_deck.ensures.no_read
-
-pub returns-in-Err-clause-untouched : goal.returns-in-Err-clause-untouched
-returns-in-Err-clause-untouched g c =
-    untouched_none c.args.out.now c.refuse_deck.new.out c.refuse_deck.result c.refuse_deck.ensures.no_read
+pub returns-in-Ok-clause-taken : goal.returns-in-Ok-clause-taken
+returns-in-Ok-clause-taken g c =
+    files_both (g.F.Files.taken c.args.files.now) (g.F.Files.taken c.read_deck_file.new.files) (g.F.Files.taken c.run_script.new.files) _
+    c.in_ok-circuit.ensures.taken c.run_script.ensures.taken

@@ -1,11 +1,13 @@
 -- Each line takes the script one step on in all columns; at each exit what was told so far becomes what is told of all lines.
-use Rattle.std.proofs.Common.{List, ℕ, inr, refl, sym, ap, ◌∙◌, subst}
+use Rattle.std.proofs.Common.{List, ◌∷◌, ℕ, inr, refl, sym, ap, ◌∙◌, subst}
 use Rattle.std.specs.List.{enumerate_from}
 use Rattle.std.proofs.lemmas.Result.{err_from_is_err_and}
 use Rattle.line_words.specs.Lines.{lines_of}
 use Rattle.line_words.specs.Files as file
 use Rattle.lane_session.specs.LaneSessions.{session_in}
 use Rattle.lane_run.proofs.RunLemmas.{HasCome, ready_columns, comes_first, comes_at, comes_on, obeyed_in, outgrown_in, breaks_in_all, halts_refused, halts_large, halts_stop, halts_end}
+use Rattle.lane_run.proofs.batch.obey_batch.Given.{Over}
+use Rattle.lane_run.proofs.batch.obey_batch.Goals.{In-Some}
 use Rattle.lane_run.proofs.batch.obey_batch.Goals as goal
 
 pub loop-line-init : goal.loop-line-init
@@ -24,42 +26,43 @@ loop-line-init g c = record {
   refusals = refl;
 }
 
+-- as many columns as now have come to the line
+come_here : (g : Over) (c : In-Some g) →
+    HasCome c.loop-line.session.core.lanes c.cut_line-cut.result (session_in c.args.session.now.core) (file.lines_in c.args.text.now)
+    (g.S.Sink.written c.args.out.now) (g.A.Analyst.analysed c.args.analyst.now) (session_in c.loop-line.session.core)
+    ((c.in-Some.line.number, c.in-Some.line.bytes.now) ∷ c.next.new.self) (g.S.Sink.written c.loop-line.out) (g.A.Analyst.analysed c.loop-line.analyst)
+come_here g c = comes_at (sym c.loop-line.invariant.lanes) c.in-Some.ensures.steps c.loop-line.invariant.come
+
 pub returns-in_err-run_line-clause-told : goal.returns-in_err-run_line-clause-told
 returns-in_err-run_line-clause-told g c =
-    let lanes = c.loop-line.invariant.lanes in
-    let come = comes_at (sym lanes) c.in-Some.ensures.steps c.loop-line.invariant.come in
+    let come = come_here g (goal.at.returns-in_err-run_line-clause-told g c).In-Some in
     let stopped = halts_stop _ _ _ _ _ c.loop-line.session.core _ _ _ _ come c.run_line.new.session.core (g.S.Sink.written c.run_line.new.out)
     (g.A.Analyst.analysed c.run_line.new.analyst) c.in_err-run_line.field-0.0 c.in_err-run_line.ensures.turn in
     let p = err_from_is_err_and c.from_residual.result c.from_residual.ensures.1 in
-    rw p.1 (inr (breaks_in_all lanes c.cut_line-cut.ensures stopped))
+    rw p.1 (inr (breaks_in_all c.loop-line.invariant.lanes c.cut_line-cut.ensures stopped))
 
 pub loop-line-preserved : goal.loop-line-preserved
 loop-line-preserved g c =
-    let lanes = c.loop-line.invariant.lanes in
-    let come = comes_at (sym lanes) c.in-Some.ensures.steps c.loop-line.invariant.come in
+    let come = come_here g (goal.at.loop-line-preserved g c).In-Some in
     record {
-      come = comes_at lanes refl
+      come = comes_at c.loop-line.invariant.lanes refl
           (comes_on _ _ _ _ _ c.loop-line.session.core _ _ _ _ come c.run_line.new.session.core (g.S.Sink.written c.run_line.new.out)
           (g.A.Analyst.analysed c.run_line.new.analyst) (rw c.in-Accepted.is at c.in_ok-run_line.ensures.turn));
-      lanes = c.in_ok-run_line.ensures.lanes ∙ lanes;
+      lanes = c.in_ok-run_line.ensures.lanes ∙ c.loop-line.invariant.lanes;
       faults = c.in_ok-run_line.ensures.write ∙ c.loop-line.invariant.faults;
       refusals = c.in_ok-run_line.ensures.refused ∙ c.loop-line.invariant.refusals;
     }
 
 pub returns-in-Refused-clause-told : goal.returns-in-Refused-clause-told
 returns-in-Refused-clause-told g c =
-    let lanes = c.loop-line.invariant.lanes in
-    let come = comes_at (sym lanes) c.in-Some.ensures.steps c.loop-line.invariant.come in
-    obeyed_in lanes c.cut_line-cut.ensures
-    (halts_refused _ _ _ _ _ c.loop-line.session.core _ _ _ _ come c.run_line.new.session.core (g.S.Sink.written c.run_line.new.out)
+    obeyed_in c.loop-line.invariant.lanes c.cut_line-cut.ensures
+    (halts_refused _ _ _ _ _ c.loop-line.session.core _ _ _ _ (come_here g (goal.at.returns-in-Refused-clause-told g c).In-Some) c.run_line.new.session.core (g.S.Sink.written c.run_line.new.out)
     (g.A.Analyst.analysed c.run_line.new.analyst) c.in-Refused.code (rw c.in-Refused.is at c.in_ok-run_line.ensures.turn))
 
 pub returns-in-TooLarge-clause-told : goal.returns-in-TooLarge-clause-told
 returns-in-TooLarge-clause-told g c =
-    let lanes = c.loop-line.invariant.lanes in
-    let come = comes_at (sym lanes) c.in-Some.ensures.steps c.loop-line.invariant.come in
-    outgrown_in lanes c.cut_line-cut.ensures
-    (halts_large _ _ _ _ _ c.loop-line.session.core _ _ _ _ come c.run_line.new.session.core (g.S.Sink.written c.run_line.new.out)
+    outgrown_in c.loop-line.invariant.lanes c.cut_line-cut.ensures
+    (halts_large _ _ _ _ _ c.loop-line.session.core _ _ _ _ (come_here g (goal.at.returns-in-TooLarge-clause-told g c).In-Some) c.run_line.new.session.core (g.S.Sink.written c.run_line.new.out)
     (g.A.Analyst.analysed c.run_line.new.analyst) c.in-TooLarge.fault (rw c.in-TooLarge.is at c.in_ok-run_line.ensures.turn))
 
 pub returns-clause-told : goal.returns-clause-told

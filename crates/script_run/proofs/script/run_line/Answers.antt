@@ -3,16 +3,32 @@ use Rattle.std.proofs.Common.{◌≡◌, ◌⊎◌, ap, sym, subst, ◌∙◌, r
 use Rattle.netlist.specs.Circuits.{CircuitData}
 use Rattle.script_lang.specs.declared.command.ScriptFault.TheVariants.{NoMemory}
 use Rattle.fault_sim.specs.Masks.{masked_reading}
+use Rattle.script_run.specs.Stops.{IsRefusedOnce}
+use Rattle.script_run.specs.Turns.{TakesTurn}
 use Rattle.script_run.proofs.TurnLemmas.{takes_turn, is_unread, is_inside}
+use Rattle.script_run.proofs.script.run_line.Given.{Over}
+use Rattle.script_run.proofs.script.run_line.Goals.{After-turn_of}
 use Rattle.script_run.proofs.script.run_line.Goals as goal
 
-pub returns-in-Ok-Some-clause-turn : goal.returns-in-Ok-Some-clause-turn
-returns-in-Ok-Some-clause-turn g c =
-    let reading = masked_reading c.args.stuck in
+-- the line's command has ended
+command_ended : (g : Over) (c : After-turn_of g) →
+    TakesTurn (masked_reading c.args.stuck) c.args.cut (c.args.line.number, c.args.line.bytes.now) c.args.session.now c.apply.new.self
+    (g.S.Sink.written c.args.out.now) (g.S.Sink.written c.apply.new.out) (g.A.Analyst.analysed c.args.analyst.now) (g.A.Analyst.analysed c.apply.new.analyst)
+    c.turn_of.result
+    × IsRefusedOnce (g.S.Sink.refusals c.args.out.now) (g.S.Sink.refusals c.apply.new.out) c.turn_of.result
+command_ended g c =
     let inside = is_inside c.args.cut c.args.line.number c.eq.result c.eq.ensures c.if-eq.false in
     let asked = ap (λ (circuit : CircuitData). masked_reading c.args.stuck circuit c.args.line.bytes.now) (sym c.circuit.ensures.value)
     ∙ c.in-Ok-Some.ensures.ok ∙ ap Ok c.in-Ok-Some.field-0-is in
-    takes_turn reading _ _ c.in-Ok-Some.command _ _ _ _ _ _ c.run_command.result (record { inside = inside; asked = asked }) c.run_command.ensures.turn
+    rw c.turn_of.ensures.turn
+    (takes_turn (masked_reading c.args.stuck) _ _ c.in-Ok-Some.command _ _ _ _ _ _ _ _ c.apply.result (record { inside = inside; asked = asked })
+    c.apply.ensures.obeys)
+
+pub returns-in-Ok-Some-clause-turn : goal.returns-in-Ok-Some-clause-turn
+returns-in-Ok-Some-clause-turn g c = (command_ended g (goal.at.returns-in-Ok-Some-clause-turn g c).After-turn_of).0
+
+pub returns-in-Ok-Some-clause-refused : goal.returns-in-Ok-Some-clause-refused
+returns-in-Ok-Some-clause-refused g c = (command_ended g (goal.at.returns-in-Ok-Some-clause-refused g c).After-turn_of).1
 
 pub returns-in-Some-clause-turn : goal.returns-in-Some-clause-turn
 returns-in-Some-clause-turn g c =
