@@ -28,7 +28,7 @@ all_analysed old new before after texts count none keeps =
     keeps.analysed ∙ ap (λ more. before ++ more) (rw kept (new_texts-none_kept texts))
 
 -- and so a front of them was
-front_of_all : (before after texts : List GroupTextData) → after ≡ before ++ texts → AnalysesFront before after texts
+pub front_of_all : (before after texts : List GroupTextData) → after ≡ before ++ texts → AnalysesFront before after texts
 front_of_all before after texts analysed = record { front = texts; rest = []; texts_are = sym (append-nil texts); analysed = analysed }
 
 -- before the first text none was
@@ -66,8 +66,3 @@ module _ (g : GraphData) (groups : List Group) (are : AreGroups g groups) (texts
       after ≡ before ++ first_texts (map (text_of_group g) others)
   all_of_groups analysed others others_are =
       rw (unique g others groups others_are are, ← distinct) analysed
-
-  -- and where all were analysed, a front was
-  pub whole_front : after ≡ before ++ first_texts texts → (others : List Group) → AreGroups g others →
-      AnalysesFront before after (first_texts (map (text_of_group g) others))
-  whole_front analysed = front_of_groups (front_of_all before after (first_texts texts) analysed)
