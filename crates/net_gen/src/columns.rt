@@ -1,4 +1,4 @@
-ghost use Rattle.std.specs.Prelude.{◌≡◌, ℕ, ◌+◌, ◌++◌, ◌^◌, ◌<◌, OnOk};
+ghost use Rattle.std.specs.Prelude.{◌≡◌, ℕ, ◌+◌, ◌++◌, ◌^◌, ◌<◌, OnOk, decimal};
 ghost use Rattle.net_gen.specs.Columns.{bit_lines, weak, access, cell, column, chosen, column_settings, columns_start, columns_turn};
 
 use crate::draws::Draws;
@@ -131,28 +131,21 @@ fn put_settings(text: &mut Vec<u8>, j: u64, write_enable: u64, value: u64) -> Re
         ],
     )?;
     put(text, &[Word(" k="), Number(1 - value)])?;
-    put(
-        text,
-        &[
-            Word(" w0="),
-            Number(chosen(j, 0)),
-            Word(" w1="),
-            Number(chosen(j, 1)),
-        ],
-    )?;
-    put(
-        text,
-        &[
-            Word(" w2="),
-            Number(chosen(j, 2)),
-            Word(" w3="),
-            Number(chosen(j, 3)),
-        ],
-    )?;
+    put_chosen(text, " w0=", j, 0)?;
+    put_chosen(text, " w1=", j, 1)?;
+    put_chosen(text, " w2=", j, 2)?;
+    put_chosen(text, " w3=", j, 3)?;
     put(
         text,
         &[Word("\nphase\nset w"), Number(j), Word("=0 we=0\nphase\n")],
     )
+}
+
+// Appends the value of word line i where line j is chosen, after the line's name.
+fn put_chosen(text: &mut Vec<u8>, name: &'static str, j: u64, i: u64) -> Result<(), NoMemory>
+    ensures { OnOk result (text.new.items ≡ text.old.items ++ (name.now ++ decimal (chosen j i))) }
+{
+    put(text, &[Word(name), Number(chosen(j, i))])
 }
 
 // The value of word line i where line j is chosen.

@@ -5,13 +5,11 @@ use Rattle.net_gen.proofs.columns.put_settings.Goals as goal
 
 pub returns : goal.returns
 unfolding column_settings
-returns c = IfOk-equal _ _ _ _ c.put-5.ensures (rw (
-  c.in_ok-put-4.ensures,
-  c.in_ok-put-3.ensures,
+returns c = IfOk-equal _ _ _ _ c.put-3.ensures (rw (
+  c.in_ok-put_chosen-4.ensures,
+  c.in_ok-put_chosen-3.ensures,
+  c.in_ok-put_chosen-2.ensures,
+  c.in_ok-put_chosen.ensures,
   c.in_ok-put-2.ensures,
   c.in_ok-put.ensures,
-  c.chosen.ensures,
-  c.chosen-2.ensures,
-  c.chosen-3.ensures,
-  c.chosen-4.ensures,
 ) (simp append_assoc))
