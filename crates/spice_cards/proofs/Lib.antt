@@ -7,4 +7,4 @@ pub mod ReadingLemmas
 pub mod RefusalLemmas
 pub mod TableLemmas
 pub mod VisibleLemmas
-mod Worked
+pub mod Worked

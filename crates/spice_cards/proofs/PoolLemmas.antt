@@ -1,12 +1,10 @@
 -- The pool of a deck's words: a part keeps its words while the words behind them come and go.
-use Rattle.std.proofs.Common.{◌≡◌, ℕ, ◌+◌, ◌-◌, ◌<◌, ◌≤◌, List, [], ◌∷◌, ◌++◌, All, length, map, take, drop, refl, sym, ◌∙◌, ap, arith, length-append, length-drop}
+use Rattle.std.proofs.Common.{◌≡◌, ℕ, ◌+◌, ◌-◌, ◌≤◌, Bool, true, false, if◌then◌else◌, Result, Ok, Err, OnOk, List, [], ◌∷◌, ◌++◌, All, length, take, drop, refl, sym, ◌∙◌, ap, arith, length-drop}
 use Rattle.std.proofs.lemmas.List.{drop-append-le, drop-map, drop-take, drop_all, length-map, length-take-le, map-append, take-append-le, take-map, take-take, take_all}
 use Rattle.std.proofs.lemmas.List.Elements.{All-head, All-tail}
 use Rattle.spice_cards.specs.declared.places.PartPlace.{PartPlace}
 use Rattle.spice_cards.specs.declared.places.Span.{Span}
-use Rattle.spice_cards.specs.declared.sorts.PartSort.{PartSort}
-use Rattle.spice_cards.specs.Decks.{PartCard}
-use Rattle.spice_cards.specs.Pools.{IsPlace, IsPool, IsSpan, PoolData, part_at, parts_at, pool_of, with_inside, with_outside, word_of, words_at}
+use Rattle.spice_cards.specs.Pools.{IsPlace, IsPool, IsSpan, PoolData, part_at, parts_at, pool_of, with_kept, word_of, words_at}
 
 -- a slice ends where the words that are taken for it end
 slice_is : (words : List (List ℕ)) (first end : ℕ) → first ≤ end → take (end - first) (drop first words) ≡ drop first (take end words)
@@ -90,37 +88,24 @@ grown_parts words left kept count places more at are within cut grown first end 
     ap (parts_at left) grown ∙ map-append (part_at left) places (at ∷ [])
     ∙ ap (λ parts. parts ++ part_at left at ∷ []) old ∙ ap (λ p. parts_at words places ++ p ∷ []) part
 
--- the pool with the first pending words as one more part outside subcircuits
-words-outside : (words left : List (List ℕ)) (kept count : ℕ) (outside more inside : List PartPlace) (at : PartPlace) (line : ℕ) (before : PoolData) →
-    IsKept (length words) kept outside inside → pool_of words kept outside inside ≡ before → count ≤ length before.pending →
-    left ≡ take (kept + count) words → more ≡ outside ++ at ∷ [] → at.first ≡ kept → at.end ≡ kept + count → at.line ≡ line →
-    pool_of left (kept + count) more inside ≡ with_outside before (record { line = line; sort = at.sort; words = take count before.pending })
-words-outside words left kept count outside more inside at line before is seen room cut grown first end numbered =
-    let within : kept + count ≤ length words = omega (arith, ap (λ (p : PoolData). length p.pending) seen, length-drop kept words, is.counted, room) in
-    let alike : take kept left ≡ take kept words = ap (take kept) cut ∙ take-take kept (kept + count) words (omega arith) in
-    let here : parts_at left more ≡ before.outside ++ record { line = line; sort = at.sort; words = take count before.pending } ∷ [] =
-    grown_parts words left kept count outside more at is.outside within cut grown first end
-    ∙ ap (λ l. parts_at words outside ++ record { line = l; sort = at.sort; words = take count (drop kept words) } ∷ []) numbered
-    ∙ ap (λ (p : PoolData). p.outside ++ record { line = line; sort = at.sort; words = take count p.pending } ∷ []) seen in
-    let others = parts_at-same kept left words inside is.inside alike ∙ ap (λ (p : PoolData). p.inside) seen in
-    let none = ap (drop (kept + count)) cut ∙ none_pending (kept + count) words within in
-    λ j. record { outside = here j; inside = others j; pending = none j }
+-- where the first pending words become those of one more part, these parts have it, the others stay, and nothing is pending
+record IsGrown (words left : List (List ℕ)) (kept count : ℕ) (places more others : List PartPlace) (at : PartPlace) : Type 0 where
+  own : parts_at left more ≡ parts_at words places ++ record { line = at.line; sort = at.sort; words = take count (drop kept words) } ∷ []
+  same : parts_at left others ≡ parts_at words others
+  none : drop (kept + count) left ≡ []
 
--- and as one more part inside
-words-inside : (words left : List (List ℕ)) (kept count : ℕ) (outside inside more : List PartPlace) (at : PartPlace) (line : ℕ) (before : PoolData) →
-    IsKept (length words) kept outside inside → pool_of words kept outside inside ≡ before → count ≤ length before.pending →
-    left ≡ take (kept + count) words → more ≡ inside ++ at ∷ [] → at.first ≡ kept → at.end ≡ kept + count → at.line ≡ line →
-    pool_of left (kept + count) outside more ≡ with_inside before (record { line = line; sort = at.sort; words = take count before.pending })
-words-inside words left kept count outside inside more at line before is seen room cut grown first end numbered =
-    let within : kept + count ≤ length words = omega (arith, ap (λ (p : PoolData). length p.pending) seen, length-drop kept words, is.counted, room) in
+words-grown : (words left : List (List ℕ)) (kept count : ℕ) (places more others : List PartPlace) (at : PartPlace) → kept ≤ length words →
+    All (IsPlace kept) places → All (IsPlace kept) others → count ≤ length (drop kept words) →
+    left ≡ take (kept + count) words → more ≡ places ++ at ∷ [] → at.first ≡ kept → at.end ≡ kept + count →
+    IsGrown words left kept count places more others at
+words-grown words left kept count places more others at counted are stay room cut grown first end =
+    let within : kept + count ≤ length words = omega (arith, length-drop kept words, counted, room) in
     let alike : take kept left ≡ take kept words = ap (take kept) cut ∙ take-take kept (kept + count) words (omega arith) in
-    let here : parts_at left more ≡ before.inside ++ record { line = line; sort = at.sort; words = take count before.pending } ∷ [] =
-    grown_parts words left kept count inside more at is.inside within cut grown first end
-    ∙ ap (λ l. parts_at words inside ++ record { line = l; sort = at.sort; words = take count (drop kept words) } ∷ []) numbered
-    ∙ ap (λ (p : PoolData). p.inside ++ record { line = line; sort = at.sort; words = take count p.pending } ∷ []) seen in
-    let others = parts_at-same kept left words outside is.outside alike ∙ ap (λ (p : PoolData). p.outside) seen in
-    let none = ap (drop (kept + count)) cut ∙ none_pending (kept + count) words within in
-    λ j. record { outside = others j; inside = here j; pending = none j }
+    record {
+      own = grown_parts words left kept count places more at are within cut grown first end;
+      same = parts_at-same kept left words others stay alike;
+      none = ap (drop (kept + count)) cut ∙ none_pending (kept + count) words within;
+    }
 
 -- some parts in a row are those at some places in a row
 pub parts_at-slice : (words : List (List ℕ)) (places : List PartPlace) (first count : ℕ) →
@@ -130,9 +115,12 @@ parts_at-slice words places first count =
 
 -- ---- words by their places
 
--- some of the words at places, from the first on
-words_at-take : (text : List ℕ) (words left : List Span) (n : ℕ) → left ≡ take n words → words_at text left ≡ take n (words_at text words)
+-- some of the words at places, up to one or from one on
+pub words_at-take : (text : List ℕ) (words left : List Span) (n : ℕ) → left ≡ take n words → words_at text left ≡ take n (words_at text words)
 words_at-take text words left n cut = ap (words_at text) cut ∙ sym (take-map (word_of text) n words)
+
+pub words_at-drop : (text : List ℕ) (words left : List Span) (n : ℕ) → left ≡ drop n words → words_at text left ≡ drop n (words_at text words)
+words_at-drop text words left n cut = ap (words_at text) cut ∙ sym (drop-map (word_of text) n words)
 
 -- what is kept of a pool, by its words
 kept_of : (text : List ℕ) (words : List Span) (kept : ℕ) (outside inside : List PartPlace) → IsPool (length text) words kept outside inside →
@@ -193,22 +181,47 @@ pool_of-added text word more words all span kept outside inside before is grown 
     words-added (words_at text words) (words_at more all) word kept outside inside before (kept_of text words kept outside inside is)
     (words_at-added text word more words all span is.words grown added begins ends) seen
 
--- the pool with the first pending words as one more part outside subcircuits
-pub pool_of-outside : (text : List ℕ) (words left : List Span) (kept count : ℕ) (outside more inside : List PartPlace) (at : PartPlace) (line : ℕ) (before : PoolData) →
-    IsPool (length text) words kept outside inside → pool_of (words_at text words) kept outside inside ≡ before → count ≤ length before.pending →
-    left ≡ take (kept + count) words → more ≡ outside ++ at ∷ [] → at.first ≡ kept → at.end ≡ kept + count → at.line ≡ line →
-    pool_of (words_at text left) (kept + count) more inside
-    ≡ with_outside before (record { line = line; sort = at.sort; words = take count before.pending })
-pool_of-outside text words left kept count outside more inside at line before is seen room cut grown first end numbered =
-    words-outside (words_at text words) (words_at text left) kept count outside more inside at line before (kept_of text words kept outside inside is)
-    seen room (words_at-take text words left (kept + count) cut) grown first end numbered
+-- what is kept of one more part
+kept_more : (text : List ℕ) (words left : List Span) (kept count : ℕ) (places more others : List PartPlace) (at : PartPlace) (before : PoolData) →
+    kept ≤ length words → All (IsPlace kept) places → All (IsPlace kept) others → drop kept (words_at text words) ≡ before.pending →
+    count ≤ length before.pending → left ≡ take at.end words → more ≡ places ++ at ∷ [] → at.first ≡ kept → at.end ≡ kept + count →
+    IsGrown (words_at text words) (words_at text left) kept count places more others at
+kept_more text words left kept count places more others at before counted are stay seen room cut grown first end =
+    words-grown (words_at text words) (words_at text left) kept count places more others at (omega (arith, length-map words (word_of text), counted))
+    are stay (omega (arith, ap length seen, room))
+    (words_at-take text words left (kept + count) (cut ∙ ap (λ n. take n words) end)) grown first end
 
--- and as one more part inside
-pub pool_of-inside : (text : List ℕ) (words left : List Span) (kept count : ℕ) (outside inside more : List PartPlace) (at : PartPlace) (line : ℕ) (before : PoolData) →
-    IsPool (length text) words kept outside inside → pool_of (words_at text words) kept outside inside ≡ before → count ≤ length before.pending →
-    left ≡ take (kept + count) words → more ≡ inside ++ at ∷ [] → at.first ≡ kept → at.end ≡ kept + count → at.line ≡ line →
-    pool_of (words_at text left) (kept + count) outside more
-    ≡ with_inside before (record { line = line; sort = at.sort; words = take count before.pending })
-pool_of-inside text words left kept count outside inside more at line before is seen room cut grown first end numbered =
-    words-inside (words_at text words) (words_at text left) kept count outside inside more at line before (kept_of text words kept outside inside is)
-    seen room (words_at-take text words left (kept + count) cut) grown first end numbered
+-- the places of one side are among the words, since those of both are
+of_side : (inside : Bool) (kept : ℕ) (one other : List PartPlace) → All (IsPlace kept) one → All (IsPlace kept) other →
+    All (IsPlace kept) (if inside then one else other)
+of_side true kept one other is_one is_other = is_one
+of_side false kept one other is_one is_other = is_other
+
+-- the pool with one more part on one side
+pool_of-grown : (inside : Bool) (words left : List (List ℕ)) (kept count last : ℕ) (out_places in_places more : List PartPlace) (at : PartPlace) →
+    last ≡ kept + count → IsGrown words left kept count (if inside then in_places else out_places) more (if inside then out_places else in_places) at →
+    pool_of left last (if inside then out_places else more) (if inside then more else in_places)
+    ≡ with_kept inside (pool_of words kept out_places in_places) (record { line = at.line; sort = at.sort; words = take count (drop kept words) })
+pool_of-grown true words left kept count last out_places in_places more at ends of =
+    let none = ap (λ n. drop n left) ends ∙ of.none in λ j. record { outside = of.same j; inside = of.own j; pending = none j }
+pool_of-grown false words left kept count last out_places in_places more at ends of =
+    let none = ap (λ n. drop n left) ends ∙ of.none in λ j. record { outside = of.own j; inside = of.same j; pending = none j }
+
+-- the pool with the first pending words as one more part inside a subcircuit or outside
+pub pool_of-kept : {T E : Type 0} (result : Result T E) (inside : Bool) (text : List ℕ) (words left : List Span) (kept last count : ℕ)
+    (out_places in_places more : List PartPlace) (at : PartPlace) (line : ℕ) (before : PoolData) →
+    IsPool (length text) words kept out_places in_places → pool_of (words_at text words) kept out_places in_places ≡ before →
+    count ≤ length before.pending → OnOk result (left ≡ take at.end words) →
+    OnOk result (more ≡ (if inside then in_places else out_places) ++ at ∷ []) → OnOk result (last ≡ at.end) →
+    at.first ≡ kept → at.end ≡ kept + count → at.line ≡ line →
+    OnOk result (pool_of (words_at text left) last (if inside then out_places else more) (if inside then more else in_places)
+    ≡ with_kept inside before (record { line = line; sort = at.sort; words = take count before.pending }))
+pool_of-kept (Err e) inside text words left kept last count out_places in_places more at line before is seen room cut grown ends first end numbered = tt
+pool_of-kept (Ok u) inside text words left kept last count out_places in_places more at line before is seen room cut grown ends first end numbered =
+    let all = words_at text words in
+    let of = kept_more text words left kept count (if inside then in_places else out_places) more (if inside then out_places else in_places) at before
+    is.counted (of_side inside kept in_places out_places is.inside is.outside) (of_side inside kept out_places in_places is.outside is.inside)
+    (ap (λ (p : PoolData). p.pending) seen) room cut grown first end in
+    pool_of-grown inside all (words_at text left) kept count last out_places in_places more at (ends ∙ end) of
+    ∙ ap (λ l. with_kept inside (pool_of all kept out_places in_places) (record { line = l; sort = at.sort; words = take count (drop kept all) })) numbered
+    ∙ ap (λ (p : PoolData). with_kept inside p (record { line = line; sort = at.sort; words = take count p.pending })) seen

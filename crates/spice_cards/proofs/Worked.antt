@@ -15,7 +15,7 @@ unfolding cards_of titled_meaning lines_meaning line_meaning line_sort
 no_such_card = refl
 
 -- two inverters
-two_inverters : List ℕ
+unfoldable pub two_inverters : List ℕ
 two_inverters =
     codes "two inverters" ++ 10 ∷ codes ".global vdd!" ++ 10 ∷ codes ".SUBCKT inv a y vdd gnd" ++ 10
     ∷ codes "mp y a vdd vdd pmos w=2u l=0.18u" ++ 10 ∷ codes "mn y a gnd gnd cmosn w=1u" ++ 10

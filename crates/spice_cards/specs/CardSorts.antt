@@ -1,5 +1,5 @@
 -- What a card is by its first word, and which of its words count.
-use Rattle.std.specs.Prelude.{ℕ, Bool, true, false, ◌==◌, ◌||◌, not, List, [], ◌∷◌, take, drop, length, filter, codes, bytes_eq, nat_le, Option, Some, None, if◌then◌else◌}
+use Rattle.std.specs.Prelude.{ℕ, Bool, true, false, ◌==◌, ◌||◌, ◌&&◌, not, List, [], ◌∷◌, take, drop, length, filter, codes, bytes_eq, nat_le, Option, Some, None, if◌then◌else◌}
 use Rattle.std.specs.List.{before_first, list_any}
 use Rattle.path_meaning.specs.declared.switching.SwitchKind.{SwitchKind}
 use Rattle.path_meaning.specs.declared.switching.SwitchKind.TheVariants.{NChan, PChan}
@@ -43,9 +43,13 @@ is_plain word = not (is_setting word)
 abbrev pub is_params : List ℕ → Bool
 is_params word = bytes_eq word (codes "params:")
 
+-- the names on a card end at this word: it is `params:` or, where settings end them too, it sets a parameter
+abbrev pub ends_names : Bool → List ℕ → Bool
+ends_names settings word = (settings && is_setting word) || is_params word
+
 -- behind its name a call's nodes and subcircuit end at this word
 abbrev pub ends_call : List ℕ → Bool
-ends_call word = is_setting word || is_params word
+ends_call word = ends_names true word
 
 -- the words of a call that count: its name, its nodes and its subcircuit
 abbrev pub call_words : List (List ℕ) → List (List ℕ)

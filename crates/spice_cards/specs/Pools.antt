@@ -1,6 +1,6 @@
 -- The words and parts of a deck, as they are kept: the bytes of all words one behind the other, the places of the words among these
 -- bytes in one list, and for each part the place of its own words in that list.
-use Rattle.std.specs.Prelude.{ℕ, ◌-◌, ◌≤◌, Bool, not, ◌&&◌, List, [], ◌∷◌, ◌++◌, All, filter, length, map, take, drop}
+use Rattle.std.specs.Prelude.{ℕ, ◌-◌, ◌≤◌, Bool, true, false, not, ◌&&◌, List, [], ◌∷◌, ◌++◌, All, filter, length, map, take, drop}
 use Rattle.spice_cards.specs.declared.places.PartPlace.{PartPlace}
 use Rattle.spice_cards.specs.declared.places.Span.{Span}
 use Rattle.spice_cards.specs.CardSorts.{is_setting}
@@ -45,6 +45,11 @@ with_outside pool part = record { outside = pool.outside ++ part ∷ []; inside 
 -- the same inside a subcircuit
 abbrev pub with_inside : PoolData → PartCard → PoolData
 with_inside pool part = record { outside = pool.outside; inside = pool.inside ++ part ∷ []; pending = [] }
+
+-- inside a subcircuit or outside
+abbrev pub with_kept : Bool → PoolData → PartCard → PoolData
+with_kept true pool part = with_inside pool part
+with_kept false pool part = with_outside pool part
 
 -- the word is within so many bytes
 pub record IsSpan (count : ℕ) (span : Span) : Type 0 where

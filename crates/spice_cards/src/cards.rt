@@ -1,6 +1,6 @@
 //! The readers of a line of a deck, and of each sort of card.
 
-ghost use Rattle.std.specs.Prelude.{◌≡◌, ◌≤◌, ◌∷◌, true, false, List, ℕ, length, take, drop, IfErr, OnOk, Ok, Err, Some, None};
+ghost use Rattle.std.specs.Prelude.{◌≡◌, ◌≤◌, ◌∷◌, true, false, List, ℕ, length, take, IfErr, OnOk, Ok, Err, Some, None};
 ghost use Rattle.std.specs.List.{before_first};
 ghost use Rattle.line_words.specs.Files as files;
 ghost use Rattle.spice_cards.specs.CardLines as lines;
@@ -10,13 +10,13 @@ ghost use Rattle.spice_cards.specs.Reading as spec;
 ghost use Rattle.spice_cards.specs.Stops.{IsStop};
 
 use crate::fault::{CardStop, DeckWhat};
-use crate::lines::DeckLines;
 use crate::reading::Reading;
 use crate::sorts::{
     CardSort, LineSort, PartSort, Strength, begins, card_sort, first_word, is_end, is_params,
     is_setting, kind_of_type, line_fault, line_sort, strength_set,
 };
 use crate::words::Words;
+use line_words::{Line, Lines};
 
 /// How many words of a transistor's card count: its name, drain, gate, source, bulk and model.
 pub const TRANSISTOR_WORDS: usize = 6;
@@ -30,21 +30,20 @@ pub const TRANSISTOR_WORDS: usize = 6;
 pub(crate) fn read_line(
     reading: &mut Reading,
     cut: Option<u64>,
-    number: u64,
-    bytes: &[u8],
-    later: &DeckLines<'_>,
+    line: Line<'_>,
+    later: &Lines<'_>,
 ) -> Result<(), CardStop>
     ensures ok { OnOk result
-        (spec.line_meaning cut reading.old.so_far (number, bytes.now) later.now ≡ Ok reading.new.so_far) }
+        (spec.line_meaning cut reading.old.so_far (line.entry.number, line.entry.bytes.now) later.now ≡ Ok reading.new.so_far) }
     ensures refused { IfErr result
-        (IsStop (spec.line_meaning cut reading.old.so_far (number, bytes.now) later.now)) }
+        (IsStop (spec.line_meaning cut reading.old.so_far (line.entry.number, line.entry.bytes.now) later.now)) }
 {
-    if is_cut(cut, number) {
+    if is_cut(cut, line.number) {
         return refuse(DeckWhat::TooLong);
     }
-    match line_fault(bytes) {
+    match line_fault(line.bytes) {
         Some(what) => refuse(what),
-        None => read_sorted(reading, number, bytes, later),
+        None => read_sorted(reading, line, later),
     }
 }
 
@@ -63,18 +62,13 @@ fn refuse(what: DeckWhat) -> Result<(), CardStop>
 }
 
 // Reads a line that has no fault as a line.
-fn read_sorted(
-    reading: &mut Reading,
-    number: u64,
-    bytes: &[u8],
-    later: &DeckLines<'_>,
-) -> Result<(), CardStop>
+fn read_sorted(reading: &mut Reading, line: Line<'_>, later: &Lines<'_>) -> Result<(), CardStop>
     ensures ok { OnOk result
-        (spec.sorted_meaning reading.old.so_far (number, bytes.now) (line_sort bytes.now) later.now ≡ Ok reading.new.so_far) }
+        (spec.sorted_meaning reading.old.so_far (line.entry.number, line.entry.bytes.now) (line_sort line.entry.bytes.now) later.now ≡ Ok reading.new.so_far) }
     ensures refused { IfErr result
-        (IsStop (spec.sorted_meaning reading.old.so_far (number, bytes.now) (line_sort bytes.now) later.now)) }
+        (IsStop (spec.sorted_meaning reading.old.so_far (line.entry.number, line.entry.bytes.now) (line_sort line.entry.bytes.now) later.now)) }
 {
-    match line_sort(bytes) {
+    match line_sort(line.bytes) {
         LineSort::Passed => Ok(()),
         LineSort::More => {
             if reading.has_card() {
@@ -85,48 +79,52 @@ fn read_sorted(
         }
         LineSort::Begins => {
             reading.note_card();
-            read_card(reading, number, bytes, later)
+            read_card(reading, line, later)
         }
     }
 }
 
 // Reads the card that a line begins.
-fn read_card(
-    reading: &mut Reading,
-    number: u64,
-    bytes: &[u8],
-    later: &DeckLines<'_>,
-) -> Result<(), CardStop>
-    ensures ok { OnOk result (spec.card_meaning reading.old.so_far number (sorts.card_sort (first_word bytes.now))
-        (card_words bytes.now later.now) (lines.is_ended later.now) ≡ Ok reading.new.so_far) }
-    ensures refused { IfErr result (IsStop (spec.card_meaning reading.old.so_far number (sorts.card_sort (first_word bytes.now))
-        (card_words bytes.now later.now) (lines.is_ended later.now))) }
+fn read_card(reading: &mut Reading, line: Line<'_>, later: &Lines<'_>) -> Result<(), CardStop>
+    ensures ok { OnOk result (spec.card_meaning reading.old.so_far line.entry.number (sorts.card_sort (first_word line.entry.bytes.now))
+        (card_words line.entry.bytes.now later.now) (lines.is_ended later.now) ≡ Ok reading.new.so_far) }
+    ensures refused { IfErr result (IsStop (spec.card_meaning reading.old.so_far line.entry.number (sorts.card_sort (first_word line.entry.bytes.now))
+        (card_words line.entry.bytes.now later.now) (lines.is_ended later.now))) }
 {
-    match card_sort(first_word(bytes)) {
-        CardSort::Transistor => read_transistor(reading, number, bytes, later),
-        CardSort::Call => read_call(reading, number, bytes, later),
-        CardSort::Opening => read_opening(reading, number, bytes, later),
+    match card_sort(first_word(line.bytes)) {
+        CardSort::Transistor => {
+            reading.collect(line.bytes, later.ahead())?;
+            read_transistor(reading, line.number)
+        }
+        CardSort::Call => {
+            reading.collect(line.bytes, later.ahead())?;
+            read_call(reading, line.number)
+        }
+        CardSort::Opening => {
+            reading.collect_plain(line.bytes, later.ahead())?;
+            read_opening(reading, line.number, later)
+        }
         CardSort::Closing => reading.end(),
-        CardSort::Model => read_model(reading, bytes, later),
-        CardSort::Globals => read_globals(reading, bytes, later),
+        CardSort::Model => {
+            reading.collect(line.bytes, later.ahead())?;
+            read_model(reading)
+        }
+        CardSort::Globals => {
+            reading.collect(line.bytes, later.ahead())?;
+            Ok(reading.put_globals()?)
+        }
         CardSort::Passed => Ok(()),
         CardSort::Bad => refuse(DeckWhat::BadCard),
     }
 }
 
-// Reads a transistor.
-fn read_transistor(
-    reading: &mut Reading,
-    number: u64,
-    bytes: &[u8],
-    later: &DeckLines<'_>,
-) -> Result<(), CardStop>
+// Reads a transistor, by the words of its card.
+fn read_transistor(reading: &mut Reading, number: u64) -> Result<(), CardStop>
     ensures ok { OnOk result
-        (spec.transistor_meaning reading.old.so_far number (card_words bytes.now later.now) ≡ Ok reading.new.so_far) }
+        (spec.transistor_meaning reading.old.so_far number reading.old.pending ≡ Ok reading.new.so_far) }
     ensures refused { IfErr result
-        (IsStop (spec.transistor_meaning reading.old.so_far number (card_words bytes.now later.now))) }
+        (IsStop (spec.transistor_meaning reading.old.so_far number reading.old.pending)) }
 {
-    reading.collect(bytes, later.ahead())?;
     if reading.words().len() < TRANSISTOR_WORDS {
         return refuse(DeckWhat::FewWords);
     }
@@ -146,19 +144,13 @@ fn strength_of(words: Words<'_>) -> Strength
     strength
 }
 
-// Reads a call.
-fn read_call(
-    reading: &mut Reading,
-    number: u64,
-    bytes: &[u8],
-    later: &DeckLines<'_>,
-) -> Result<(), CardStop>
-    ensures ok { OnOk result (spec.call_meaning reading.old.so_far number (sorts.call_words (card_words bytes.now later.now))
-        ≡ Ok reading.new.so_far) }
+// Reads a call, by the words of its card.
+fn read_call(reading: &mut Reading, number: u64) -> Result<(), CardStop>
+    ensures ok { OnOk result
+        (spec.call_meaning reading.old.so_far number (sorts.call_words reading.old.pending) ≡ Ok reading.new.so_far) }
     ensures refused { IfErr result
-        (IsStop (spec.call_meaning reading.old.so_far number (sorts.call_words (card_words bytes.now later.now)))) }
+        (IsStop (spec.call_meaning reading.old.so_far number (sorts.call_words reading.old.pending))) }
 {
-    reading.collect(bytes, later.ahead())?;
     let count = call_count(reading.words());
     if count < 2 {
         return refuse(DeckWhat::FewWords);
@@ -174,46 +166,40 @@ fn call_count(mut words: Words<'_>) -> usize
     ensures within { result ≤ length words.entry }
 {
     match words.next() {
-        Some(_) => 1 + end_count(words),
+        Some(_) => 1 + count_before(words, true),
         None => 0,
     }
 }
 
-// How many words stand before the one at which a call ends.
-fn end_count(words: Words<'_>) -> usize
-    ensures words { take result words.entry ≡ before_first sorts.ends_call words.entry }
-    ensures count { length (before_first sorts.ends_call words.entry) ≡ result }
+// How many words stand before the one at which the names on a card end.
+fn count_before(words: Words<'_>, settings: bool) -> usize
+    ensures words { take result words.entry ≡ before_first (sorts.ends_names settings) words.entry }
+    ensures count { length (before_first (sorts.ends_names settings) words.entry) ≡ result }
     ensures within { result ≤ length words.entry }
 {
     for place in 0..words.len() {
-        if ends_call(words.at(place)) {
+        if ends_names(settings, words.at(place)) {
             return place;
         }
     }
     words.len()
 }
 
-// Whether a call ends at this word.
-fn ends_call(word: &[u8]) -> bool
-    ensures { result ≡ sorts.ends_call word.now }
+// Whether the names on a card end at this word.
+fn ends_names(settings: bool, word: &[u8]) -> bool
+    ensures { result ≡ sorts.ends_names settings word.now }
 {
-    is_setting(word) || is_params(word)
+    (settings && is_setting(word)) || is_params(word)
 }
 
-// Reads a subcircuit that begins.
-fn read_opening(
-    reading: &mut Reading,
-    number: u64,
-    bytes: &[u8],
-    later: &DeckLines<'_>,
-) -> Result<(), CardStop>
-    ensures ok { OnOk result (spec.opening_meaning reading.old.so_far number (sorts.opening_words (card_words bytes.now later.now))
-        (lines.is_ended later.now) ≡ Ok reading.new.so_far) }
+// Reads a subcircuit that begins, by the words of its card that set no parameter.
+fn read_opening(reading: &mut Reading, number: u64, later: &Lines<'_>) -> Result<(), CardStop>
+    ensures ok { OnOk result (spec.opening_meaning reading.old.so_far number
+        (before_first sorts.is_params reading.old.pending) (lines.is_ended later.now) ≡ Ok reading.new.so_far) }
     ensures refused { IfErr result (IsStop (spec.opening_meaning reading.old.so_far number
-        (sorts.opening_words (card_words bytes.now later.now)) (lines.is_ended later.now))) }
+        (before_first sorts.is_params reading.old.pending) (lines.is_ended later.now))) }
 {
-    reading.collect_plain(bytes, later.ahead())?;
-    let count = opening_count(reading.words());
+    let count = count_before(reading.words(), false);
     if count < 2 {
         return refuse(DeckWhat::FewWords);
     }
@@ -227,22 +213,8 @@ fn read_opening(
     Ok(())
 }
 
-// How many words of a `.subckt` count: those before the one behind which parameters stand.
-fn opening_count(words: Words<'_>) -> usize
-    ensures words { take result words.entry ≡ before_first sorts.is_params words.entry }
-    ensures count { length (before_first sorts.is_params words.entry) ≡ result }
-    ensures within { result ≤ length words.entry }
-{
-    for place in 0..words.len() {
-        if is_params(words.at(place)) {
-            return place;
-        }
-    }
-    words.len()
-}
-
 // Whether a subcircuit that begins before these lines is ended.
-fn is_ended(later: DeckLines<'_>) -> bool
+fn is_ended(later: Lines<'_>) -> bool
     ensures { result ≡ lines.is_ended later.entry }
 {
     for line in later {
@@ -256,14 +228,12 @@ fn is_ended(later: DeckLines<'_>) -> bool
     false
 }
 
-// Reads a `.model` card.
-fn read_model(reading: &mut Reading, bytes: &[u8], later: &DeckLines<'_>) -> Result<(), CardStop>
+// Reads a `.model` card, by its words.
+fn read_model(reading: &mut Reading) -> Result<(), CardStop>
     ensures ok { OnOk result
-        (spec.model_meaning reading.old.so_far (card_words bytes.now later.now) ≡ Ok reading.new.so_far) }
-    ensures refused { IfErr result
-        (IsStop (spec.model_meaning reading.old.so_far (card_words bytes.now later.now))) }
+        (spec.model_meaning reading.old.so_far reading.old.pending ≡ Ok reading.new.so_far) }
+    ensures refused { IfErr result (IsStop (spec.model_meaning reading.old.so_far reading.old.pending)) }
 {
-    reading.collect(bytes, later.ahead())?;
     if reading.words().len() < 3 {
         return refuse(DeckWhat::FewWords);
     }
@@ -271,16 +241,5 @@ fn read_model(reading: &mut Reading, bytes: &[u8], later: &DeckLines<'_>) -> Res
         Some(kind) => reading.put_model(kind)?,
         None => {}
     }
-    Ok(())
-}
-
-// Reads a `.global` card.
-fn read_globals(reading: &mut Reading, bytes: &[u8], later: &DeckLines<'_>) -> Result<(), CardStop>
-    ensures ok { OnOk result (reading.new.so_far
-        ≡ spec.globals_meaning reading.old.so_far (drop 1 (card_words bytes.now later.now))) }
-    ensures refused { IfErr result (λ stop. stop ≡ CardStop.NoMemory) }
-{
-    reading.collect(bytes, later.ahead())?;
-    reading.put_globals()?;
     Ok(())
 }

@@ -12,12 +12,11 @@ ghost use Rattle.spice_cards.specs.Tables.{named};
 
 use crate::cards::{is_cut, read_line};
 use crate::fault::{CardStop, DeckFault, DeckWhat};
-use crate::lines::DeckLines;
 use crate::parts::Parts;
 use crate::reading::Reading;
 use crate::sorts::is_end;
 use crate::words::Words;
-use line_words::{LONGEST_LINE, front};
+use line_words::{LONGEST_LINE, Lines, front, lines};
 use path_meaning::SwitchKind;
 use std::alloc::Global;
 use std::marker::Model;
@@ -118,7 +117,7 @@ pub fn read_cards(
     ensures refused { IfErr result
         (IsFault (spec.titled_meaning cut (enumerate_from 1 (lines_of text.now)))) }
 {
-    let mut lines = DeckLines::of_text(text);
+    let mut lines = lines(text);
     let reading = Reading::new(alloc, keys);
     let Some(title) = lines.next() else {
         return Ok(Deck { reading });
@@ -133,7 +132,7 @@ pub fn read_cards(
 fn read_lines(
     mut reading: Reading,
     cut: Option<u64>,
-    mut lines: DeckLines<'_>,
+    mut lines: Lines<'_>,
 ) -> Result<Deck, DeckFault>
     ensures ok { IfOk result (λ deck.
         spec.lines_meaning cut reading.so_far lines.entry ≡ Ok deck) }
@@ -141,7 +140,7 @@ fn read_lines(
         (IsFault (spec.lines_meaning cut reading.so_far lines.entry)) }
 {
     'lines: while let Some(line) = lines.next() {
-        match read_line(&mut reading, cut, line.number, line.bytes, &lines) {
+        match read_line(&mut reading, cut, line, &lines) {
             Ok(()) => {}
             Err(stop) => return Err(fault_at(line.number, stop)),
         }
@@ -192,7 +191,7 @@ fn unread_fault(cut: Option<u64>, line: u64, bytes: &[u8]) -> Option<DeckFault>
 }
 
 // The fault of the first line after `.end` that has one.
-fn tail_fault(cut: Option<u64>, lines: DeckLines<'_>) -> Option<DeckFault>
+fn tail_fault(cut: Option<u64>, lines: Lines<'_>) -> Option<DeckFault>
     ensures { result ≡ spec.tail_fault cut lines.entry }
 {
     for line in lines {

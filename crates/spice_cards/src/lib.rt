@@ -21,7 +21,7 @@
 //! For the proofs of crates above: `VisibleLemmas` says that the words of the parts of a deck that isn't
 //! refused are visible names, and that each part has those that it needs; `ReadingLemmas` that what a name
 //! stands for is as all entries of its table are; `FrontLemmas` that the cards of a text are those of its
-//! front; `RefusalLemmas` that a refusal tells of a line.
+//! front; `RefusalLemmas` that a refusal tells of a line. `Worked` has the text of a worked deck.
 //!
 //! The cards are those of Nagel and Pederson, "SPICE (Simulation Program with Integrated Circuit
 //! Emphasis)", 1973, in this project's profile: docs/FORMATS.md has it whole.
@@ -30,7 +30,6 @@
 mod cards;
 mod deck;
 mod fault;
-mod lines;
 mod parts;
 mod places;
 mod pool;

@@ -3,14 +3,13 @@
 ghost use Rattle.std.specs.Prelude.{◌≡◌, ◌≤◌, ◌-◌, ◌++◌, ◌∷◌, [], length, take, drop, IfOk, OnOk, OnErr};
 ghost use Rattle.spice_cards.specs.CardLines.{card_words, continued, kept_words};
 ghost use Rattle.spice_cards.specs.Pools as spec;
-ghost use Rattle.spice_cards.specs.Pools.{taken, with_inside, with_outside, with_pending, with_words};
+ghost use Rattle.spice_cards.specs.Pools.{taken, with_kept, with_pending, with_words};
 
-use crate::lines::DeckLines;
 use crate::parts::Parts;
 use crate::places::{PartPlace, Span};
 use crate::sorts::{LineSort, PartSort, after_sign, ends_line, is_setting, line_sort};
 use crate::words::Words;
-use line_words::words;
+use line_words::{Lines, words};
 use std::alloc::Global;
 use std::marker::Model;
 use ternary::NoMemory;
@@ -92,7 +91,7 @@ impl Pool {
         &mut self,
         plain: bool,
         bytes: &[u8],
-        later: DeckLines<'_>,
+        later: Lines<'_>,
     ) -> Result<(), NoMemory>
         ensures ok { OnOk result
             (self.new ≡ with_pending self.old (taken plain (card_words bytes.now later.entry))) }
@@ -120,7 +119,7 @@ impl Pool {
     }
 
     // Adds the words that the lines after a card go on with.
-    fn add_continued(&mut self, plain: bool, later: DeckLines<'_>) -> Result<(), NoMemory>
+    fn add_continued(&mut self, plain: bool, later: Lines<'_>) -> Result<(), NoMemory>
         ensures ok { OnOk result (self.new ≡ with_words self.old (taken plain (continued later.entry))) }
         ensures stays { self.new.inside ≡ self.old.inside }
     {
@@ -134,56 +133,31 @@ impl Pool {
         Ok(())
     }
 
-    /// Keeps the first so many words of the card that is being read, as a part outside subcircuits.
-    pub(crate) fn keep_outside(
+    /// Keeps the first so many words of the card that is being read, as a part inside a subcircuit or
+    /// outside subcircuits.
+    pub(crate) fn keep(
         &mut self,
+        inside: bool,
         line: u64,
         sort: PartSort,
         count: usize,
     ) -> Result<(), NoMemory>
         requires { count ≤ length self.old.pending }
         ensures err { OnErr result (self.new ≡ self.old) }
-        ensures ok { OnOk result (self.new ≡ with_outside self.old
+        ensures ok { OnOk result (self.new ≡ with_kept inside self.old
             (record { line = line; sort = sort; words = take count self.old.pending })) }
     {
-        let end = self.kept + count;
         let place = PartPlace {
             line: short(line)?,
             sort,
             first: short(self.kept as u64)?,
-            end: short(end as u64)?,
+            end: short((self.kept + count) as u64)?,
         };
-        self.outside.reserve(1)?;
-        self.outside.push_reserved(place);
-        self.words.truncate(end);
-        self.kept = end;
-        Ok(())
-    }
-
-    /// Keeps them as a part inside a subcircuit.
-    pub(crate) fn keep_inside(
-        &mut self,
-        line: u64,
-        sort: PartSort,
-        count: usize,
-    ) -> Result<(), NoMemory>
-        requires { count ≤ length self.old.pending }
-        ensures err { OnErr result (self.new ≡ self.old) }
-        ensures ok { OnOk result (self.new ≡ with_inside self.old
-            (record { line = line; sort = sort; words = take count self.old.pending })) }
-    {
-        let end = self.kept + count;
-        let place = PartPlace {
-            line: short(line)?,
-            sort,
-            first: short(self.kept as u64)?,
-            end: short(end as u64)?,
-        };
-        self.inside.reserve(1)?;
-        self.inside.push_reserved(place);
-        self.words.truncate(end);
-        self.kept = end;
-        Ok(())
+        if inside {
+            keep(&mut self.inside, &mut self.words, &mut self.kept, place)
+        } else {
+            keep(&mut self.outside, &mut self.words, &mut self.kept, place)
+        }
     }
 
     /// How many parts there are inside subcircuits.
@@ -211,6 +185,26 @@ impl Pool {
             &self.inside[first..end],
         )
     }
+}
+
+// Keeps the words up to the end of this part, which comes behind the others.
+fn keep(
+    parts: &mut Vec<PartPlace>,
+    words: &mut Vec<Span>,
+    kept: &mut usize,
+    place: PartPlace,
+) -> Result<(), NoMemory>
+    ensures parts { OnOk result (parts.new.items ≡ parts.old.items ++ place ∷ []) }
+    ensures words { OnOk result (words.new.items ≡ take place.end words.old.items) }
+    ensures kept { OnOk result (kept.new ≡ place.end) }
+    ensures err { OnErr result ((parts.new.items ≡ parts.old.items)
+        × (words.new.items ≡ words.old.items) × (kept.new ≡ kept.old)) }
+{
+    parts.reserve(1)?;
+    parts.push_reserved(place);
+    words.truncate(place.end as usize);
+    *kept = place.end as usize;
+    Ok(())
 }
 
 // Whether the word is taken from a card: all are, or those that are plain.

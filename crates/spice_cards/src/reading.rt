@@ -10,13 +10,13 @@ ghost use Rattle.spice_cards.specs.Stops.{IsStop};
 ghost use Rattle.spice_cards.specs.Tables.{named, with_first};
 
 use crate::fault::{CardStop, DeckWhat};
-use crate::lines::DeckLines;
 use crate::parts::Parts;
 use crate::places::SubcircuitPlace;
 use crate::pool::{Pool, short};
 use crate::sorts::PartSort;
 use crate::table::Table;
 use crate::words::Words;
+use line_words::Lines;
 use path_meaning::SwitchKind;
 use std::alloc::Global;
 use std::marker::Model;
@@ -62,7 +62,7 @@ impl Reading {
     }
 
     /// Reads the words of the card that a line begins.
-    pub(crate) fn collect(&mut self, bytes: &[u8], later: DeckLines<'_>) -> Result<(), NoMemory>
+    pub(crate) fn collect(&mut self, bytes: &[u8], later: Lines<'_>) -> Result<(), NoMemory>
         ensures { OnOk result
             (self.new ≡ with_words_of self.old (card_words bytes.now later.entry)) }
     {
@@ -70,11 +70,7 @@ impl Reading {
     }
 
     /// Reads the words of the card that a line begins, but those that set a parameter.
-    pub(crate) fn collect_plain(
-        &mut self,
-        bytes: &[u8],
-        later: DeckLines<'_>,
-    ) -> Result<(), NoMemory>
+    pub(crate) fn collect_plain(&mut self, bytes: &[u8], later: Lines<'_>) -> Result<(), NoMemory>
         ensures { OnOk result
             (self.new ≡ with_words_of self.old (filter is_plain (card_words bytes.now later.entry))) }
     {
@@ -123,8 +119,8 @@ impl Reading {
             (self.new.so_far ≡ with_part self.old.so_far line sort (take count self.old.pending)) }
     {
         match self.begun {
-            Some(_) => self.pool.keep_inside(line, sort, count),
-            None => self.pool.keep_outside(line, sort, count),
+            Some(_) => self.pool.keep(true, line, sort, count),
+            None => self.pool.keep(false, line, sort, count),
         }
     }
 
@@ -140,7 +136,7 @@ impl Reading {
         }) }
     {
         let opening = self.pool.inside();
-        self.pool.keep_inside(line, PartSort::Opening, count)?;
+        self.pool.keep(true, line, PartSort::Opening, count)?;
         self.begun = Some(opening);
         Ok(())
     }

@@ -12,6 +12,7 @@ use Rattle.spice_cards.specs.declared.sorts.Strength.{Strength}
 use Rattle.spice_cards.specs.Decks.{DeckCards, PartCard, SubcircuitCards}
 use Rattle.spice_cards.specs.Reading.{word_at}
 use Rattle.spice_cards.specs.Stops.{IsFault}
+use Rattle.spice_read.specs.Frames.{FrameData, scope_of}
 use Rattle.spice_read.specs.Making.{MadeData, after, onward, step_meaning}
 use Rattle.spice_read.specs.Scopes.{Scope, called, node_in}
 use Rattle.spice_read.specs.Steps.{Step, call_steps, entry_of, expand, kind_of, part_by, part_steps, strength_number, transistor_by, transistor_step}
@@ -133,6 +134,16 @@ opened-steps room deck scope inner line sort words s is enters some enclosed =
     entry-steps room deck scope line sort words (Ok s) is enters
     ∙ ap (λ (r : ℕ). inside r deck line (called deck scope words s.line s.ports) s.parts) below
     ∙ ap (λ (scope : Scope). opened line ∷ expand (room - 1) deck scope s.parts) (sym enclosed)
+
+-- the same, by the frame in which the call is and the scope inside it
+pub call-steps : (room : ℕ) (frame entered : FrameData) (line : ℕ) (sort : PartSort) (words : List (List ℕ)) (s : SubcircuitCards) (inner : Scope) →
+    sort ≡ Call → entry_of frame.deck (scope_of frame) words ≡ Ok s → (room ≡ 0 → ⊥) →
+    inner ≡ called entered.deck (scope_of entered) words s.line s.ports → entered ≡ frame →
+    part_at room frame.deck (scope_of frame) (record { line = line; sort = sort; words = words })
+    ≡ opened line ∷ expand (room - 1) frame.deck inner s.parts
+call-steps room frame entered line sort words s inner is enters some opens stays =
+    opened-steps room frame.deck (scope_of frame) inner line sort words s is enters some
+    (opens ∙ ap (λ (f : FrameData). called f.deck (scope_of f) words s.line s.ports) stays)
 
 -- ---- what is made of parts, by the first
 

@@ -6,6 +6,7 @@ use Rattle.spice_cards.specs.declared.fault.DeckFault.TheVariants.{At}
 use Rattle.spice_cards.specs.declared.fault.DeckWhat.TheVariants.{BadCard, BadModel, NoSubckt, Recursion}
 use Rattle.spice_cards.specs.CardLines.{line_sort}
 use Rattle.spice_cards.specs.Reading.{cards_of, line_meaning, lines_meaning, titled_meaning}
+use Rattle.spice_cards.proofs.Worked.{two_inverters}
 use Rattle.spice_read.specs.Making.{circuit_of, onward}
 use Rattle.spice_read.specs.Steps.{Step, expand, steps_of}
 use Rattle.spice_read.specs.Steps.Step.{opened, placed}
@@ -35,14 +36,6 @@ unfolding circuit_of cards_of titled_meaning lines_meaning line_meaning line_sor
 no_such_card = refl
 
 -- two inverters
-two_inverters : List ℕ
-two_inverters =
-    codes "two inverters" ++ 10 ∷ codes ".global vdd!" ++ 10 ∷ codes ".SUBCKT inv a y vdd gnd" ++ 10
-    ∷ codes "mp y a vdd vdd pmos w=2u l=0.18u" ++ 10 ∷ codes "mn y a gnd gnd cmosn w=1u" ++ 10
-    ∷ codes "* the length follows" ++ 10 ∷ codes "+ l=0.18u" ++ 10 ∷ codes ".ends inv" ++ 10
-    ∷ codes "X1 in m vdd! 0 inv" ++ 10 ∷ codes "x2 m out vdd! 0 inv" ++ 10
-    ∷ codes ".model cmosn nmos (level=1)" ++ 10 ∷ codes "c1 out 0 10f" ++ 10 ∷ codes ".end" ++ 10 ∷ []
-
 are_expanded : expansion_of two_inverters ≡ Ok (
     opened 9 ∷ placed 4 PChan 2 (codes "in") (codes "vdd!") (codes "m") ∷ placed 5 NChan 2 (codes "in") (codes "Gnd") (codes "m")
     ∷ opened 10 ∷ placed 4 PChan 2 (codes "m") (codes "vdd!") (codes "out") ∷ placed 5 NChan 2 (codes "m") (codes "Gnd") (codes "out") ∷ [])

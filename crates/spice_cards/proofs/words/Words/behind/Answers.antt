@@ -1,11 +1,7 @@
-use Rattle.std.proofs.Common.{List, ℕ, drop, ◌∙◌, ap, sym}
-use Rattle.std.proofs.lemmas.List.{drop-map}
-use Rattle.spice_cards.specs.Pools.{word_of, words_at}
+use Rattle.std.proofs.Common.{drop, ◌∙◌, ap}
+use Rattle.spice_cards.proofs.PoolLemmas.{words_at-drop}
 use Rattle.spice_cards.proofs.words.Words.behind.Goals as goal
 
 pub returns : goal.returns
 returns c =
-    c.new.ensures
-    ∙ ap (words_at c.self.inside.text.now) c.behind.ensures
-    ∙ sym (drop-map (word_of c.self.inside.text.now) c.args.count c.self.inside.spans.now)
-    ∙ ap (λ (words : List (List ℕ)). drop c.args.count words) c.self.view_is
+    c.new.ensures ∙ words_at-drop c.self.inside.text.now c.self.inside.spans.now _ c.args.count c.behind.ensures ∙ ap (drop c.args.count) c.self.view_is

@@ -1,11 +1,7 @@
-use Rattle.std.proofs.Common.{List, ℕ, take, ◌∙◌, ap, sym}
-use Rattle.std.proofs.lemmas.List.{take-map}
-use Rattle.spice_cards.specs.Pools.{word_of, words_at}
+use Rattle.std.proofs.Common.{take, ◌∙◌, ap}
+use Rattle.spice_cards.proofs.PoolLemmas.{words_at-take}
 use Rattle.spice_cards.proofs.words.Words.front.Goals as goal
 
 pub returns : goal.returns
 returns c =
-    c.new.ensures
-    ∙ ap (words_at c.self.inside.text.now) c.front.ensures
-    ∙ sym (take-map (word_of c.self.inside.text.now) c.args.count c.self.inside.spans.now)
-    ∙ ap (λ (words : List (List ℕ)). take c.args.count words) c.self.view_is
+    c.new.ensures ∙ words_at-take c.self.inside.text.now c.self.inside.spans.now _ c.args.count c.front.ensures ∙ ap (take c.args.count) c.self.view_is
