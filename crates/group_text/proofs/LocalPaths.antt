@@ -27,15 +27,11 @@ IsWithin g group local_best here =
     (local : ℕ) → IsAlike g group local → slice_index (local_nodes g group) local ≡ here.node → here.strength ≤ local_best local
 
 module _ (g : GraphData) (wired : IsWired g) (group : Group) (is_group : IsGroup g group) (state : List Tern) where
-  -- the local nodes, and the states of the local graph's nodes
   abbrev locals : List ℕ
   locals = local_nodes g group
 
-  abbrev local_states : List Tern
-  local_states = local_state (local_nodes g group) state
-
   -- hops over the local graph, one after the other, are hops over switches of the group
-  leads_whole : (hops : List ℕ) (here there : Stand) → Leads (local_graph g group) local_states here hops there →
+  leads_whole : (hops : List ℕ) (here there : Stand) → Leads (local_graph g group) (local_state locals state) here hops there →
       Leads g state (whole_stand locals here) (map (slice_index group.switches) hops) (whole_stand locals there)
   leads_whole [] here there leads = ap (whole_stand locals) leads
   leads_whole (place ∷ hops) here there leads =
@@ -43,14 +39,14 @@ module _ (g : GraphData) (wired : IsWired g) (group : Group) (is_group : IsGroup
       (whole_stand locals leads.0, over, leads_whole hops leads.0 there leads.2)
 
   -- a path over the local graph that leads to a node with the level of what it stands for starts at one
-  alike_root : (hops : List ℕ) (root : ℕ) (there : Stand) → Leads (local_graph g group) local_states (at_root (local_graph g group) root) hops there →
+  alike_root : (hops : List ℕ) (root : ℕ) (there : Stand) → Leads (local_graph g group) (local_state locals state) (at_root (local_graph g group) root) hops there →
       IsAlike g group there.node → IsAlike g group root
   alike_root [] root there leads alike = rw (ap (λ (here : Stand). here.node) leads) alike
   alike_root (place ∷ hops) root there leads alike =
       alike_before g wired group is_group state (at_root (local_graph g group) root) leads.0 place leads.1
 
   -- so it is a live path of the whole graph
-  path_whole : (root : ℕ) (hops : List ℕ) (there : Stand) → LivePath (local_graph g group) local_states root hops there →
+  path_whole : (root : ℕ) (hops : List ℕ) (there : Stand) → LivePath (local_graph g group) (local_state locals state) root hops there →
       IsAlike g group there.node →
       LivePath g state (slice_index locals root) (map (slice_index group.switches) hops) (whole_stand locals there)
   path_whole root hops there path alike =
@@ -59,7 +55,7 @@ module _ (g : GraphData) (wired : IsWired g) (group : Group) (is_group : IsGroup
       record { in_range = start.in_range; leads = rw (whole_root g group root start) at leads }
 
   module _ (best local_best : ℕ → ℕ) (is_best : IsBest g state best)
-      (is_local_best : IsBest (local_graph g group) local_states local_best) where
+      (is_local_best : IsBest (local_graph g group) (local_state locals state) local_best) where
     -- the strongest definite path to a local node is no stronger than that to the node that it stands for
     pub local_best-most : (local : ℕ) → IsAlike g group local → local_best local ≤ best (slice_index locals local)
     local_best-most local alike =
@@ -72,7 +68,7 @@ module _ (g : GraphData) (wired : IsWired g) (group : Group) (is_group : IsGroup
     -- it is no weaker than the empty path of the local node
     local_best-level : (local : ℕ) → local < length locals → level_of (local_graph g group) local ≤ local_best local
     local_best-level local inside =
-        let empty : LivePath (local_graph g group) local_states local [] (at_root (local_graph g group) local) =
+        let empty : LivePath (local_graph g group) (local_state locals state) local [] (at_root (local_graph g group) local) =
         record { in_range = rw (nodes_local g group is_group) inside; leads = refl } in
         is_local_best.most local [] (at_root (local_graph g group) local) empty refl
 

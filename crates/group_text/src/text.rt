@@ -5,7 +5,7 @@ ghost use Rattle.group_text.specs.Texts.{IsText, constant_of, local_nodes, size_
 
 use crate::local::{collect_nodes, local_graph};
 use path_meaning::{GND, Graph, VDD, graphs_are_wired};
-use std::alloc::{AllocError, Global};
+use std::alloc::Global;
 use std::marker::Model;
 use ternary::{NoMemory, Tern};
 
@@ -33,16 +33,6 @@ impl From<NoMemory> for TextFault {
     ghost from_gives = { λ _ fault. fault ≡ NoMemory };
 
     fn from(_want: NoMemory) -> TextFault {
-        TextFault::NoMemory
-    }
-}
-
-impl From<AllocError> for TextFault {
-    ghost use Rattle.group_text.specs.declared.text.TextFault.TheVariants.{NoMemory};
-
-    ghost from_gives = { λ _ fault. fault ≡ NoMemory };
-
-    fn from(_want: AllocError) -> TextFault {
         TextFault::NoMemory
     }
 }
@@ -142,21 +132,30 @@ pub fn text_of(
         });
     }
     graphs_are_wired(graph);
-    let locals = collect_nodes(alloc, graph, members, switches)?;
+    let Ok(locals) = collect_nodes(alloc, graph, members, switches) else {
+        return Err(TextFault::NoMemory);
+    };
     let text = GroupText {
         graph: local_graph(alloc, graph, members, switches, &locals)?,
         members: members.len(),
         constants: constants_of(alloc, locals.as_slice())?,
     };
-    let nodes = Vec::from_slice(alloc, locals.as_slice())?;
+    let nodes = list_of(alloc, locals.as_slice())?;
     Ok((text, nodes))
 }
 
 // For each local node the constant of the node that it stands for.
-fn constants_of(alloc: Global, locals: &[usize]) -> Result<Vec<Option<Tern>>, AllocError>
+fn constants_of(alloc: Global, locals: &[usize]) -> Result<Vec<Option<Tern>>, NoMemory>
     ensures { IfOk result (λ constants. constants.items ≡ map constant_of locals.now) }
 {
-    locals.iter().map(|&node| constant_of(node)).collect(alloc)
+    Ok(locals.iter().map(|&node| constant_of(node)).collect(alloc)?)
+}
+
+// The same nodes in a list of their own.
+fn list_of(alloc: Global, nodes: &[usize]) -> Result<Vec<usize>, NoMemory>
+    ensures { IfOk result (λ list. list.items ≡ nodes.now) }
+{
+    Ok(Vec::from_slice(alloc, nodes)?)
 }
 
 // The constant of a node: Gnd is 0, Vdd is 1.
