@@ -244,8 +244,8 @@ module _ (old mid new : HeldSession) (asked told : List GroupTextData) (ready : 
   }
 
   -- a phase
-  pub phase-readied : PhaseMoves mid new → IsBuilt new → SettlesMachine old Phase new
-  phase-readied phase built = settles-readied Phase phase.lines phase.phase built phase.moves
+  pub phase_readied : PhaseMoves mid new → IsBuilt new → SettlesMachine old Phase new
+  phase_readied phase built = settles-readied Phase phase.lines phase.phase built phase.moves
 
   -- cycles
   pub cycle-readied : (times : ℕ) → IsBuilt new → BeatsMove (places_in (places_of mid.core.clocks) times) mid new →

@@ -84,6 +84,7 @@ impl Session {
     }
 
     /// `set`: gives the named input nodes their states, from left to right.
+    #[tactic(auto, using(crate::proofs::RefusalLemmas::set_known, crate::proofs::StateLemmas::set_past))]
     pub(crate) fn set(&mut self, list: &AssignList) -> Result<(), ApplyFault>
         ensures quiet { Quietly self.old (asked.Set list.now) self.new result }
         ensures machine { OnOk result (IsMachineAfter self.old (asked.Set list.now) self.new) }

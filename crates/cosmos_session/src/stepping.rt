@@ -44,6 +44,7 @@ impl Session {
     }
 
     /// `phase`: unit steps until nothing changes, past the limit joining ones, and a waveform line.
+    #[tactic(auto, using(crate::proofs::OutcomeLemmas::on_ok, crate::proofs::MoveLemmas::phase_readied))]
     pub(crate) fn phase<A: Analyst, S: Sink>(
         &mut self,
         analyst: &mut A,

@@ -1,7 +1,6 @@
 use Rattle.std.proofs.Common.{refl}
 use Rattle.script_lang.specs.declared.command.Command.TheVariants as asked
-use Rattle.cosmos_session.proofs.OutcomeLemmas.{ready_obeys, on_ok}
-use Rattle.cosmos_session.proofs.MoveLemmas.{phase-readied}
+use Rattle.cosmos_session.proofs.OutcomeLemmas.{ready_obeys}
 use Rattle.cosmos_session.proofs.session.Session.phase.Goals as goal
 
 pub returns-clause-obeys : goal.returns-clause-obeys
@@ -9,8 +8,3 @@ returns-clause-obeys g c =
     let sent = c.settle_and_send.ensures.phase in
     ready_obeys c.args.self.now c.prepare.new.self c.settle_and_send.new.self asked.Phase sent.lines _ _ _ _ _ _ c.settle_and_send.result refl refl
     c.in_ok-prepare.ensures sent.phase (sent.lines, sent.phase) sent.sent c.settle_and_send.ensures.cause c.settle_and_send.ensures.refusals
-
-pub returns-clause-machine : goal.returns-clause-machine
-returns-clause-machine g c =
-    on_ok _ c.settle_and_send.result
-    (phase-readied c.args.self.now c.prepare.new.self c.settle_and_send.new.self _ _ c.in_ok-prepare.ensures c.settle_and_send.ensures.moves c.settle_and_send.ensures.built)

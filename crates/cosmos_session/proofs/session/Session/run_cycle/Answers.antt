@@ -8,9 +8,6 @@ use Rattle.cosmos_session.proofs.BeatLemmas.{beat_done, beat_stopped, places-nex
 use Rattle.cosmos_session.proofs.MoveLemmas.{beats_on-more, setup-put, setup-phase}
 use Rattle.cosmos_session.proofs.session.Session.run_cycle.Goals as goal
 
-pub put_clocks-requires-clause-built : goal.put_clocks-requires-clause-built
-put_clocks-requires-clause-built g c = c.loop-place.invariant.built
-
 pub put_clocks-requires-clause-place : goal.put_clocks-requires-clause-place
 put_clocks-requires-clause-place g c = omega (arith, ap places_of c.loop-place.invariant.setup.clocks, c.loop-place.invariant.end)
 

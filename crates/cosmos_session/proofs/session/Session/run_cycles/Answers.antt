@@ -21,9 +21,6 @@ loop-cycle-init g c =
       refusals = refl;
     }
 
-pub run_cycle-requires-clause-built : goal.run_cycle-requires-clause-built
-run_cycle-requires-clause-built g c = c.loop-cycle.invariant.built
-
 pub run_cycle-requires-clause-inputs : goal.run_cycle-requires-clause-inputs
 run_cycle-requires-clause-inputs g c = rw (c.loop-cycle.invariant.setup.clocks, c.loop-cycle.invariant.setup.circuit) c.requires.inputs
 
