@@ -4,9 +4,11 @@ use Rattle.std.specs.Map.{lookup}
 use Rattle.std.proofs.lemmas.List.{take_more}
 use Rattle.std.proofs.lemmas.List.Elements.{Contains-get_or}
 use Rattle.indexmap.specs.IndexMap.{get}
+use Rattle.straight_code.specs.Lowering.{AreLowered}
 use Rattle.straight_code.proofs.PlaceLemmas.{AreReaching-inside}
 use Rattle.straight_code.proofs.LoweringLemmas.{AreLowered-none}
 use Rattle.straight_code.proofs.LinearLemmas.{AreLowered-all, operand_before, variable_below, pairs_noted, operations_exactly, program, means}
+use Rattle.straight_code.proofs.linear.linearise.Goals.{In_ok-outputs}
 use Rattle.straight_code.proofs.linear.linearise.Goals as goal
 
 pub loop-place-init : goal.loop-place-init
@@ -50,32 +52,30 @@ outputs-requires c =
     c.deref-place-items.ensures.value (omega arith) c.loop-place.invariant in
     pairs_noted c.args.pool.now c.args.outs.now places c.in_ok-places.ensures.ascending c.in_ok-places.ensures.each noted all.each
 
+-- all places are lowered
+lowered_all : (c : In_ok-outputs) → AreLowered c.args.pool.now c.args.inputs c.in_ok-places.places.items
+    c.loop-place.lowered.instructions.items (get nat_eq c.loop-place.lowered.operands)
+lowered_all c =
+    AreLowered-all c.args.pool.now c.args.inputs c.in_ok-places.places.items c.deref-place-items.result.now c.loop-place.place-index _ _
+    c.deref-place-items.ensures.value (omega arith) c.loop-place.invariant
+
 pub new-requires-3 : goal.new-requires-3
 new-requires-3 c =
-    let places = c.in_ok-places.places.items in
-    let noted = get nat_eq c.loop-place.lowered.operands in
-    let all = AreLowered-all c.args.pool.now c.args.inputs places c.deref-place-items.result.now c.loop-place.place-index _ noted
-    c.deref-place-items.ensures.value (omega arith) c.loop-place.invariant in
+    let all = lowered_all (goal.at.new-requires-3 c).In_ok-outputs in
     rw c.in_ok-outputs.ensures
-    (program c.args.pool.now c.args.outs.now places c.in_ok-places.ensures.ascending c.in_ok-places.ensures.each c.args.inputs
-    c.loop-place.lowered.instructions.items noted all)
+    (program c.args.pool.now c.args.outs.now c.in_ok-places.places.items c.in_ok-places.ensures.ascending c.in_ok-places.ensures.each c.args.inputs
+    c.loop-place.lowered.instructions.items _ all)
 
 pub returns-clause-means : goal.returns-clause-means
 returns-clause-means c =
-    let places = c.in_ok-places.places.items in
-    let noted = get nat_eq c.loop-place.lowered.operands in
-    let all = AreLowered-all c.args.pool.now c.args.inputs places c.deref-place-items.result.now c.loop-place.place-index _ noted
-    c.deref-place-items.ensures.value (omega arith) c.loop-place.invariant in
+    let all = lowered_all (goal.at.returns-clause-means c).In_ok-outputs in
     rw (c.in_ok-code.ensures, c.in_ok-outputs.ensures)
-    (means c.args.pool.now c.args.outs.now places c.in_ok-places.ensures.ascending c.in_ok-places.ensures.each c.args.inputs
-    c.loop-place.lowered.instructions.items noted all)
+    (means c.args.pool.now c.args.outs.now c.in_ok-places.places.items c.in_ok-places.ensures.ascending c.in_ok-places.ensures.each c.args.inputs
+    c.loop-place.lowered.instructions.items _ all)
 
 pub returns-clause-exact : goal.returns-clause-exact
 returns-clause-exact c =
-    let places = c.in_ok-places.places.items in
-    let noted = get nat_eq c.loop-place.lowered.operands in
-    let all = AreLowered-all c.args.pool.now c.args.inputs places c.deref-place-items.result.now c.loop-place.place-index _ noted
-    c.deref-place-items.ensures.value (omega arith) c.loop-place.invariant in
+    let all = lowered_all (goal.at.returns-clause-exact c).In_ok-outputs in
     rw c.in_ok-code.ensures
-    (operations_exactly c.args.pool.now c.args.outs.now places c.in_ok-places.ensures.ascending c.in_ok-places.ensures.each c.args.inputs
-    c.loop-place.lowered.instructions.items noted all)
+    (operations_exactly c.args.pool.now c.args.outs.now c.in_ok-places.places.items c.in_ok-places.ensures.ascending c.in_ok-places.ensures.each c.args.inputs
+    c.loop-place.lowered.instructions.items _ all)

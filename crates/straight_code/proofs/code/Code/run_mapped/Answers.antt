@@ -6,7 +6,14 @@ use Rattle.path_meaning.specs.Switching.{state_at}
 use Rattle.straight_code.specs.Code.{results, output_state}
 use Rattle.straight_code.specs.Flat.{flat_values, step_of, pair_of}
 use Rattle.straight_code.proofs.RunMappedLemmas.{no_step, no_pair, no_output, reads_within, result_written, pair_within, state_written}
+use Rattle.straight_code.proofs.code.Code.run_mapped.Given.{Over}
+use Rattle.straight_code.proofs.code.Code.run_mapped.Goals.{After-self}
 use Rattle.straight_code.proofs.code.Code.run_mapped.Goals as goal
+
+-- there is a state for each input
+many_inputs : (g : Over) (c : After-self g) → length (map (state_at c.args.state.now) c.args.nodes.now) ≡ c.self.inside.inputs
+many_inputs g c =
+    length-map c.args.nodes.now (state_at c.args.state.now) ∙ c.requires.nodes ∙ sym (ap (λ code. code.inputs) c.self.view_is)
 
 pub loop-k-init : goal.loop-k-init
 unfolding results
@@ -20,8 +27,7 @@ pub step_value-requires : goal.step_value-requires
 step_value-requires g c =
     let input : List Tern = map (state_at c.args.state.now) c.args.nodes.now in
     let k = c.loop-k.k in
-    let many : length input ≡ c.self.inside.inputs =
-    length-map c.args.nodes.now (state_at c.args.state.now) ∙ c.requires.nodes ∙ sym (ap (λ code. code.inputs) c.self.view_is) in
+    let many = many_inputs g (goal.at.step_value-requires g c).After-self in
     let items = c.self.inside.instructions.items in
     let flat = c.deref-step-items.ensures.value ∙ c.self.invariant.1.steps in
     let inside : k < length items = omega (arith, ap length flat, length-map items (step_of c.self.inside.inputs)) in
@@ -35,8 +41,7 @@ loop-k-preserved g c =
     let input : List Tern = map (state_at c.args.state.now) c.args.nodes.now in
     let k = c.loop-k.k in
     let values = c.loop-k.values in
-    let many : length input ≡ c.self.inside.inputs =
-    length-map c.args.nodes.now (state_at c.args.state.now) ∙ c.requires.nodes ∙ sym (ap (λ code. code.inputs) c.self.view_is) in
+    let many = many_inputs g (goal.at.loop-k-preserved g c).After-self in
     let items = c.self.inside.instructions.items in
     let same : items ≡ c.args.self.now.instructions = ap (λ code. code.instructions) c.self.view_is in
     let flat = c.deref-step-items.ensures.value ∙ c.self.invariant.1.steps in
@@ -53,8 +58,7 @@ pub pair_value-requires : goal.pair_value-requires
 pair_value-requires g c =
     let input : List Tern = map (state_at c.args.state.now) c.args.nodes.now in
     let k = c.loop-k-2.k in
-    let many : length input ≡ c.self.inside.inputs =
-    length-map c.args.nodes.now (state_at c.args.state.now) ∙ c.requires.nodes ∙ sym (ap (λ code. code.inputs) c.self.view_is) in
+    let many = many_inputs g (goal.at.pair_value-requires g c).After-self in
     let items = c.self.inside.instructions.items in
     let outputs = c.self.inside.outputs.items in
     let counted : c.len.result ≡ length items = omega (arith, c.len.ensures, c.self.inside.instructions.ok.0) in
@@ -69,8 +73,7 @@ pub loop-k-2-preserved : goal.loop-k-2-preserved
 loop-k-2-preserved g c =
     let input : List Tern = map (state_at c.args.state.now) c.args.nodes.now in
     let k = c.loop-k-2.k in
-    let many : length input ≡ c.self.inside.inputs =
-    length-map c.args.nodes.now (state_at c.args.state.now) ∙ c.requires.nodes ∙ sym (ap (λ code. code.inputs) c.self.view_is) in
+    let many = many_inputs g (goal.at.loop-k-2-preserved g c).After-self in
     let items = c.self.inside.instructions.items in
     let outputs = c.self.inside.outputs.items in
     let same : items ≡ c.args.self.now.instructions = ap (λ code. code.instructions) c.self.view_is in
