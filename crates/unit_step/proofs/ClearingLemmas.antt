@@ -7,7 +7,7 @@ use Rattle.std.proofs.lemmas.List.Elements.{Contains-push, Contains-push_cases, 
 use Rattle.unit_step.specs.declared.part.HeldPart.{HeldPart}
 use Rattle.unit_step.specs.Parts.{Stands, HasMember, AreApart}
 use Rattle.unit_step.specs.Machines.{MachineData, IsMarked}
-use Rattle.unit_step.specs.Seating.{Vacates, Seats, Clears, Renews, IsStalePartOf, IsTidy}
+use Rattle.unit_step.specs.Seating.{KeepsRest, Vacates, Seats, Clears, Renews, IsStalePartOf, IsTidy}
 use Rattle.unit_step.proofs.MarkLemmas.{marked-push, marked-push_cases}
 use Rattle.unit_step.proofs.SlotLemmas.{Stands-other, Stands-was, Stands-same, has_not_k, HasMember-was, Stands-before, Stands-last, Stands-cases}
 
@@ -21,23 +21,40 @@ only_one : (node other : ℕ) → Contains (node ∷ []) other → node ≡ othe
 only_one node other (zero, inside, here) = here
 only_one node other (suc i, inside, here) = absurd (omega (arith, inside))
 
--- where no part has the node, nothing is to be cleared
-pub Clears-none : (node : ℕ) (m : MachineData) → ((k : ℕ) → ¬ HasMember m.parts k node) → Clears (node ∷ []) m m
-Clears-none node m none = record {
+-- where nothing changes the rest stays
+pub KeepsRest-same : (m : MachineData) → KeepsRest m m
+KeepsRest-same m = record { groups = refl; state = refl; last = refl; moves = refl; placed = refl; spare = refl }
+
+-- and what stays twice stays
+pub KeepsRest-then : (old mid new : MachineData) → KeepsRest old mid → KeepsRest mid new → KeepsRest old new
+KeepsRest-then old mid new first then = record {
+  groups = then.groups ∙ first.groups;
+  state = then.state ∙ first.state;
+  last = then.last ∙ first.last;
+  moves = then.moves ∙ first.moves;
+  placed = then.placed ∙ first.placed;
+  spare = then.spare ∙ first.spare;
+}
+
+-- where no part has one of the nodes, nothing is to be cleared
+Clears-same : (nodes : List ℕ) (m : MachineData) → ((k node : ℕ) → Contains nodes node → ¬ HasMember m.parts k node) → Clears nodes m m
+Clears-same nodes m none = record {
   was = λ k part stands some. stands;
   uses = λ k part stands some. refl;
   stays = λ k part stands free. stands;
-  none = λ k other there has. none k (subst (HasMember m.parts k) (sym (only_one node other there)) has);
+  none = none;
   tidy = λ tidy. tidy;
   marks = refl;
   count = refl;
-  groups = refl;
-  state = refl;
-  last = refl;
-  moves = refl;
-  placed = refl;
-  spare = refl;
+  rest = KeepsRest-same m;
 }
+
+pub Clears-none : (node : ℕ) (m : MachineData) → ((k : ℕ) → ¬ HasMember m.parts k node) → Clears (node ∷ []) m m
+Clears-none node m none = Clears-same (node ∷ []) m (λ k other there has. none k (subst (HasMember m.parts k) (sym (only_one node other there)) has))
+
+-- before the first node nothing is cleared
+pub Clears-start : (m : MachineData) → Clears [] m m
+Clears-start m = Clears-same [] m (λ k node (i, inside, here) has. omega (arith, inside))
 
 -- a tidy machine is tidy after a part lost its group
 IsTidy-vacated : (k : ℕ) (old new : MachineData) → k < length old.parts → Vacates k old new → IsTidy old → IsTidy new
@@ -108,31 +125,8 @@ Clears-vacated node k old new apart has vacates =
       tidy = IsTidy-vacated k old new inside vacates;
       marks = vacates.marks;
       count = ap length vacates.parts ∙ length-set old.parts k vacates.part;
-      groups = vacates.groups;
-      state = vacates.state;
-      last = vacates.last;
-      moves = vacates.moves;
-      placed = vacates.placed;
-      spare = vacates.spare;
+      rest = vacates.rest;
     }
-
--- before the first node nothing is cleared
-pub Clears-start : (m : MachineData) → Clears [] m m
-Clears-start m = record {
-  was = λ k part stands some. stands;
-  uses = λ k part stands some. refl;
-  stays = λ k part stands free. stands;
-  none = λ k node (i, inside, here) has. omega (arith, inside);
-  tidy = λ tidy. tidy;
-  marks = refl;
-  count = refl;
-  groups = refl;
-  state = refl;
-  last = refl;
-  moves = refl;
-  placed = refl;
-  spare = refl;
-}
 
 module _ (nodes : List ℕ) (node : ℕ) (old mid new : MachineData) (first : Clears nodes old mid) (then : Clears (node ∷ []) mid new) where
   member_was : (k other : ℕ) → HasMember new.parts k other → HasMember mid.parts k other
@@ -169,12 +163,7 @@ module _ (nodes : List ℕ) (node : ℕ) (old mid new : MachineData) (first : Cl
     tidy = λ tidy. then.tidy (first.tidy tidy);
     marks = then.marks ∙ first.marks;
     count = then.count ∙ first.count;
-    groups = then.groups ∙ first.groups;
-    state = then.state ∙ first.state;
-    last = then.last ∙ first.last;
-    moves = then.moves ∙ first.moves;
-    placed = then.placed ∙ first.placed;
-    spare = then.spare ∙ first.spare;
+    rest = KeepsRest-then old mid new first.rest then.rest;
   }
 
 module _ (members : List ℕ) (old mid new : MachineData) (counted : length mid.marks ≡ length mid.parts) (clears : Clears members old mid)
@@ -215,10 +204,5 @@ module _ (members : List ℕ) (old mid new : MachineData) (counted : length mid.
     is_new = seats.is_new;
     count = omega (arith, same_count, ap length seats.parts, length_push mid.parts seats.part);
     tidy = λ tidy. IsTidy-seated members mid new seats (clears.tidy tidy);
-    groups = seats.groups ∙ clears.groups;
-    state = seats.state ∙ clears.state;
-    last = seats.last ∙ clears.last;
-    moves = seats.moves ∙ clears.moves;
-    placed = seats.placed ∙ clears.placed;
-    spare = seats.spare ∙ clears.spare;
+    rest = KeepsRest-then old mid new clears.rest seats.rest;
   }

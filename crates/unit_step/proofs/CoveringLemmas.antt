@@ -280,7 +280,7 @@ module _ (g : GraphData) (change : Change) (old : MachineData) (covers : Covers 
     each i group at = has_part group (i, slice_get_within now.groups i group at, get_or_from_slice_get now.groups i group group at)
 
     made_state : made.state ≡ with_new_nodes old.state (nodes g)
-    made_state = renews.state ∙ clears.state
+    made_state = renews.rest.state ∙ clears.rest.state
 
     counted : length made.state ≡ nodes g
     counted = ap length made_state ∙ counted_grown g change old.state covers.counted
@@ -381,7 +381,7 @@ module _ (g : GraphData) (change : Change) (old : MachineData) (covers : Covers 
       stays = λ k part group stands is_part untouched. (still_then k part group stands is_part untouched).stood;
       marks = λ k part group stands is_part untouched.
           still_marks k part stands (has_some k part group stands is_part) (still_then k part group stands is_part untouched);
-      last = renews.last ∙ clears.last;
-      moves = renews.moves ∙ clears.moves;
-      placed = renews.placed ∙ clears.placed;
+      last = renews.rest.last ∙ clears.rest.last;
+      moves = renews.rest.moves ∙ clears.rest.moves;
+      placed = renews.rest.placed ∙ clears.rest.placed;
     }

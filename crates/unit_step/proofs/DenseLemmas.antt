@@ -9,6 +9,7 @@ use Rattle.std.specs.declared.rc.Rc.{Rc}
 use Rattle.straight_code.specs.Code.{CodeData}
 use Rattle.straight_code.specs.declared.part.Part.{Part}
 use Rattle.kept_parts.specs.Coded.{AreCoded}
+use Rattle.kept_parts.proofs.PairLemmas.{pushed_at}
 use Rattle.part_words.specs.Noting.{map_at}
 use Rattle.unit_step.specs.declared.part.HeldPart.{HeldPart}
 use Rattle.unit_step.specs.declared.dense.Seat.{Seat}
@@ -48,17 +49,6 @@ module _ {X : Type 0} where
   -- what is in front stands where it stood
   pub stands_still : (front list : List X) (k : ℕ) (x : X) → BeginsWith front list → slice_get front k ≡ Some x → slice_get list k ≡ Some x
   stands_still front list k x begins at = ap (λ xs. slice_get xs k) begins.is ∙ at_front front begins.more k x at
-
-  -- what stands in a list with an item more stood there, or is this item
-  pushed_at : (xs : List X) (x y : X) (k : ℕ) → slice_get (xs ++ x ∷ []) k ≡ Some y → (slice_get xs k ≡ Some y) ⊎ ((k ≡ length xs) × (x ≡ y))
-  pushed_at [] x y zero at = inr (refl, same_Some x y at)
-  pushed_at [] x y (suc k) at = absurd (none-some y at)
-  pushed_at (z ∷ xs) x y zero at = inl at
-  pushed_at (z ∷ xs) x y (suc k) at =
-      elim (pushed_at xs x y k at) [
-        | inl before ↦ inl before
-        | inr (place, is) ↦ inr (omega (arith, place), is)
-      ]
 
   last_at : (xs : List X) (x : X) → slice_get (xs ++ x ∷ []) (length xs) ≡ Some x
   last_at [] x = refl

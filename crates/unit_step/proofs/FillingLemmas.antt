@@ -1,6 +1,6 @@
 -- What a fill of what is kept makes of a build: where the new texts of the graph's groups were analysed and are kept, the build is done once all
 -- texts stand in front; and it is cut off where memory was wanting.
-use Rattle.std.proofs.Common.{◌≡◌, ℕ, inl, inr, List, [], ◌++◌, length, Result, Ok, Err, OnErr, refl, sym, ap, ◌∙◌, append-nil}
+use Rattle.std.proofs.Common.{◌≡◌, ℕ, inl, inr, List, [], ◌++◌, length, Result, Ok, Err, OnErr, refl, sym, ap, subst, ◌∙◌, append-nil}
 use Rattle.std.proofs.lemmas.List.{map-append}
 use Rattle.path_meaning.specs.Graphs.{GraphData}
 use Rattle.group_text.specs.Texts.{GroupTextData}
@@ -34,13 +34,17 @@ module _ (g : GraphData) (old new : KeptData) (before after : List GroupTextData
   pub IsGrown-cut_off : KeepsSome old new before after held_before held_after texts → IsGrown old new
   IsGrown-cut_off keeps = record { more = keeps.more; grown = keeps.kept; bound = keeps.bound }
 
-  module _ (fresh : BuildsFresh g (texts_of old) (new_texts (texts_of old) texts)) where
+  -- the texts that were handed in are these, the new ones of which a build of the graph has analysed
+  module _ (present : List GroupTextData) (same : texts ≡ present) (fresh : BuildsFresh g (texts_of old) (new_texts (texts_of old) present)) where
+    fresh_read : BuildsFresh g (texts_of old) (new_texts (texts_of old) texts)
+    fresh_read = subst (λ list. BuildsFresh g (texts_of old) (new_texts (texts_of old) list)) (sym same) fresh
+
     -- where all new texts were analysed it is done
     pub Fills-filled : (count : ℕ) → FillsAll old new before after held_before held_after texts count →
         Fills g (texts_of old) (texts_of new) before after count
     Fills-filled count fills = record {
       fresh = new_texts (texts_of old) texts;
-      news = fresh;
+      news = fresh_read;
       kept = texts_grown old new fills.more fills.kept ∙ ap (λ l. texts_of old ++ l) fills.added;
       analysed = fills.analysed;
       number = fills.number;
@@ -53,7 +57,7 @@ module _ (g : GraphData) (old new : KeptData) (before after : List GroupTextData
       more = entry_texts keeps.more;
       further = keeps.further;
       rest = keeps.rest;
-      news = fresh;
+      news = fresh_read;
       front = keeps.front;
       kept = texts_grown old new keeps.more keeps.kept;
       analysed = keeps.analysed;
@@ -68,7 +72,7 @@ module _ (g : GraphData) (old new : KeptData) (before after : List GroupTextData
       more = entry_texts fills.more;
       further = [];
       rest = [];
-      news = fresh;
+      news = fresh_read;
       front = sym fills.added ∙ sym (append-nil (entry_texts fills.more));
       kept = texts_grown old new fills.more fills.kept;
       analysed = fills.analysed ∙ ap (λ l. before ++ l) (sym fills.added ∙ sym (append-nil (entry_texts fills.more)));

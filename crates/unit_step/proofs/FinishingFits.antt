@@ -27,7 +27,7 @@ use Rattle.unit_step.proofs.KeptLemmas.{group_there}
 use Rattle.unit_step.proofs.FinishingTexts.{new_texts-waiting, same_distinct}
 
 -- the text of a part is among those of the parts that have one
-among_some : (uses : List (Option GroupTextData)) (k : ℕ) (text : GroupTextData) → slice_index_or uses k None ≡ Some text →
+pub among_some : (uses : List (Option GroupTextData)) (k : ℕ) (text : GroupTextData) → slice_index_or uses k None ≡ Some text →
     is_among (some_texts uses) text ≡ true
 among_some [] k text is = absurd cc
 among_some (None ∷ uses) zero text is = absurd cc
@@ -38,7 +38,7 @@ among_some (Some first ∷ uses) zero text is =
 among_some (Some first ∷ uses) (suc k) text is = or_true (same_text text first) (is_among (some_texts uses) text) (among_some uses k text is)
 
 -- and each of those is the text of a part
-some_part : (uses : List (Option GroupTextData)) (text : GroupTextData) → is_among (some_texts uses) text ≡ true →
+pub some_part : (uses : List (Option GroupTextData)) (text : GroupTextData) → is_among (some_texts uses) text ≡ true →
     (k : ℕ) × (k < length uses) × (slice_index_or uses k None ≡ Some text)
 some_part [] text is = absurd cc
 some_part (None ∷ uses) text is = let (k, inside, here) = some_part uses text is in (suc k, omega (arith, inside), here)

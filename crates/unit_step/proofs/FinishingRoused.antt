@@ -35,7 +35,8 @@ use Rattle.unit_step.specs.Finishing.{IsFresh, IsSlotOf, AreWaiting, Puts}
 use Rattle.unit_step.specs.Readers.{ListsAll, HaveSameReaders}
 use Rattle.unit_step.proofs.PartLemmas.{same_part, one_group, member_of_part, member_from_part, place_in_group}
 use Rattle.unit_step.proofs.KeptLemmas.{made_at}
-use Rattle.unit_step.proofs.MakingLemmas.{formed_parts, reads_inside}
+use Rattle.unit_step.proofs.MakingLemmas.{formed_parts, reads_inside, IsSeated-formed}
+use Rattle.unit_step.proofs.MachineLemmas.{IsSeated-wider, IsMachine-with}
 use Rattle.unit_step.proofs.BuildLemmas.{fresh_parts, lists_inside}
 use Rattle.unit_step.proofs.FinishingFits.{some_members, FitsGraph-covered}
 use Rattle.unit_step.proofs.FinishingWaiting.{is_one_of, one_of-Contains, one_of-from}
@@ -75,49 +76,14 @@ one_or_none xs k =
       | inr fails ↦ inr (λ there. let both : true ≡ false = sym (one_of-from xs k there) ∙ fails in absurd cc)
     ]
 
--- a wider desk has room for a part too
-IsSeated-wider : (count : ℕ) (room wide : Rooms) (part : HeldPart) → room.values ≤ wide.values → IsSeated count room part →
-    IsSeated count wide part
-IsSeated-wider count room wide part values seated = record {
-  below = seated.below;
-  members = seated.members;
-  apart = seated.apart;
-  coded = λ code has.
-      let is = seated.coded code has in
-      record {
-        inputs = is.inputs;
-        outputs = is.outputs;
-        value_room = omega (arith, is.value_room, values);
-      };
-}
-
 -- a machine with a wider desk, whose nodes have the same readers, can run
 pub IsMachine-wider : (parts : List HeldPart) (marks waiting : List Bool) (count : ℕ) (lists new_lists : List (SmallVec ℕ)) (owners numbers new_numbers : List (Option ℕ))
     (held most : ℕ) (room wide : Rooms) → room.values ≤ wide.values → wide.changes ≡ room.changes → wide.parts ≡ room.parts →
     new_numbers ≡ numbers → HaveSameReaders lists new_lists → IsMachine parts marks waiting count lists owners numbers held most room →
     IsMachine parts marks waiting count new_lists owners new_numbers held most wide
-IsMachine-wider parts marks waiting count lists new_lists owners numbers new_numbers held most room wide values changes parts_are numbers_are same machine = record {
-  runs = record {
-    counted = machine.runs.counted;
-    seated = λ k d inside. IsSeated-wider count room wide (get_or parts k d) values (machine.runs.seated k d inside);
-    apart = machine.runs.apart;
-    waits = machine.runs.waits;
-    stale = machine.runs.stale;
-    readers_counted = same.count ∙ machine.runs.readers_counted;
-    readers = λ node k reads. same.stays node k (machine.runs.readers node k reads);
-    reads = λ node k there. machine.runs.reads node k (same.only node k there);
-    changes_room = omega (arith, machine.runs.changes_room, changes);
-    parts_room = omega (arith, machine.runs.parts_room, parts_are);
-  };
-  own = machine.own;
-  numbered = omega (arith, machine.numbered, ap length numbers_are);
-  number = machine.number;
-  most_members = machine.most_members;
-  most_room = omega (arith, machine.most_room, changes);
-}
-
-pub HaveSameReaders-refl : (lists : List (SmallVec ℕ)) → HaveSameReaders lists lists
-HaveSameReaders-refl lists = record { count = refl; stays = λ node l there. there; only = λ node l there. there }
+IsMachine-wider parts marks waiting count lists new_lists owners numbers new_numbers held most room wide values changes parts_are numbers_are same machine =
+    IsMachine-with parts marks marks waiting count lists new_lists owners numbers new_numbers held most room wide refl same
+    (omega (arith, ap length numbers_are)) values (omega (arith, changes)) (omega (arith, parts_are)) machine
 
 -- a part that stays, with code if it has a member
 pub record StaysAt (old : List HeldPart) (k : ℕ) (part : HeldPart) : Type 0 where
@@ -299,17 +265,8 @@ module _ (g : GraphData) (m : MachineData) (covers : Covers g m) (groups some : 
             | inr comes ↦
                 let within = slice_get_within fresh comes.i part comes.there in
                 let here = get_or_from_slice_get fresh comes.i part part comes.there in
-                let form = subst (IsFormed count) here (formed comes.i part within) in
-                record {
-                  below = form.below;
-                  members = form.members;
-                  apart = form.apart;
-                  coded = λ code is. record {
-                    inputs = form.inputs code is;
-                    outputs = form.outputs code is;
-                    value_room = subst (IsCodeRoom wide.values) here (values_room comes.i part within) code is;
-                  };
-                }
+                IsSeated-formed count wide part (subst (IsFormed count) here (formed comes.i part within))
+                (subst (IsCodeRoom wide.values) here (values_room comes.i part within))
           ];
       apart = apart_new runs.apart;
       waits = λ k waits. absurd (none k waits);

@@ -1,7 +1,8 @@
 -- A step of a machine that fits a graph is the graph's step, and the machine fits the graph again: a part that isn't marked afterwards
 -- read no change, and its members took their steady states in this step or had them before, so they rest.
-use Rattle.std.proofs.Common.{◌≡◌, ℕ, ◌<◌, ◌≤◌, Bool, true, false, inl, inr, List, take, sym, ap, subst, ◌∙◌, arith}
+use Rattle.std.proofs.Common.{◌≡◌, ℕ, ◌<◌, ◌≤◌, Bool, true, false, inl, inr, List, None, length, take, sym, ap, subst, ◌∙◌, arith}
 use Rattle.std.proofs.lemmas.Bool.{cases_lt}
+use Rattle.group_text.specs.Texts.{GroupTextData}
 use Rattle.ternary.specs.declared.tern.Tern.{Tern}
 use Rattle.ternary.specs.Tern.{join}
 use Rattle.path_meaning.specs.Switching.{state_at}
@@ -31,6 +32,36 @@ none_rest g state xs count none node there =
     let is : count ≡ 0 = omega arith in
     let (k, inside, here) = rw is at there in
     absurd (omega (arith, inside))
+
+-- a machine with other states, marks, counts and texts of the last build fits the graph too, where its stale parts are marked and its
+-- unmarked parts rest
+pub fits_with : (g : GraphData) (m : MachineData) (fits : FitsGraph g m) (marks : List Bool) (state : List Tern) (last : List GroupTextData) (moved placed : ℕ) →
+    length state ≡ nodes g →
+    ((k : ℕ) (part : HeldPart) → Stands m.parts k part → 0 < part.members → part.code ≡ None → IsMarked marks k) →
+    ((k : ℕ) (part : HeldPart) → Stands m.parts k part → ¬ IsMarked marks k → Rests g state (take part.members part.map.items)) →
+    IsSound state → FitsGraph g (record m { marks = marks; state = state; last = last; moves = moved; placed = placed })
+fits_with g m fits marks state last moved placed counted waits rests sound = record {
+  covers = record {
+    groups = fits.covers.groups;
+    kept = fits.covers.kept;
+    are = fits.covers.are;
+    counted = counted;
+    each = fits.covers.each;
+    whole = fits.covers.whole;
+    apart = fits.covers.apart;
+    number = fits.covers.number;
+    known = fits.covers.known;
+    textless = fits.covers.textless;
+    uses_counted = fits.covers.uses_counted;
+    quiet = fits.covers.quiet;
+    waits = waits;
+    rests = rests;
+  };
+  coded = fits.coded;
+  railed = fits.railed;
+  sound = sound;
+  texts = fits.texts;
+}
 
 module _ (g : GraphData) (wired : IsWired g) (old : MachineData) (fits : FitsGraph g old) (new : List Tern) where
   -- a plain step is the graph's step
@@ -117,28 +148,9 @@ module _ (g : GraphData) (wired : IsWired g) (old : MachineData) (fits : FitsGra
 
     -- the machine with these states and marks fits the graph again
     pub fits_again : (moved placed : ℕ) → FitsGraph g (record old { marks = marks; state = new; moves = moved; placed = placed })
-    fits_again moved placed = record {
-      covers = record {
-        groups = fits.covers.groups;
-        kept = fits.covers.kept;
-        are = fits.covers.are;
-        counted = moves.count ∙ fits.covers.counted;
-        each = fits.covers.each;
-        whole = fits.covers.whole;
-        apart = fits.covers.apart;
-        number = fits.covers.number;
-        known = fits.covers.known;
-        textless = fits.covers.textless;
-        uses_counted = fits.covers.uses_counted;
-        quiet = fits.covers.quiet;
-        waits = λ k part stands some none. absurd (fits.coded k part stands some none);
-        rests = part_rests;
-      };
-      coded = fits.coded;
-      railed = fits.railed;
-      sound = stays_sound;
-      texts = fits.texts;
-    }
+    fits_again moved placed =
+        fits_with g old fits marks new old.last moved placed (moves.count ∙ fits.covers.counted)
+        (λ k part stands some none. absurd (fits.coded k part stands some none)) part_rests stays_sound
 
 -- a machine in which all but states, marks and counts are the same
 pub same_machine : (old new : MachineData) → new.groups ≡ old.groups → new.parts ≡ old.parts → new.uses ≡ old.uses →
@@ -202,25 +214,6 @@ columns_join_apart g old new wired fits advances =
 
 -- where all parts are marked none has to rest
 pub marked_machines_fit : MarkedMachinesFit
-marked_machines_fit g m marks state fits all counted sound = record {
-  covers = record {
-    groups = fits.covers.groups;
-    kept = fits.covers.kept;
-    are = fits.covers.are;
-    counted = counted;
-    each = fits.covers.each;
-    whole = fits.covers.whole;
-    apart = fits.covers.apart;
-    number = fits.covers.number;
-    known = fits.covers.known;
-    textless = fits.covers.textless;
-    uses_counted = fits.covers.uses_counted;
-    quiet = fits.covers.quiet;
-    waits = λ k part stands some none. all k stands.inside;
-    rests = λ k part stands unmarked. absurd (unmarked (all k stands.inside));
-  };
-  coded = fits.coded;
-  railed = fits.railed;
-  sound = sound;
-  texts = fits.texts;
-}
+marked_machines_fit g m marks state fits all counted sound =
+    fits_with g m fits marks state m.last m.moves m.placed counted (λ k part stands some none. all k stands.inside)
+    (λ k part stands unmarked. absurd (unmarked (all k stands.inside))) sound

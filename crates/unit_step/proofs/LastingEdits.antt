@@ -30,6 +30,11 @@ starts_below count part below i d inside =
     let before : i < min part.members 1 = omega (arith, inside, length-take (min part.members 1) part.map.items) in
     subst (λ node. node < count) (sym (get_or-take (min part.members 1) part.map.items i d before)) (below i d first)
 
+-- a part that begins at a node has the number
+begins_with : (parts : List HeldPart) (numbers : List (Option ℕ)) (node number k : ℕ) (part : HeldPart) → Stands parts k part → IsMemberAt part 0 node →
+    slice_index_or numbers k None ≡ Some number → Begins parts numbers node number
+begins_with parts numbers node number k part stands first has = record { k = k; at = record { part = part; stands = stands; first = first }; has = has }
+
 module _ (parts : List HeldPart) (numbers : List (Option ℕ)) (count known : ℕ) (lasting : Lasting)
     (are : AreLasting parts numbers count known lasting) where
   -- it is the same where the nodes are noted anew, and the numbers read the same
@@ -73,15 +78,9 @@ module _ (parts : List HeldPart) (numbers : List (Option ℕ)) (count known : �
         Begins (slice_set parts k e) (slice_set numbers k None) node number
     begins_still node number begins none =
         let differs : begins.k ≢ k = λ same. none (noted_start node (subst (λ l. BeginsAt parts l node) same begins.at)) in
-        record {
-          k = begins.k;
-          at = record {
-            part = begins.at.part;
-            stands = Stands-other parts k e stands.inside begins.k begins.at.part differs begins.at.stands;
-            first = begins.at.first;
-          };
-          has = get_or-set_other numbers k begins.k None None differs ∙ begins.has;
-        }
+        begins_with (slice_set parts k e) (slice_set numbers k None) node number begins.k begins.at.part
+        (Stands-other parts k e stands.inside begins.k begins.at.part differs begins.at.stands) begins.at.first
+        (get_or-set_other numbers k begins.k None None differs ∙ begins.has)
 
     began : (node number : ℕ) → Begins (slice_set parts k e) (slice_set numbers k None) node number → Begins parts numbers node number
     began node number begins =
@@ -89,15 +88,9 @@ module _ (parts : List HeldPart) (numbers : List (Option ℕ)) (count known : �
         let is = Stands-same parts k e stands.inside begins.at.part
         (subst (λ l. Stands (slice_set parts k e) l begins.at.part) same begins.at.stands) in
         omega (arith, begins.at.first.inside, ap (λ (one : HeldPart). one.members) is, vacant.members) in
-        record {
-          k = begins.k;
-          at = record {
-            part = begins.at.part;
-            stands = Stands-was parts k e stands.inside begins.k begins.at.part differs begins.at.stands;
-            first = begins.at.first;
-          };
-          has = sym (get_or-set_other numbers k begins.k None None differs) ∙ begins.has;
-        }
+        begins_with parts numbers node number begins.k begins.at.part
+        (Stands-was parts k e stands.inside begins.k begins.at.part differs begins.at.stands) begins.at.first
+        (sym (get_or-set_other numbers k begins.k None None differs) ∙ begins.has)
 
     -- a part that loses its group was noted where it began
     pub AreLasting-vacated : AreLasting (slice_set parts k e) (slice_set numbers k None) count known lasting'

@@ -17,6 +17,7 @@ use Rattle.unit_step.specs.Fitting.{IsPartOf, FitsGraph}
 use Rattle.unit_step.specs.Lasting.{Begins, AreInOrder, HasLast}
 use Rattle.unit_step.proofs.PartLemmas.{member_from_part}
 use Rattle.unit_step.proofs.KeptLemmas.{group_there, made_at}
+use Rattle.unit_step.proofs.FittingLemmas.{fits_with}
 use Rattle.unit_step.proofs.FinishingFits.{some_members}
 
 -- the part of a group begins at the group's least node
@@ -120,25 +121,4 @@ module _ (g : GraphData) (m : MachineData) (fits : FitsGraph g m) where
 
   -- the texts of the last build may be any, for the machine to fit the graph
   pub FitsGraph-last : (last : List GroupTextData) → FitsGraph g (record m { last = last })
-  FitsGraph-last last = record {
-    covers = record {
-      groups = fits.covers.groups;
-      kept = fits.covers.kept;
-      are = fits.covers.are;
-      counted = fits.covers.counted;
-      each = fits.covers.each;
-      whole = fits.covers.whole;
-      apart = fits.covers.apart;
-      number = fits.covers.number;
-      known = fits.covers.known;
-      textless = fits.covers.textless;
-      uses_counted = fits.covers.uses_counted;
-      quiet = fits.covers.quiet;
-      waits = fits.covers.waits;
-      rests = fits.covers.rests;
-    };
-    coded = fits.coded;
-    railed = fits.railed;
-    sound = fits.sound;
-    texts = fits.texts;
-  }
+  FitsGraph-last last = fits_with g m fits m.marks m.state last m.moves m.placed fits.covers.counted fits.covers.waits fits.covers.rests fits.sound

@@ -24,6 +24,7 @@ use Rattle.unit_step.specs.declared.part.HeldPart.{HeldPart}
 use Rattle.unit_step.specs.declared.lasting.Lasting.{Lasting}
 use Rattle.unit_step.specs.Parts.{Stands, AreApart}
 use Rattle.unit_step.specs.Lasting.{Begins, AreInOrder, AreLasting, AreLeavers, UsesLeavers, IsLeft, is_unused, texts_lasting}
+use Rattle.unit_step.proofs.FinishingFits.{among_some, some_part}
 use Rattle.unit_step.proofs.LastingLemmas.{BeginsAt-first, Begins-once}
 use Rattle.unit_step.proofs.LastingOrder.{text_at, text_of_part, number_of_text}
 
@@ -36,30 +37,6 @@ same_test false false there back = refl
 pub either : (a b : Bool) → b ≡ true → (a || b) ≡ true
 either true b is = refl
 either false b is = is
-
--- a text that some part has is among the texts of the parts
-pub text_among : (uses : List (Option GroupTextData)) (k : ℕ) (text : GroupTextData) → slice_index_or uses k None ≡ Some text →
-    is_among (some_texts uses) text ≡ true
-text_among [] k text is = absurd cc
-text_among (None ∷ uses) zero text is = absurd cc
-text_among (None ∷ uses) (suc k) text is = text_among uses k text is
-text_among (Some one ∷ uses) zero text is =
-    let same : one ≡ text = cc in
-    ap (λ b. b || is_among (some_texts uses) text) ((same_text_decides text one).1 (sym same))
-text_among (Some one ∷ uses) (suc k) text is = either (same_text text one) (is_among (some_texts uses) text) (text_among uses k text is)
-
--- and a text that is among these some part has
-pub part_with_text : (uses : List (Option GroupTextData)) (text : GroupTextData) → is_among (some_texts uses) text ≡ true →
-    (k : ℕ) × (slice_index_or uses k None ≡ Some text)
-part_with_text [] text is = absurd (true≢false (sym is))
-part_with_text (None ∷ uses) text is = let (k, has) = part_with_text uses text is in (suc k, has)
-part_with_text (Some one ∷ uses) text is = by (same_text text one) refl is (part_with_text uses text)
-  where
-    by : (same : Bool) → same_text text one ≡ same → (same || is_among (some_texts uses) text) ≡ true →
-        (is_among (some_texts uses) text ≡ true → (k : ℕ) × (slice_index_or uses k None ≡ Some text)) →
-        (k : ℕ) × (slice_index_or (Some one ∷ uses) k None ≡ Some text)
-    by true e some later = (0, ap Some (sym ((same_text_decides text one).0 e)))
-    by false e some later = let (k, has) = later some in (suc k, has)
 
 module _ (R : ℕ → GroupTextData → Type 0) where
   -- of texts at places a text has its place
@@ -97,9 +74,9 @@ AreSame-order parts uses texts order apart few textless beyond text =
     same_test (is_among texts text) (is_among (some_texts uses) text)
     (λ is.
     let (node, begins) = place_of_text (Begins parts uses) order.places texts order.each text is in
-    text_among uses begins.k text begins.has)
+    among_some uses begins.k text begins.has)
     (λ is.
-    let (k, has) = part_with_text uses text is in
+    let (k, inside, has) = some_part uses text is in
     in_order k has)
   where
     with_part : (k : ℕ) → slice_index_or uses k None ≡ Some text → (part : HeldPart) → Stands parts k part → is_among texts text ≡ true
@@ -221,7 +198,7 @@ module _ (parts : List HeldPart) (uses : UsesData) (count : ℕ) (lasting : Last
       let begins = are.begins node number number_is unnoted in
       let has : slice_index_or (texts_used uses) begins.k None ≡ Some text =
       text_of_part uses.known uses.numbers begins.k ∙ (ap (text_at uses.known) begins.has ∙ text_is) in
-      rw (text_among (texts_used uses) begins.k text has)
+      rw (among_some (texts_used uses) begins.k text has)
 
   module _ (leavers : List GroupTextData) (leaves : AreLeavers uses lasting leavers) where
     -- so all of the last build that no part has any more stands at noted nodes
@@ -256,7 +233,7 @@ AreSame-in_use uses text =
   where
     by : (used : Bool) → is_among (some_texts (texts_used uses)) text ≡ used → (used && is_among uses.known text) ≡ used
     by true is =
-        let (k, has) = part_with_text (texts_used uses) text is in
+        let (k, inside, has) = some_part (texts_used uses) text is in
         let (number, number_is, at_number) = number_of_text uses.known (slice_index_or uses.numbers k None) text (sym (text_of_part uses.known uses.numbers k) ∙ has) in
         among_at uses.known number text at_number
     by false is = refl

@@ -42,3 +42,4 @@ pub mod LastingGroups
 pub mod DraftLemmas
 pub mod LastingRoused
 pub mod FinishingOrder
+pub mod OwnerLemmas

@@ -20,10 +20,10 @@ use Rattle.unit_step.specs.declared.part.HeldPart.{HeldPart}
 use Rattle.unit_step.specs.Parts.{Stands, IsMemberAt, HasMember, ReadsAt, AreApart, has_members}
 use Rattle.unit_step.specs.Machines.{IsMarked, count_marked}
 use Rattle.unit_step.specs.Marking.{IsAgenda}
-use Rattle.unit_step.specs.Evaluating.{Rooms}
+use Rattle.unit_step.specs.Evaluating.{Rooms, IsSeated}
 use Rattle.unit_step.specs.Running.{AreOwners, IsMachine}
 use Rattle.unit_step.specs.Readers.{readers_of}
-use Rattle.unit_step.specs.Making.{ShareNone, held, Owns, HasRoomFor, IsFormed, AreOwned}
+use Rattle.unit_step.specs.Making.{ShareNone, held, Owns, HasRoomFor, IsCodeRoom, IsFormed, AreOwned}
 use Rattle.unit_step.proofs.MarkLemmas.{marked_inside}
 use Rattle.unit_step.proofs.PartLemmas.{same_part}
 
@@ -260,6 +260,15 @@ apart_parts parts reads share k l node one two =
           at_place = slice_get_read part.map.items (length part.map.items) has.place node refl within here;
         }
 
+-- where there is room for a part's code the part can be run
+pub IsSeated-formed : (count : ℕ) (room : Rooms) (part : HeldPart) → IsFormed count part → IsCodeRoom room.values part → IsSeated count room part
+IsSeated-formed count room part form values = record {
+  below = form.below;
+  members = form.members;
+  apart = form.apart;
+  coded = λ code is. record { inputs = form.inputs code is; outputs = form.outputs code is; value_room = values code is };
+}
+
 -- a machine that starts with parts that have code can run
 pub IsMachine-started : (parts : List HeldPart) (count : ℕ) (lists : List (SmallVec ℕ)) (owners numbers : List (Option ℕ)) (number most : ℕ) (room : Rooms) →
     All (IsFormed count) parts → AreApart parts → length lists ≡ count →
@@ -270,18 +279,7 @@ pub IsMachine-started : (parts : List HeldPart) (count : ℕ) (lists : List (Sma
 IsMachine-started parts count lists owners numbers number most room formed apart counted readers reads own numbered number_is most_is fits = record {
   runs = record {
     counted = length-replicate (length parts) true;
-    seated = λ k d inside.
-        let form = formed k d inside in
-        record {
-          below = form.below;
-          members = form.members;
-          apart = form.apart;
-          coded = λ code is. record {
-            inputs = form.inputs code is;
-            outputs = form.outputs code is;
-            value_room = fits.values k d inside code is;
-          };
-        };
+    seated = λ k d inside. IsSeated-formed count room _ (formed k d inside) (fits.values k d inside);
     apart = apart;
     waits = λ k waits. absurd (none_marked (length parts) k waits);
     stale = λ k stale.

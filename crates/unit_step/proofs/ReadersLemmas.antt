@@ -1,6 +1,6 @@
 -- The lists of readers, while parts enter them and leave them. One list is replaced at a time: what holds of it, and of all others, holds
 -- of all lists.
-use Rattle.std.proofs.Common.{◌≡◌, ℕ, ◌+◌, ◌-◌, ◌<◌, ◌≤◌, false, inl, inr, ◌⊎◌, List, [], ◌∷◌, ◌++◌, length, take, drop, get_or, nat_eq, Some, Result, Ok, Err, refl, sym, ap, subst, ◌∙◌, arith}
+use Rattle.std.proofs.Common.{◌≡◌, ℕ, ◌+◌, ◌-◌, ◌<◌, ◌≤◌, false, inl, inr, ◌⊎◌, List, [], ◌∷◌, ◌++◌, length, take, drop, get_or, nat_eq, All, Some, Result, Ok, Err, refl, sym, ap, subst, ◌∙◌, arith}
 use Rattle.std.specs.Prelude.{Contains, slice_set, slice_get, slice_index, OnErr}
 use Rattle.std.specs.List.{IsDistinct, list_any}
 use Rattle.std.specs.Result.{is_ok}
@@ -10,7 +10,7 @@ use Rattle.std.proofs.lemmas.List.{length-set, take_more, take_all, take-append-
 use Rattle.std.proofs.lemmas.List.Elements.{Contains-push, Contains-push_cases, Contains-append_left}
 use Rattle.std.proofs.lemmas.Map.Keys.{IsDistinct-push}
 use Rattle.std.proofs.lemmas.Map.Views.{Contains-from_any}
-use Rattle.std.proofs.lemmas.Option.{slice_get_within, get_or_from_slice_get}
+use Rattle.std.proofs.lemmas.Option.{slice_get_within, slice_get-get_or, get_or_from_slice_get}
 use Rattle.smallvec.specs.SmallVec.{SmallVec}
 use Rattle.channel_groups.specs.Listing.{TakesOut}
 use Rattle.unit_step.specs.declared.part.HeldPart.{HeldPart}
@@ -67,7 +67,14 @@ TakesOut-none k list distinct none = record {
   distinct = distinct;
 }
 
-module _ (mid : List (SmallVec ℕ)) (node : ℕ) (before after : SmallVec ℕ) (inside : node < length mid) (was : before ≡ get_or mid node before) where
+module _ (mid : List (SmallVec ℕ)) (node : ℕ) (found after : SmallVec ℕ) (inside : node < length mid) where
+  -- the list that stands at the node
+  abbrev before : SmallVec ℕ
+  before = get_or mid node found
+
+  was : before ≡ get_or mid node before
+  was = get_or_default mid node found before inside
+
   -- what holds of the list that is replaced, and of all others, holds of all lists
   pub by_node : (P : ℕ → List ℕ → List ℕ → Type 0) → P node before.items after.items →
       ((other : ℕ) → P other (readers_of mid other) (readers_of mid other)) →
@@ -89,15 +96,18 @@ module _ (mid : List (SmallVec ℕ)) (node : ℕ) (before after : SmallVec ℕ) 
   IsLastIf-here k last = subst (IsLastIf k) (sym (readers_read mid node before inside was)) last
 
 -- one node more of those at which a part is listed or unlisted
-module _ (k : ℕ) (nodes : List ℕ) (i node : ℕ) (old mid : List (SmallVec ℕ)) (before after : SmallVec ℕ) (i_inside : i < length nodes)
-    (is : node ≡ get_or nodes i 0) (inside : node < length mid) (was : before ≡ get_or mid node before) where
+module _ (k : ℕ) (nodes : List ℕ) (i : ℕ) (old mid : List (SmallVec ℕ)) (found after : SmallVec ℕ) (i_inside : i < length nodes)
+    (inside : get_or nodes i 0 < length mid) where
+  abbrev node : ℕ
+  node = get_or nodes i 0
+
   more : take (i + 1) nodes ≡ take i nodes ++ node ∷ []
-  more = take_more nodes i 0 i_inside ∙ ap (λ n. take i nodes ++ n ∷ []) (sym is)
+  more = take_more nodes i 0 i_inside
 
   -- the part enters the list of one node more
-  pub ListsLast-more : Adds k before.items after.items → ListsLast k (take i nodes) old mid → ListsLast k (take (i + 1) nodes) old (slice_set mid node after)
+  pub ListsLast-more : Adds k (get_or mid node found).items after.items → ListsLast k (take i nodes) old mid → ListsLast k (take (i + 1) nodes) old (slice_set mid node after)
   ListsLast-more added so_far =
-      let by = by_node mid node before after inside was in
+      let by = by_node mid node found after inside in
       let grown : (other l : ℕ) → Contains (readers_of mid other) l → Contains (readers_of (slice_set mid node after) other) l =
       λ other l. by (λ n xs ys. Contains xs l → Contains ys l) (added.stays l) (λ n there. there) other in
       let at_node : Contains (readers_of (slice_set mid node after) node) k =
@@ -129,9 +139,9 @@ module _ (k : ℕ) (nodes : List ℕ) (i node : ℕ) (old mid : List (SmallVec �
       })
 
   -- where the part couldn't enter, the node has its readers still
-  pub ListsSome-failed : after.items ≡ before.items → ListsLast k (take i nodes) old mid → ListsSome k nodes old (slice_set mid node after)
+  pub ListsSome-failed : after.items ≡ (get_or mid node found).items → ListsLast k (take i nodes) old mid → ListsSome k nodes old (slice_set mid node after)
   ListsSome-failed same so_far =
-      let by = by_node mid node before after inside was in
+      let by = by_node mid node found after inside in
       record {
         count = length-set mid node after ∙ so_far.lists.count;
         stays = λ other l there.
@@ -143,7 +153,7 @@ module _ (k : ℕ) (nodes : List ℕ) (i node : ℕ) (old mid : List (SmallVec �
             ];
         each = record {
           once = by (λ n xs ys. IsDistinct nat_eq ys)
-              (subst (IsDistinct nat_eq) (sym same) (AreEachOnce-here mid node before after inside was so_far.each)) so_far.each.once;
+              (subst (IsDistinct nat_eq) (sym same) (AreEachOnce-here mid node found after inside so_far.each)) so_far.each.once;
         };
       }
     where
@@ -152,9 +162,9 @@ module _ (k : ℕ) (nodes : List ℕ) (i node : ℕ) (old mid : List (SmallVec �
           subst (λ list. Contains list x) (take-append-drop i nodes) (Contains-append_left (take i nodes) (drop i nodes) x there)
 
   -- the part is taken off one list more
-  pub Unlists-more : TakesOut k before.items after.items → Unlists k (take i nodes) old mid → Unlists k (take (i + 1) nodes) old (slice_set mid node after)
+  pub Unlists-more : TakesOut k (get_or mid node found).items after.items → Unlists k (take i nodes) old mid → Unlists k (take (i + 1) nodes) old (slice_set mid node after)
   Unlists-more taken so_far =
-      let by = by_node mid node before after inside was in
+      let by = by_node mid node found after inside in
       let shrunk : (other l : ℕ) → Contains (readers_of (slice_set mid node after) other) l → Contains (readers_of mid other) l =
       λ other l. by (λ n xs ys. Contains ys l → Contains xs l) (λ there. (taken.only l there).0) (λ n there. there) other in
       subst (λ xs. Unlists k xs old (slice_set mid node after)) (sym more) (record {
@@ -361,3 +371,16 @@ AreEachOnce-same old new same each = record { once = λ node. subst (IsDistinct 
 pub at_on_err : {T E : Type 0} (P : Type 0) (result : Result T E) → OnErr result P → is_ok result ≡ false → P
 at_on_err P (Ok made) fact is = absurd cc
 at_on_err P (Err fault) fact is = fact
+
+-- at a place of the slots one of them stands
+pub slot_read : (slots : List ℕ) (i count : ℕ) → i < count → count ≡ length slots → slice_get slots i ≡ Some (get_or slots i 0)
+slot_read slots i count inside counted = slice_get-get_or slots i 0 (omega (arith, inside, counted))
+
+-- what the part at a place reads is below the number of nodes
+pub reads_below : (parts : List HeldPart) (count most i : ℕ) (part : HeldPart) (nodes : List ℕ) →
+    All (λ (part : HeldPart). All (λ node. node < count) part.reads.items) parts → i < length parts → part ≡ get_or parts i part →
+    nodes ≡ part.reads.items → count ≤ most → All (λ node. node < most) nodes
+reads_below parts count most i part nodes below inside is read fits = λ k d within.
+    let here : All (λ node. node < count) part.reads.items =
+    subst (λ (one : HeldPart). All (λ node. node < count) one.reads.items) (sym is) (below i part inside) in
+    omega (arith, subst (All (λ node. node < count)) (sym read) here k d within, fits)

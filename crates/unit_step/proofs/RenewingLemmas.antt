@@ -18,6 +18,7 @@ use Rattle.unit_step.specs.Machines.{MachineData}
 use Rattle.unit_step.specs.Seating.{Renews, IsStalePartOf, HasAny, HasStale, IsNew, IsWithAny, members_in, RenewsAll, RenewsAt}
 use Rattle.unit_step.proofs.PartLemmas.{same_part}
 use Rattle.unit_step.proofs.MakingLemmas.{member_at_front, front_of_member}
+use Rattle.unit_step.proofs.ClearingLemmas.{KeepsRest-same, KeepsRest-then}
 use Rattle.unit_step.proofs.FinishingGroups.{found}
 
 -- one of the nodes so far is a member, or the last one is
@@ -201,12 +202,7 @@ module _ (g : GraphData) (groups : List Group) (are : AreGroups g groups) where
     has = λ group there has. absurd (omega (arith, has.among.1));
     count = omega arith;
     tidy = λ tidy. tidy;
-    groups = refl;
-    state = refl;
-    last = refl;
-    moves = refl;
-    placed = refl;
-    spare = refl;
+    rest = KeepsRest-same m;
   }
 
   module _ (nodes : List ℕ) (node : ℕ) (old mid : MachineData) (free : (k : ℕ) → ¬ HasMember old.parts k node) (first : RenewsAll groups nodes old mid) where
@@ -249,12 +245,7 @@ module _ (g : GraphData) (groups : List Group) (are : AreGroups g groups) where
           ];
       count = first.count;
       tidy = first.tidy;
-      groups = first.groups;
-      state = first.state;
-      last = first.last;
-      moves = first.moves;
-      placed = first.placed;
-      spare = first.spare;
+      rest = first.rest;
     }
 
     module _ (new : MachineData) (ownerless : (k : ℕ) → ¬ HasMember mid.parts k node) (group : Group) (there : Contains groups group)
@@ -306,12 +297,7 @@ module _ (g : GraphData) (groups : List Group) (are : AreGroups g groups) where
             ];
         count = omega (arith, first.count, then.count);
         tidy = λ tidy. then.tidy (first.tidy tidy);
-        groups = then.groups ∙ first.groups;
-        state = then.state ∙ first.state;
-        last = then.last ∙ first.last;
-        moves = then.moves ∙ first.moves;
-        placed = then.placed ∙ first.placed;
-        spare = then.spare ∙ first.spare;
+        rest = KeepsRest-then old mid new first.rest then.rest;
       }
 
     -- one node more

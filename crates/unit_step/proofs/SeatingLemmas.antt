@@ -1,5 +1,5 @@
 -- A machine in which a part lost its group, or a part for a new group came behind the others, can run.
-use Rattle.std.proofs.Common.{◌≡◌, ◌≢◌, ℕ, zero, suc, ◌+◌, ◌<◌, ◌≤◌, Bool, true, false, cond, inl, inr, ◌⊎◌, List, [], ◌∷◌, ◌++◌, length, map, take, get_or, All, Option, None, Some, nat_lt, sym, ap, subst, ◌∙◌, arith}
+use Rattle.std.proofs.Common.{◌≡◌, ◌≢◌, ℕ, zero, suc, ◌+◌, ◌<◌, ◌≤◌, Bool, true, false, cond, inl, inr, ◌⊎◌, List, [], ◌∷◌, ◌++◌, length, map, take, get_or, All, Option, None, Some, nat_lt, refl, sym, ap, subst, ◌∙◌, arith}
 use Rattle.std.specs.Prelude.{Contains, slice_index, slice_index_or, slice_set}
 use Rattle.std.proofs.lemmas.Bool.{cases_eq, cases_lt, lt-ltb}
 use Rattle.std.proofs.lemmas.List.{get_or-set_same, get_or-set_other, get_or_default, get_or-take, get_or_past, length-map, length-set, length_push, length-take, take_all}
@@ -18,6 +18,7 @@ use Rattle.unit_step.specs.Readers.{Unlists}
 use Rattle.unit_step.proofs.PartLemmas.{same_part}
 use Rattle.unit_step.proofs.MarkLemmas.{marked-cleared, marked-cleared_was, marked-kept, marked-push, marked-push_cases, marked-last}
 use Rattle.unit_step.proofs.MakingLemmas.{member_at_front, front_of_member, contains_or_not}
+use Rattle.unit_step.proofs.MachineLemmas.{HaveSameReaders-refl, IsMachine-with}
 use Rattle.unit_step.proofs.SlotLemmas.{written, has_not_k, reads_not_k, stale_not_k, HasMember-was, ReadsAt-was, IsStale-was, HasMember-other, ReadsAt-other, IsStale-other, pushed, Stands-before, Stands-last, Stands-cases}
 
 -- the members of a part are there
@@ -151,39 +152,9 @@ module _ (parts : List HeldPart) (marks waiting : List Bool) (count : ℕ) (list
   -- the machine has more room, and more places for texts
   pub IsMachine-roomier : (numbers' : List (Option ℕ)) (room' : Rooms) → length numbers ≤ length numbers' → room'.values ≡ room.values →
       room.changes ≤ room'.changes → room.parts ≤ room'.parts → IsMachine parts marks waiting count lists owners numbers' held most room'
-  IsMachine-roomier numbers' room' more values changes parts_more = record {
-    runs = record {
-      counted = machine.runs.counted;
-      seated = λ l d inside. roomier_seat (get_or parts l d) (machine.runs.seated l d inside);
-      apart = machine.runs.apart;
-      waits = machine.runs.waits;
-      stale = machine.runs.stale;
-      readers_counted = machine.runs.readers_counted;
-      readers = machine.runs.readers;
-      reads = machine.runs.reads;
-      changes_room = omega (arith, machine.runs.changes_room, changes);
-      parts_room = omega (arith, machine.runs.parts_room, parts_more);
-    };
-    own = machine.own;
-    numbered = omega (arith, machine.numbered, more);
-    number = machine.number;
-    most_members = machine.most_members;
-    most_room = omega (arith, machine.most_room, changes);
-  }
-    where
-      roomier_seat : (part : HeldPart) → IsSeated count room part → IsSeated count room' part
-      roomier_seat part seat = record {
-        below = seat.below;
-        members = seat.members;
-        apart = seat.apart;
-        coded = λ code is.
-            let coded = seat.coded code is in
-            record {
-              inputs = coded.inputs;
-              outputs = coded.outputs;
-              value_room = omega (arith, coded.value_room, values);
-            };
-      }
+  IsMachine-roomier numbers' room' more values changes parts_more =
+      IsMachine-with parts marks marks waiting count lists lists owners numbers numbers' held most room room' refl (HaveSameReaders-refl lists) more
+      (omega (arith, values)) changes parts_more machine
 
   module _ (members : List ℕ) (e : HeldPart) (is_new : IsStalePartOf members e) (some : 0 < length members)
       (inside : All (λ node. node < count) members)

@@ -15,7 +15,8 @@ use Rattle.kept_parts.specs.Uses.{UsesData, some_texts, texts_used}
 use Rattle.unit_step.specs.Lasting.{is_unused, text_in, texts_left, texts_numbered}
 use Rattle.unit_step.proofs.LastingLemmas.{if_some_each}
 use Rattle.unit_step.proofs.LastingOrder.{stands_at, text_at, text_of_part}
-use Rattle.unit_step.proofs.LeavingOrder.{either, text_among}
+use Rattle.unit_step.proofs.FinishingFits.{among_some}
+use Rattle.unit_step.proofs.LeavingOrder.{either}
 
 all_to_front-append : (front back kept : List GroupTextData) → all_to_front (front ++ back) kept ≡ all_to_front front (all_to_front back kept)
 all_to_front-append [] back kept = refl
@@ -82,4 +83,4 @@ numbered-kept known numbers kept some now all used node number is =
     let has : slice_index_or texts node None ≡ Some text = text_of_part known numbers node ∙ (ap (text_at known) (is ∙ one_is) ∙ here) in
     ap (λ list. is_among list text) used
     ∙ (is_among-used some kept text
-    ∙ either (is_among some text) (is_among kept text) (among_all (is_among kept) true (some_texts texts) all text (text_among texts node text has))))
+    ∙ either (is_among some text) (is_among kept text) (among_all (is_among kept) true (some_texts texts) all text (among_some texts node text has))))

@@ -1,5 +1,5 @@
 -- What a machine is made of: parts with the nodes that they read, who owns and who reads a node, and room for the steps.
-use Rattle.std.specs.Prelude.{◌≡◌, ◌≢◌, ℕ, ◌+◌, ◌*◌, ◌<◌, ◌≤◌, true, List, length, replicate, All, Contains, Option, Some, None, Vec, slice_index, slice_index_or}
+use Rattle.std.specs.Prelude.{◌≡◌, ◌≢◌, ℕ, ◌+◌, ◌-◌, ◌*◌, ◌^◌, ◌<◌, ◌≤◌, ◌⊎◌, true, List, length, replicate, All, Contains, Option, Some, None, Vec, slice_index, slice_index_or}
 use Rattle.std.specs.declared.rc.Rc.{Rc}
 use Rattle.std.specs.List.{sum_by}
 use Rattle.std.proofs.Common.{Global}
@@ -59,6 +59,10 @@ pub record Owns (k : ℕ) (members : List ℕ) (old new : List (Option ℕ)) : T
 abbrev pub IsCodeRoom : ℕ → HeldPart → Type 0
 IsCodeRoom count part =
     (code : Rc CodeData Global) → part.code ≡ Some code → 2 + 2 * code.value.inputs + length code.value.instructions ≤ count
+
+-- these parts have more members, or code of theirs reads more values, than a number of the machine counts
+abbrev pub NeedTooMuch : List HeldPart → Type 0
+NeedTooMuch parts = (2 ^ 64 ≤ sum_by members_of parts) ⊎ (¬ All (IsCodeRoom (2 ^ 64 - 1)) parts)
 
 -- there is room for the steps of these parts
 pub record HasRoomFor (parts : List HeldPart) (room : Rooms) : Type 0 where

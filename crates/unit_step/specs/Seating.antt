@@ -36,6 +36,15 @@ pub record IsTidy (m : MachineData) : Type 0 where
 abbrev pub one_of : HeldPart → ℕ
 one_of part = if has_members part then 1 else 0
 
+-- all but the parts, their texts and their marks stays
+pub record KeepsRest (old new : MachineData) : Type 0 where
+  pub groups : new.groups ≡ old.groups
+  pub state : new.state ≡ old.state
+  pub last : new.last ≡ old.last
+  pub moves : new.moves ≡ old.moves
+  pub placed : new.placed ≡ old.placed
+  pub spare : new.spare ≡ old.spare
+
 -- the part with this number loses its group, and all other parts stay
 pub record Vacates (k : ℕ) (old new : MachineData) : Type 0 where
   pub part : HeldPart
@@ -43,12 +52,7 @@ pub record Vacates (k : ℕ) (old new : MachineData) : Type 0 where
   pub parts : new.parts ≡ slice_set old.parts k part
   pub uses : new.uses ≡ slice_set old.uses k None
   pub marks : new.marks ≡ old.marks
-  pub groups : new.groups ≡ old.groups
-  pub state : new.state ≡ old.state
-  pub last : new.last ≡ old.last
-  pub moves : new.moves ≡ old.moves
-  pub placed : new.placed ≡ old.placed
-  pub spare : new.spare ≡ old.spare
+  pub rest : KeepsRest old new
 
 -- a part for a group with these members comes behind the others, stale and marked
 pub record Seats (members : List ℕ) (old new : MachineData) : Type 0 where
@@ -58,12 +62,7 @@ pub record Seats (members : List ℕ) (old new : MachineData) : Type 0 where
   pub uses : (k : ℕ) → slice_index_or new.uses k None ≡ slice_index_or old.uses k None
   pub more_uses : length new.uses ≡ length old.uses + 1
   pub marks : new.marks ≡ old.marks ++ true ∷ []
-  pub groups : new.groups ≡ old.groups
-  pub state : new.state ≡ old.state
-  pub last : new.last ≡ old.last
-  pub moves : new.moves ≡ old.moves
-  pub placed : new.placed ≡ old.placed
-  pub spare : new.spare ≡ old.spare
+  pub rest : KeepsRest old new
 
 -- no part has one of these nodes as a member any more: the parts that had one have no group, and all other parts stay
 pub record Clears (nodes : List ℕ) (old new : MachineData) : Type 0 where
@@ -74,12 +73,7 @@ pub record Clears (nodes : List ℕ) (old new : MachineData) : Type 0 where
   pub tidy : IsTidy old → IsTidy new
   pub count : length new.parts ≡ length old.parts
   pub marks : new.marks ≡ old.marks
-  pub groups : new.groups ≡ old.groups
-  pub state : new.state ≡ old.state
-  pub last : new.last ≡ old.last
-  pub moves : new.moves ≡ old.moves
-  pub placed : new.placed ≡ old.placed
-  pub spare : new.spare ≡ old.spare
+  pub rest : KeepsRest old new
 
 -- a group has a stale part with these members, which is marked; a part that had one of them has no group, and all other parts stay
 pub record Renews (members : List ℕ) (old new : MachineData) : Type 0 where
@@ -95,12 +89,7 @@ pub record Renews (members : List ℕ) (old new : MachineData) : Type 0 where
   pub is_new : IsStalePartOf members part
   pub count : length old.parts ≤ length new.parts
   pub tidy : IsTidy old → IsTidy new
-  pub groups : new.groups ≡ old.groups
-  pub state : new.state ≡ old.state
-  pub last : new.last ≡ old.last
-  pub moves : new.moves ≡ old.moves
-  pub placed : new.placed ≡ old.placed
-  pub spare : new.spare ≡ old.spare
+  pub rest : KeepsRest old new
 
 -- one of these nodes is a member of the group
 pub record HasAny (nodes : List ℕ) (group : Group) : Type 0 where
@@ -152,12 +141,7 @@ pub record RenewsAll (all : List Group) (nodes : List ℕ) (old new : MachineDat
   pub has : (group : Group) → Contains all group → HasAny nodes group → HasStale group.members new.parts
   pub count : length old.parts ≤ length new.parts
   pub tidy : IsTidy old → IsTidy new
-  pub groups : new.groups ≡ old.groups
-  pub state : new.state ≡ old.state
-  pub last : new.last ≡ old.last
-  pub moves : new.moves ≡ old.moves
-  pub placed : new.placed ≡ old.placed
-  pub spare : new.spare ≡ old.spare
+  pub rest : KeepsRest old new
 
 -- where a part has the node as a member, or no group has, nothing changes; else the node's group has a new stale part
 abbrev pub RenewsAt : List Group → ℕ → MachineData → MachineData → Type 0

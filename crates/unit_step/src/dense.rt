@@ -7,6 +7,7 @@ ghost use Rattle.unit_step.specs.Marking.{AreOnce};
 ghost use Rattle.unit_step.specs.Dense.{AreDense, AreSeatsOf, IsSeatOf, HasInputs, HaveCodes, ArePlaces, Grows, IsCodeAt, IsMapAt, IsNumbered, IsPartNumbered};
 
 use crate::part::HeldPart;
+use crate::rousing::put_in;
 use kept_parts::TextUses;
 use std::alloc::{AllocError, Global};
 use std::rc::Rc;
@@ -227,20 +228,7 @@ impl DenseParts {
         ensures { (fresh old new : List HeldPart) → AreOnce slots.now → AreSeatsOf fresh self.old.codes.items self.old.nodes.items seats.items
             → Puts slots.now fresh old new → AreDense old self.old → AreDense new self.new }
     {
-        put_seats(slots, seats, &mut self.seats);
-    }
-}
-
-// Puts seats in these slots.
-fn put_seats(slots: &[usize], seats: Vec<Option<Seat>>, all: &mut [Option<Seat>])
-    requires inside { All (λ k. k < length all.old) slots.now }
-    requires counted { length seats.items ≡ length slots.now }
-    ensures { Puts slots.now seats.items all.old all.new }
-{
-    let mut place = 0;
-    for seat in seats {
-        all[slots[place]] = seat;
-        place += 1;
+        put_in(slots, seats, &mut self.seats);
     }
 }
 

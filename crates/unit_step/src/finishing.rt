@@ -16,7 +16,7 @@ ghost use Rattle.unit_step.specs.Finishing.{IsWaking};
 
 use crate::machine::Machine;
 use crate::making::{held_parts, needs_of, widen_for_codes};
-use crate::rousing::{numbers_of, put_parts, put_texts};
+use crate::rousing::{numbers_of, put_in, put_texts};
 use crate::waking::{Waking, ids_at, least_members, owners_of};
 use analysis_cache::{Analyst, Kept};
 use circuit_texts::{BuildFault, GroupTexts, reads_at, texts_at};
@@ -161,7 +161,7 @@ impl Machine {
         self.readers.list_all(&slots, &fresh, &self.parts)?;
         put_texts(&slots, &numbers, &mut self.uses);
         self.dense.put_all(&slots, seats);
-        put_parts(&slots, fresh, &mut self.parts);
+        put_in(&slots, fresh, &mut self.parts);
         self.agenda.rouse();
         Ok(())
     }

@@ -19,6 +19,7 @@ pub fn steps_are_unit_steps()
 /// parts may be marked than a column's own step marks.
 ///
 /// `marked`: where all parts are marked, a machine that fits a graph fits it with any sound state.
+#[tactic(auto, using(crate::proofs::FittingLemmas::marked_machines_fit))]
 pub fn columns_step_apart()
     ensures plain { ColumnsStepApart }
     ensures joining { ColumnsJoinApart }
@@ -52,6 +53,7 @@ pub fn empty_places_are_covered()
 /// `built`: after a build, or after stale parts got their codes. `more`: after more texts were kept.
 /// `step`, `placed`: after a step, and after a node was placed. `shared`: after anything that leaves a machine
 /// that fits a graph as one that fits it, as settling does. `edited`: after an edit.
+#[tactic(auto, using(crate::proofs::KeptLemmas::more_texts_are_kept, crate::proofs::KeptLemmas::steps_keep_texts, crate::proofs::KeptLemmas::placing_keeps_texts))]
 pub fn machines_have_kept_texts()
     ensures built { BuiltTextsAreKept }
     ensures more { MoreTextsAreKept }

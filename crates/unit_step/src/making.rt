@@ -1,11 +1,11 @@
 //! What a machine is made of: its parts, who owns and who reads a node, and room for its steps.
-ghost use Rattle.std.specs.Prelude.{◌≡◌, ◌+◌, ◌*◌, ◌<◌, ◌≤◌, length, vec_capacity, map, zip, count_by, All, Some, IfOk, IfSome, OnOk};
+ghost use Rattle.std.specs.Prelude.{◌≡◌, ◌+◌, ◌-◌, ◌*◌, ◌^◌, ◌<◌, ◌≤◌, length, vec_capacity, map, zip, count_by, All, Some, IfOk, IfSome, IfNone, OnOk};
 ghost use Rattle.std.specs.List.{sum_by};
 ghost use Rattle.unit_step.specs.Parts.{AreApart, has_members};
 ghost use Rattle.unit_step.specs.Machines.{members_of};
 ghost use Rattle.unit_step.specs.Evaluating.{rooms};
 ghost use Rattle.unit_step.specs.Running.{AreOwners};
-ghost use Rattle.unit_step.specs.Making.{held, Owns, HasRoomFor, IsCodeRoom};
+ghost use Rattle.unit_step.specs.Making.{held, Owns, HasRoomFor, IsCodeRoom, NeedTooMuch};
 
 use crate::batches::Batches;
 use crate::evaluation::Desk;
@@ -102,10 +102,11 @@ pub(crate) fn desk_for(alloc: Global, parts: &[HeldPart]) -> Result<Desk, NoMemo
     }
 }
 
-/// How much room these parts need; None where it is more than there can be.
+/// How much room these parts need; None only where it is more than the machine's numbers count.
 pub fn needs_of(parts: &[HeldPart]) -> Option<Needs>
     ensures values { IfSome result (λ needs. All (IsCodeRoom needs.values) parts.now) }
     ensures changes { IfSome result (λ needs. sum_by members_of parts.now ≤ needs.changes) }
+    ensures none { IfNone result (NeedTooMuch parts.now) }
 {
     let mut needs = Needs {
         values: 0,
@@ -120,7 +121,8 @@ pub fn needs_of(parts: &[HeldPart]) -> Option<Needs>
 
 // How many values the code of a part reads.
 fn values_of(part: &HeldPart) -> Option<usize>
-    ensures { IfSome result (λ count. IsCodeRoom count part.now) }
+    ensures some { IfSome result (λ count. IsCodeRoom count part.now) }
+    ensures none { IfNone result (¬ IsCodeRoom (2 ^ 64 - 1) part.now) }
 {
     match &part.code {
         Some(code) => count_values(code),
@@ -130,7 +132,8 @@ fn values_of(part: &HeldPart) -> Option<usize>
 
 // How many values code reads: both constants, both rails of each input, and the results.
 fn count_values(code: &Code) -> Option<usize>
-    ensures { IfSome result (λ count. 2 + 2 * code.now.inputs + length code.now.instructions ≡ count) }
+    ensures some { IfSome result (λ count. 2 + 2 * code.now.inputs + length code.now.instructions ≡ count) }
+    ensures none { IfNone result (2 ^ 64 ≤ 2 + 2 * code.now.inputs + length code.now.instructions) }
 {
     let rails = code.inputs().checked_mul(2)?;
     rails.checked_add(2)?.checked_add(code.len())

@@ -3,21 +3,20 @@ ghost use Rattle.std.specs.Prelude.{◌≡◌, ◌<◌, length, map, All, Some, 
 ghost use Rattle.kept_parts.specs.Uses.{IsNumbered, texts_used};
 ghost use Rattle.unit_step.specs.Finishing.{Puts};
 
-use crate::part::HeldPart;
 use group_text::GroupText;
 use kept_parts::TextUses;
 use std::alloc::{AllocError, Global};
 use ternary::NoMemory;
 
-// Puts these parts in these slots.
-pub(crate) fn put_parts(slots: &[usize], fresh: Vec<HeldPart>, parts: &mut [HeldPart])
-    requires inside { All (λ k. k < length parts.old) slots.now }
+// Puts these in these slots.
+pub(crate) fn put_in<T: Drop>(slots: &[usize], fresh: Vec<T>, all: &mut [T])
+    requires inside { All (λ k. k < length all.old) slots.now }
     requires counted { length fresh.items ≡ length slots.now }
-    ensures { Puts slots.now fresh.items parts.old parts.new }
+    ensures { Puts slots.now fresh.items all.old all.new }
 {
     let mut place = 0;
-    for part in fresh {
-        parts[slots[place]] = part;
+    for one in fresh {
+        all[slots[place]] = one;
         place += 1;
     }
 }

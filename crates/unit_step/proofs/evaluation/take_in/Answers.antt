@@ -1,8 +1,11 @@
 -- There is room for the part, and it waits.
-use Rattle.std.proofs.Common.{arith}
+use Rattle.std.proofs.Common.{◌≡◌, ℕ, ◌+◌, arith}
+use Rattle.unit_step.specs.Waiting.{waiting_sum, with_seat}
 use Rattle.unit_step.specs.Together.{outputs_at, instructions_at}
 use Rattle.unit_step.proofs.WaitingLemmas.{slot_inside, waiting_sum-with_seat}
 use Rattle.unit_step.proofs.EvaluationLemmas.{TakesIn-from_RunsSome}
+use Rattle.unit_step.proofs.evaluation.take_in.Given.{Over}
+use Rattle.unit_step.proofs.evaluation.take_in.Goals.{After-make_room}
 use Rattle.unit_step.proofs.evaluation.take_in.Goals as goal
 
 pub returns-clause-takes : goal.returns-clause-takes
@@ -14,18 +17,19 @@ returns-clause-takes g c =
     c.args.desk.now.batches between c.args.desk.now.changes.items c.make_room.new.desk.changes.items (slot_inside between seat.code made.counted)
     made.has_room made.runs)
 
+-- with the part so much more waits
+more : (g : Over) (c : After-make_room g) (per_code : ℕ → ℕ) →
+    waiting_sum per_code (with_seat c.make_room.new.desk.batches c.args.seat) ≡ waiting_sum per_code c.make_room.new.desk.batches + per_code c.args.seat.code
+more g c per_code =
+    let between = c.make_room.new.desk.batches in
+    waiting_sum-with_seat between c.args.seat (slot_inside between c.args.seat.code c.make_room.ensures.counted) c.make_room.ensures.has_room per_code
+
 pub returns-clause-room : goal.returns-clause-room
 returns-clause-room g c =
-    let between = c.make_room.new.desk.batches in
-    let seat = c.args.seat in
-    let made = c.make_room.ensures in
-    let more = waiting_sum-with_seat between seat (slot_inside between seat.code made.counted) made.has_room (outputs_at c.args.dense.now.codes.items) in
-    rw c.add.ensures (omega (arith, made.room, more))
+    let added = more g (goal.at.returns-clause-room g c).After-make_room (outputs_at c.args.dense.now.codes.items) in
+    rw c.add.ensures (omega (arith, c.make_room.ensures.room, added))
 
 pub returns-clause-steps : goal.returns-clause-steps
 returns-clause-steps g c =
-    let between = c.make_room.new.desk.batches in
-    let seat = c.args.seat in
-    let made = c.make_room.ensures in
-    let more = waiting_sum-with_seat between seat (slot_inside between seat.code made.counted) made.has_room (instructions_at c.args.dense.now.codes.items) in
-    rw c.add.ensures (omega (arith, made.steps, more))
+    let added = more g (goal.at.returns-clause-steps g c).After-make_room (instructions_at c.args.dense.now.codes.items) in
+    rw c.add.ensures (omega (arith, c.make_room.ensures.steps, added))

@@ -1,5 +1,5 @@
 -- The laws of steps in columns.
-use Rattle.unit_step.proofs.FittingLemmas.{columns_step_apart, columns_join_apart, marked_machines_fit}
+use Rattle.unit_step.proofs.FittingLemmas.{columns_step_apart, columns_join_apart}
 use Rattle.unit_step.proofs.laws.columns_step_apart.Goals as goal
 
 pub returns-clause-plain : goal.returns-clause-plain
@@ -7,6 +7,3 @@ returns-clause-plain c = columns_step_apart
 
 pub returns-clause-joining : goal.returns-clause-joining
 returns-clause-joining c = columns_join_apart
-
-pub returns-clause-marked : goal.returns-clause-marked
-returns-clause-marked c = marked_machines_fit

@@ -1,18 +1,9 @@
 -- By the lemmas on the texts of a machine's parts.
-use Rattle.unit_step.proofs.KeptLemmas.{built_texts_are_kept, more_texts_are_kept, steps_keep_texts, placing_keeps_texts, fitting_machines_share_texts, edits_keep_texts}
+use Rattle.unit_step.proofs.KeptLemmas.{built_texts_are_kept, fitting_machines_share_texts, edits_keep_texts}
 use Rattle.unit_step.proofs.laws.machines_have_kept_texts.Goals as goal
 
 pub returns-clause-built : goal.returns-clause-built
 returns-clause-built c = built_texts_are_kept
-
-pub returns-clause-more : goal.returns-clause-more
-returns-clause-more c = more_texts_are_kept
-
-pub returns-clause-step : goal.returns-clause-step
-returns-clause-step c = steps_keep_texts
-
-pub returns-clause-placed : goal.returns-clause-placed
-returns-clause-placed c = placing_keeps_texts
 
 pub returns-clause-shared : goal.returns-clause-shared
 returns-clause-shared c = fitting_machines_share_texts

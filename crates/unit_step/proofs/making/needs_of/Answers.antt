@@ -1,8 +1,9 @@
 -- There is room for one part more.
-use Rattle.std.proofs.Common.{◌≤◌, take, subst, arith}
+use Rattle.std.proofs.Common.{◌≤◌, take, ap, subst, arith}
 use Rattle.std.proofs.lemmas.List.Elements.{All-more, All-weaker}
 use Rattle.std.proofs.lemmas.List.Sums.{sum_by_more}
-use Rattle.std.proofs.Common.{ap}
+use Rattle.std.specs.List.{sum_by}
+use Rattle.std.proofs.lemmas.List.{take_all}
 use Rattle.unit_step.specs.Machines.{members_of}
 use Rattle.unit_step.specs.Making.{IsCodeRoom}
 use Rattle.unit_step.proofs.making.needs_of.Goals as goal
@@ -24,6 +25,11 @@ loop-part-preserved c =
       values = All-more (IsCodeRoom c.max.result) parts i part test
           (All-weaker (IsCodeRoom before.values) (IsCodeRoom c.max.result) (λ one room code has. omega (arith, room code has, values_up)) (take i parts)
           so_far.values)
-          (subst (IsCodeRoom c.max.result) is (λ code has. omega (arith, c.in_ok-values_of.ensures code has, value_here)));
+          (subst (IsCodeRoom c.max.result) is (λ code has. omega (arith, c.in_ok-values_of.ensures.some code has, value_here)));
       changes = omega (arith, sum, last, so_far.changes, c.in_ok-needs.ensures.1);
     }
+
+pub returns-clause-changes : goal.returns-clause-changes
+returns-clause-changes c =
+    let all = take_all c.loop-part.part-index c.args.parts.now (omega (arith, c.loop-part-test.false)) in
+    omega (arith, ap (sum_by members_of) all, c.loop-part.invariant.changes)

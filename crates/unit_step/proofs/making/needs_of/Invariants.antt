@@ -1,5 +1,5 @@
 -- There is room for the parts so far.
-use Rattle.std.proofs.Common.{◌≤◌, take, All}
+use Rattle.std.proofs.Common.{◌≡◌, take, All}
 use Rattle.std.specs.List.{sum_by}
 use Rattle.unit_step.specs.Machines.{members_of}
 use Rattle.unit_step.specs.Making.{IsCodeRoom}
@@ -8,5 +8,5 @@ use Rattle.unit_step.proofs.making.needs_of.Given as goal
 abbrev pub invariant-loop-part : goal.invariant-loop-part
 invariant-loop-part l = record {
   values : All (IsCodeRoom l.needs.values) (take l.part-index l.parts);
-  changes : sum_by members_of (take l.part-index l.parts) ≤ l.needs.changes;
+  changes : sum_by members_of (take l.part-index l.parts) ≡ l.needs.changes;
 }

@@ -1,22 +1,18 @@
 -- One part more is listed as a reader.
-use Rattle.std.proofs.Common.{◌<◌, ℕ, List, All, length, sym, subst, arith}
+use Rattle.std.proofs.Common.{ℕ, length, sym, subst, arith}
 use Rattle.std.specs.Prelude.{Contains}
-use Rattle.unit_step.specs.declared.part.HeldPart.{HeldPart}
 use Rattle.unit_step.specs.Parts.{Stands}
 use Rattle.unit_step.specs.Readers.{readers_of, ListsSome}
-use Rattle.unit_step.proofs.ReadersLemmas.{AreListed-more, AreListed-none}
+use Rattle.unit_step.proofs.ReadersLemmas.{AreListed-more, AreListed-none, reads_below}
 use Rattle.unit_step.proofs.readers.list_parts.Goals as goal
 
 pub loop-k-init : goal.loop-k-init
 loop-k-init c = AreListed-none c.args.parts.now c.args.lists.now c.requires.none c.requires.each
 
 pub list_part-requires-clause-below : goal.list_part-requires-clause-below
-list_part-requires-clause-below c = λ place d inside.
-    let P : List ℕ → Type 0 = λ nodes. All (λ node. node < length c.args.lists.now) nodes in
-    let part = c.index-parts-k.result in
-    let below = subst (λ (one : HeldPart). P one.reads.items) (sym c.index-parts-k.is) (c.requires.below c.loop-k.k part c.loop-k-test.true) in
-    let there = subst P (sym c.deref.ensures.value) below in
-    omega (arith, there place d inside, c.loop-k.auto.lists)
+list_part-requires-clause-below c =
+    reads_below c.args.parts.now (length c.args.lists.now) (length c.loop-k.lists) c.loop-k.k c.index-parts-k.result c.deref.result.now
+    c.requires.below c.loop-k-test.true c.index-parts-k.is c.deref.ensures.value (omega (arith, c.loop-k.auto.lists))
 
 pub list_part-requires-clause-none : goal.list_part-requires-clause-none
 list_part-requires-clause-none c = λ node there. absurd (omega (arith, c.loop-k.invariant.below node c.loop-k.k there))

@@ -8,6 +8,7 @@ use Rattle.analysis_cache.proofs.OrderLemmas.{used_texts-none}
 use Rattle.unit_step.specs.Lasting.{text_in, texts_numbered}
 use Rattle.unit_step.proofs.LastingLemmas.{if_some_each}
 use Rattle.unit_step.proofs.UsedInTurn.{used-numbered, numbered-kept}
+use Rattle.unit_step.proofs.lasting.Lasting.use_all.Goals.{After-index}
 use Rattle.unit_step.proofs.lasting.Lasting.use_all.Goals as goal
 
 pub loop-node-init : goal.loop-node-init
@@ -21,23 +22,22 @@ loop-node-init c =
       bound = refl;
     }
 
+-- the number that was read at the next node is that which stands there
+read_here : (c : After-index) → slice_index_or c.args.self.now.numbers.items (c.loop-node.node - 1) None ≡ c.index.result.now
+read_here c =
+    let inside : c.loop-node.node - 1 < length c.args.self.now.numbers.items = omega (arith, c.loop-node.invariant.inside, c.loop-node-test.true) in
+    get_or_default c.args.self.now.numbers.items (c.loop-node.node - 1) None c.index.result.now inside ∙ sym c.index.ensures
+
 pub use_numbered-requires-clause-inside : goal.use_numbered-requires-clause-inside
 use_numbered-requires-clause-inside c =
-    let numbers = c.args.self.now.numbers.items in
-    let node = c.loop-node.node - 1 in
-    let number = c.index.result.now in
-    let inside : node < length numbers = omega (arith, c.loop-node.invariant.inside, c.loop-node-test.true) in
-    let is : slice_index_or numbers node None ≡ number = get_or_default numbers node None number inside ∙ sym c.index.ensures in
-    if_some_each number (λ one. one < length c.args.uses.now.known) (λ one one_is. c.requires.inside node one (is ∙ one_is))
+    let is = read_here (goal.at.use_numbered-requires-clause-inside c).After-index in
+    if_some_each c.index.result.now (λ one. one < length c.args.uses.now.known)
+    (λ one one_is. c.requires.inside (c.loop-node.node - 1) one (is ∙ one_is))
 
 pub use_numbered-requires-clause-kept : goal.use_numbered-requires-clause-kept
 use_numbered-requires-clause-kept c =
-    let numbers = c.args.self.now.numbers.items in
-    let node = c.loop-node.node - 1 in
-    let number = c.index.result.now in
-    let inside : node < length numbers = omega (arith, c.loop-node.invariant.inside, c.loop-node-test.true) in
-    let is : slice_index_or numbers node None ≡ number = get_or_default numbers node None number inside ∙ sym c.index.ensures in
-    numbered-kept c.args.uses.now.known numbers (texts_of c.args.kept.now) _ (texts_of c.loop-node.kept) c.requires.kept c.loop-node.invariant.texts node number is
+    numbered-kept c.args.uses.now.known c.args.self.now.numbers.items (texts_of c.args.kept.now) _ (texts_of c.loop-node.kept) c.requires.kept
+    c.loop-node.invariant.texts (c.loop-node.node - 1) c.index.result.now (read_here (goal.at.use_numbered-requires-clause-kept c).After-index)
 
 pub loop-node-preserved : goal.loop-node-preserved
 loop-node-preserved c =

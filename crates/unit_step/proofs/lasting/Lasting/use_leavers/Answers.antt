@@ -15,6 +15,7 @@ use Rattle.analysis_cache.proofs.OrderLemmas.{used_texts-none}
 use Rattle.unit_step.specs.Lasting.{is_unused, text_in, texts_left}
 use Rattle.unit_step.proofs.LastingLemmas.{AreLasting-reordered, if_some_each}
 use Rattle.unit_step.proofs.UsedInTurn.{used-left, numbered-kept}
+use Rattle.unit_step.proofs.lasting.Lasting.use_leavers.Goals.{After-index, After-index-in-loop-place}
 use Rattle.unit_step.proofs.lasting.Lasting.use_leavers.Goals as goal
 
 pub loop-place-init : goal.loop-place-init
@@ -37,17 +38,19 @@ noted_is : (old sorted new : List ℕ) → IsPermutation old sorted → new ≡ 
 noted_is old sorted new moved is node there =
     subst (λ xs. Contains xs node) (sym is) (Contains-dedup_nat sorted node (Contains-permutation old sorted node moved there))
 
-pub index-requires-in-loop-place : goal.index-requires-in-loop-place
-index-requires-in-loop-place c =
-    let numbers = c.args.self.now.numbers.items in
+-- the next node was noted, so it has a place for a number
+next_inside : (c : After-index) → c.loop-place.place - 1 < length c.dedup.new.self.items
+next_inside c = omega (arith, c.loop-place.invariant.inside, c.loop-place-test.true)
+
+next_within : (c : After-index) → c.index.result.now < length c.args.self.now.numbers.items
+next_within c =
     let places = c.dedup.new.self.items in
-    let place = c.loop-place.place - 1 in
-    let node = c.index.result.now in
-    let inside : place < length places = omega (arith, c.loop-place.invariant.inside, c.loop-place-test.true) in
-    let there : Contains places node = (place, inside, sym c.index.ensures) in
-    let was = noted_was _ _ places c.sort_unstable.ensures.permutation (dedup_is _ _ _ c.dedup.ensures.filtered) node there in
-    let within : node < length numbers = All-contains (λ n. n < length numbers) _ node c.requires.lasting.within was in
-    omega (arith, within, c.args.self.now.numbers.ok.0)
+    let was = noted_was _ _ places c.sort_unstable.ensures.permutation (dedup_is _ _ _ c.dedup.ensures.filtered) c.index.result.now
+    (c.loop-place.place - 1, next_inside c, sym c.index.ensures) in
+    All-contains (λ n. n < length c.args.self.now.numbers.items) _ c.index.result.now c.requires.lasting.within was
+
+pub index-requires-in-loop-place : goal.index-requires-in-loop-place
+index-requires-in-loop-place c = omega (arith, next_within (goal.at.index-requires-in-loop-place c).After-index, c.args.self.now.numbers.ok.0)
 
 -- the number that was read at a node is that which stands there
 number_read : (numbers : List (Option ℕ)) (places : List ℕ) (place node : ℕ) (number : Option ℕ) → place < length places → node < length numbers →
@@ -58,47 +61,40 @@ number_read numbers places place node number inside within node_is number_is =
     let same : node ≡ get_or places place 0 = node_is ∙ get_or_default places place node 0 inside in
     (here, sym here ∙ ap (λ n. slice_index_or numbers n None) same)
 
+next_read : (c : After-index-in-loop-place) → c.loop-place.place - 1 < length c.dedup.new.self.items →
+    c.index.result.now < length c.args.self.now.numbers.items →
+    (slice_index_or c.args.self.now.numbers.items c.index.result.now None ≡ c.index-in-loop-place.result.now)
+    × (c.index-in-loop-place.result.now ≡ slice_index_or c.args.self.now.numbers.items (get_or c.dedup.new.self.items (c.loop-place.place - 1) 0) None)
+next_read c inside within =
+    number_read c.args.self.now.numbers.items c.dedup.new.self.items (c.loop-place.place - 1) c.index.result.now c.index-in-loop-place.result.now inside
+    within c.index.ensures c.index-in-loop-place.ensures
+
 pub use_leaver-requires-clause-inside : goal.use_leaver-requires-clause-inside
 use_leaver-requires-clause-inside c =
-    let numbers = c.args.self.now.numbers.items in
-    let places = c.dedup.new.self.items in
-    let place = c.loop-place.place - 1 in
-    let node = c.index.result.now in
-    let number = c.index-in-loop-place.result.now in
-    let inside : place < length places = omega (arith, c.loop-place.invariant.inside, c.loop-place-test.true) in
-    let was = noted_was _ _ places c.sort_unstable.ensures.permutation (dedup_is _ _ _ c.dedup.ensures.filtered) node (place, inside, sym c.index.ensures) in
-    let within : node < length numbers = All-contains (λ n. n < length numbers) _ node c.requires.lasting.within was in
-    let read = number_read numbers places place node number inside within c.index.ensures c.index-in-loop-place.ensures in
-    if_some_each number (λ one. one < length c.args.uses.now.known) (λ one one_is. c.requires.lasting.inside node one (read.0 ∙ one_is))
+    let at = goal.at.use_leaver-requires-clause-inside c in
+    let read = next_read at.After-index-in-loop-place (next_inside at.After-index) (next_within at.After-index) in
+    if_some_each c.index-in-loop-place.result.now (λ one. one < length c.args.uses.now.known)
+    (λ one one_is. c.requires.lasting.inside c.index.result.now one (read.0 ∙ one_is))
 
 pub use_leaver-requires-clause-kept : goal.use_leaver-requires-clause-kept
 use_leaver-requires-clause-kept c =
-    let numbers = c.args.self.now.numbers.items in
-    let places = c.dedup.new.self.items in
-    let place = c.loop-place.place - 1 in
-    let node = c.index.result.now in
-    let number = c.index-in-loop-place.result.now in
-    let inside : place < length places = omega (arith, c.loop-place.invariant.inside, c.loop-place-test.true) in
-    let was = noted_was _ _ places c.sort_unstable.ensures.permutation (dedup_is _ _ _ c.dedup.ensures.filtered) node (place, inside, sym c.index.ensures) in
-    let within : node < length numbers = All-contains (λ n. n < length numbers) _ node c.requires.lasting.within was in
-    let read = number_read numbers places place node number inside within c.index.ensures c.index-in-loop-place.ensures in
-    numbered-kept c.args.uses.now.known numbers (texts_of c.args.kept.now) _ (texts_of c.loop-place.kept) c.requires.kept c.loop-place.invariant.texts node
-    number read.0
+    let at = goal.at.use_leaver-requires-clause-kept c in
+    let read = next_read at.After-index-in-loop-place (next_inside at.After-index) (next_within at.After-index) in
+    numbered-kept c.args.uses.now.known c.args.self.now.numbers.items (texts_of c.args.kept.now) _ (texts_of c.loop-place.kept) c.requires.kept
+    c.loop-place.invariant.texts c.index.result.now c.index-in-loop-place.result.now read.0
 
 pub loop-place-preserved : goal.loop-place-preserved
 loop-place-preserved c =
+    let at = goal.at.loop-place-preserved c in
     let numbers = c.args.self.now.numbers.items in
     let uses = c.args.uses.now in
     let kept = texts_of c.args.kept.now in
     let places = c.dedup.new.self.items in
     let place = c.loop-place.place - 1 in
-    let node = c.index.result.now in
     let number = c.index-in-loop-place.result.now in
-    let inside : place < length places = omega (arith, c.loop-place.invariant.inside, c.loop-place-test.true) in
+    let inside = next_inside at.After-index in
+    let read = next_read at.After-index-in-loop-place inside (next_within at.After-index) in
     let next : c.loop-place.place ≡ place + 1 = omega (arith, c.loop-place-test.true) in
-    let was = noted_was _ _ places c.sort_unstable.ensures.permutation (dedup_is _ _ _ c.dedup.ensures.filtered) node (place, inside, sym c.index.ensures) in
-    let within : node < length numbers = All-contains (λ n. n < length numbers) _ node c.requires.lasting.within was in
-    let read = number_read numbers places place node number inside within c.index.ensures c.index-in-loop-place.ensures in
     record {
       inside = omega (arith, inside);
       texts =

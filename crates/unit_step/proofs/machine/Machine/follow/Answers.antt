@@ -3,69 +3,86 @@ use Rattle.std.proofs.Common.{◌≡◌, ◌++◌, ◌+◌, ◌*◌, ◌≤◌, 
 use Rattle.std.specs.Prelude.{◌↔◌, Contains}
 use Rattle.path_meaning.specs.Graphs.{nodes}
 use Rattle.channel_groups.specs.Changes.{undo, nodes_before, nodes_after, touched_size}
-use Rattle.group_meaning.specs.Groups.{Group}
+use Rattle.group_meaning.specs.Groups.{Group, AreGroups}
 use Rattle.channel_groups.specs.Grouping.{GroupsData}
+use Rattle.unit_step.specs.contracts.machine.Machine.{the_view}
 use Rattle.unit_step.specs.Machines.{MachineData, groups_in}
 use Rattle.unit_step.specs.Editing.{with_new_nodes, Edits}
 use Rattle.unit_step.specs.Seating.{Clears, IsWithAny, RenewsAll}
 use Rattle.unit_step.proofs.CoveringLemmas.{counted_grown, grown_again, member_below, follows}
+use Rattle.unit_step.proofs.machine.Machine.follow.Given.{Over}
+use Rattle.unit_step.proofs.machine.Machine.follow.Goals.{In-Some}
 use Rattle.unit_step.proofs.machine.Machine.follow.Goals as goal
 
+-- the machine with its new nodes
+grown : (g : Over) (c : In-Some g) → the_view c.self-2.inside ≡ record c.args.self.now {
+  state = with_new_nodes c.args.self.now.state (nodes c.args.graph.now);
+  spare = c.add_nodes.new.self.spare;
+}
+grown g c =
+    c.self-2.view_is ∙ c.in_ok-add_nodes.ensures.ok
+    ∙ ap (λ n. record c.args.self.now { state = with_new_nodes c.args.self.now.state n; spare = c.add_nodes.new.self.spare }) c.nodes.ensures
+
+-- its states are those that are to be
+state_grown : (g : Over) (c : In-Some g) → c.self-2.inside.state.items ≡ with_new_nodes c.args.self.now.state (nodes c.args.graph.now)
+state_grown g c = ap (λ (m : MachineData). m.state) (grown g c)
+
+state_again : (g : Over) (c : In-Some g) →
+    with_new_nodes c.self-2.inside.state.items (nodes c.args.graph.now) ≡ with_new_nodes c.args.self.now.state (nodes c.args.graph.now)
+state_again g c = grown_again c.args.self.now.state c.self-2.inside.state.items (nodes c.args.graph.now) (state_grown g c)
+
+-- the groups that are regrouped are those that the machine had
+held_before : (g : Over) (c : In-Some g) → Some c.in-Some.groups ≡ c.args.self.now.groups
+held_before g c = c.in-Some.ensures.value ∙ ap (λ (m : MachineData). m.groups) (grown g c)
+
+held_in : (held : GroupsData) (old : Option GroupsData) → Some held ≡ old → held.groups ≡ groups_in old
+held_in held old is = ap groups_in is
+
+-- so what is bounded by them is bounded by the groups that the machine had
+ticks : (g : Over) (c : In-Some g) (steps : ℕ) →
+    ((found : List Group) → AreGroups c.args.graph.now found →
+    steps ≤ c.args.steps.now + 8 * touched_size c.args.graph.now c.args.change.now c.in-Some.groups.groups found) →
+    (found : List Group) → AreGroups c.args.graph.now found →
+    steps ≤ c.args.steps.now + 8 * touched_size c.args.graph.now c.args.change.now (groups_in c.args.self.now.groups) found
+ticks g c steps most found are =
+    subst (λ (groups : List Group). steps ≤ c.args.steps.now + 8 * touched_size c.args.graph.now c.args.change.now groups found)
+    (held_in c.in-Some.groups c.args.self.now.groups (held_before g c)) (most found are)
+
 pub returns-in_err-nodes_before-clause-state : goal.returns-in_err-nodes_before-clause-state
-returns-in_err-nodes_before-clause-state g c =
-    grown_again c.args.self.now.state c.self-2.inside.state.items (nodes c.args.graph.now)
-    (ap (λ (m : MachineData). m.state) (c.self-2.view_is ∙ c.in_ok-add_nodes.ensures.ok
-    ∙ ap (λ n. record c.args.self.now { state = with_new_nodes c.args.self.now.state n; spare = c.add_nodes.new.self.spare }) c.nodes.ensures))
+returns-in_err-nodes_before-clause-state g c = state_again g (goal.at.returns-in_err-nodes_before-clause-state g c).In-Some
 
 pub returns-in_err-nodes-clause-state : goal.returns-in_err-nodes-clause-state
-returns-in_err-nodes-clause-state g c =
-    grown_again c.args.self.now.state c.self-2.inside.state.items (nodes c.args.graph.now)
-    (ap (λ (m : MachineData). m.state) (c.self-2.view_is ∙ c.in_ok-add_nodes.ensures.ok
-    ∙ ap (λ n. record c.args.self.now { state = with_new_nodes c.args.self.now.state n; spare = c.add_nodes.new.self.spare }) c.nodes.ensures))
+returns-in_err-nodes-clause-state g c = state_again g (goal.at.returns-in_err-nodes-clause-state g c).In-Some
 
 pub returns-in_err-regroup-clause-state : goal.returns-in_err-regroup-clause-state
-returns-in_err-regroup-clause-state g c =
-    grown_again c.args.self.now.state c.self-2.inside.state.items (nodes c.args.graph.now)
-    (ap (λ (m : MachineData). m.state) (c.self-2.view_is ∙ c.in_ok-add_nodes.ensures.ok
-    ∙ ap (λ n. record c.args.self.now { state = with_new_nodes c.args.self.now.state n; spare = c.add_nodes.new.self.spare }) c.nodes.ensures))
+returns-in_err-regroup-clause-state g c = state_again g (goal.at.returns-in_err-regroup-clause-state g c).In-Some
 
 pub returns-in_err-nodes_after-clause-state : goal.returns-in_err-nodes_after-clause-state
-returns-in_err-nodes_after-clause-state g c =
-    grown_again c.args.self.now.state c.self-2.inside.state.items (nodes c.args.graph.now)
-    (ap (λ (m : MachineData). m.state) (c.self-2.view_is ∙ c.in_ok-add_nodes.ensures.ok
-    ∙ ap (λ n. record c.args.self.now { state = with_new_nodes c.args.self.now.state n; spare = c.add_nodes.new.self.spare }) c.nodes.ensures))
+returns-in_err-nodes_after-clause-state g c = state_again g (goal.at.returns-in_err-nodes_after-clause-state g c).In-Some
 
 pub returns-in_err-extend_from_slice-clause-state : goal.returns-in_err-extend_from_slice-clause-state
-returns-in_err-extend_from_slice-clause-state g c =
-    grown_again c.args.self.now.state c.self-2.inside.state.items (nodes c.args.graph.now)
-    (ap (λ (m : MachineData). m.state) (c.self-2.view_is ∙ c.in_ok-add_nodes.ensures.ok
-    ∙ ap (λ n. record c.args.self.now { state = with_new_nodes c.args.self.now.state n; spare = c.add_nodes.new.self.spare }) c.nodes.ensures))
+returns-in_err-extend_from_slice-clause-state g c = state_again g (goal.at.returns-in_err-extend_from_slice-clause-state g c).In-Some
 
 pub returns-in_err-vacate_all-clause-state : goal.returns-in_err-vacate_all-clause-state
 returns-in_err-vacate_all-clause-state g c =
     grown_again c.args.self.now.state c.vacate_all.new.self.state (nodes c.args.graph.now)
-    (c.vacate_all.ensures.state ∙ ap (λ (m : MachineData). m.state) (c.self-2.view_is ∙ c.in_ok-add_nodes.ensures.ok
-    ∙ ap (λ n. record c.args.self.now { state = with_new_nodes c.args.self.now.state n; spare = c.add_nodes.new.self.spare }) c.nodes.ensures))
+    (c.vacate_all.ensures.state ∙ state_grown g (goal.at.returns-in_err-vacate_all-clause-state g c).In-Some)
 
 pub returns-in_err-renew_all-clause-state : goal.returns-in_err-renew_all-clause-state
 returns-in_err-renew_all-clause-state g c =
     grown_again c.args.self.now.state c.renew_all.new.self.state (nodes c.args.graph.now)
-    (c.renew_all.ensures.state ∙ c.vacate_all.ensures.state ∙ ap (λ (m : MachineData). m.state) (c.self-2.view_is ∙ c.in_ok-add_nodes.ensures.ok
-    ∙ ap (λ n. record c.args.self.now { state = with_new_nodes c.args.self.now.state n; spare = c.add_nodes.new.self.spare }) c.nodes.ensures))
+    (c.renew_all.ensures.state ∙ c.vacate_all.ensures.state ∙ state_grown g (goal.at.returns-in_err-renew_all-clause-state g c).In-Some)
 
 pub returns-clause-state : goal.returns-clause-state
 returns-clause-state g c =
     grown_again c.args.self.now.state _ (nodes c.args.graph.now)
     (ap (λ (m : MachineData). m.state) c.self-3.view_is ∙ c.renew_all.ensures.state ∙ c.vacate_all.ensures.state
-    ∙ ap (λ (m : MachineData). m.state) (c.self-2.view_is ∙ c.in_ok-add_nodes.ensures.ok
-    ∙ ap (λ n. record c.args.self.now { state = with_new_nodes c.args.self.now.state n; spare = c.add_nodes.new.self.spare }) c.nodes.ensures))
+    ∙ state_grown g (goal.at.returns-clause-state g c).In-Some)
 
 pub members_with-requires-clause-below : goal.members_with-requires-clause-below
 members_with-requires-clause-below g c = λ group node there member.
     let covers = c.requires.covers in
-    let held : Some c.in-Some.groups ≡ Some covers.groups =
-    c.in-Some.ensures.value ∙ ap (λ (m : MachineData). m.groups) (c.self-2.view_is ∙ c.in_ok-add_nodes.ensures.ok
-    ∙ ap (λ n. record c.args.self.now { state = with_new_nodes c.args.self.now.state n; spare = c.add_nodes.new.self.spare }) c.nodes.ensures) ∙ covers.kept in
+    let held : Some c.in-Some.groups ≡ Some covers.groups = held_before g (goal.at.members_with-requires-clause-below g c).In-Some ∙ covers.kept in
     let same : c.in-Some.groups ≡ covers.groups = cc in
     let below = member_below (undo c.args.graph.now c.args.change.now) covers.groups.groups c.in-Some.groups.groups covers.are.are
     (ap (λ (groups : GroupsData). groups.groups) same) group node there member in
@@ -73,8 +90,7 @@ members_with-requires-clause-below g c = λ group node there member.
 
 pub renew_all-requires-clause-counted : goal.renew_all-requires-clause-counted
 renew_all-requires-clause-counted g c =
-    ap length (c.vacate_all.ensures.state ∙ ap (λ (m : MachineData). m.state) (c.self-2.view_is ∙ c.in_ok-add_nodes.ensures.ok
-    ∙ ap (λ n. record c.args.self.now { state = with_new_nodes c.args.self.now.state n; spare = c.add_nodes.new.self.spare }) c.nodes.ensures))
+    ap length (c.vacate_all.ensures.state ∙ state_grown g (goal.at.renew_all-requires-clause-counted g c).In-Some)
     ∙ counted_grown c.args.graph.now c.args.change.now c.args.self.now.state c.requires.covers.counted
 
 pub renew_all-requires-clause-free : goal.renew_all-requires-clause-free
@@ -91,10 +107,8 @@ returns-clause-ok g c =
     let cleared = c.vacate_all.new.self in
     let made = c.renew_all.new.self in
     let spare = c.add_nodes.new.self.spare in
-    let grown = c.self-2.view_is ∙ c.in_ok-add_nodes.ensures.ok
-    ∙ ap (λ n. record c.args.self.now { state = with_new_nodes c.args.self.now.state n; spare = c.add_nodes.new.self.spare }) c.nodes.ensures in
-    let held : Some c.in-Some.groups ≡ Some covers.groups =
-    c.in-Some.ensures.value ∙ ap (λ (m : MachineData). m.groups) grown ∙ covers.kept in
+    let begin = (goal.at.returns-clause-ok g c).In-Some in
+    let held : Some c.in-Some.groups ≡ Some covers.groups = held_before g begin ∙ covers.kept in
     let same : c.in-Some.groups ≡ covers.groups = cc in
     let found = c.in_ok-nodes.nodes.items in
     let all = c.extend_from_slice.new.self.items in
@@ -105,7 +119,7 @@ returns-clause-ok g c =
     (subst (λ (groups : GroupsData). Contains found node ↔ IsWithAny groups.groups c.deref.result.now node) same (c.in_ok-nodes.ensures node)) in
     let nodes_are : all ≡ found ++ nodes_after graph change =
     c.in_ok-extend_from_slice.ensures.items ∙ ap (λ list. found ++ list) (c.deref-2.ensures.value ∙ c.in_ok-nodes_after.ensures) in
-    let begun = ap (λ (m : MachineData). record m { groups = c.replace.new.dest }) grown
+    let begun = ap (λ (m : MachineData). record m { groups = c.replace.new.dest }) (grown g begin)
     ∙ ap (λ (groups : Option GroupsData). record old { groups = groups; state = with_new_nodes old.state (nodes graph); spare = spare }) c.replace.ensures.after in
     let clears : Clears all (record old { groups = None; state = with_new_nodes old.state (nodes graph); spare = spare }) cleared =
     subst (λ list. Clears list (record old { groups = None; state = with_new_nodes old.state (nodes graph); spare = spare }) cleared)
@@ -115,41 +129,17 @@ returns-clause-ok g c =
     (follows graph change old covers c.requires.wired c.graphs_are_wired.ensures now c.in_ok-regroup.ensures.ok spare found all found_are nodes_are
     cleared made clears renews c.stale_parts_are_marked.ensures.apart c.stale_parts_are_marked.ensures.waits)
 
--- the groups that are regrouped are those that the machine had
-held_in : (held : GroupsData) (old : Option GroupsData) → Some held ≡ old → held.groups ≡ groups_in old
-held_in held old is = ap groups_in is
-
 pub returns-in_err-regroup-clause-ticks : goal.returns-in_err-regroup-clause-ticks
-returns-in_err-regroup-clause-ticks g c = λ found are.
-    let held = c.in-Some.ensures.value ∙ ap (λ (m : MachineData). m.groups) (c.self-2.view_is ∙ c.in_ok-add_nodes.ensures.ok
-    ∙ ap (λ n. record c.args.self.now { state = with_new_nodes c.args.self.now.state n; spare = c.add_nodes.new.self.spare }) c.nodes.ensures) in
-    subst (λ (groups : List Group). c.regroup.new.steps ≤ c.args.steps.now + 8 * touched_size c.args.graph.now c.args.change.now groups found)
-    (held_in c.in-Some.groups c.args.self.now.groups held) (c.regroup.ensures.step found are)
+returns-in_err-regroup-clause-ticks g c = ticks g (goal.at.returns-in_err-regroup-clause-ticks g c).In-Some c.regroup.new.steps c.regroup.ensures.step
 
 pub returns-in_err-nodes_after-clause-ticks : goal.returns-in_err-nodes_after-clause-ticks
-returns-in_err-nodes_after-clause-ticks g c = λ found are.
-    let held = c.in-Some.ensures.value ∙ ap (λ (m : MachineData). m.groups) (c.self-2.view_is ∙ c.in_ok-add_nodes.ensures.ok
-    ∙ ap (λ n. record c.args.self.now { state = with_new_nodes c.args.self.now.state n; spare = c.add_nodes.new.self.spare }) c.nodes.ensures) in
-    subst (λ (groups : List Group). c.regroup.new.steps ≤ c.args.steps.now + 8 * touched_size c.args.graph.now c.args.change.now groups found)
-    (held_in c.in-Some.groups c.args.self.now.groups held) (c.regroup.ensures.step found are)
+returns-in_err-nodes_after-clause-ticks g c = ticks g (goal.at.returns-in_err-nodes_after-clause-ticks g c).In-Some c.regroup.new.steps c.regroup.ensures.step
 
 pub returns-in_err-extend_from_slice-clause-ticks : goal.returns-in_err-extend_from_slice-clause-ticks
-returns-in_err-extend_from_slice-clause-ticks g c = λ found are.
-    let held = c.in-Some.ensures.value ∙ ap (λ (m : MachineData). m.groups) (c.self-2.view_is ∙ c.in_ok-add_nodes.ensures.ok
-    ∙ ap (λ n. record c.args.self.now { state = with_new_nodes c.args.self.now.state n; spare = c.add_nodes.new.self.spare }) c.nodes.ensures) in
-    subst (λ (groups : List Group). c.regroup.new.steps ≤ c.args.steps.now + 8 * touched_size c.args.graph.now c.args.change.now groups found)
-    (held_in c.in-Some.groups c.args.self.now.groups held) (c.regroup.ensures.step found are)
+returns-in_err-extend_from_slice-clause-ticks g c = ticks g (goal.at.returns-in_err-extend_from_slice-clause-ticks g c).In-Some c.regroup.new.steps c.regroup.ensures.step
 
 pub returns-in_err-renew_all-clause-ticks : goal.returns-in_err-renew_all-clause-ticks
-returns-in_err-renew_all-clause-ticks g c = λ found are.
-    let held = c.in-Some.ensures.value ∙ ap (λ (m : MachineData). m.groups) (c.self-2.view_is ∙ c.in_ok-add_nodes.ensures.ok
-    ∙ ap (λ n. record c.args.self.now { state = with_new_nodes c.args.self.now.state n; spare = c.add_nodes.new.self.spare }) c.nodes.ensures) in
-    subst (λ (groups : List Group). c.regroup.new.steps ≤ c.args.steps.now + 8 * touched_size c.args.graph.now c.args.change.now groups found)
-    (held_in c.in-Some.groups c.args.self.now.groups held) (c.regroup.ensures.step found are)
+returns-in_err-renew_all-clause-ticks g c = ticks g (goal.at.returns-in_err-renew_all-clause-ticks g c).In-Some c.regroup.new.steps c.regroup.ensures.step
 
 pub returns-clause-ticks : goal.returns-clause-ticks
-returns-clause-ticks g c = λ found are.
-    let held = c.in-Some.ensures.value ∙ ap (λ (m : MachineData). m.groups) (c.self-2.view_is ∙ c.in_ok-add_nodes.ensures.ok
-    ∙ ap (λ n. record c.args.self.now { state = with_new_nodes c.args.self.now.state n; spare = c.add_nodes.new.self.spare }) c.nodes.ensures) in
-    subst (λ (groups : List Group). c.regroup.new.steps ≤ c.args.steps.now + 8 * touched_size c.args.graph.now c.args.change.now groups found)
-    (held_in c.in-Some.groups c.args.self.now.groups held) (c.regroup.ensures.step found are)
+returns-clause-ticks g c = ticks g (goal.at.returns-clause-ticks g c).In-Some c.regroup.new.steps c.regroup.ensures.step

@@ -22,13 +22,13 @@ loop-node-preserved c =
     (λ k. c.requires.free k node (Contains-get_or nodes i 0 c.loop-node-test.true)) c.loop-node.invariant c.renew_at.new.self at)
 
 pub renew_at-requires-clause-counted : goal.renew_at-requires-clause-counted
-renew_at-requires-clause-counted c = ap length c.loop-node.invariant.state ∙ c.requires.counted
+renew_at-requires-clause-counted c = ap length c.loop-node.invariant.rest.state ∙ c.requires.counted
 
 pub returns-in_err-renew_at-clause-state : goal.returns-in_err-renew_at-clause-state
-returns-in_err-renew_at-clause-state c = c.renew_at.ensures.state ∙ c.loop-node.invariant.state
+returns-in_err-renew_at-clause-state c = c.renew_at.ensures.state ∙ c.loop-node.invariant.rest.state
 
 pub returns-in_err-renew_at-clause-spare : goal.returns-in_err-renew_at-clause-spare
-returns-in_err-renew_at-clause-spare c = c.renew_at.ensures.spare ∙ c.loop-node.invariant.spare
+returns-in_err-renew_at-clause-spare c = c.renew_at.ensures.spare ∙ c.loop-node.invariant.rest.spare
 
 pub returns-clause-ok : goal.returns-clause-ok
 returns-clause-ok c =
@@ -37,7 +37,7 @@ returns-clause-ok c =
     subst (λ list. RenewsAll c.args.groups.now.groups list c.args.self.now c.loop-node.self) all c.loop-node.invariant
 
 pub returns-clause-state : goal.returns-clause-state
-returns-clause-state c = c.loop-node.invariant.state
+returns-clause-state c = c.loop-node.invariant.rest.state
 
 pub returns-clause-spare : goal.returns-clause-spare
-returns-clause-spare c = c.loop-node.invariant.spare
+returns-clause-spare c = c.loop-node.invariant.rest.spare

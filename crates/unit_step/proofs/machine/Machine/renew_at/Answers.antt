@@ -1,11 +1,10 @@
 -- The node has a part, or its group gets one, or it has no group.
-use Rattle.std.proofs.Common.{◌≡◌, inl, inr, Some, None, refl, sym, ap, subst, ◌∙◌, arith}
-use Rattle.std.specs.Prelude.{slice_index_or}
+use Rattle.std.proofs.Common.{inl, inr, length, refl, sym, ap, subst, arith}
 use Rattle.unit_step.specs.Machines.{MachineData}
-use Rattle.unit_step.specs.Parts.{HasMember}
 use Rattle.unit_step.specs.Seating.{Renews}
 use Rattle.unit_step.proofs.ClearingLemmas.{on_ok}
 use Rattle.unit_step.proofs.RenewingLemmas.{found_group, none_found, group_in, members_inside, members_once, outside_none}
+use Rattle.unit_step.proofs.OwnerLemmas.{owner_has, no_owner}
 use Rattle.unit_step.proofs.machine.Machine.renew_at.Goals as goal
 
 pub returns-then-node-nodes-clause-ok : goal.returns-then-node-nodes-clause-ok
@@ -14,13 +13,9 @@ returns-then-node-nodes-clause-ok c =
 
 pub returns-in-Some-clause-ok : goal.returns-in-Some-clause-ok
 returns-in-Some-clause-ok c =
-    let i = c.self.inside in
-    let k = c.in-Some._owner in
-    let owner : slice_index_or i.owners.items c.args.node None ≡ Some k =
-    ap (λ list. slice_index_or list c.args.node None) (sym c.deref.ensures.value) ∙ sym c.in-Some.ensures in
-    let has : HasMember c.args.self.now.parts k c.args.node =
-    subst (λ list. HasMember list k c.args.node) (ap (λ (m : MachineData). m.parts) c.self.view_is) (c.self.invariant.0.own.member c.args.node k owner) in
-    inl (refl, inl (k, has))
+    let has = owner_has c.self.inside.parts.items c.args.self.now.parts (length c.self.inside.state.items) c.self.inside.owners.items c.deref.result.now
+    c.self.invariant.0.own (ap (λ (m : MachineData). m.parts) c.self.view_is) c.deref.ensures.value c.args.node c.in-Some._owner c.in-Some.ensures in
+    inl (refl, inl (c.in-Some._owner, has))
 
 pub renew-requires-clause-some : goal.renew-requires-clause-some
 renew-requires-clause-some c =
@@ -42,19 +37,13 @@ renew-requires-clause-once c =
 
 pub returns-in-Some-group_at-clause-ok : goal.returns-in-Some-group_at-clause-ok
 returns-in-Some-group_at-clause-ok c =
-    let i = c.self.inside in
     let group = c.in-Some-group_at.group.now in
     let (there, member) = found_group c.args.graph.now c.args.groups.now.groups c.requires.groups.are c.args.node group (sym c.in-Some-group_at.ensures) in
-    let owner : slice_index_or i.owners.items c.args.node None ≡ None =
-    ap (λ list. slice_index_or list c.args.node None) (sym c.deref.ensures.value) ∙ sym c.in_default.ensures in
-    on_ok _ _ c.renew.result (λ renews. inr (
-      λ k has.
-          let had : HasMember i.parts.items k c.args.node =
-          subst (λ list. HasMember list k c.args.node) (ap (λ (m : MachineData). m.parts) (sym c.self.view_is)) has in
-          let both : None ≡ Some k = sym owner ∙ c.self.invariant.0.own.owner c.args.node k had in
-          absurd cc,
-      (group, there, member, subst (λ members. Renews members c.args.self.now c.renew.new.self) c.members.ensures renews),
-    )) c.renew.ensures.ok
+    let ownerless = no_owner c.self.inside.parts.items c.args.self.now.parts (length c.self.inside.state.items) c.self.inside.owners.items
+    c.deref.result.now c.self.invariant.0.own (ap (λ (m : MachineData). m.parts) c.self.view_is) c.deref.ensures.value c.args.node c.in_default.ensures in
+    on_ok _ _ c.renew.result
+    (λ renews. inr (ownerless, (group, there, member, subst (λ members. Renews members c.args.self.now c.renew.new.self) c.members.ensures renews)))
+    c.renew.ensures.ok
 
 pub returns-in-None-clause-ok : goal.returns-in-None-clause-ok
 returns-in-None-clause-ok c =

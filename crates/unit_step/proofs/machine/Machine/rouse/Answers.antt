@@ -25,7 +25,8 @@ use Rattle.unit_step.specs.Dense.{AreDense, AreSeatsOf}
 use Rattle.unit_step.specs.Lasting.{BeginsAt, AreLasting, texts_lasting}
 use Rattle.unit_step.proofs.LastingRoused.{AreLasting-numbered, AreLasting-noted, AreLasting-roused, texts_lasting-numbered, same_texts_left}
 use Rattle.unit_step.proofs.FillingLemmas.{on_err}
-use Rattle.unit_step.proofs.FinishingRoused.{AreMade, IsMachine-wider, HaveSameReaders-refl, AreMade-held, parts_counted, unlisted, known_inside, IsMachine-roused, Rouses-roused}
+use Rattle.unit_step.proofs.FinishingRoused.{AreMade, IsMachine-wider, AreMade-held, parts_counted, unlisted, known_inside, IsMachine-roused, Rouses-roused}
+use Rattle.unit_step.proofs.MachineLemmas.{HaveSameReaders-refl}
 use Rattle.unit_step.proofs.machine.Machine.rouse.Goals.{In_ok-fresh, After-numbers_of, In_ok-numbers, After-widen_for_codes, In_ok-seats, After-note_all}
 use Rattle.unit_step.proofs.machine.Machine.rouse.Goals as goal
 
@@ -260,14 +261,14 @@ put_all-requires-clause-counted c =
     let fresh_seats = seats_of_fresh (goal.at.put_all-requires-clause-counted c).In_ok-seats in
     omega (arith, ap length c.deref-12.ensures.value, made.counted, fresh_seats.counted)
 
-pub put_parts-requires-clause-inside : goal.put_parts-requires-clause-inside
-put_parts-requires-clause-inside c =
-    let made = parts_made (goal.at.put_parts-requires-clause-inside c).In_ok-fresh in
+pub put_in-requires-clause-inside : goal.put_in-requires-clause-inside
+put_in-requires-clause-inside c =
+    let made = parts_made (goal.at.put_in-requires-clause-inside c).In_ok-fresh in
     rw (c.deref-13.ensures.value, c.deref_mut.ensures.value) made.inside
 
-pub put_parts-requires-clause-counted : goal.put_parts-requires-clause-counted
-put_parts-requires-clause-counted c =
-    let made = parts_made (goal.at.put_parts-requires-clause-counted c).In_ok-fresh in
+pub put_in-requires-clause-counted : goal.put_in-requires-clause-counted
+put_in-requires-clause-counted c =
+    let made = parts_made (goal.at.put_in-requires-clause-counted c).In_ok-fresh in
     omega (arith, ap length c.deref-13.ensures.value, made.counted)
 
 pub invariant_of-self-2 : goal.invariant_of-self-2
@@ -282,12 +283,12 @@ invariant_of-self-2 c =
     let made = parts_made found in
     let numbers = c.in_ok-numbers.numbers.items in
     let numbered = texts_numbered (goal.at.invariant_of-self-2 c).In_ok-numbers in
-    let new = c.put_parts.new.parts in
-    let puts : Puts slots fresh i.parts.items new = rw (c.deref-13.ensures.value, c.deref_mut.ensures.value) at c.put_parts.ensures in
+    let new = c.put_in.new.all in
+    let puts : Puts slots fresh i.parts.items new = rw (c.deref-13.ensures.value, c.deref_mut.ensures.value) at c.put_in.ensures in
     let text_puts : Puts slots (map Some numbers) c.numbers_of.new.uses.numbers c.put_texts.new.uses.numbers =
     rw (c.deref-10.ensures.value, c.deref-11.ensures.value) at c.put_texts.ensures.puts in
     let parts_now : List HeldPart = (with_items i.parts new).items in
-    let final_parts = with_items_is i.parts new (omega (arith, c.put_parts.auto.parts, c.deref_mut.ensures.len)) in
+    let final_parts = with_items_is i.parts new (omega (arith, c.put_in.auto.all, c.deref_mut.ensures.len)) in
     let lists_now = c.list_all.new.self in
     let listed : ListsAll slots fresh i.readers lists_now = rw (c.deref-7.ensures.value, c.deref-8.ensures.value) at c.in_ok-list_all.ensures.ok in
     let wide = rooms c.widen_for_codes.new.desk in
@@ -338,12 +339,12 @@ returns-clause-rouses c =
     let numbers = c.in_ok-numbers.numbers.items in
     let texts = c.args.waking.texts.items in
     let numbered = texts_numbered (goal.at.returns-clause-rouses c).In_ok-numbers in
-    let new = c.put_parts.new.parts in
-    let puts : Puts slots fresh i.parts.items new = rw (c.deref-13.ensures.value, c.deref_mut.ensures.value) at c.put_parts.ensures in
+    let new = c.put_in.new.all in
+    let puts : Puts slots fresh i.parts.items new = rw (c.deref-13.ensures.value, c.deref_mut.ensures.value) at c.put_in.ensures in
     let text_puts : Puts slots (map Some numbers) c.numbers_of.new.uses.numbers c.put_texts.new.uses.numbers =
     rw (c.deref-10.ensures.value, c.deref-11.ensures.value) at c.put_texts.ensures.puts in
     let parts_now : List HeldPart = (with_items i.parts new).items in
-    let final_parts = with_items_is i.parts new (omega (arith, c.put_parts.auto.parts, c.deref_mut.ensures.len)) in
+    let final_parts = with_items_is i.parts new (omega (arith, c.put_in.auto.all, c.deref_mut.ensures.len)) in
     let v = the_view i in
     let sound = subst (λ (m : MachineData). IsSound m.state) (sym c.self.view_is) c.requires.sound in
     let mid_are : texts_used c.numbers_of.new.uses ≡ v.uses = c.numbers_of.ensures.same in

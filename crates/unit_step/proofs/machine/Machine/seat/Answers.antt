@@ -108,12 +108,14 @@ returns-clause-ok c =
       more_uses =
           ap length (texts_added i.uses c.add.new.self c.add.ensures.known c.in_ok-add.ensures.ok) ∙ length_push (texts_used i.uses) None;
       marks = ap (λ (agenda : AgendaData). agenda.marks) c.in_ok-wait_more.ensures.ok;
-      groups = refl;
-      state = refl;
-      last = ap (λ known. texts_lasting known i.lasting) c.add.ensures.known;
-      moves = refl;
-      placed = refl;
-      spare = refl;
+      rest = record {
+        groups = refl;
+        state = refl;
+        last = ap (λ known. texts_lasting known i.lasting) c.add.ensures.known;
+        moves = refl;
+        placed = refl;
+        spare = refl;
+      };
     })
 
 pub returns-clause-counted : goal.returns-clause-counted

@@ -16,6 +16,8 @@ use Rattle.unit_step.specs.Lasting.{AreInOrder, AreLasting, IsLeft, texts_lastin
 use Rattle.unit_step.proofs.SeatingLemmas.{seat_of}
 use Rattle.unit_step.proofs.LastingOrder.{AreInOrder-lasting, text_at, text_of_part}
 use Rattle.unit_step.proofs.LeavingOrder.{AreSame-order, IsLeft-settled, in_use-kept, present-kept}
+use Rattle.unit_step.proofs.machine.Machine.settle_last.Given.{Over}
+use Rattle.unit_step.proofs.machine.Machine.settle_last.Goals.{After-renew}
 use Rattle.unit_step.proofs.machine.Machine.settle_last.Goals as goal
 
 pub use_leavers-requires-clause-kept : goal.use_leavers-requires-clause-kept
@@ -40,11 +42,16 @@ in_order : (parts read : List HeldPart) (uses : UsesData) (count : ℕ) (lasting
 in_order parts read uses count lasting is are none =
     AreInOrder-lasting parts uses count lasting (subst (λ list. AreLasting list uses.numbers count (length uses.known) lasting) is are) none
 
-pub returns-clause-order : goal.returns-clause-order
-returns-clause-order g c =
+-- so they are afterwards
+order_now : (g : Over) (c : After-renew g) →
+    AreInOrder c.self.inside.parts.items (texts_used c.self.inside.uses) (texts_lasting c.self.inside.uses.known c.renew.new.self)
+order_now g c =
     let i = c.self.inside in
     in_order i.parts.items c.deref-2.result.now i.uses (length c.deref-3.result.now) c.renew.new.self c.deref-2.ensures.value c.renew.ensures.lasting
     c.renew.ensures.none
+
+pub returns-clause-order : goal.returns-clause-order
+returns-clause-order g c = order_now g (goal.at.returns-clause-order g c).After-renew
 
 -- and they are those that the parts have
 present_same : (parts : List HeldPart) (uses : UsesData) (marks waiting : List Bool) (count : ℕ) (lists : List (SmallVec ℕ)) (owners : List (Option ℕ))
@@ -59,33 +66,28 @@ present_same parts uses marks waiting count lists owners held most room machine 
     ap (λ texts. slice_index_or texts k None) (sym uses_are) ∙ textless k part (subst (λ list. Stands list k part) (sym parts_are) stands) none)
     (λ k past. text_of_part uses.known uses.numbers k ∙ ap (text_at uses.known) (past_none k past))
 
+present_now : (g : Over) (c : After-renew g) →
+    AreSame (texts_lasting c.self.inside.uses.known c.renew.new.self) (some_texts (texts_used c.self.inside.uses))
+present_now g c =
+    let i = c.self.inside in
+    present_same i.parts.items i.uses i.agenda.marks i.agenda.waiting (length i.state.items) i.readers i.owners.items i.held i.most (rooms i.desk)
+    c.args.self.now (texts_lasting i.uses.known c.renew.new.self) c.self.invariant.0 c.self.invariant.2.beyond
+    (ap (λ (m : MachineData). m.parts) (sym c.self.view_is)) (ap (λ (m : MachineData). m.uses) (sym c.self.view_is)) c.requires.textless (order_now g c)
+
 pub returns-clause-left : goal.returns-clause-left
 returns-clause-left g c =
     let i = c.self.inside in
-    let parts = i.parts.items in
     let present = texts_lasting i.uses.known c.renew.new.self in
-    let order : AreInOrder parts (texts_used i.uses) present =
-    in_order parts c.deref-2.result.now i.uses (length c.deref-3.result.now) c.renew.new.self c.deref-2.ensures.value c.renew.ensures.lasting
-    c.renew.ensures.none in
-    let same = present_same parts i.uses i.agenda.marks i.agenda.waiting (length i.state.items) i.readers i.owners.items i.held i.most (rooms i.desk)
-    c.args.self.now present c.self.invariant.0 c.self.invariant.2.beyond (ap (λ (m : MachineData). m.parts) (sym c.self.view_is))
-    (ap (λ (m : MachineData). m.uses) (sym c.self.view_is)) c.requires.textless order in
     let left : IsLeft c.args.kept.now.bound (texts_lasting i.uses.known i.lasting) (texts_of c.args.kept.now) present (texts_of c.cut_past_bound.new.kept) =
-    IsLeft-settled parts i.uses (length i.state.items) i.lasting c.self.invariant.2 present same c.args.kept.now c.use_leavers.new.kept
-    c.cut_past_bound.new.kept c.use_leavers.ensures.uses c.use_leavers.ensures.bound c.cut_past_bound.ensures.cuts in
+    IsLeft-settled i.parts.items i.uses (length i.state.items) i.lasting c.self.invariant.2 present
+    (present_now g (goal.at.returns-clause-left g c).After-renew) c.args.kept.now c.use_leavers.new.kept c.cut_past_bound.new.kept
+    c.use_leavers.ensures.uses c.use_leavers.ensures.bound c.cut_past_bound.ensures.cuts in
     subst (λ (m : MachineData). IsLeft c.args.kept.now.bound m.last (texts_of c.args.kept.now) present (texts_of c.cut_past_bound.new.kept))
     c.self.view_is left
 
 pub returns-clause-there : goal.returns-clause-there
 returns-clause-there g c =
     let i = c.self.inside in
-    let parts = i.parts.items in
-    let present = texts_lasting i.uses.known c.renew.new.self in
-    let order : AreInOrder parts (texts_used i.uses) present =
-    in_order parts c.deref-2.result.now i.uses (length c.deref-3.result.now) c.renew.new.self c.deref-2.ensures.value c.renew.ensures.lasting
-    c.renew.ensures.none in
-    let same = present_same parts i.uses i.agenda.marks i.agenda.waiting (length i.state.items) i.readers i.owners.items i.held i.most (rooms i.desk)
-    c.args.self.now present c.self.invariant.0 c.self.invariant.2.beyond (ap (λ (m : MachineData). m.parts) (sym c.self.view_is))
-    (ap (λ (m : MachineData). m.uses) (sym c.self.view_is)) c.requires.textless order in
-    present-kept parts i.uses (length i.state.items) i.lasting c.self.invariant.2 present same c.args.kept.now c.use_leavers.new.kept
-    c.cut_past_bound.new.kept c.use_leavers.ensures.uses c.use_leavers.ensures.bound c.cut_past_bound.ensures.cuts
+    present-kept i.parts.items i.uses (length i.state.items) i.lasting c.self.invariant.2 (texts_lasting i.uses.known c.renew.new.self)
+    (present_now g (goal.at.returns-clause-there g c).After-renew) c.args.kept.now c.use_leavers.new.kept c.cut_past_bound.new.kept
+    c.use_leavers.ensures.uses c.use_leavers.ensures.bound c.cut_past_bound.ensures.cuts

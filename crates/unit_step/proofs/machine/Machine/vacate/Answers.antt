@@ -105,12 +105,14 @@ returns-clause-ok c =
       parts = refl;
       uses = texts_freed i.uses c.free.new.self c.args.k c.free.ensures.known c.free.ensures.numbers;
       marks = c.release.ensures.marks;
-      groups = refl;
-      state = refl;
-      last =
-          ap (λ known. texts_lasting known c.note.new.self) c.free.ensures.known
-          ∙ ap (λ (list : Vec (Option ℕ) Global). texts_numbered i.uses.known list.items) c.note.ensures.numbers;
-      moves = refl;
-      placed = refl;
-      spare = refl;
+      rest = record {
+        groups = refl;
+        state = refl;
+        last =
+            ap (λ known. texts_lasting known c.note.new.self) c.free.ensures.known
+            ∙ ap (λ (list : Vec (Option ℕ) Global). texts_numbered i.uses.known list.items) c.note.ensures.numbers;
+        moves = refl;
+        placed = refl;
+        spare = refl;
+      };
     })
