@@ -28,6 +28,7 @@ use Rattle.script_run.specs.declared.script.Turn.TheVariants.{Accepted}
 use Rattle.script_run.specs.Turns.{TakesTurn}
 use Rattle.fault_sim.specs.Masks.{is_stuck, state_for, charge_left, masked_of, masked_reading_by, masked_reading}
 use Rattle.fault_runs.specs.Early.{unsettles, IsCalm, IsBuilding}
+use Rattle.fault_runs.proofs.OnceLemmas.{beats_leave, beats_bound, beats_kept}
 
 -- ---- builds
 
@@ -56,19 +57,7 @@ built_current old mid texts build =
 -- ---- effects
 
 beats_circuit : (places : List ℕ) (old new : SessionData) (lines : List Line) → AreBeats old places new lines → new.circuit ≡ old.circuit
-beats_circuit [] old new lines beats = ap (λ (session : SessionData). session.circuit) beats.0
-beats_circuit (place ∷ places) old new lines (mid, front, back, phase, beats, joined) =
-    beats_circuit places mid new back beats ∙ ap (λ (session : SessionData). session.circuit) phase.moved
-
-beats_bound : (places : List ℕ) (old new : SessionData) (lines : List Line) → AreBeats old places new lines → new.bound ≡ old.bound
-beats_bound [] old new lines beats = ap (λ (session : SessionData). session.bound) beats.0
-beats_bound (place ∷ places) old new lines (mid, front, back, phase, beats, joined) =
-    beats_bound places mid new back beats ∙ ap (λ (session : SessionData). session.bound) phase.moved
-
-beats_kept : (places : List ℕ) (old new : SessionData) (lines : List Line) → AreBeats old places new lines → new.kept ≡ old.kept
-beats_kept [] old new lines beats = ap (λ (session : SessionData). session.kept) beats.0
-beats_kept (place ∷ places) old new lines (mid, front, back, phase, beats, joined) =
-    beats_kept places mid new back beats ∙ ap (λ (session : SessionData). session.kept) phase.moved
+beats_circuit = beats_leave (λ session. session.circuit) (λ place old new lines phase. ap (λ (session : SessionData). session.circuit) phase.moved)
 
 -- the circuit, the bound and what is kept are as before
 record LeavesBuilt (old new : SessionData) : Type 0 where

@@ -50,13 +50,13 @@ or_all : (a : Bool) → (a || true) ≡ true
 or_all true = refl
 or_all false = refl
 
-or_none : (a : Bool) → (a || false) ≡ a
-or_none true = refl
-or_none false = refl
-
 or_false : (a b : Bool) → (a || b) ≡ false → b ≡ false
 or_false true b is = absurd cc
 or_false false b is = is
+
+or_none : (a : Bool) → (a || false) ≡ a
+or_none true = refl
+or_none false = refl
 
 or_swap : (a b : Bool) → (a || b) ≡ (b || a)
 or_swap true true = refl
@@ -147,15 +147,19 @@ both_new kept some mid more new first second = record {
 phase_keeps : (old new : SessionData) (lines : List Line) → IsPhase old new lines → new.kept ≡ old.kept
 phase_keeps old new lines phase = ap (λ (session : SessionData). session.kept) phase.moved
 
-beats_unbound : (places : List ℕ) (old new : SessionData) (lines : List Line) → AreBeats old places new lines → new.bound ≡ old.bound
-beats_unbound [] old new lines beats = ap (λ (session : SessionData). session.bound) beats.0
-beats_unbound (place ∷ places) old new lines (mid, front, back, phase, beats, joined) =
-    beats_unbound places mid new back beats ∙ ap (λ (session : SessionData). session.bound) phase.moved
+-- what each phase leaves, all phases leave
+pub beats_leave : {T : Type 0} (seen : SessionData → T) →
+    ((place : ℕ) (old new : SessionData) (lines : List Line) → IsPhase (with_beat old place) new lines → seen new ≡ seen old) →
+    (places : List ℕ) (old new : SessionData) (lines : List Line) → AreBeats old places new lines → seen new ≡ seen old
+beats_leave seen leaves [] old new lines beats = ap seen beats.0
+beats_leave seen leaves (place ∷ places) old new lines (mid, front, back, phase, beats, joined) =
+    beats_leave seen leaves places mid new back beats ∙ leaves place old mid front phase
 
-beats_keep : (places : List ℕ) (old new : SessionData) (lines : List Line) → AreBeats old places new lines → new.kept ≡ old.kept
-beats_keep [] old new lines beats = ap (λ (session : SessionData). session.kept) beats.0
-beats_keep (place ∷ places) old new lines (mid, front, back, phase, beats, joined) =
-    beats_keep places mid new back beats ∙ phase_keeps (with_beat old place) mid front phase
+pub beats_bound : (places : List ℕ) (old new : SessionData) (lines : List Line) → AreBeats old places new lines → new.bound ≡ old.bound
+beats_bound = beats_leave (λ session. session.bound) (λ place old new lines phase. ap (λ (session : SessionData). session.bound) phase.moved)
+
+pub beats_kept : (places : List ℕ) (old new : SessionData) (lines : List Line) → AreBeats old places new lines → new.kept ≡ old.kept
+beats_kept = beats_leave (λ session. session.kept) (λ place old new lines phase. ap (λ (session : SessionData). session.kept) phase.moved)
 
 -- no effect lets go of what is kept, or adds to it
 effect_keeps : (old new : SessionData) (command : Command) (lines : List Line) → Effect old command new lines → new.kept ≡ old.kept
@@ -168,7 +172,7 @@ effect_keeps old new (Limit number) lines effect = ap (λ (session : SessionData
 effect_keeps old new Step lines effect = ap (λ (session : SessionData). session.kept) effect.moved
 effect_keeps old new Phase lines effect = phase_keeps old new lines effect
 effect_keeps old new (Clock list) lines effect = ap (λ (session : SessionData). session.kept) effect.0
-effect_keeps old new (Cycle times) lines effect = beats_keep (places_in (places_of old.clocks) times) old new lines effect
+effect_keeps old new (Cycle times) lines effect = beats_kept (places_in (places_of old.clocks) times) old new lines effect
 effect_keeps old new (Expect list) lines effect = ap (λ (session : SessionData). session.kept) effect.0
 effect_keeps old new (Add kind gate source drain strength) lines effect = ap (λ (session : SessionData). session.kept) effect.0
 effect_keeps old new (Del number) lines effect = ap (λ (session : SessionData). session.kept) effect.0
@@ -190,7 +194,7 @@ effect_unbound old new (Limit number) lines never effect = ap (λ (session : Ses
 effect_unbound old new Step lines never effect = ap (λ (session : SessionData). session.bound) effect.moved
 effect_unbound old new Phase lines never effect = ap (λ (session : SessionData). session.bound) effect.moved
 effect_unbound old new (Clock list) lines never effect = ap (λ (session : SessionData). session.bound) effect.0
-effect_unbound old new (Cycle times) lines never effect = beats_unbound (places_in (places_of old.clocks) times) old new lines effect
+effect_unbound old new (Cycle times) lines never effect = beats_bound (places_in (places_of old.clocks) times) old new lines effect
 effect_unbound old new (Expect list) lines never effect = ap (λ (session : SessionData). session.bound) effect.0
 effect_unbound old new (Add kind gate source drain strength) lines never effect = ap (λ (session : SessionData). session.bound) effect.0
 effect_unbound old new (Del number) lines never effect = ap (λ (session : SessionData). session.bound) effect.0

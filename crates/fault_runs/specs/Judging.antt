@@ -37,33 +37,28 @@ abbrev pub verdict_lines : Trace → List LineVerdict → List ℕ
 verdict_lines good [] = []
 verdict_lines good (judged ∷ others) = verdict_line good judged.line judged.verdict ++ verdict_lines good others
 
+-- what stands for the kind of a verdict: detected, refused, possible or undetected
+abbrev pub by_kind : Bool → Bool → Bool → Bool → Verdict → Bool
+by_kind detected refused possible undetected (Detected row entry) = detected
+by_kind detected refused possible undetected (Refused at) = refused
+by_kind detected refused possible undetected (Possible row entry) = possible
+by_kind detected refused possible undetected Undetected = undetected
+
 -- the verdict is that the fault shows for certain
 abbrev pub is_detected : Verdict → Bool
-is_detected (Detected row entry) = true
-is_detected (Refused at) = false
-is_detected (Possible row entry) = false
-is_detected Undetected = false
+is_detected = by_kind true false false false
 
 -- that a line of the script is refused under it
 abbrev pub is_refused : Verdict → Bool
-is_refused (Detected row entry) = false
-is_refused (Refused at) = true
-is_refused (Possible row entry) = false
-is_refused Undetected = false
+is_refused = by_kind false true false false
 
 -- that it may show
 abbrev pub is_possible : Verdict → Bool
-is_possible (Detected row entry) = false
-is_possible (Refused at) = false
-is_possible (Possible row entry) = true
-is_possible Undetected = false
+is_possible = by_kind false false true false
 
 -- that it shows nowhere
 abbrev pub is_undetected : Verdict → Bool
-is_undetected (Detected row entry) = false
-is_undetected (Refused at) = false
-is_undetected (Possible row entry) = false
-is_undetected Undetected = true
+is_undetected = by_kind false false false true
 
 -- how many of these verdicts pass a test
 abbrev pub how_many : (Verdict → Bool) → List LineVerdict → ℕ
