@@ -6,53 +6,41 @@ use Rattle.path_meaning.specs.Graphs.{GraphData}
 use Rattle.script_lang.specs.declared.command.Command.TheVariants.{Add}
 use Rattle.cosmos_session.specs.declared.fault.Refusal.{Refusal}
 use Rattle.cosmos_session.specs.Refusals.{making_refusal, strength_for}
-use Rattle.cosmos_session.specs.Machines.{kept_in}
 use Rattle.cosmos_session.specs.contracts.session.Session.{the_view}
-use Rattle.cosmos_session.proofs.UndoLemmas.{undoes-transistor}
+use Rattle.cosmos_session.proofs.UndoLemmas.{Undoes, undoes-transistor}
 use Rattle.cosmos_session.proofs.EditLemmas.{covers-before, held-told, does-told, added_does, making_quietly, quietly_as, halted, same-halted}
+use Rattle.cosmos_session.proofs.session.Session.add.Goals.{In-Ok}
 use Rattle.cosmos_session.proofs.session.Session.add.Goals as goal
+
+-- the change undoes the edit
+undoes : (c : In-Ok) → Undoes c.add_switch.new.self.graph (the_view c.self.inside).core.circuit.graph c.change_at-change.result
+undoes c =
+    undoes-transistor (the_view c.self.inside).core.circuit c.add_switch.new.self _ _ c.self.invariant.0.core.ready.netlist c.graph.ensures.value c.args.kind
+    c.unwrap_or-strength.result c.places.result c.items-gate.result.now c.items-source.result.now c.items-drain.result.now
+    (c.places.ensures ∙ ap (λ (g : GraphData). length g.places) c.graph-2.ensures.value) c.change_at-change.ensures c.in-Ok.ensures.ok
 
 pub edit-requires-clause-covers : goal.edit-requires-clause-covers
 edit-requires-clause-covers c =
-    let session = the_view c.self.inside in
-    let circuit : CircuitData = c.add_switch.new.self in
-    rw (c.graph-in-Ok.ensures.value, c.reserve.ensures.machine) (covers-before session circuit c.change_at-change.result
-    (undoes-transistor session.core.circuit circuit _ _ c.self.invariant.0.core.ready.netlist c.graph.ensures.value
-    c.args.kind c.unwrap_or-strength.result c.places.result c.items-gate.result.now c.items-source.result.now c.items-drain.result.now
-    (c.places.ensures ∙ ap (λ (g : GraphData). length g.places) c.graph-2.ensures.value) c.change_at-change.ensures c.in-Ok.ensures.ok)
-    c.self.invariant.0)
+    rw (c.graph-in-Ok.ensures.value, c.reserve.ensures.machine)
+    (covers-before _ c.add_switch.new.self _ (undoes (goal.at.edit-requires-clause-covers c).In-Ok) c.self.invariant.0)
 
 pub edit-requires-clause-wired : goal.edit-requires-clause-wired
-edit-requires-clause-wired c =
-    let session = the_view c.self.inside in
-    let undoes =
-    undoes-transistor session.core.circuit c.add_switch.new.self _ _ c.self.invariant.0.core.ready.netlist c.graph.ensures.value
-    c.args.kind c.unwrap_or-strength.result c.places.result c.items-gate.result.now c.items-source.result.now c.items-drain.result.now
-    (c.places.ensures ∙ ap (λ (g : GraphData). length g.places) c.graph-2.ensures.value) c.change_at-change.ensures c.in-Ok.ensures.ok in
-    rw c.graph-in-Ok.ensures.value undoes.wired
+edit-requires-clause-wired c = rw c.graph-in-Ok.ensures.value (undoes (goal.at.edit-requires-clause-wired c).In-Ok).wired
 
 pub invariant_of-self-in-Ok : goal.invariant_of-self-in-Ok
-invariant_of-self-in-Ok c =
-    let session = the_view c.self.inside in
-    let circuit : CircuitData = c.add_switch.new.self in
-    let undoes =
-    undoes-transistor session.core.circuit circuit _ _ c.self.invariant.0.core.ready.netlist c.graph.ensures.value
-    c.args.kind c.unwrap_or-strength.result c.places.result c.items-gate.result.now c.items-source.result.now c.items-drain.result.now
-    (c.places.ensures ∙ ap (λ (g : GraphData). length g.places) c.graph-2.ensures.value) c.change_at-change.ensures c.in-Ok.ensures.ok in (
-      held-told session circuit c.change_at-change.result undoes c.self.invariant.0 _ c.graph-in-Ok.ensures.value c.graph-in-Ok.ensures.netlist
-          c.reserve.new.self c.edit.new.self c.reserve.ensures.state c.reserve.ensures.machine c.edit.ensures.state c.edit.ensures.machine
-          c.edit.new.kept.bound (texts_of c.self.inside.kept) (kept_in c.edit.new.self.machine (texts_of c.edit.new.kept)) c.edit.ensures.bound refl
-          c.edit.ensures.kept,
-      c.edit.ensures.last,
-    )
+invariant_of-self-in-Ok c = (
+  held-told (the_view c.self.inside) c.add_switch.new.self _ (undoes (goal.at.invariant_of-self-in-Ok c).In-Ok) c.self.invariant.0 _ c.graph-in-Ok.ensures.value
+      c.graph-in-Ok.ensures.netlist c.reserve.new.self c.edit.new.self c.reserve.ensures.state c.reserve.ensures.machine c.edit.ensures.state c.edit.ensures.machine
+      _ (texts_of c.self.inside.kept) _ c.edit.ensures.bound refl c.edit.ensures.kept,
+  c.edit.ensures.last,
+)
 
 pub returns-in-Ok-clause-quiet : goal.returns-in-Ok-clause-quiet
 returns-in-Ok-clause-quiet c =
     let session = the_view c.self.inside in
     let circuit : CircuitData = c.add_switch.new.self in
     rw (← c.self.view_is)
-    (does-told session circuit c.reserve.new.self.machine c.edit.new.self c.edit.new.kept.bound (texts_of c.self.inside.kept)
-    (kept_in c.edit.new.self.machine (texts_of c.edit.new.kept)) c.reserve.ensures.machine c.edit.ensures.bound refl c.edit.ensures.kept
+    (does-told session circuit _ c.edit.new.self _ (texts_of c.self.inside.kept) _ c.reserve.ensures.machine c.edit.ensures.bound refl c.edit.ensures.kept
     (Add c.args.kind c.args.gate.now c.args.source.now c.args.drain.now c.args.strength)
     (added_does session.core circuit c.edit.new.self c.args.kind c.args.strength c.unwrap_or-strength.result
     c.args.gate.now c.args.source.now c.args.drain.now (search rules)
