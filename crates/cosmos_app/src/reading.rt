@@ -85,6 +85,7 @@ pub(crate) struct DeckRefusal {
 /// Reads the deck with this name: its circuit, or its first refusal.
 ///
 /// A refusal is answered after the file was read to its end, or to the first byte too many.
+#[tactic(auto, using(crate::proofs::FeedingLemmas::memory_no_write, crate::proofs::FeedingLemmas::read_whole, crate::proofs::FeedingLemmas::started_whole))]
 pub(crate) fn read_deck_file<F: Files>(
     alloc: Global,
     files: &mut F,

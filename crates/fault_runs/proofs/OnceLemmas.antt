@@ -38,7 +38,7 @@ use Rattle.fault_runs.specs.declared.list.ListRefusal.{ListRefusal}
 use Rattle.fault_runs.specs.Lists.{faults_in}
 use Rattle.fault_runs.specs.Laws.{AsksNoBound, NeverKeeps, TextsAreAnalysedOnce}
 use Rattle.fault_runs.specs.Traces.{start_with, commands_under, stuck_under, AreDone, RunsUnder}
-use Rattle.fault_runs.specs.Judging.{LineVerdict, AreJudged, no_fault, one_more, TellsVerdicts, TellsRefused, AnswersList, AreJudgedFaults}
+use Rattle.fault_runs.specs.Judging.{LineVerdict, AreJudged, no_fault, one_more, TellsVerdicts, TellsRefused, AnswersList}
 
 -- ---- either of two
 

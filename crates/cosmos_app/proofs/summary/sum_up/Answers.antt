@@ -17,10 +17,10 @@ returns-in-Ok-clause-told g c =
 
 pub returns-in-Err-clause-told : goal.returns-in-Err-clause-told
 returns-in-Err-clause-told g c =
+    let result = c.refuse_net.result in
     let old = g.S.Sink.written c.args.out.now in
     let new = g.S.Sink.written c.refuse_net.new.out in
     let asked = g.A.Analyst.analysed c.args.analyst.now in
-    let result = c.refuse_net.result in
     let refusal = c.in-Err.refusal in
     subst (λ meaning. IsToldBy (IsOver (IsSummary (text_of Script (sample_seen c.args.sample))) meaning) old new asked asked result)
     (sym (c.in_ok-circuit.ensures.means ∙ c.in-Err.is))

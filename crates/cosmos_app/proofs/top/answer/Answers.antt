@@ -15,8 +15,7 @@ returns-in-About-clause-told g c =
     told_request (About c.in-About.net.now (question_seen c.in-About.question)) (request_of (names_of c.args.words.now))
     (sym (ap request_seen c.in-About.is) ∙ c.request_of.ensures)
     (g.F.Files.holds c.args.files.now) (g.S.Sink.written c.args.out.now) (g.S.Sink.written c.answer_about.new.out)
-    (g.A.Analyst.analysed c.args.analyst.now)
-    (g.A.Analyst.analysed c.answer_about.new.analyst) c.answer_about.result c.answer_about.ensures.told
+    (g.A.Analyst.analysed c.args.analyst.now) (g.A.Analyst.analysed c.answer_about.new.analyst) c.answer_about.result c.answer_about.ensures.told
 
 pub returns-in-About-clause-started : goal.returns-in-About-clause-started
 returns-in-About-clause-started g c =
@@ -37,8 +36,7 @@ returns-in-OverDeck-clause-told g c =
     told_request (OverDeck c.in-OverDeck.deck.now c.in-OverDeck.script.now) (request_of (names_of c.args.words.now))
     (sym (ap request_seen c.in-OverDeck.is) ∙ c.request_of.ensures)
     (g.F.Files.holds c.args.files.now) (g.S.Sink.written c.args.out.now) (g.S.Sink.written c.simulate_deck.new.out)
-    (g.A.Analyst.analysed c.args.analyst.now)
-    (g.A.Analyst.analysed c.simulate_deck.new.analyst) c.simulate_deck.result c.simulate_deck.ensures.told
+    (g.A.Analyst.analysed c.args.analyst.now) (g.A.Analyst.analysed c.simulate_deck.new.analyst) c.simulate_deck.result c.simulate_deck.ensures.told
 
 pub returns-in-OverDeck-clause-started : goal.returns-in-OverDeck-clause-started
 returns-in-OverDeck-clause-started g c =
