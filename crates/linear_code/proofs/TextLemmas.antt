@@ -62,7 +62,11 @@ IsStripped-behind bytes word number gap middle back None first second stripped =
     stripped rest (append_cancel_left number back (gap ++ rest) (sym second ∙ behind))
 IsStripped-behind bytes word number gap middle back (Some rest) first second stripped = rw (first, second, stripped) refl
 
--- what stands behind the same word, number and gap is the same
-pub behind-same : (word number gap first second : List ℕ) → word ++ (number ++ (gap ++ first)) ≡ word ++ (number ++ (gap ++ second)) → first ≡ second
-behind-same word number gap first second same =
-    append_cancel_left gap first second (append_cancel_left number (gap ++ first) (gap ++ second) (append_cancel_left word (number ++ (gap ++ first)) (number ++ (gap ++ second)) same))
+-- what was read behind a word, a number and a gap is what stands behind them
+pub behind-read : (word gap bytes rest text : List ℕ) (read number : ℕ) → bytes ≡ word ++ (decimal read ++ (gap ++ rest)) → read ≡ number
+    → bytes ≡ word ++ (decimal number ++ (gap ++ text)) → rest ≡ text
+behind-read word gap bytes rest text read number is same whole =
+    let front : bytes ≡ word ++ (decimal number ++ (gap ++ rest)) = is ∙ ap (λ k. word ++ (decimal k ++ (gap ++ rest))) same in
+    append_cancel_left gap rest text
+    (append_cancel_left (decimal number) (gap ++ rest) (gap ++ text)
+    (append_cancel_left word (decimal number ++ (gap ++ rest)) (decimal number ++ (gap ++ text)) (sym front ∙ whole)))
