@@ -1,5 +1,4 @@
 use Rattle.std.proofs.Common.{◌≡◌, ℕ, length, Option, refl, sym, ap, ◌∙◌, rules}
-use Rattle.netlist.specs.Circuits.{CircuitData}
 use Rattle.netlist.specs.Edits.{add_fault}
 use Rattle.analysis_cache.specs.Keeping.{texts_of}
 use Rattle.path_meaning.specs.Graphs.{GraphData}
@@ -37,12 +36,10 @@ invariant_of-self-in-Ok c = (
 
 pub returns-in-Ok-clause-quiet : goal.returns-in-Ok-clause-quiet
 returns-in-Ok-clause-quiet c =
-    let session = the_view c.self.inside in
-    let circuit : CircuitData = c.add_switch.new.self in
     rw (← c.self.view_is)
-    (does-told session circuit _ c.edit.new.self _ (texts_of c.self.inside.kept) _ c.reserve.ensures.machine c.edit.ensures.bound refl c.edit.ensures.kept
+    (does-told (the_view c.self.inside) c.add_switch.new.self _ c.edit.new.self _ (texts_of c.self.inside.kept) _ c.reserve.ensures.machine c.edit.ensures.bound refl c.edit.ensures.kept
     (Add c.args.kind c.args.gate.now c.args.source.now c.args.drain.now c.args.strength)
-    (added_does session.core circuit c.edit.new.self c.args.kind c.args.strength c.unwrap_or-strength.result
+    (added_does (the_view c.self.inside).core c.add_switch.new.self c.edit.new.self c.args.kind c.args.strength c.unwrap_or-strength.result
     c.args.gate.now c.args.source.now c.args.drain.now (search rules)
     (rw (c.items-gate.ensures, c.items-source.ensures, c.items-drain.ensures) at c.in-Ok.ensures.allowed)
     (rw (c.items-gate.ensures, c.items-source.ensures, c.items-drain.ensures) at c.in-Ok.ensures.ok)

@@ -1,5 +1,4 @@
 use Rattle.std.proofs.Common.{refl}
-use Rattle.netlist.specs.Circuits.{CircuitData}
 use Rattle.analysis_cache.specs.Keeping.{texts_of}
 use Rattle.cosmos_session.specs.Switches.{command_of, edit_fault}
 use Rattle.cosmos_session.specs.contracts.session.Session.{the_view}
@@ -32,12 +31,10 @@ invariant_of-self c = (
 
 pub returns-in-Ok-clause-quiet : goal.returns-in-Ok-clause-quiet
 returns-in-Ok-clause-quiet c =
-    let session = the_view c.self.inside in
-    let circuit : CircuitData = c.edited.new.circuit in
     rw (← c.self.view_is)
-    (does-told session circuit _ c.edit.new.self _ (texts_of c.self.inside.kept) _ refl c.edit.ensures.bound refl c.edit.ensures.kept
+    (does-told (the_view c.self.inside) c.edited.new.circuit _ c.edit.new.self _ (texts_of c.self.inside.kept) _ refl c.edit.ensures.bound refl c.edit.ensures.kept
     (command_of c.args.number c.args.edit)
-    (switched_does session.core circuit c.edit.new.self c.args.number c.args.edit c.self.invariant.0.core.ready.states
+    (switched_does (the_view c.self.inside).core c.edited.new.circuit c.edit.new.self c.args.number c.args.edit c.self.invariant.0.core.ready.states
     c.in-Ok.ensures.answer c.in-Ok.ensures.ok (rw c.graph-in-Ok.ensures.value at c.edit.ensures.state)))
 
 pub returns-in-Err-clause-quiet : goal.returns-in-Err-clause-quiet

@@ -1,5 +1,4 @@
 use Rattle.std.proofs.Common.{refl}
-use Rattle.netlist.specs.Circuits.{CircuitData}
 use Rattle.netlist.specs.Edits.{wire_fault}
 use Rattle.analysis_cache.specs.Keeping.{texts_of}
 use Rattle.script_lang.specs.declared.command.Command.TheVariants.{Wire}
@@ -33,12 +32,10 @@ invariant_of-self-in-Ok c = (
 
 pub returns-in-Ok-clause-quiet : goal.returns-in-Ok-clause-quiet
 returns-in-Ok-clause-quiet c =
-    let session = the_view c.self.inside in
-    let circuit : CircuitData = c.rewire.new.self in
     rw (← c.self.view_is)
-    (does-told session circuit _ c.edit.new.self _ (texts_of c.self.inside.kept) _ c.reserve.ensures.machine c.edit.ensures.bound refl c.edit.ensures.kept
+    (does-told (the_view c.self.inside) c.rewire.new.self _ c.edit.new.self _ (texts_of c.self.inside.kept) _ c.reserve.ensures.machine c.edit.ensures.bound refl c.edit.ensures.kept
     (Wire c.args.number c.args.gate.now c.args.source.now c.args.drain.now)
-    (rewired_does session.core circuit c.edit.new.self c.args.number c.args.gate.now c.args.source.now c.args.drain.now
+    (rewired_does (the_view c.self.inside).core c.rewire.new.self c.edit.new.self c.args.number c.args.gate.now c.args.source.now c.args.drain.now
     (rw (c.items-gate.ensures, c.items-source.ensures, c.items-drain.ensures) at c.in-Ok.ensures.allowed)
     (rw (c.items-gate.ensures, c.items-source.ensures, c.items-drain.ensures) at c.in-Ok.ensures.ok)
     (rw (c.graph-in-Ok.ensures.value, c.reserve.ensures.state) at c.edit.ensures.state)))
