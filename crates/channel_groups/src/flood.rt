@@ -1,12 +1,11 @@
 //! The flood from a storage node to all that it is linked with.
 
-ghost use Rattle.std.specs.Prelude.{◌≡◌, ℕ, ◌+◌, ◌*◌, ◌<◌, ◌≤◌, length, filter, nat_eq, if◌then◌else◌, None, Some, Contains, IfOk, IfSome, OnOk, IsTrue, ◌↔◌};
-ghost use Rattle.std.specs.List.{flat_map, IsDistinct};
+ghost use Rattle.std.specs.Prelude.{◌≡◌, ℕ, ◌+◌, ◌<◌, ◌≤◌, length, filter, if◌then◌else◌, None, Some, Contains, IfOk, IfSome, OnOk, IsTrue, ◌↔◌};
 ghost use Rattle.path_meaning.specs.Graphs.{nodes, IsStorage};
 ghost use Rattle.path_meaning.specs.Path.{Joins};
 ghost use Rattle.group_meaning.specs.Groups.{AreJoined, IsGroup};
 ghost use Rattle.channel_groups.specs.Listing.{AreListed, places_of, is_other, others_at};
-ghost use Rattle.channel_groups.specs.Flood.{Sees, IsFlooding, IsPaid};
+ghost use Rattle.channel_groups.specs.Flood.{Sees, IsPaid};
 
 use crate::change::switch_there;
 use crate::ends::{Ends, listed};
