@@ -16,6 +16,18 @@ const NODES: [u32; 6] = [2, 3, 4, 5, 6, 7];
 
 const STARTS: [u32; 3] = [0, 2, 4];
 
+// 2 and 3 are 1, 4 is 1 and 5 is 0, and 6 stays X.
+const ONE_TURNS: [Tern; 8] = [
+    Tern::Zero,
+    Tern::One,
+    Tern::One,
+    Tern::One,
+    Tern::One,
+    Tern::Zero,
+    Tern::Unk,
+    Tern::Unk,
+];
+
 // A machine's state, whether the step joins, and the changes that it makes.
 struct Row {
     state: [Tern; 8],
@@ -24,33 +36,14 @@ struct Row {
 }
 
 const ROWS: [Row; 3] = [
-    // 2 and 3 are 1, 4 is 1 and 5 is 0, and 6 stays X
     Row {
-        state: [
-            Tern::Zero,
-            Tern::One,
-            Tern::One,
-            Tern::One,
-            Tern::One,
-            Tern::Zero,
-            Tern::Unk,
-            Tern::Unk,
-        ],
+        state: ONE_TURNS,
         joining: false,
         changes: &[(2, Tern::Zero)],
     },
     // the same state, in a step that joins
     Row {
-        state: [
-            Tern::Zero,
-            Tern::One,
-            Tern::One,
-            Tern::One,
-            Tern::One,
-            Tern::Zero,
-            Tern::Unk,
-            Tern::Unk,
-        ],
+        state: ONE_TURNS,
         joining: true,
         changes: &[(2, Tern::Unk)],
     },

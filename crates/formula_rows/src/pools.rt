@@ -43,11 +43,7 @@ fn size_after_rows<L: Ledger>(
 }
 
 // The pool's sizes after the formulas were made once and twice.
-fn sizes<L: Ledger>(
-    rt: &impl Abort,
-    alloc: Global,
-    blank: Blank,
-) -> Result<[usize; 2], NoMemory>
+fn sizes<L: Ledger>(rt: &impl Abort, alloc: Global, blank: Blank) -> Result<[usize; 2], NoMemory>
     requires name { blank.name ≡ L.name }
     requires parts { blank.parts ≡ L.parts }
     requires some { blank.parts ≢ 0 }
