@@ -1,5 +1,5 @@
 //! Reading the words of the commands that edit the circuit's transistors.
-ghost use Rattle.std.specs.Prelude.{◌≡◌, ◌∷◌, Err, IfOk, IfSome, IsNone};
+ghost use Rattle.std.specs.Prelude.{◌≡◌, [], ◌∷◌, Err, IfErr, IfOk, IfSome, IsNone};
 ghost use Rattle.script_lang.specs.Commands.{add_by, del_by, kind_by, strength_by, wire_by};
 
 use crate::command::{Command, ScriptFault};
@@ -78,19 +78,32 @@ pub(crate) fn read_del(mut words: Words<'_>) -> Result<Command, ScriptFault>
     }
 }
 
+// The two words, where there are neither fewer nor more.
+fn pair<'a>(mut words: Words<'a>) -> Result<(&'a [u8], &'a [u8]), ScriptFault>
+    ensures ok { IfOk result (λ pair. words.entry ≡ pair.0.now ∷ pair.1.now ∷ []) }
+    ensures refused { IfErr result (λ fault.
+        (strength_by words.entry ≡ Err fault) × (kind_by words.entry ≡ Err fault)) }
+{
+    let Some(one) = words.next() else {
+        return Err(ScriptFault::FewWords);
+    };
+    let Some(other) = words.next() else {
+        return Err(ScriptFault::FewWords);
+    };
+    match words.next() {
+        Some(_) => Err(ScriptFault::ManyWords),
+        None => Ok((one, other)),
+    }
+}
+
 /// Reads the number and the strength of `strength`.
-pub(crate) fn read_strength(mut words: Words<'_>) -> Result<Command, ScriptFault>
+pub(crate) fn read_strength(words: Words<'_>) -> Result<Command, ScriptFault>
     ensures { result ≡ strength_by words.entry }
 {
-    let Some(number) = words.next() else {
-        return Err(ScriptFault::FewWords);
+    let (number, strength) = match pair(words) {
+        Ok(pair) => pair,
+        Err(fault) => return Err(fault),
     };
-    let Some(strength) = words.next() else {
-        return Err(ScriptFault::FewWords);
-    };
-    if words.next().is_some() {
-        return Err(ScriptFault::ManyWords);
-    }
     match (decimal(number), decimal(strength)) {
         (Some(number), Some(strength)) => Ok(Command::Strength(number, strength)),
         _ => Err(ScriptFault::BadNumber),
@@ -98,18 +111,13 @@ pub(crate) fn read_strength(mut words: Words<'_>) -> Result<Command, ScriptFault
 }
 
 /// Reads the number and the kind of `type`.
-pub(crate) fn read_kind(mut words: Words<'_>) -> Result<Command, ScriptFault>
+pub(crate) fn read_kind(words: Words<'_>) -> Result<Command, ScriptFault>
     ensures { result ≡ kind_by words.entry }
 {
-    let Some(number) = words.next() else {
-        return Err(ScriptFault::FewWords);
+    let (number, kind) = match pair(words) {
+        Ok(pair) => pair,
+        Err(fault) => return Err(fault),
     };
-    let Some(kind) = words.next() else {
-        return Err(ScriptFault::FewWords);
-    };
-    if words.next().is_some() {
-        return Err(ScriptFault::ManyWords);
-    }
     let Some(number) = decimal(number) else {
         return Err(ScriptFault::BadNumber);
     };
