@@ -134,6 +134,19 @@ pub unmoved_inside : (plain after : SessionData) (stage : StageData) (clocks : L
 unmoved_inside plain after stage clocks limit kept command fault inside shares =
     unshared_inside plain after stage stage clocks limit kept command fault inside (same_itself stage) shares (λ serves. serves)
 
+-- and so does one that sets the limit, which is the session's then too
+pub limit_inside : (plain after : SessionData) (stage : StageData) (clocks : List ClockData) (limit : ℕ) (kept : List GroupTextData) (command : LaneCommand)
+    (number : ℕ) → AreInside plain stage clocks limit kept → command ≡ Limit number → Effect plain (in_column 0 command) after [] →
+    AreInside after stage clocks number kept
+limit_inside plain after stage clocks limit kept command number inside limited done =
+    let effect : Effect plain (in_column 0 (Limit number)) after [] = subst (λ (c : LaneCommand). Effect plain (in_column 0 c) after []) limited done in
+    moved_apart plain after stage clocks clocks limit number kept inside (ap (λ (s : SessionData). s.circuit) effect.0)
+    (inside.clocks_are ∙ sym (ap (λ (s : SessionData). s.clocks) effect.0)) (sym (ap (λ (s : SessionData). s.limit) effect.0))
+
+-- a session of columns, by the plain session that has what they share
+abbrev held_of : SessionData → StageData → List GroupTextData → ℕ → HeldLanes
+held_of plain stage kept count = record { core = data_of plain stage count kept; machine = stage.machine }
+
 module _ (plain after : SessionData) (is : IsSession plain) (stage : StageData) (clocks : List ClockData) (limit : ℕ) (kept : List GroupTextData) (count : ℕ)
     (inside : AreInside plain stage clocks limit kept) (command : LaneCommand) where
   -- what such a command comes to in the columns
@@ -151,25 +164,29 @@ module _ (plain after : SessionData) (is : IsSession plain) (stage : StageData) 
       done_quietly plain is stage clocks limit kept count inside after stage command refl shares.0 (λ lane within. effect shares.1 lane)
   came (Err fault) effect shares = unshared plain after stage stage kept count command fault (same_itself stage) shares
 
-  -- and so does one that is this command
-  came_as : (same : LaneCommand) → command ≡ same → (Effect plain (in_column 0 same) after [] → (lane : ℕ) → Came same lane) →
-      (result : Result (Unit {0}) ApplyFault) → Shares plain (in_column 0 command) after result → Comes result
-  came_as same is effect result shares =
-      came result
-      (λ done lane.
-      subst (λ (c : LaneCommand). Came c lane) (sym is) (effect (subst (λ (c : LaneCommand). Effect plain (in_column 0 c) after []) is done) lane))
-      shares
+  -- and so does one that is this command, in the session that is held
+  module _ (held : HeldLanes) (view : held_of plain stage kept count ≡ held) where
+    came_as : (same : LaneCommand) → command ≡ same → (Effect plain (in_column 0 same) after [] → (lane : ℕ) → Came same lane) →
+        (result : Result (Unit {0}) ApplyFault) → Shares plain (in_column 0 command) after result →
+        QuietlyTogether held.core command (data_of after stage count kept) result
+    came_as same is effect result shares =
+        subst (λ (s : HeldLanes). QuietlyTogether s.core command (data_of after stage count kept) result) view
+        (came result
+        (λ done lane.
+        subst (λ (c : LaneCommand). Came c lane) (sym is) (effect (subst (λ (c : LaneCommand). Effect plain (in_column 0 c) after []) is done) lane))
+        shares)
 
-  pub watch_quietly : (names : List (List ℕ)) → command ≡ Watch names → (result : Result (Unit {0}) ApplyFault) → Shares plain (in_column 0 command) after result →
-      Comes result
-  watch_quietly names watch = came_as (Watch names) watch (λ effect lane. effect-watch plain after (states_in stage lane) count kept lane names effect)
+    pub watch_quietly : (names : List (List ℕ)) → command ≡ Watch names → (result : Result (Unit {0}) ApplyFault) →
+        Shares plain (in_column 0 command) after result → QuietlyTogether held.core command (data_of after stage count kept) result
+    watch_quietly names watch = came_as (Watch names) watch (λ effect lane. effect-watch plain after (states_in stage lane) count kept lane names effect)
 
-  pub limit_quietly : (number : ℕ) → command ≡ Limit number → (result : Result (Unit {0}) ApplyFault) → Shares plain (in_column 0 command) after result → Comes result
-  limit_quietly number limited = came_as (Limit number) limited (λ effect lane. effect-limit plain after (states_in stage lane) count kept lane number effect)
+    pub limit_quietly : (number : ℕ) → command ≡ Limit number → (result : Result (Unit {0}) ApplyFault) →
+        Shares plain (in_column 0 command) after result → QuietlyTogether held.core command (data_of after stage count kept) result
+    limit_quietly number limited = came_as (Limit number) limited (λ effect lane. effect-limit plain after (states_in stage lane) count kept lane number effect)
 
-  pub clock_quietly : (list : List (List ℕ × List Tern)) → command ≡ Clock list → (result : Result (Unit {0}) ApplyFault) → Shares plain (in_column 0 command) after result →
-      Comes result
-  clock_quietly list clock = came_as (Clock list) clock (λ effect lane. effect-clock plain after (states_in stage lane) count kept lane list effect)
+    pub clock_quietly : (list : List (List ℕ × List Tern)) → command ≡ Clock list → (result : Result (Unit {0}) ApplyFault) →
+        Shares plain (in_column 0 command) after result → QuietlyTogether held.core command (data_of after stage count kept) result
+    clock_quietly list clock = came_as (Clock list) clock (λ effect lane. effect-clock plain after (states_in stage lane) count kept lane list effect)
 
   -- and the parts are in step after each of them
   pub watch_inside : (names : List (List ℕ)) → command ≡ Watch names → (result : Result (Unit {0}) ApplyFault) → Shares plain (in_column 0 command) after result →
@@ -180,22 +197,12 @@ module _ (plain after : SessionData) (is : IsSession plain) (stage : StageData) 
       (inside.clocks_are ∙ sym (ap (λ (s : SessionData). s.clocks) effect.0)) (inside.limit_is ∙ sym (ap (λ (s : SessionData). s.limit) effect.0))
   watch_inside names watch (Err fault) shares = unmoved_inside plain after stage clocks limit kept (in_column 0 command) fault inside shares
 
-  pub limit_inside : (number : ℕ) → command ≡ Limit number → Effect plain (in_column 0 command) after [] → AreInside after stage clocks number kept
-  limit_inside number limited done =
-      let effect : Effect plain (in_column 0 (Limit number)) after [] = subst (λ (c : LaneCommand). Effect plain (in_column 0 c) after []) limited done in
-      moved_apart plain after stage clocks clocks limit number kept inside (ap (λ (s : SessionData). s.circuit) effect.0)
-      (inside.clocks_are ∙ sym (ap (λ (s : SessionData). s.clocks) effect.0)) (sym (ap (λ (s : SessionData). s.limit) effect.0))
-
   pub clock_inside : (list : List (List ℕ × List Tern)) (more : List ClockData) → command ≡ Clock list → more ≡ map (clock_of plain.circuit) list →
       Effect plain (in_column 0 command) after [] → AreInside after stage more limit kept
   clock_inside list more clock named done =
       let effect : Effect plain (in_column 0 (Clock list)) after [] = subst (λ (c : LaneCommand). Effect plain (in_column 0 c) after []) clock done in
       moved_apart plain after stage clocks more limit limit kept inside (ap (λ (s : SessionData). s.circuit) effect.0)
       (named ∙ sym (ap (λ (s : SessionData). s.clocks) effect.0)) (inside.limit_is ∙ sym (ap (λ (s : SessionData). s.limit) effect.0))
-
--- a session of columns, by the plain session that has what they share
-abbrev held_of : SessionData → StageData → List GroupTextData → ℕ → HeldLanes
-held_of plain stage kept count = record { core = data_of plain stage count kept; machine = stage.machine }
 
 -- a command that the plain session didn't do leaves the columns as they are
 pub unmoved_quietly : (held : HeldLanes) (plain after : SessionData) (stage : StageData) (kept : List GroupTextData) (count : ℕ) (command : LaneCommand) (fault : ApplyFault) →

@@ -89,7 +89,7 @@ impl LaneSession {
     }
 
     // `limit`: sets the limit of a phase.
-    #[tactic(auto, using(crate::proofs::QuietLemmas::unmoved_inside, crate::proofs::QuietLemmas::unmoved_quietly))]
+    #[tactic(auto, using(crate::proofs::QuietLemmas::unmoved_inside, crate::proofs::QuietLemmas::unmoved_quietly, crate::proofs::QuietLemmas::limit_inside, crate::proofs::QuietLemmas::limit_quietly))]
     fn set_limit(&mut self, command: &LaneCommand, limit: u64) -> Result<(), ApplyFault>
         requires first { form.IsFormed (in_column 0 command.now) }
         requires still { builds (in_column 0 command.now) ≡ false }
@@ -102,7 +102,7 @@ impl LaneSession {
     }
 
     // `clock`: puts these clocks in place of all others.
-    #[tactic(auto, using(crate::proofs::QuietLemmas::unmoved_inside, crate::proofs::QuietLemmas::unmoved_quietly))]
+    #[tactic(auto, using(crate::proofs::QuietLemmas::unmoved_inside, crate::proofs::QuietLemmas::unmoved_quietly, crate::proofs::QuietLemmas::clock_quietly))]
     fn set_clocks(&mut self, command: &LaneCommand, list: &ClockList) -> Result<(), ApplyFault>
         requires first { form.IsFormed (in_column 0 command.now) }
         requires still { builds (in_column 0 command.now) ≡ false }

@@ -1,6 +1,5 @@
-use Rattle.std.proofs.Common.{Ok}
 use Rattle.analysis_cache.specs.Keeping.{texts_of}
-use Rattle.lane_session.proofs.QuietLemmas.{clock_quietly, clock_inside}
+use Rattle.lane_session.proofs.QuietLemmas.{clock_inside}
 use Rattle.lane_session.proofs.session.LaneSession.set_clocks.Goals as goal
 
 pub invariant_of-self-2 : goal.invariant_of-self-2
@@ -10,10 +9,3 @@ invariant_of-self-2 c =
           c.args.list.now _ c.requires.clocks (rw (c.circuit.ensures.value, c.items.ensures) at c.in_ok-clocks.ensures.items) c.in_ok-share.ensures.shares.1,
       c.self.invariant.1,
     )
-
-pub returns : goal.returns
-returns c =
-    let i = c.self.inside in
-    rw (← c.self.view_is)
-    (clock_quietly i.plain.core c.share.new.plain.core c.share.ensures.before i.stage i.clocks.items i.limit (texts_of i.kept) i.count c.self.invariant.0 c.args.command.now
-    c.args.list.now c.requires.clocks (Ok tt) c.in_ok-share.ensures.shares)

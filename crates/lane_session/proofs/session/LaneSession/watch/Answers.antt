@@ -1,7 +1,4 @@
-use Rattle.std.proofs.Common.{subst}
 use Rattle.analysis_cache.specs.Keeping.{texts_of}
-use Rattle.lane_session.specs.Stages.{HeldLanes, QuietlyTogether}
-use Rattle.lane_session.proofs.InsideLemmas.{data_of}
 use Rattle.lane_session.proofs.QuietLemmas.{watch_quietly, watch_inside}
 use Rattle.lane_session.proofs.session.LaneSession.watch.Goals as goal
 
@@ -16,6 +13,5 @@ invariant_of-self c =
 pub returns : goal.returns
 returns c =
     let i = c.self.inside in
-    subst (λ (s : HeldLanes). QuietlyTogether s.core c.args.command.now (data_of c.share.new.plain.core i.stage i.count (texts_of i.kept)) c.share.result) c.self.view_is
-    (watch_quietly i.plain.core c.share.new.plain.core c.share.ensures.before i.stage i.clocks.items i.limit (texts_of i.kept) i.count c.self.invariant.0 c.args.command.now
-    c.args.names.now c.requires.names c.share.result c.share.ensures.shares)
+    watch_quietly i.plain.core c.share.new.plain.core c.share.ensures.before i.stage i.clocks.items i.limit (texts_of i.kept) i.count c.self.invariant.0 c.args.command.now
+    c.args.self.now c.self.view_is c.args.names.now c.requires.names c.share.result c.share.ensures.shares
