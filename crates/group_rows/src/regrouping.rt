@@ -179,10 +179,11 @@ fn set_level<L: Ledger>(
     ensures { IfOk result (λ after. AreOf after.graph after.groups) }
 {
     let Net { mut graph, groups } = net;
+    let old = graph.level(node);
     let change = Change {
         nodes: graph.nodes(),
         place: None,
-        level: Some((node, graph.level(node))),
+        level: Some((node, old)),
     };
     graph.set_level(node, level);
     regrouped(graph, groups, &change, steps)

@@ -9,7 +9,7 @@ use Rattle.group_rows.proofs.regrouping.set_level.Goals as goal
 pub regrouped-requires : goal.regrouped-requires
 regrouped-requires g c =
     let graph = c.args.net.graph in
-    let before : undo c.set_level.new.self (record { nodes = c.nodes.result; place = None; level = Some (c.args.node, c.level.result) }) ≡ graph =
-    (λ i. undo (c.set_level.ensures i) (record { nodes = c.nodes.ensures i; place = None; level = Some (c.args.node, c.level.ensures.value i) }))
+    let before : undo c.set_level.new.self (record { nodes = c.nodes.result; place = None; level = Some (c.args.node, c.level-old.result) }) ≡ graph =
+    (λ i. undo (c.set_level.ensures i) (record { nodes = c.nodes.ensures i; place = None; level = Some (c.args.node, c.level-old.ensures.value i) }))
     ∙ undo-level graph c.args.node c.args.level in
     subst (λ (h : GraphData). AreOf h c.args.net.groups) (sym before) c.requires.are
