@@ -128,22 +128,21 @@ Clears-vacated node k old new apart has vacates =
       rest = vacates.rest;
     }
 
+-- who has a member once nodes are cleared had it before
+had : (nodes : List ℕ) (old new : MachineData) → Clears nodes old new → (k other : ℕ) → HasMember new.parts k other → HasMember old.parts k other
+had nodes old new clears k other has = record {
+  part = has.part;
+  stands = clears.was k has.part has.stands (omega (arith, has.member.inside));
+  place = has.place;
+  member = has.member;
+}
+
 module _ (nodes : List ℕ) (node : ℕ) (old mid new : MachineData) (first : Clears nodes old mid) (then : Clears (node ∷ []) mid new) where
   member_was : (k other : ℕ) → HasMember new.parts k other → HasMember mid.parts k other
-  member_was k other has = record {
-    part = has.part;
-    stands = then.was k has.part has.stands (omega (arith, has.member.inside));
-    place = has.place;
-    member = has.member;
-  }
+  member_was = had (node ∷ []) mid new then
 
   member_before : (k other : ℕ) → HasMember mid.parts k other → HasMember old.parts k other
-  member_before k other has = record {
-    part = has.part;
-    stands = first.was k has.part has.stands (omega (arith, has.member.inside));
-    place = has.place;
-    member = has.member;
-  }
+  member_before = had nodes old mid first
 
   -- one node more is cleared
   pub Clears-more : Clears (nodes ++ node ∷ []) old new

@@ -310,7 +310,7 @@ AreSeatsOf-set parts k part codes nodes seats seat of is = record {
 }
 
 -- a number is in a list or isn't
-one_or_none : (xs : List ℕ) (k : ℕ) → Contains xs k ⊎ (¬ Contains xs k)
+pub one_or_none : (xs : List ℕ) (k : ℕ) → Contains xs k ⊎ (¬ Contains xs k)
 one_or_none xs k =
     elim (cases_Bool (is_one_of xs k)) [
       | inl is ↦ inl (one_of-Contains xs k is)

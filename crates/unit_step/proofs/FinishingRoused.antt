@@ -1,9 +1,9 @@
 -- A machine whose stale parts got their codes.
-use Rattle.std.proofs.Common.{◌≡◌, ◌≢◌, ℕ, zero, suc, ◌<◌, ◌≤◌, Bool, true, false, cond, inl, inr, ◌⊎◌, List, [], ◌∷◌, length, map, get_or, All, Option, Some, None, Vec, Global, refl, sym, ap, subst, ◌∙◌, arith, nat_lt}
+use Rattle.std.proofs.Common.{◌≡◌, ◌≢◌, ℕ, zero, suc, ◌<◌, ◌≤◌, Bool, cond, inl, inr, ◌⊎◌, List, [], ◌∷◌, length, map, get_or, All, Option, Some, None, Vec, Global, refl, sym, ap, subst, ◌∙◌, arith, nat_lt}
 use Rattle.std.specs.Prelude.{Contains, slice_get, slice_index, slice_index_or, count_by, unwrap_or, zip}
 use Rattle.std.specs.List.{AllZip, sum_by}
 use Rattle.std.specs.Option.{option_and_then}
-use Rattle.std.proofs.lemmas.Bool.{cases_lt, cases_Bool}
+use Rattle.std.proofs.lemmas.Bool.{cases_lt}
 use Rattle.std.proofs.lemmas.List.{get_or_default, length-map}
 use Rattle.std.proofs.lemmas.List.Elements.{All-filter, All-nil, All-cons}
 use Rattle.std.proofs.lemmas.List.Sums.{sum_by-cons}
@@ -39,7 +39,7 @@ use Rattle.unit_step.proofs.MakingLemmas.{formed_parts, reads_inside, IsSeated-f
 use Rattle.unit_step.proofs.MachineLemmas.{IsSeated-wider, IsMachine-with}
 use Rattle.unit_step.proofs.BuildLemmas.{fresh_parts, lists_inside}
 use Rattle.unit_step.proofs.FinishingFits.{some_members, FitsGraph-covered}
-use Rattle.unit_step.proofs.FinishingWaiting.{is_one_of, one_of-Contains, one_of-from}
+use Rattle.unit_step.proofs.DenseLemmas.{one_or_none}
 
 -- sums over lists that are worth the same place by place
 same_sums : (f : HeldPart → ℕ) (xs ys : List HeldPart) → length ys ≡ length xs →
@@ -67,14 +67,6 @@ part_here : (parts : List HeldPart) (k : ℕ) → k < length parts → (part : H
 part_here [] k inside = absurd (omega (arith, inside))
 part_here (part ∷ parts) k inside =
     (get_or (part ∷ parts) k part, record { inside = inside; here = get_or_default (part ∷ parts) k _ part inside })
-
--- a number is in a list or isn't
-one_or_none : (xs : List ℕ) (k : ℕ) → Contains xs k ⊎ (¬ Contains xs k)
-one_or_none xs k =
-    elim (cases_Bool (is_one_of xs k)) [
-      | inl is ↦ inl (one_of-Contains xs k is)
-      | inr fails ↦ inr (λ there. let both : true ≡ false = sym (one_of-from xs k there) ∙ fails in absurd cc)
-    ]
 
 -- a machine with a wider desk, whose nodes have the same readers, can run
 pub IsMachine-wider : (parts : List HeldPart) (marks waiting : List Bool) (count : ℕ) (lists new_lists : List (SmallVec ℕ)) (owners numbers new_numbers : List (Option ℕ))

@@ -1,13 +1,17 @@
 -- A step of the machine, by its parts.
-use Rattle.std.proofs.Common.{◌≡◌, ◌≢◌, ◌+◌, ◌≤◌, length, refl, sym, ap, subst, ◌∙◌, arith}
+use Rattle.std.proofs.Common.{◌≡◌, ◌≢◌, ◌+◌, ◌≤◌, List, length, refl, sym, ap, subst, ◌∙◌, arith}
 use Rattle.std.specs.Bool.{OnTrue, OnFalse}
+use Rattle.std.specs.Vec.{with_items}
 use Rattle.std.proofs.lemmas.List.{with_items_is}
+use Rattle.ternary.specs.declared.tern.Tern.{Tern}
 use Rattle.oscillation_x.specs.Settling.{StaysOrBecomesX}
 use Rattle.unit_step.specs.Machines.{marked_sum, instructions_of}
 use Rattle.unit_step.specs.Stepping.{Moves, Remarks}
 use Rattle.unit_step.specs.Evaluating.{rooms}
 use Rattle.unit_step.specs.Lasting.{AreLasting}
 use Rattle.unit_step.proofs.MachineLemmas.{IsMachine-again}
+use Rattle.unit_step.proofs.machine.Machine.take.Given.{Over}
+use Rattle.unit_step.proofs.machine.Machine.take.Goals.{After-advance-changed}
 use Rattle.unit_step.proofs.machine.Machine.take.Goals as goal
 
 pub advance-changed-requires : goal.advance-changed-requires
@@ -62,32 +66,27 @@ returns-clause-ticks g c =
     (subst (λ parts. c.advance-changed.new.steps ≤ c.args.steps.now + marked_sum instructions_of parts i.agenda.marks)
     c.deref.ensures.value c.advance-changed.ensures.steps)
 
+-- what holds of the states that were handed in, and of those that came back, holds of the machine's
+states_are : (g : Over) (c : After-advance-changed g) (P : List Tern → List Tern → Type 0) → P c.deref_mut.result.now c.advance-changed.new.state →
+    P c.self.inside.state.items (with_items c.self.inside.state c.advance-changed.new.state).items
+states_are g c P holds =
+    let final = with_items_is c.self.inside.state c.advance-changed.new.state (omega (arith, c.advance-changed.auto.state, c.deref_mut.ensures.len)) in
+    subst (P c.self.inside.state.items) (sym final) (subst (λ state. P state c.advance-changed.new.state) c.deref_mut.ensures.value holds)
+
 pub returns-clause-unknown : goal.returns-clause-unknown
 returns-clause-unknown g c =
-    let i = c.self.inside in
-    let n = c.advance-changed.new.state in
-    let final = with_items_is i.state n (omega (arith, c.advance-changed.auto.state, c.deref_mut.ensures.len)) in
     rw (← c.self.view_is) (λ is.
-    subst (StaysOrBecomesX i.state.items) (sym final)
-    (subst (λ state. StaysOrBecomesX state n) c.deref_mut.ensures.value (c.advance-changed.ensures.unknown is)))
+    states_are g (goal.at.returns-clause-unknown g c).After-advance-changed StaysOrBecomesX (c.advance-changed.ensures.unknown is))
 
 pub returns-clause-changed : goal.returns-clause-changed
 returns-clause-changed g c =
-    let i = c.self.inside in
-    let n = c.advance-changed.new.state in
-    let final = with_items_is i.state n (omega (arith, c.advance-changed.auto.state, c.deref_mut.ensures.len)) in
-    rw (← c.self.view_is)
-    (subst (λ state. OnTrue c.advance-changed.result (state ≢ i.state.items)) (sym final)
-    (subst (λ state. OnTrue c.advance-changed.result (n ≢ state)) c.deref_mut.ensures.value c.advance-changed.ensures.changed))
+    rw (← c.self.view_is) (states_are g (goal.at.returns-clause-changed g c).After-advance-changed
+    (λ old new. OnTrue c.advance-changed.result (new ≢ old)) c.advance-changed.ensures.changed)
 
 pub returns-clause-same : goal.returns-clause-same
 returns-clause-same g c =
-    let i = c.self.inside in
-    let n = c.advance-changed.new.state in
-    let final = with_items_is i.state n (omega (arith, c.advance-changed.auto.state, c.deref_mut.ensures.len)) in
-    rw (← c.self.view_is)
-    (subst (λ state. OnFalse c.advance-changed.result (state ≡ i.state.items)) (sym final)
-    (subst (λ state. OnFalse c.advance-changed.result (n ≡ state)) c.deref_mut.ensures.value c.advance-changed.ensures.same))
+    rw (← c.self.view_is) (states_are g (goal.at.returns-clause-same g c).After-advance-changed
+    (λ old new. OnFalse c.advance-changed.result (new ≡ old)) c.advance-changed.ensures.same)
 
 pub returns-clause-moved : goal.returns-clause-moved
 returns-clause-moved g c = rw (← c.self.view_is) c.moves_after-self-inside.ensures.moved
