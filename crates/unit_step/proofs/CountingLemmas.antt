@@ -1,17 +1,17 @@
 -- As many parts have members as there are groups.
-use Rattle.std.proofs.Common.{◌≡◌, ℕ, zero, suc, ◌<◌, true, false, cond, if◌then◌else◌, inl, inr, List, [], ◌∷◌, length, map, get_or, nat_eq, refl, sym, ap, subst, ◌∙◌, Some, arith}
-use Rattle.std.specs.Prelude.{All, Contains, count_by, slice_get, slice_index}
+use Rattle.std.proofs.Common.{◌≡◌, ℕ, zero, suc, ◌<◌, true, false, cond, if◌then◌else◌, inl, inr, List, [], ◌∷◌, length, map, nat_eq, refl, sym, ap, subst, ◌∙◌, Some, arith}
+use Rattle.std.specs.Prelude.{Contains, count_by, slice_get, slice_index}
 use Rattle.std.specs.List.{IsDistinct, sum_by}
-use Rattle.std.proofs.lemmas.Bool.{cases_Bool, lt-ltb, eqb-true, ltb-true}
+use Rattle.std.proofs.lemmas.Bool.{cases_Bool, lt-ltb, ltb-true}
 use Rattle.std.proofs.lemmas.Bool.Decides.{Decides-eqb}
 use Rattle.std.proofs.lemmas.Option.{slice_get_read, get_or_from_slice_get}
 use Rattle.std.proofs.lemmas.List.{length-map, length-take}
-use Rattle.std.proofs.lemmas.List.Elements.{Contains-get_or, recursion_from_All}
+use Rattle.std.proofs.lemmas.List.Elements.{recursion_from_All}
 use Rattle.std.proofs.lemmas.List.Kept.{AllPairs-from_increasing}
 use Rattle.std.proofs.lemmas.List.Sums.{sum_by-cons}
 use Rattle.std.proofs.lemmas.Map.Made.{IsDistinct-from_AllPairs}
 use Rattle.std.proofs.lemmas.Map.Keys.{IsDistinct-cons}
-use Rattle.list_facts.proofs.ContainsLemmas.{Contains-cons_cases, Contains-cons_first, Contains-cons_later}
+use Rattle.list_facts.proofs.ContainsLemmas.{Contains-cons_cases, Contains-cons_first, Contains-cons_later, unlike}
 use Rattle.path_meaning.specs.Graphs.{GraphData}
 use Rattle.group_meaning.specs.Groups.{Group, AreGroups, id_of}
 use Rattle.group_meaning.proofs.MappedLists.{contains-map, contains-from_map}
@@ -53,14 +53,6 @@ length-firsts (part ∷ parts) =
 -- a part that passes the test has members
 has_some : (part : HeldPart) → has_members part ≡ true → 0 < part.members
 has_some part is = ltb-true 0 part.members is
-
--- what differs from one number
-unlike : (x : ℕ) (ys : List ℕ) → (¬ Contains ys x) → All (λ y. nat_eq x y ≡ false) ys
-unlike x ys none k d inside =
-    elim (cases_Bool (nat_eq x (get_or ys k d))) [
-      | inl same ↦ absurd (none (subst (Contains ys) (sym (eqb-true x (get_or ys k d) same)) (Contains-get_or ys k d inside)))
-      | inr other ↦ other
-    ]
 
 -- a part behind the first one
 Stands-later : (first : HeldPart) (parts : List HeldPart) (k : ℕ) (part : HeldPart) → Stands parts k part → Stands (first ∷ parts) (suc k) part
