@@ -4,6 +4,7 @@ pub mod FrontLemmas
 pub mod HeaderLemmas
 pub mod ItemLemmas
 pub mod MeaningLemmas
+pub mod HeldLemmas
 pub mod StandingLemmas
 pub mod SumLemmas
 pub mod VisibleLemmas

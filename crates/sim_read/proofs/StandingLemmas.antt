@@ -1,99 +1,30 @@
 -- What each step of a reader does to the texts that it stands for: a piece of a refused text, a piece up to the limit, a piece of a line,
 -- the end of a line, and the end of the text. A held line means what the line means, since the bytes that aren't held only make it longer.
-use Rattle.std.proofs.Common.{◌≡◌, ℕ, ◌+◌, ◌<◌, ◌≤◌, Bool, true, false, List, [], ◌∷◌, ◌++◌, length, take, drop, min, slice_index, Option, None, Some, Result, Ok, Err, inl, inr, refl, sym, ap, subst, ◌∙◌, arith, append_assoc, append-nil, length-append, lt-ltb, is_ok, OnOk, IfOk, IfErr}
+use Rattle.std.proofs.Common.{◌≡◌, ℕ, ◌+◌, ◌<◌, ◌≤◌, true, false, List, [], ◌∷◌, ◌++◌, length, take, drop, min, Option, None, Some, Result, Ok, Err, inl, inr, refl, sym, ap, subst, ◌∙◌, arith, append_assoc, append-nil, length-append, is_ok, OnOk, IfOk, IfErr}
 use Rattle.std.proofs.Math.Seq.{take-append-add}
-use Rattle.std.specs.Prelude.{if◌then◌else◌, ◌==◌, ◌-◌, ◌||◌}
-use Rattle.std.specs.List.{enumerate_from, list_all}
+use Rattle.std.specs.Prelude.{if◌then◌else◌, ◌==◌, ◌-◌}
+use Rattle.std.specs.List.{enumerate_from}
 use Rattle.std.proofs.lemmas.Bool.{cases_lt}
 use Rattle.std.proofs.lemmas.Bool.Decides.{nat_tests}
-use Rattle.std.proofs.lemmas.List.{take_all, take-take, take-append-le, length-take}
+use Rattle.std.proofs.lemmas.List.{take_all, length-take}
 use Rattle.std.proofs.lemmas.List.Elements.{All-append, All-nil}
 use Rattle.line_words.specs.declared.files.TheConstants.{MOST_FILE_BYTES}
-use Rattle.line_words.specs.declared.line_check.TheConstants.{LONGEST_LINE}
-use Rattle.line_words.specs.declared.line_check.LineFault.TheVariants as of_line
-use Rattle.line_words.specs.Bytes.{carriage_return, line_feed, is_line_byte, is_line_feed}
+use Rattle.line_words.specs.Bytes.{line_feed, is_line_feed}
 use Rattle.line_words.specs.Lines.{without_return, HasNoFeed}
-use Rattle.line_words.specs.LineFaults.{is_comment}
 use Rattle.line_words.specs.Pieces.{AreEnded, EndsLine}
 use Rattle.line_words.specs.Pieces.AreEnded.{no_line}
 use Rattle.line_words.proofs.PieceLemmas.{AreEnded-push}
 use Rattle.sim_read.specs.declared.fault.NetFault.{NetFault}
 use Rattle.sim_read.specs.declared.fault.NetFault.TheVariants.{Refused, NoMemory}
 use Rattle.sim_read.specs.declared.fault.NetRefusal.{NetRefusal}
-use Rattle.sim_read.specs.declared.fault.NetWhat.TheVariants.{LineTooLong}
 use Rattle.sim_read.specs.declared.pieces.TheConstants.{MOST_HELD}
 use Rattle.sim_read.specs.Drafts.{DraftData, circuit_of, rails_draft, sized}
-use Rattle.sim_read.specs.Meaning.{checked_meaning, line_meaning, lines_meaning, netlist_of}
+use Rattle.sim_read.specs.Meaning.{line_meaning, lines_meaning, netlist_of}
 use Rattle.sim_read.specs.Reading.{IsFault}
 use Rattle.sim_read.specs.Standing.{counted, too_far, GoesOn, IsOpen, IsRead, IsRefused, ReaderData, StandsBy, StandsFor}
 use Rattle.sim_read.proofs.MeaningLemmas.{onward}
 use Rattle.sim_read.proofs.FrontLemmas.{and_lines, enumerate_from-append, lines_meaning-append, meaning_last, meaning_whole, refused_after, refused_too_far}
-
--- ---- what is held
-
--- bytes more after the first ones that were held
-take-held : (n : ℕ) (bytes part : List ℕ) → take n (take n bytes ++ part) ≡ take n (bytes ++ part)
-take-held n bytes part = elim (cases_lt n (length bytes)) [
-  | inl past ↦
-      take-append-le n (take n bytes) part (omega (arith, length-take n bytes))
-      ∙ take-take n n bytes (omega arith) ∙ sym (take-append-le n bytes part (omega arith))
-  | inr whole ↦ ap (λ start. take n (start ++ part)) (take_all n bytes whole)
-]
-
--- a line loses one byte at most
-length-without_return : (line : List ℕ) → length line ≤ length (without_return line) + 1
-length-without_return line = by (slice_index line (length line - 1) == carriage_return) where
-  by : (returns : Bool) → length line ≤ length (if returns then take (length line - 1) line else line) + 1
-  by true = omega (arith, length-take (length line - 1) line)
-  by false = omega arith
-
--- a line with too many bytes
-meaning-too_long : (d : DraftData) (number : ℕ) (line : List ℕ) → LONGEST_LINE < length line
-    → line_meaning None d (number, line) ≡ Err LineTooLong
-meaning-too_long d number line long =
-    ap (λ is. checked_meaning d (number, line) (if is then Some of_line.TooLong
-    else (if is_comment line || list_all is_line_byte line then None else Some of_line.BadByte)))
-    (lt-ltb LONGEST_LINE (length line) long)
-
--- what is held of a line means what the line means
-pub held_meaning : (d : DraftData) (number : ℕ) (line : List ℕ)
-    → line_meaning None d (number, without_return (take MOST_HELD line)) ≡ line_meaning None d (number, without_return line)
-held_meaning d number line = elim (cases_lt MOST_HELD (length line)) [
-  | inl past ↦
-      meaning-too_long d number (without_return (take MOST_HELD line))
-      (omega (arith, length-without_return (take MOST_HELD line), length-take MOST_HELD line))
-      ∙ sym (meaning-too_long d number (without_return line) (omega (arith, length-without_return line)))
-  | inr whole ↦ ap (λ bytes. line_meaning None d (number, without_return bytes)) (take_all MOST_HELD line whole)
-]
-
--- ---- counting
-
--- the count of a text that goes on
-counted-more : (n more : ℕ) → counted (min n (MOST_FILE_BYTES + 1)) more ≡ min (n + more) (MOST_FILE_BYTES + 1)
-counted-more n more = omega arith
-
-count-append : (old : ReaderData) (text piece : List ℕ) → StandsFor old text
-    → counted old.bytes (length piece) ≡ min (length (text ++ piece)) (MOST_FILE_BYTES + 1)
-count-append old text piece stood =
-    ap (λ n. counted n (length piece)) stood.count ∙ counted-more (length text) (length piece)
-    ∙ ap (λ n. min n (MOST_FILE_BYTES + 1)) (sym (length-append text piece))
-
--- a text of which no byte is too many so far
-still_short : (old : ReaderData) (text piece : List ℕ) → StandsFor old text → counted old.bytes (length piece) ≤ MOST_FILE_BYTES
-    → length (text ++ piece) ≤ MOST_FILE_BYTES
-still_short old text piece stood within =
-    let count : counted old.bytes (length piece) ≡ min (length (text ++ piece)) (MOST_FILE_BYTES + 1) = count-append old text piece stood in
-    omega arith
-
-now_long : (old : ReaderData) (text piece : List ℕ) → StandsFor old text → MOST_FILE_BYTES < counted old.bytes (length piece)
-    → MOST_FILE_BYTES < length (text ++ piece)
-now_long old text piece stood past =
-    let count : counted old.bytes (length piece) ≡ min (length (text ++ piece)) (MOST_FILE_BYTES + 1) = count-append old text piece stood in
-    omega arith
-
--- a reader without a fault is open
-opened : (r : ReaderData) (text : List ℕ) → r.fault ≡ None → StandsFor r text → IsOpen r text
-opened r text none stood = subst (StandsBy r text) none stood.stands
+use Rattle.sim_read.proofs.HeldLemmas.{take-held, held_meaning, count-append, still_short, now_long, opened}
 
 -- ---- the steps
 
