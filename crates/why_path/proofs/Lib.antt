@@ -1,3 +1,4 @@
+pub mod FoundLemmas
 pub mod SearchLemmas
 pub mod ReasonLemmas
 pub mod BlockingLemmas

@@ -17,7 +17,7 @@ use Rattle.why_path.specs.declared.search.Last.{Last}
 use Rattle.why_path.specs.Reasons.{IsReason, PassesTwice, IsBestReason}
 use Rattle.why_path.specs.Search.{stand_at, IsFoundBy, IsFoundAtRoot, IsFoundFrom, IsIn, IsSearch, IsTrail, LeadBack, IsEntryOf}
 use Rattle.why_path.specs.Search.IsTrail.{starts, goes_on}
-use Rattle.why_path.proofs.SearchLemmas.{IsIn-lower, IsIn-named}
+use Rattle.why_path.proofs.FoundLemmas.{IsIn-lower, IsIn-named}
 
 -- a trail has an entry at its end
 trail-entry : {found : List Found} {k : ℕ} {hops : List ℕ} {root : ℕ} → IsTrail found k hops root →

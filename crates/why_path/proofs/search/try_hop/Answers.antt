@@ -5,7 +5,8 @@ use Rattle.std.proofs.lemmas.Option.{slice_get_read}
 use Rattle.path_meaning.specs.Spread.{rail_of}
 use Rattle.why_path.specs.declared.search.Found.{Found}
 use Rattle.why_path.specs.Search.{IsIn}
-use Rattle.why_path.proofs.SearchLemmas.{passed_nowhere, passed_found, Keeps-append, landed, entered, read_at}
+use Rattle.why_path.proofs.SearchLemmas.{passed_nowhere, passed_found, landed, entered, read_at}
+use Rattle.why_path.proofs.FoundLemmas.{Keeps-append}
 use Rattle.why_path.proofs.search.try_hop.Goals as goal
 
 pub returns-in_ok-take-clause-sound : goal.returns-in_ok-take-clause-sound

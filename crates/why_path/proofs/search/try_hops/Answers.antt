@@ -1,7 +1,8 @@
 -- One place more.
 use Rattle.std.proofs.Common.{◌∙◌, arith}
 use Rattle.std.proofs.lemmas.List.{take_all}
-use Rattle.why_path.proofs.SearchLemmas.{Keeps-trans, kept_inside, passed_more}
+use Rattle.why_path.proofs.SearchLemmas.{kept_inside, passed_more}
+use Rattle.why_path.proofs.FoundLemmas.{Keeps-trans}
 use Rattle.why_path.proofs.search.try_hops.Goals as goal
 
 pub try_hop-requires-clause-from : goal.try_hop-requires-clause-from

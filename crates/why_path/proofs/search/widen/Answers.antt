@@ -4,7 +4,8 @@ use Rattle.std.specs.Prelude.{slice_get}
 use Rattle.std.proofs.lemmas.Option.{slice_get_read, slice_get_within}
 use Rattle.path_meaning.specs.Spread.{rail_of}
 use Rattle.why_path.specs.Search.{list_at, IsSettled}
-use Rattle.why_path.proofs.SearchLemmas.{Keeps-trans, settled_by, settled_more, list_at-read}
+use Rattle.why_path.proofs.SearchLemmas.{settled_by, settled_more, list_at-read}
+use Rattle.why_path.proofs.FoundLemmas.{Keeps-trans}
 use Rattle.why_path.proofs.search.widen.Goals as goal
 
 pub loop-from-preserved : goal.loop-from-preserved
