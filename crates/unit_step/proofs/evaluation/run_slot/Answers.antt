@@ -1,9 +1,9 @@
 -- The parts that wait in a slot can be run together, and what is noted of them is what each of them notes.
-use Rattle.std.proofs.Common.{◌≡◌, ℕ, List, ◌*◌, ◌<◌, length, sym, ap, ◌∙◌, arith}
+use Rattle.std.proofs.Common.{◌≡◌, ℕ, List, ◌+◌, ◌*◌, ◌<◌, length, sym, ap, ◌∙◌, arith}
 use Rattle.std.proofs.lemmas.Bool.{eqb-true, eqb-false}
 use Rattle.std.proofs.lemmas.Option.{slice_get_within}
 use Rattle.unit_step.specs.Evaluating.{rooms}
-use Rattle.unit_step.specs.Waiting.{starts_in, code_in}
+use Rattle.unit_step.specs.Waiting.{starts_in, code_in, cleared_at, waiting_sum}
 use Rattle.unit_step.specs.Together.{outputs_at, instructions_at}
 use Rattle.unit_step.proofs.WaitingLemmas.{cleared_same, waiting_sum-cleared}
 use Rattle.unit_step.proofs.EvaluationLemmas.{RunsTogether, RunsTogether-from_all, RunsSome-slot, code_read, one_of_some, outputs_there, instructions_there}
@@ -85,27 +85,29 @@ returns-clause-runs g c =
     rw c.clear.ensures (RunsSome-slot c.args.joining c.args.dense.now.codes.items c.args.dense.now.nodes.items c.args.state.now c.args.desk.now.batches
     c.args.place waits.code c.args.desk.now.changes.items c.run_together.new.changes.items (slot_inside g at_end.After-code) waits.there notes)
 
+-- without the parts of the slot so much less waits
+fewer : (g : Over) (c : After-code g) (per_code : ℕ → ℕ) →
+    waiting_sum per_code (cleared_at c.args.desk.now.batches c.args.place)
+    + length (starts_in c.args.desk.now.batches c.args.place) * per_code (code_in c.args.desk.now.batches c.args.place)
+    ≡ waiting_sum per_code c.args.desk.now.batches
+fewer g c per_code = waiting_sum-cleared c.args.desk.now.batches c.args.place (slot_inside g c) per_code
+
 pub returns-clause-room : goal.returns-clause-room
 returns-clause-room g c =
     let at_end = goal.at.returns-clause-room g c in
-    let slots = c.args.desk.now.batches in
-    let place = c.args.place in
-    let codes = c.args.dense.now.codes.items in
     let waits = together g at_end.After-code in
-    let code = code_run g at_end.After-deref waits in
-    let costs = ap (λ n. length (starts_in slots place) * n) (outputs_there codes (code_in slots place) waits.code waits.there) in
-    let few = rw (c.starts-starts.ensures.starts, code) at c.run_together.ensures.few in
-    rw c.clear.ensures (omega (arith, few, costs, waiting_sum-cleared slots place (slot_inside g at_end.After-code) (outputs_at codes)))
+    let few = rw (c.starts-starts.ensures.starts, code_run g at_end.After-deref waits) at c.run_together.ensures.few in
+    let costs = ap (λ n. length (starts_in c.args.desk.now.batches c.args.place) * n)
+    (outputs_there c.args.dense.now.codes.items (code_in c.args.desk.now.batches c.args.place) waits.code waits.there) in
+    rw c.clear.ensures (omega (arith, few, costs, fewer g at_end.After-code (outputs_at c.args.dense.now.codes.items)))
 
 pub returns-clause-steps : goal.returns-clause-steps
 returns-clause-steps g c =
     let at_end = goal.at.returns-clause-steps g c in
-    let slots = c.args.desk.now.batches in
-    let place = c.args.place in
     let codes = c.args.dense.now.codes.items in
+    let code_at = code_in c.args.desk.now.batches c.args.place in
     let waits = together g at_end.After-code in
-    let code = code_run g at_end.After-deref waits in
-    let cost = instructions_there codes (code_in slots place) waits.code waits.there in
-    let steps = rw code at c.run_together.ensures.steps in
-    let most = one_of_some (length (starts_in slots place)) (instructions_at codes (code_in slots place)) (slot_some g at_end.After-code) in
-    rw c.clear.ensures (omega (arith, steps, cost, most, waiting_sum-cleared slots place (slot_inside g at_end.After-code) (instructions_at codes)))
+    let steps = rw (code_run g at_end.After-deref waits) at c.run_together.ensures.steps in
+    let most = one_of_some (length (starts_in c.args.desk.now.batches c.args.place)) (instructions_at codes code_at) (slot_some g at_end.After-code) in
+    rw c.clear.ensures
+    (omega (arith, steps, instructions_there codes code_at waits.code waits.there, most, fewer g at_end.After-code (instructions_at codes)))
