@@ -20,6 +20,23 @@ fn inverter(alloc: Global) -> Result<Circuit, Fail> {
     Ok(circuit)
 }
 
+// Lines of a script, and what is obeyed in place of each while out, which is also y, is stuck at 0.
+const MASKED: [(&[u8], &[u8]); 12] = [
+    (b"set a=1 out=1 y=X", b"set a=1 out=0 y=0"),
+    (b"clock a=01 y=01X", b"clock a=01 y=000"),
+    (b"charge out=1 a=1 y=0", b"charge a=1"),
+    (b"charge y=1", b""),
+    (b"store out 2", b""),
+    (b"store a 2", b"store a 2"),
+    (b"input out a", b"input out a"),
+    (b"expect out=1", b"expect out=1"),
+    (b"add n out a y", b"add n out a y"),
+    (b"wire 1 out a y", b"wire 1 out a y"),
+    (b"cycle 2", b"cycle 2"),
+    (b"| set out=1", b""),
+];
+
+// Lines of a list, and the fault that each names, or why it names none.
 const LINES: [(&[u8], Result<Option<Fault>, ListFault>); 20] = [
     (b"open 1", Ok(Some(Fault::Open(1)))),
     (b"\tclosed  02 ", Ok(Some(Fault::Closed(2)))),
@@ -51,22 +68,6 @@ fn a_line_names_a_fault_or_is_refused(rt: HostRuntime) -> Result<(), Fail> {
     }
     Ok(())
 }
-
-// Lines of a script, and what is obeyed in place of each while out, which is also y, is stuck at 0.
-const MASKED: [(&[u8], &[u8]); 12] = [
-    (b"set a=1 out=1 y=X", b"set a=1 out=0 y=0"),
-    (b"clock a=01 y=01X", b"clock a=01 y=000"),
-    (b"charge out=1 a=1 y=0", b"charge a=1"),
-    (b"charge y=1", b""),
-    (b"store out 2", b""),
-    (b"store a 2", b"store a 2"),
-    (b"input out a", b"input out a"),
-    (b"expect out=1", b"expect out=1"),
-    (b"add n out a y", b"add n out a y"),
-    (b"wire 1 out a y", b"wire 1 out a y"),
-    (b"cycle 2", b"cycle 2"),
-    (b"| set out=1", b""),
-];
 
 #[test]
 fn a_command_is_masked_for_a_stuck_node(rt: HostRuntime) -> Result<(), Fail> {
