@@ -28,7 +28,7 @@ use Rattle.group_analysis.specs.Meaning.{gate_bound, switch_count, bound_of}
 use Rattle.node_elimination.specs.Analysis.{AreRailsOfResponse}
 use Rattle.node_elimination.specs.Inputs.{input_formulas}
 use Rattle.node_elimination.specs.Descent.{driven_formulas, HaveDriven, ShowsDriven, level_cost, ArePairs}
-use Rattle.node_elimination.proofs.DescentLemmas.{all_one, all_zero}
+use Rattle.node_elimination.proofs.LevelParts.{all_one, all_zero}
 use Rattle.node_elimination.proofs.LevelLemmas.{driven_response}
 
 module _ (one zero : List Id) (answers : List Rails) (pairs : ArePairs one zero answers) (same : length one ≡ length zero)

@@ -19,7 +19,8 @@ use Rattle.node_elimination.specs.Elimination.{Moves, PutsRight, PutsRights}
 use Rattle.node_elimination.specs.LevelSystem.{value_of, FitLinks, IsConstant, driven_base, IsFresh, IsPlace, SolvesLevel}
 use Rattle.node_elimination.proofs.GrowthLemmas.{All-front, All-back}
 use Rattle.node_elimination.proofs.EquationsLemmas.{right_at-put_same, right_at-put_other}
-use Rattle.node_elimination.proofs.LinkLemmas.{Link-along, Fed-along, value_of-extends, gate_same, pass_same, source_same}
+use Rattle.node_elimination.proofs.LinkLemmas.{value_of-extends, gate_same, pass_same, source_same}
+use Rattle.node_elimination.proofs.AlongLinks.{Link-along, Fed-along}
 
 -- what holds of the one formula that stands for each edge, and of each right side, holds of all formulas
 formulas-all : (P : ℕ → Type 0) (system : SystemData) (falsehood : Id) (count : ℕ) →

@@ -2,7 +2,7 @@
 use Rattle.std.proofs.Common.{◌≡◌, ℕ, ◌+◌, ◌*◌, ◌<◌, ◌≤◌, Bool, true, false, not, inl, inr, List, [], ◌∷◌, ◌++◌, length, take, Option, Some, None, if◌then◌else◌, refl, sym, ap, ◌∙◌, subst, append_assoc, arith}
 use Rattle.std.specs.Prelude.{All, is_some, count_by, replicate, slice_index_or}
 use Rattle.std.proofs.lemmas.Bool.{cases_eq, cases_Bool}
-use Rattle.std.proofs.lemmas.List.{length-append, length_push, get_or_append_left, get_or_push}
+use Rattle.std.proofs.lemmas.List.{length-append, length_push}
 use Rattle.std.proofs.lemmas.List.Elements.{All-append, All-push, All-replicate, All-from_get_or}
 use Rattle.std.proofs.lemmas.List.Sums.{count_by_more_yes, count_by_more_no, sum_by-take-le}
 use Rattle.ternary.specs.declared.tern.Tern.{Tern}
@@ -13,103 +13,25 @@ use Rattle.path_meaning.specs.Spread.{passes}
 use Rattle.path_meaning.specs.Graphs.{GraphData, IsWired, nodes, place_at}
 use Rattle.path_meaning.proofs.PathLemmas.{switch_fits}
 use Rattle.bool_pool.specs.declared.gate.Gate.{Gate}
-use Rattle.bool_pool.specs.declared.gate.Gate.TheVariants.{Var}
 use Rattle.bool_pool.specs.declared.gate.Id.{Id}
 use Rattle.bool_pool.specs.declared.gate.Rails.{Rails}
-use Rattle.bool_pool.specs.Gate.{constant_gate, Extends}
+use Rattle.bool_pool.specs.Gate.{Extends}
 use Rattle.bool_pool.specs.Value.{value_at}
 use Rattle.bool_pool.specs.Reach.{IsWithin, IsGrown}
-use Rattle.bool_pool.specs.Made.{IsLeaf, IsMade}
-use Rattle.bool_pool.proofs.ValueLemmas.{value_at-extends}
-use Rattle.bool_pool.proofs.WithinLemmas.{IsWithin-extends, IsWithin-constant, IsWithin-variable, IsGrown-made, IsGrown-within}
+use Rattle.bool_pool.specs.Made.{IsMade}
+use Rattle.bool_pool.proofs.WithinLemmas.{IsGrown-made, IsGrown-within}
 use Rattle.dual_rail.specs.Conduct.{AreInside, AreRailsOf, Tells}
 use Rattle.node_elimination.specs.Growth.{place_of, AreFormulas, AreWithin, AreGrown, Grows}
 use Rattle.node_elimination.specs.LevelSystem.{value_of, IsConstant}
 use Rattle.node_elimination.specs.declared.inputs.Inputs.{Inputs}
-use Rattle.group_analysis.specs.Meaning.{constant_at, switch_count}
+use Rattle.group_analysis.specs.Meaning.{switch_count}
 use Rattle.node_elimination.specs.Analysis.{IsAssignment}
-use Rattle.node_elimination.specs.Inputs.{IsRail, AreRails, IsPass, ArePasses, input_formulas, HaveInputs, ShowsState}
+use Rattle.node_elimination.specs.Inputs.{AreRails, IsPass, ArePasses, input_formulas, HaveInputs, ShowsState}
 use Rattle.node_elimination.specs.Descent.{AreNegations}
 use Rattle.node_elimination.proofs.GrowthLemmas.{Extends-trans, All-front, All-back, AreFormulas-extends, AreWithin-moved}
-use Rattle.node_elimination.proofs.LinkLemmas.{value_of-extends, place-inside}
-
--- the formula of a constant is a constant
-pub IsConstant-leaf : (b : Bool) (gates : List Gate) (id : Id) → IsLeaf gates (constant_gate b) (λ vars. b) id.place →
-    IsConstant b gates id
-IsConstant-leaf b gates id leaf = record {
-  inside = leaf.inside;
-  value_is = leaf.value_is;
-  within = λ listed bound. IsWithin-constant gates b (λ vars. b) listed bound id.place leaf;
-}
-
--- and stays so
-pub IsConstant-extends : (b : Bool) (before after : List Gate) (id : Id) → Extends before after → IsConstant b before id →
-    IsConstant b after id
-IsConstant-extends b before after id extends constant = record {
-  inside = omega (arith, constant.inside, extends.longer);
-  value_is = λ vars. value_at-extends before after vars id.place extends constant.inside ∙ constant.value_is vars;
-  within = λ listed bound. IsWithin-extends before after listed bound id.place extends (constant.within listed bound);
-}
-
--- the rail of a constant
-pub IsRail-constant : (rail : Tern → Bool) (t : Tern) (variable : ℕ) (gates : List Gate) (p : ℕ) →
-    IsLeaf gates (constant_gate (rail t)) (λ vars. rail t) p → IsRail rail (Some t) variable gates p
-IsRail-constant rail t variable gates p leaf = record {
-  inside = leaf.inside;
-  value_is = λ vars state given shown. leaf.value_is vars ∙ ap rail (sym (given t refl));
-  within = λ listed bound below. IsWithin-constant gates (rail t) (λ vars. rail t) listed bound p leaf;
-}
-
--- the rail that a variable has
-pub IsRail-variable : (rail : Tern → Bool) (variable : ℕ) (gates : List Gate) (p : ℕ) →
-    IsLeaf gates (Var variable) (λ vars. vars variable) p →
-    IsRail rail None variable gates p
-IsRail-variable rail variable gates p leaf = record {
-  inside = leaf.inside;
-  value_is = λ vars state given shown. leaf.value_is vars ∙ shown;
-  within = λ listed bound below. IsWithin-variable gates variable (λ vars. vars variable) listed bound p below leaf;
-}
-
--- a rail stays so when gates are added
-IsRail-extends : (rail : Tern → Bool) (constant : Option Tern) (variable : ℕ) (before after : List Gate) (p : ℕ) →
-    Extends before after →
-    IsRail rail constant variable before p → IsRail rail constant variable after p
-IsRail-extends rail constant variable before after p extends is_rail = record {
-  inside = omega (arith, is_rail.inside, extends.longer);
-  value_is = λ vars state given shown. value_at-extends before after vars p extends is_rail.inside
-      ∙ is_rail.value_is vars state given shown;
-  within = λ listed bound below. IsWithin-extends before after listed bound p extends (is_rail.within listed bound below);
-}
-
--- a formula before the last, and the last one
-pub place_of-front : (ids : List Id) (id : Id) (k : ℕ) → k < length ids → place_of (ids ++ id ∷ []) k ≡ place_of ids k
-place_of-front ids id k inside = ap (λ x. x.place) (get_or_append_left ids (id ∷ []) (record { place = 0 }) k inside)
-
-pub place_of-last : (ids : List Id) (id : Id) (k : ℕ) → length ids ≡ k → place_of (ids ++ id ∷ []) k ≡ id.place
-place_of-last ids id k last = ap (λ x. x.place) (get_or_push ids id (record { place = 0 }) k last)
-
--- the rails of one node more
-pub AreRails-push : (rail : Tern → Bool) (variable : ℕ → ℕ) (constants : List (Option Tern)) (count : ℕ)
-    (before after : List Gate)
-    (ids : List Id) (id : Id) → Extends before after → AreRails rail variable constants count before ids →
-    IsRail rail (constant_at constants count) (variable count) after id.place →
-    AreRails rail variable constants (count + 1) after (ids ++ id ∷ [])
-AreRails-push rail variable constants count before after ids id extends so_far next = record {
-  each_one = omega (arith, length_push ids id, so_far.each_one);
-  rails = λ node below.
-      elim (cases_eq node count) [
-        | inl same ↦
-            rw same
-            (subst (IsRail rail (constant_at constants count) (variable count) after)
-            (sym (place_of-last ids id count so_far.each_one)) next)
-        | inr other ↦
-            let inside : node < count = omega arith in
-            let in_ids : node < length ids = omega (arith, so_far.each_one) in
-            subst (IsRail rail (constant_at constants node) (variable node) after) (sym (place_of-front ids id node in_ids))
-            (IsRail-extends rail (constant_at constants node) (variable node) before after (place_of ids node) extends
-            (so_far.rails node inside))
-      ];
-}
+use Rattle.node_elimination.proofs.LinkLemmas.{value_of-extends}
+use Rattle.node_elimination.proofs.AlongLinks.{place-inside}
+use Rattle.node_elimination.proofs.RailLemmas.{place_of-front, place_of-last}
 
 -- the rails of a node are formulas of the pool
 pub AreInside-rails : (g : GraphData) (pool : List Gate) (hi lo : List Id) (node : ℕ) → AreFormulas pool (hi ++ lo) →

@@ -26,7 +26,7 @@ use Rattle.node_elimination.specs.Analysis.{HasMembers}
 use Rattle.node_elimination.proofs.GrowthLemmas.{All-back}
 use Rattle.node_elimination.proofs.LevelLemmas.{never_reached}
 use Rattle.node_elimination.proofs.PassingLemmas.{left-inside}
-use Rattle.node_elimination.proofs.LinkLemmas.{place-inside}
+use Rattle.node_elimination.proofs.AlongLinks.{place-inside}
 
 -- a fresh system to which the links were added, and which was solved
 pub SolvesLevel-solved : (g : GraphData) (s : ℕ) (gates passes sources answers : List Id) (a b c : List Gate)

@@ -4,10 +4,14 @@ pub mod EquationsLemmas
 pub mod PassingLemmas
 pub mod SolvingLemmas
 pub mod LevelLemmas
+pub mod AlongLinks
+pub mod OneLink
 pub mod LinkLemmas
 pub mod LevelSystemLemmas
 pub mod BaseLemmas
+pub mod RailLemmas
 pub mod InputLemmas
+pub mod LevelParts
 pub mod DescentLemmas
 pub mod AnalysisLemmas
 pub mod MeaningLemmas

@@ -11,8 +11,9 @@ use Rattle.node_elimination.specs.LevelSystem.{value_of}
 use Rattle.node_elimination.specs.Inputs.{ShowsState}
 use Rattle.node_elimination.specs.Descent.{ShowsRail, ShowsLevel}
 use Rattle.node_elimination.proofs.GrowthLemmas.{Extends-trans, AreFormulas-extends}
-use Rattle.node_elimination.proofs.InputLemmas.{IsConstant-extends}
-use Rattle.node_elimination.proofs.DescentLemmas.{all_hi, all_lo, all_live, all_one, all_zero, FitLinks-of, ShowsState-extends, driven_shown, clear_shown, shown-extends, Grows-drives}
+use Rattle.node_elimination.proofs.RailLemmas.{IsConstant-extends}
+use Rattle.node_elimination.proofs.DescentLemmas.{driven_shown, clear_shown, Grows-drives}
+use Rattle.node_elimination.proofs.LevelParts.{all_hi, all_lo, all_live, all_one, all_zero, FitLinks-of, ShowsState-extends, shown-extends}
 use Rattle.node_elimination.proofs.descent.drive_members.Given as given
 use Rattle.node_elimination.proofs.descent.drive_members.Goals as goal
 

@@ -10,8 +10,9 @@ use Rattle.node_elimination.specs.Inputs.{input_formulas}
 use Rattle.node_elimination.specs.Descent.{HaveLevels, level_cost}
 use Rattle.node_elimination.proofs.GrowthLemmas.{Extends-same, Extends-trans, Grows-trans}
 use Rattle.node_elimination.proofs.PassingLemmas.{left-same}
-use Rattle.node_elimination.proofs.InputLemmas.{IsConstant-extends}
-use Rattle.node_elimination.proofs.DescentLemmas.{ShowsState-extends, HaveInputs-extends, ShowsLevel-start, HaveLevels-start, Grows-start, Grows-down, ShowsLevel-same, ShowsDriven-least, costs-more, costs-within}
+use Rattle.node_elimination.proofs.RailLemmas.{IsConstant-extends}
+use Rattle.node_elimination.proofs.DescentLemmas.{ShowsLevel-start, HaveLevels-start, Grows-start, Grows-down, ShowsLevel-same, ShowsDriven-least, costs-more, costs-within}
+use Rattle.node_elimination.proofs.LevelParts.{ShowsState-extends, HaveInputs-extends}
 use Rattle.node_elimination.proofs.descent.go_down.Goals as goal
 
 pub loop-done-init : goal.loop-done-init

@@ -1,6 +1,6 @@
 -- A switch stands at one of the places.
 use Rattle.std.proofs.Common.{◌<◌, length, arith}
-use Rattle.node_elimination.proofs.LinkLemmas.{place-inside}
+use Rattle.node_elimination.proofs.AlongLinks.{place-inside}
 use Rattle.node_elimination.proofs.descent.has_switch.Goals as goal
 
 pub returns : goal.returns

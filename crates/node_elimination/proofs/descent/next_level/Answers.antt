@@ -1,9 +1,10 @@
 -- First U, and then D, from what was held before.
 use Rattle.std.proofs.Common.{true, false, ◌∙◌, arith}
 use Rattle.node_elimination.specs.declared.descent.Levels.{Levels}
-use Rattle.node_elimination.proofs.InputLemmas.{IsConstant-extends}
+use Rattle.node_elimination.proofs.RailLemmas.{IsConstant-extends}
 use Rattle.node_elimination.proofs.PassingLemmas.{left-same}
-use Rattle.node_elimination.proofs.DescentLemmas.{HaveInputs-extends, ShowsState-extends, HaveDriven-extends, ShowsDriven-extends, Grows-next}
+use Rattle.node_elimination.proofs.DescentLemmas.{Grows-next}
+use Rattle.node_elimination.proofs.LevelParts.{HaveInputs-extends, ShowsState-extends, HaveDriven-extends, ShowsDriven-extends}
 use Rattle.node_elimination.proofs.descent.next_level.Goals as goal
 
 pub reach_members-requires-clause-left : goal.reach_members-requires-clause-left

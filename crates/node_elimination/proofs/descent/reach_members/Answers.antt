@@ -4,7 +4,8 @@ use Rattle.std.proofs.lemmas.List.{length-replicate}
 use Rattle.std.proofs.lemmas.Result.{IfOk-weaker}
 use Rattle.path_meaning.specs.Graphs.{nodes}
 use Rattle.bool_pool.specs.declared.gate.Id.{Id}
-use Rattle.node_elimination.proofs.DescentLemmas.{all_closed, all_sure, FitLinks-of, sure-true, strong_shown, Grows-strong}
+use Rattle.node_elimination.proofs.DescentLemmas.{strong_shown, Grows-strong}
+use Rattle.node_elimination.proofs.LevelParts.{all_closed, all_sure, FitLinks-of, sure-true}
 use Rattle.node_elimination.proofs.descent.reach_members.Goals as goal
 
 pub reach-requires-clause-fit : goal.reach-requires-clause-fit

@@ -7,7 +7,8 @@ use Rattle.node_elimination.specs.LevelSystem.{IsConstant}
 use Rattle.node_elimination.specs.declared.inputs.Inputs.{Inputs}
 use Rattle.node_elimination.specs.Inputs.{AreRails, ArePasses}
 use Rattle.node_elimination.proofs.GrowthLemmas.{Extends-trans, AreFormulas-extends}
-use Rattle.node_elimination.proofs.InputLemmas.{IsConstant-leaf, IsConstant-extends, AreFormulas-rails, HaveInputs-made, ShowsState-made, AreGrown-made}
+use Rattle.node_elimination.proofs.InputLemmas.{AreFormulas-rails, HaveInputs-made, ShowsState-made, AreGrown-made}
+use Rattle.node_elimination.proofs.RailLemmas.{IsConstant-leaf, IsConstant-extends}
 use Rattle.node_elimination.proofs.inputs.make_inputs.Given as given
 use Rattle.node_elimination.proofs.inputs.make_inputs.Goals as goal
 

@@ -1,7 +1,7 @@
 -- The rails of a constant.
 use Rattle.std.proofs.lemmas.Result.{IfOk-weaker}
 use Rattle.ternary.specs.Tern.{may_one, may_zero}
-use Rattle.node_elimination.proofs.InputLemmas.{IsRail-constant}
+use Rattle.node_elimination.proofs.RailLemmas.{IsRail-constant}
 use Rattle.node_elimination.proofs.inputs.node_rails.Goals as goal
 
 pub returns-in-Some-clause-hi : goal.returns-in-Some-clause-hi

@@ -2,7 +2,8 @@
 use Rattle.std.proofs.Common.{arith}
 use Rattle.path_meaning.proofs.PathLemmas.{switch_fits}
 use Rattle.node_elimination.proofs.GrowthLemmas.{Extends-trans}
-use Rattle.node_elimination.proofs.InputLemmas.{IsConstant-extends, ArePasses-push, pass_steps, steps_within}
+use Rattle.node_elimination.proofs.InputLemmas.{ArePasses-push, pass_steps, steps_within}
+use Rattle.node_elimination.proofs.RailLemmas.{IsConstant-extends}
 use Rattle.node_elimination.proofs.inputs.passes_of.Goals as goal
 
 pub pass_of-requires-clause-falsehood : goal.pass_of-requires-clause-falsehood

@@ -2,7 +2,7 @@
 use Rattle.std.proofs.Common.{◌+◌, ◌*◌, arith}
 use Rattle.ternary.specs.Tern.{may_one, may_zero}
 use Rattle.node_elimination.proofs.GrowthLemmas.{Extends-trans}
-use Rattle.node_elimination.proofs.InputLemmas.{AreRails-push}
+use Rattle.node_elimination.proofs.RailLemmas.{AreRails-push}
 use Rattle.node_elimination.proofs.inputs.rails_of_nodes.Goals as goal
 
 pub loop-node-preserved : goal.loop-node-preserved

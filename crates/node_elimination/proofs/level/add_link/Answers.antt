@@ -2,7 +2,7 @@
 use Rattle.std.proofs.Common.{◌<◌, ◌≤◌, ◌++◌, [], refl, ◌∙◌, arith}
 use Rattle.node_elimination.specs.Equations.{formulas_of}
 use Rattle.node_elimination.proofs.EquationsLemmas.{IsHeld-at_edge, IsHeld-at_right, Moves-put_edge, Moves-put_right}
-use Rattle.node_elimination.proofs.LinkLemmas.{IsHeld-gate, IsHeld-pass, IsHeld-source, gate-inside, pass-inside, source-inside, AddsLink-edge, AddsLink-right}
+use Rattle.node_elimination.proofs.OneLink.{IsHeld-gate, IsHeld-pass, IsHeld-source, gate-inside, pass-inside, source-inside, AddsLink-edge, AddsLink-right}
 use Rattle.node_elimination.proofs.level.add_link.Goals as goal
 
 pub or_and-requires-clause-second : goal.or_and-requires-clause-second

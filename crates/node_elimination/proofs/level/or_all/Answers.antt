@@ -1,6 +1,6 @@
 -- The formula is formed in one step more than "or both".
 use Rattle.std.proofs.Common.{arith}
-use Rattle.node_elimination.proofs.LinkLemmas.{IsFormed-or_all}
+use Rattle.node_elimination.proofs.OneLink.{IsFormed-or_all}
 use Rattle.node_elimination.proofs.level.or_all.Goals as goal
 
 pub returns-clause-formed : goal.returns-clause-formed

@@ -5,7 +5,7 @@ use Rattle.node_elimination.specs.Equations.{formulas_of}
 use Rattle.node_elimination.proofs.GrowthLemmas.{Extends-same, IsHeld-front, IsHeld-back}
 use Rattle.node_elimination.proofs.EquationsLemmas.{Moves-put_right}
 use Rattle.node_elimination.proofs.PassingLemmas.{PutsRight-put}
-use Rattle.node_elimination.proofs.LinkLemmas.{gate_held, source_held, gate-inside, source-inside}
+use Rattle.node_elimination.proofs.OneLink.{gate_held, source_held, gate-inside, source-inside}
 use Rattle.node_elimination.proofs.BaseLemmas.{IsFormed-held, driven_base-other, driven_base-root}
 use Rattle.node_elimination.proofs.level.put_root.Goals as goal
 

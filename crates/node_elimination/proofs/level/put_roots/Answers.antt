@@ -1,7 +1,7 @@
 -- One member more.
 use Rattle.std.proofs.Common.{◌<◌, [], length, arith}
 use Rattle.node_elimination.proofs.EquationsLemmas.{Moves-trans}
-use Rattle.node_elimination.proofs.LinkLemmas.{gate-inside, source-inside}
+use Rattle.node_elimination.proofs.OneLink.{gate-inside, source-inside}
 use Rattle.node_elimination.proofs.BaseLemmas.{PutsRights-more, driven_base-extends}
 use Rattle.node_elimination.proofs.level.put_roots.Goals as goal
 
