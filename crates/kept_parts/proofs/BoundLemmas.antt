@@ -15,7 +15,8 @@ use Rattle.analysis_cache.proofs.UseLemmas.{each_present}
 use Rattle.analysis_cache.proofs.OrderLemmas.{among_all, length-first_same, kept_after-any_order, within-roomy}
 use Rattle.kept_parts.specs.Uses.{UsesData, AreCounted, AreSame, CutsTo, in_use, some_texts, texts_used}
 use Rattle.kept_parts.proofs.UseLemmas.{is_among-count}
-use Rattle.kept_parts.proofs.NumberLemmas.{there, among_at, distinct_is, used_known, count_of_numbers}
+use Rattle.kept_parts.proofs.NumberLemmas.{distinct_is, used_known, count_of_numbers}
+use Rattle.kept_parts.proofs.PlaceLemmas.{there, among_at}
 
 -- a text is used exactly where its count isn't 0
 pub is_used-count : (known : List GroupTextData) (counts : List ℕ) (numbers : List (Option ℕ)) (distinct number : ℕ) (text : GroupTextData) →

@@ -16,12 +16,7 @@ use Rattle.group_text.specs.FirstTexts.{is_among, first_texts, new_texts}
 use Rattle.analysis_cache.proofs.NewTextLemmas.{is_among-first, first_texts-append}
 use Rattle.kept_parts.specs.Uses.{UsesData, IsNumbered, texts_used, some_texts, count_distinct, CountsUses, used, is_number, first_use, last_use, AreCounted}
 use Rattle.kept_parts.proofs.UseLemmas.{CountsUses-more, used-more, CountsUses-none, used-none, same_place, used-again, used-first}
-
--- what stands at a place of a list
-pub there : {A : Type 0} (xs : List A) (i : ℕ) → i < length xs → (x : A) × (slice_get xs i ≡ Some x)
-there [] i inside = absurd (omega (arith, inside))
-there (x ∷ xs) zero inside = (x, refl)
-there (x ∷ xs) (suc i) inside = there xs i (omega (arith, inside))
+use Rattle.kept_parts.proofs.PlaceLemmas.{there, among_at, slice_get-grown}
 
 -- parts without numbers have no texts
 pub none_used : (known : List GroupTextData) (n : ℕ) → texts_used (record { known = known; numbers = replicate n None }) ≡ replicate n None
@@ -69,19 +64,6 @@ used_is_distinct known texts counts apart among counted =
     let (text, here) = there known i (omega (arith, inside, counted.count)) in
     counted.each i text here ∙ sym (all_counted.each i text here)) in
     ap used same ∙ all_distinct
-
-pub or_true : (a b : Bool) → b ≡ true → (a || b) ≡ true
-or_true true b is = refl
-or_true false b is = is
-
--- what stands at a place is among all
-pub among_at : (texts : List GroupTextData) (i : ℕ) (text : GroupTextData) → slice_get texts i ≡ Some text → is_among texts text ≡ true
-among_at [] i text here = absurd cc
-among_at (first ∷ texts) zero text here =
-    let same : first ≡ text = cc in
-    let found : same_text text first ≡ true = (same_text_decides text first).1 (sym same) in
-    ap (λ b. b || is_among texts text) found
-among_at (first ∷ texts) (suc i) text here = or_true (same_text text first) (is_among texts text) (among_at texts i text here)
 
 module _ (known : List GroupTextData) where
   abbrev text_at : Option ℕ → Option GroupTextData
@@ -165,16 +147,6 @@ AreCounted-known known counts numbers distinct text are apart =
     zero_behind [] (suc i) = refl
     zero_behind (x ∷ xs) zero = refl
     zero_behind (x ∷ xs) (suc i) = zero_behind xs i
-
--- what has a place in a list that grew
-pub slice_get-grown : {A : Type 0} (xs more : List A) (i : ℕ) (x : A) → slice_get xs i ≡ Some x → slice_get (xs ++ more) i ≡ Some x
-slice_get-grown [] more i x is = absurd cc
-slice_get-grown (y ∷ xs) more zero x is = is
-slice_get-grown (y ∷ xs) more (suc i) x is = slice_get-grown xs more i x is
-
-pub slice_get-last : {A : Type 0} (xs : List A) (x : A) → slice_get (xs ++ x ∷ []) (length xs) ≡ Some x
-slice_get-last [] x = refl
-slice_get-last (y ∷ xs) x = slice_get-last xs x
 
 -- where further texts are known, each part has the text that it had
 pub used_known_more : (old new : UsesData) → (inside : (k number : ℕ) → slice_index_or old.numbers k None ≡ Some number → number < length old.known) →

@@ -8,6 +8,7 @@ pub mod StepLemmas
 pub mod BeatLemmas
 pub mod OutcomeLemmas
 pub mod EditLemmas
+pub mod ColumnStates
 pub mod InsideLemmas
 pub mod FormLemmas
 pub mod QuietLemmas

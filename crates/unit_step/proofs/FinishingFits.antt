@@ -15,7 +15,7 @@ use Rattle.group_text.specs.FirstTexts.{is_among, first_texts, new_texts}
 use Rattle.circuit_texts.specs.Sizes.{fault_in}
 use Rattle.circuit_texts.specs.Building.{Fills}
 use Rattle.kept_parts.specs.Uses.{some_texts, count_distinct}
-use Rattle.kept_parts.proofs.NumberLemmas.{or_true}
+use Rattle.kept_parts.proofs.PlaceLemmas.{or_true}
 use Rattle.unit_step.specs.declared.part.HeldPart.{HeldPart}
 use Rattle.unit_step.specs.Parts.{Stands}
 use Rattle.unit_step.specs.Machines.{MachineData, IsMarked}

@@ -12,7 +12,7 @@ use Rattle.analysis_cache.proofs.NewTextLemmas.{is_among-first, is_among-kept, i
 use Rattle.analysis_cache.proofs.OrderLemmas.{kept_after-fresh, new_texts-used, used-append_new}
 use Rattle.circuit_texts.specs.Building.{HasTexts, Builds, Fills, BuildsSome, IsCutOff}
 use Rattle.kept_parts.specs.Uses.{some_texts}
-use Rattle.kept_parts.proofs.NumberLemmas.{or_true}
+use Rattle.kept_parts.proofs.PlaceLemmas.{or_true}
 use Rattle.unit_step.specs.Machines.{MachineData}
 use Rattle.unit_step.specs.Fitting.{FitsGraph}
 use Rattle.unit_step.specs.Editing.{Finishes, Rouses}

@@ -7,7 +7,7 @@ use Rattle.std.proofs.lemmas.List.Elements.{Contains-push, Contains-push_cases, 
 use Rattle.group_text.specs.Texts.{GroupTextData}
 use Rattle.kept_parts.specs.Uses.{UsesData, IsNumbered}
 use Rattle.unit_step.specs.Finishing.{Puts}
-use Rattle.kept_parts.proofs.NumberLemmas.{slice_get-last, slice_get-grown}
+use Rattle.kept_parts.proofs.PlaceLemmas.{slice_get-last, slice_get-grown}
 
 module _ {X : Type 0} where
   pub set_here : (xs : List X) (k : ℕ) (x : X) → k < length xs → slice_get (slice_set xs k x) k ≡ Some x

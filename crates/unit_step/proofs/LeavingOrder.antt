@@ -19,7 +19,7 @@ use Rattle.analysis_cache.proofs.UseLemmas.{is_among-used}
 use Rattle.analysis_cache.proofs.DistinctLemmas.{first_texts-filter}
 use Rattle.analysis_cache.proofs.OrderLemmas.{among_all, used-same_left}
 use Rattle.kept_parts.specs.Uses.{UsesData, AreSame, CutsTo, some_texts, texts_used, in_use}
-use Rattle.kept_parts.proofs.NumberLemmas.{among_at}
+use Rattle.kept_parts.proofs.PlaceLemmas.{among_at}
 use Rattle.unit_step.specs.declared.part.HeldPart.{HeldPart}
 use Rattle.unit_step.specs.declared.lasting.Lasting.{Lasting}
 use Rattle.unit_step.specs.Parts.{Stands, AreApart}

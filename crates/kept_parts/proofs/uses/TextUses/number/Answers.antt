@@ -6,7 +6,8 @@ use Rattle.std.proofs.lemmas.Bool.{cond-false}
 use Rattle.group_text.specs.Compared.{same_text, same_text_decides}
 use Rattle.group_text.specs.FirstTexts.{is_among}
 use Rattle.kept_parts.specs.Uses.{UsesData}
-use Rattle.kept_parts.proofs.NumberLemmas.{AreCounted-known, used_known_more, among_at, position-text, known_again, known_first}
+use Rattle.kept_parts.proofs.NumberLemmas.{AreCounted-known, used_known_more, position-text, known_again, known_first}
+use Rattle.kept_parts.proofs.PlaceLemmas.{among_at}
 use Rattle.kept_parts.proofs.uses.TextUses.number.Goals.{In-Ok}
 use Rattle.kept_parts.proofs.uses.TextUses.number.Goals as goal
 

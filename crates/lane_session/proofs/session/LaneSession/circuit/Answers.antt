@@ -1,6 +1,6 @@
 use Rattle.std.proofs.Common.{rules}
 use Rattle.analysis_cache.specs.Keeping.{texts_of}
-use Rattle.lane_session.proofs.InsideLemmas.{are_sessions}
+use Rattle.lane_session.proofs.ColumnStates.{are_sessions}
 use Rattle.lane_session.proofs.session.LaneSession.circuit.Goals as goal
 
 pub returns-clause-session : goal.returns-clause-session

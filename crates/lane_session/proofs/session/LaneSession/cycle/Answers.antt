@@ -9,7 +9,7 @@ use Rattle.cosmos_session.specs.Effects.{places_in}
 use Rattle.cosmos_session.proofs.MachineLemmas.{cycle_inputs}
 use Rattle.lane_session.specs.LaneSessions.{session_in}
 use Rattle.lane_session.specs.Stages.{HeldLanes, TakesBeatsTogether}
-use Rattle.lane_session.proofs.InsideLemmas.{column_ready}
+use Rattle.lane_session.proofs.ColumnStates.{column_ready}
 use Rattle.lane_session.proofs.StepLemmas.{inputs_readied, columns_readied}
 use Rattle.lane_session.proofs.OutcomeLemmas.{cycle_obeys, refused_obeys, unready_obeys}
 use Rattle.lane_session.proofs.session.LaneSession.cycle.Goals as goal

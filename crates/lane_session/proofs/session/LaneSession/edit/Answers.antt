@@ -6,7 +6,8 @@ use Rattle.analysis_cache.specs.Keeping.{texts_of}
 use Rattle.lane_script.specs.Commands.{in_column}
 use Rattle.lane_session.specs.Stages.{HeldLanes, QuietlyTogether, states_in}
 use Rattle.lane_session.proofs.ColumnLemmas.{length-column-min}
-use Rattle.lane_session.proofs.InsideLemmas.{data_of, built_inside, unshared_inside, edit_inside, none_serves, kept_stands, unshared, edit_quietly}
+use Rattle.lane_session.proofs.InsideLemmas.{built_inside, unshared_inside, edit_inside, none_serves, kept_stands, unshared, edit_quietly}
+use Rattle.lane_session.proofs.ColumnStates.{data_of}
 use Rattle.lane_session.proofs.QuietLemmas.{room_for_edit}
 use Rattle.lane_session.proofs.session.LaneSession.edit.Goals as goal
 

@@ -2,7 +2,8 @@
 use Rattle.std.proofs.Common.{◌≡◌, Err, ap, subst, sym, ◌∙◌}
 use Rattle.analysis_cache.specs.Keeping.{texts_of}
 use Rattle.lane_session.specs.Stages.{HeldLanes, ReadiesTogether}
-use Rattle.lane_session.proofs.InsideLemmas.{data_of, answer_of, built_inside, serves_either, build_readies}
+use Rattle.lane_session.proofs.InsideLemmas.{answer_of, built_inside, serves_either, build_readies}
+use Rattle.lane_session.proofs.ColumnStates.{data_of}
 use Rattle.lane_session.proofs.session.LaneSession.prepare.Goals as goal
 use Rattle.lane_session.proofs.session.LaneSession.prepare.Goals.{in-Ok, in-Err}
 

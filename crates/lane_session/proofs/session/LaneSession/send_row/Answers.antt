@@ -2,7 +2,7 @@ use Rattle.std.proofs.Common.{◌≡◌, ℕ, length, sym, subst, arith}
 use Rattle.lane_session.specs.Rows.{row_text}
 use Rattle.lane_session.specs.Stages.{HeldLanes, IsRoomFor, SentText, wave_in}
 use Rattle.lane_session.specs.contracts.session.LaneSession.{the_view}
-use Rattle.lane_session.proofs.InsideLemmas.{watched_high, watched_low}
+use Rattle.lane_session.proofs.ColumnStates.{watched_high, watched_low}
 use Rattle.lane_session.proofs.session.LaneSession.send_row.Goals as goal
 
 pub send-requires-clause-lanes : goal.send-requires-clause-lanes
