@@ -46,6 +46,8 @@ pub fn run_in_memory<A: Analyst>(
 mod analysed;
 #[cfg(test)]
 mod tests;
+#[cfg(test)]
+mod texts;
 mod written;
 
 pub use written::step_by_program;
