@@ -16,7 +16,8 @@ use Rattle.unit_step.specs.Machines.{IsMarked, count_marked}
 use Rattle.unit_step.specs.Stepping.{Gives}
 use Rattle.part_words.specs.Noting.{after}
 use Rattle.unit_step.proofs.PartLemmas.{same_part}
-use Rattle.unit_step.proofs.MarkLemmas.{count_marked-cleared, marked-cleared_was, marked-cleared_cases}
+use Rattle.unit_step.proofs.MarkLemmas.{count_marked-cleared}
+use Rattle.unit_step.proofs.SetMarks.{marked-cleared_was, marked-cleared_cases}
 use Rattle.lane_machine.specs.declared.evaluation.WordChange.{WordChange}
 use Rattle.lane_machine.specs.declared.evaluation.Desk.{Desk}
 use Rattle.lane_machine.specs.Columns.{HasColumn}

@@ -17,7 +17,8 @@ use Rattle.unit_step.specs.Fitting.{Covers}
 use Rattle.unit_step.specs.Finishing.{IsFresh, AreWaiting, Puts}
 use Rattle.unit_step.specs.Lasting.{BeginsAt, AreLasting, texts_lasting, texts_numbered}
 use Rattle.unit_step.proofs.PartLemmas.{member_from_part}
-use Rattle.unit_step.proofs.FinishingRoused.{Stands-at, at-Stands, stays_or_comes, read_same}
+use Rattle.unit_step.proofs.FinishingRoused.{read_same}
+use Rattle.unit_step.proofs.StayingParts.{Stands-at, at-Stands, stays_or_comes}
 use Rattle.unit_step.proofs.LastingGroups.{first_member}
 
 -- the same is known where further texts get numbers

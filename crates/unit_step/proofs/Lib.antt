@@ -3,9 +3,11 @@ pub mod PartLemmas
 pub mod ResponseLemmas
 pub mod FittingLemmas
 pub mod PlacingLemmas
+pub mod SetMarks
 pub mod MarkLemmas
 pub mod WaitingLemmas
 pub mod BatchLemmas
+pub mod CodesLemmas
 pub mod EvaluationLemmas
 pub mod TakingLemmas
 pub mod AdvanceLemmas
@@ -27,6 +29,7 @@ pub mod ClearingLemmas
 pub mod FinishingGroups
 pub mod FinishingWaiting
 pub mod DenseLemmas
+pub mod StayingParts
 pub mod FinishingRoused
 pub mod FinishingBuilds
 pub mod RenewingLemmas

@@ -24,7 +24,7 @@ use Rattle.unit_step.specs.Evaluating.{Rooms, IsSeated}
 use Rattle.unit_step.specs.Running.{AreOwners, IsMachine}
 use Rattle.unit_step.specs.Readers.{readers_of}
 use Rattle.unit_step.specs.Making.{ShareNone, held, Owns, HasRoomFor, IsCodeRoom, IsFormed, AreOwned}
-use Rattle.unit_step.proofs.MarkLemmas.{marked_inside}
+use Rattle.unit_step.proofs.SetMarks.{marked_inside}
 use Rattle.unit_step.proofs.PartLemmas.{same_part}
 
 -- what holds on success holds where there was one

@@ -2,70 +2,14 @@
 use Rattle.std.proofs.Common.{◌≡◌, ◌≢◌, ℕ, zero, suc, ◌+◌, ◌<◌, ◌≤◌, Bool, true, false, cond, inl, inr, ◌⊎◌, List, [], ◌∷◌, ◌++◌, length, take, get_or, refl, sym, ap, subst, ◌∙◌, arith}
 use Rattle.std.specs.Prelude.{Contains, slice_index_or, slice_set}
 use Rattle.std.specs.List.{sum_by}
-use Rattle.std.proofs.lemmas.Bool.{cases_lt, cases_eq, false_from_ne_true}
-use Rattle.std.proofs.lemmas.List.{get_or-set_same, get_or-set_other, get_or_past, get_or_default, length-set, length_push, take_more, get_or_push, get_or_append_left}
+use Rattle.std.proofs.lemmas.Bool.{cases_lt, false_from_ne_true}
+use Rattle.std.proofs.lemmas.List.{get_or_default, length-set, length_push, take_more, get_or_push, get_or_append_left}
 use Rattle.std.proofs.lemmas.List.Sums.{sum_by-set, sum_by-cons, sum_by_push, count_by-le-length}
 use Rattle.std.proofs.lemmas.List.Elements.{All-push, Contains-push, Contains-push_cases, Contains-append_left}
 use Rattle.unit_step.specs.declared.part.HeldPart.{HeldPart}
 use Rattle.unit_step.specs.Machines.{IsMarked, count_marked, marked_sum}
 use Rattle.unit_step.specs.Marking.{AreOnce, IsAgenda, MarksAll, IsReached}
-
--- a marked part is one of the parts
-pub marked_inside : (marks : List Bool) (k : ℕ) → IsMarked marks k → k < length marks
-marked_inside marks k marked =
-    elim (cases_lt k (length marks)) [
-      | inl inside ↦ inside
-      | inr past ↦ let none = get_or_past marks k false past in absurd (cc)
-    ]
-
--- a mark that is set is set
-pub marked-set : (marks : List Bool) (k : ℕ) → k < length marks → IsMarked (slice_set marks k true) k
-marked-set marks k inside = get_or-set_same marks k true false inside
-
--- and one that is cleared isn't
-pub marked-cleared : (marks : List Bool) (k : ℕ) → ¬ IsMarked (slice_set marks k false) k
-marked-cleared marks k marked =
-    let inside : k < length marks = omega (arith, marked_inside (slice_set marks k false) k marked, length-set marks k false) in
-    let clear = get_or-set_same marks k false false inside in
-    absurd (cc)
-
--- any other part is marked as before
-pub marked-other : (marks : List Bool) (k l : ℕ) (mark : Bool) → l ≢ k → IsMarked (slice_set marks k mark) l → IsMarked marks l
-marked-other marks k l mark differs marked = sym (get_or-set_other marks k l mark false differs) ∙ marked
-
-pub marked-kept : (marks : List Bool) (k l : ℕ) (mark : Bool) → l ≢ k → IsMarked marks l → IsMarked (slice_set marks k mark) l
-marked-kept marks k l mark differs marked = get_or-set_other marks k l mark false differs ∙ marked
-
--- setting a mark keeps all others
-pub marked-stays : (marks : List Bool) (k l : ℕ) → IsMarked marks l → IsMarked (slice_set marks k true) l
-marked-stays marks k l marked =
-    elim (cases_eq l k) [
-      | inl same ↦ subst (IsMarked (slice_set marks k true)) (sym same) (marked-set marks k (subst (λ n. n < length marks) same (marked_inside marks l marked)))
-      | inr differs ↦ marked-kept marks k l true differs marked
-    ]
-
--- and makes one more at most
-pub marked-set_cases : (marks : List Bool) (k l : ℕ) → IsMarked (slice_set marks k true) l → IsMarked marks l ⊎ (l ≡ k)
-marked-set_cases marks k l marked =
-    elim (cases_eq l k) [
-      | inl same ↦ inr same
-      | inr differs ↦ inl (marked-other marks k l true differs marked)
-    ]
-
--- clearing a mark keeps all others
-pub marked-cleared_was : (marks : List Bool) (k l : ℕ) → IsMarked (slice_set marks k false) l → IsMarked marks l
-marked-cleared_was marks k l marked =
-    elim (cases_eq l k) [
-      | inl same ↦ absurd (marked-cleared marks k (subst (IsMarked (slice_set marks k false)) same marked))
-      | inr differs ↦ marked-other marks k l false differs marked
-    ]
-
-pub marked-cleared_cases : (marks : List Bool) (k l : ℕ) → IsMarked marks l → IsMarked (slice_set marks k false) l ⊎ (l ≡ k)
-marked-cleared_cases marks k l marked =
-    elim (cases_eq l k) [
-      | inl same ↦ inr same
-      | inr differs ↦ inl (marked-kept marks k l false differs marked)
-    ]
+use Rattle.unit_step.proofs.SetMarks.{marked_inside, marked-set, marked-cleared, marked-kept, marked-stays, marked-set_cases, marked-cleared_was, marked-cleared_cases}
 
 -- one mark more
 pub count_marked-set : (marks : List Bool) (k : ℕ) → k < length marks → ¬ IsMarked marks k → count_marked (slice_set marks k true) ≡ count_marked marks + 1

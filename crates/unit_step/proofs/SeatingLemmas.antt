@@ -16,7 +16,8 @@ use Rattle.unit_step.specs.Making.{Owns}
 use Rattle.unit_step.specs.Seating.{Disowns, IsVacant, IsStalePartOf, one_of}
 use Rattle.unit_step.specs.Readers.{Unlists}
 use Rattle.unit_step.proofs.PartLemmas.{same_part}
-use Rattle.unit_step.proofs.MarkLemmas.{marked-cleared, marked-cleared_was, marked-kept, marked-push, marked-push_cases, marked-last}
+use Rattle.unit_step.proofs.MarkLemmas.{marked-push, marked-push_cases, marked-last}
+use Rattle.unit_step.proofs.SetMarks.{marked-cleared, marked-cleared_was, marked-kept}
 use Rattle.unit_step.proofs.MakingLemmas.{member_at_front, front_of_member, contains_or_not}
 use Rattle.unit_step.proofs.MachineLemmas.{HaveSameReaders-refl, IsMachine-with}
 use Rattle.unit_step.proofs.SlotLemmas.{written, has_not_k, reads_not_k, stale_not_k, HasMember-was, ReadsAt-was, IsStale-was, HasMember-other, ReadsAt-other, IsStale-other, pushed, Stands-before, Stands-last, Stands-cases}

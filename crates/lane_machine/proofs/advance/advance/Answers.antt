@@ -5,7 +5,8 @@ use Rattle.std.proofs.lemmas.List.Sums.{count_by-le-length}
 use Rattle.std.proofs.lemmas.List.Elements.{Contains-get_or}
 use Rattle.unit_step.specs.Machines.{members_of}
 use Rattle.unit_step.specs.Marking.{MarksAll}
-use Rattle.unit_step.proofs.MarkLemmas.{marked_inside, marked_sum-within}
+use Rattle.unit_step.proofs.MarkLemmas.{marked_sum-within}
+use Rattle.unit_step.proofs.SetMarks.{marked_inside}
 use Rattle.lane_machine.specs.Evaluating.{rooms, IsSeated}
 use Rattle.lane_machine.specs.Running.{AreWritten, ReadsAny}
 use Rattle.lane_machine.proofs.EvaluationLemmas.{cleared_rooms}

@@ -3,7 +3,8 @@ use Rattle.std.proofs.Common.{◌≡◌, ◌<◌, ℕ, [], ◌∷◌, ◌++◌, 
 use Rattle.std.specs.Prelude.{slice_index_or}
 use Rattle.std.proofs.lemmas.List.{length-set}
 use Rattle.unit_step.specs.Machines.{members_of}
-use Rattle.unit_step.proofs.MarkLemmas.{marked_inside, marked_sum-cleared}
+use Rattle.unit_step.proofs.MarkLemmas.{marked_sum-cleared}
+use Rattle.unit_step.proofs.SetMarks.{marked_inside}
 use Rattle.lane_machine.specs.Evaluating.{rooms, Rooms, IsSeated}
 use Rattle.lane_machine.proofs.EvaluationLemmas.{Evaluated-more, done_room-more}
 use Rattle.lane_machine.proofs.evaluation.evaluate_all.Goals as goal

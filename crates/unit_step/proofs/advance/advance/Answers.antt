@@ -10,7 +10,8 @@ use Rattle.unit_step.specs.Machines.{members_of}
 use Rattle.unit_step.specs.Marking.{MarksAll}
 use Rattle.unit_step.specs.Evaluating.{rooms, IsSeated}
 use Rattle.unit_step.specs.Running.{AreAgreed, IsTaken, ReadsAny}
-use Rattle.unit_step.proofs.MarkLemmas.{marked_inside, marked_sum-within}
+use Rattle.unit_step.proofs.MarkLemmas.{marked_sum-within}
+use Rattle.unit_step.proofs.SetMarks.{marked_inside}
 use Rattle.unit_step.proofs.AdvanceLemmas.{AreChanges, AreChanges-from_Evaluated, changes_inside, changes_agree, Moves-taken, some_change, no_change, becomes_x, Remarks-taken, cleared_rooms}
 use Rattle.unit_step.proofs.advance.advance.Given.{Over}
 use Rattle.unit_step.proofs.advance.advance.Goals.{After-evaluate_all, After-take_over}

@@ -6,9 +6,11 @@ use Rattle.std.proofs.lemmas.Option.{slice_get_read}
 use Rattle.unit_step.specs.Machines.{IsMarked, members_of, instructions_of}
 use Rattle.unit_step.specs.Evaluating.{Rooms, rooms, IsSeated}
 use Rattle.unit_step.specs.Together.{CanRun, outputs_at, instructions_at}
-use Rattle.unit_step.proofs.MarkLemmas.{marked_inside, count_marked-cleared, marked_sum-cleared}
+use Rattle.unit_step.proofs.MarkLemmas.{count_marked-cleared, marked_sum-cleared}
+use Rattle.unit_step.proofs.SetMarks.{marked_inside}
 use Rattle.unit_step.proofs.WaitingLemmas.{none_waits, waiting_sum-none}
-use Rattle.unit_step.proofs.EvaluationLemmas.{pushed_rooms, found_by, codeless_by, no_change_of, CanRun-seated, outputs_seated, instructions_seated, NoteTheirChanges-from_AreSeatsOf, EvaluatedBut-none, EvaluatedBut-run, EvaluatedBut-taken, EvaluatedBut-codeless, Evaluated-from_EvaluatedBut}
+use Rattle.unit_step.proofs.EvaluationLemmas.{found_by, codeless_by, no_change_of, CanRun-seated, outputs_seated, instructions_seated, NoteTheirChanges-from_AreSeatsOf, EvaluatedBut-none, EvaluatedBut-run, EvaluatedBut-taken, EvaluatedBut-codeless, Evaluated-from_EvaluatedBut}
+use Rattle.unit_step.proofs.CodesLemmas.{pushed_rooms}
 use Rattle.unit_step.proofs.evaluation.evaluate_all.Goals as goal
 
 pub loop-k-init : goal.loop-k-init

@@ -4,7 +4,7 @@ use Rattle.std.proofs.lemmas.List.{length-set}
 use Rattle.unit_step.specs.Evaluating.{Rooms}
 use Rattle.unit_step.specs.Waiting.{Slot, IsEmptyFrom, IsEmptyBelow}
 use Rattle.unit_step.proofs.WaitingLemmas.{IsEmptyFrom-cleared, IsEmptyBelow-cleared}
-use Rattle.unit_step.proofs.EvaluationLemmas.{RunsSome-then}
+use Rattle.unit_step.proofs.CodesLemmas.{RunsSome-then}
 use Rattle.unit_step.proofs.evaluation.run_all.Goals as goal
 
 pub loop-place-preserved : goal.loop-place-preserved

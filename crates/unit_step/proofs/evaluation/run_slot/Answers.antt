@@ -6,7 +6,7 @@ use Rattle.unit_step.specs.Evaluating.{rooms}
 use Rattle.unit_step.specs.Waiting.{starts_in, code_in, cleared_at, waiting_sum}
 use Rattle.unit_step.specs.Together.{outputs_at, instructions_at}
 use Rattle.unit_step.proofs.WaitingLemmas.{cleared_same, waiting_sum-cleared}
-use Rattle.unit_step.proofs.EvaluationLemmas.{RunsTogether, RunsTogether-from_all, RunsSome-slot, code_read, one_of_some, outputs_there, instructions_there}
+use Rattle.unit_step.proofs.CodesLemmas.{RunsTogether, RunsTogether-from_all, RunsSome-slot, code_read, one_of_some, outputs_there, instructions_there}
 use Rattle.unit_step.proofs.evaluation.run_slot.Given.{Over}
 use Rattle.unit_step.proofs.evaluation.run_slot.Goals.{After-code, After-deref}
 use Rattle.unit_step.proofs.evaluation.run_slot.Goals as goal

@@ -3,7 +3,7 @@ use Rattle.std.proofs.Common.{◌≡◌, ℕ, ◌+◌, arith}
 use Rattle.unit_step.specs.Waiting.{waiting_sum, with_seat}
 use Rattle.unit_step.specs.Together.{outputs_at, instructions_at}
 use Rattle.unit_step.proofs.WaitingLemmas.{slot_inside, waiting_sum-with_seat}
-use Rattle.unit_step.proofs.EvaluationLemmas.{TakesIn-from_RunsSome}
+use Rattle.unit_step.proofs.CodesLemmas.{TakesIn-from_RunsSome}
 use Rattle.unit_step.proofs.evaluation.take_in.Given.{Over}
 use Rattle.unit_step.proofs.evaluation.take_in.Goals.{After-make_room}
 use Rattle.unit_step.proofs.evaluation.take_in.Goals as goal

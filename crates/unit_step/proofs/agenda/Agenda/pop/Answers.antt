@@ -3,7 +3,8 @@ use Rattle.std.proofs.Common.{ℕ, List, arith, subst}
 use Rattle.std.specs.Prelude.{vec_capacity}
 use Rattle.std.proofs.lemmas.List.Elements.{Contains-push}
 use Rattle.unit_step.specs.Marking.{IsAgenda}
-use Rattle.unit_step.proofs.MarkLemmas.{marked_inside, IsAgenda-popped}
+use Rattle.unit_step.proofs.MarkLemmas.{IsAgenda-popped}
+use Rattle.unit_step.proofs.SetMarks.{marked_inside}
 use Rattle.unit_step.proofs.agenda.Agenda.pop.Goals as goal
 
 pub index_mut-requires : goal.index_mut-requires

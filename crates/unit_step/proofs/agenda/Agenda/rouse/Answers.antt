@@ -5,7 +5,8 @@ use Rattle.std.proofs.lemmas.List.{get_or_default}
 use Rattle.std.proofs.lemmas.List.Sums.{count_by-le-length}
 use Rattle.unit_step.specs.Machines.{IsMarked}
 use Rattle.unit_step.specs.Marking.{IsAgenda}
-use Rattle.unit_step.proofs.MarkLemmas.{marked-cleared, count_marked-cleared, unmarked_read, waiter_inside, IsAgenda-released, IsAgenda-left}
+use Rattle.unit_step.proofs.MarkLemmas.{count_marked-cleared, unmarked_read, waiter_inside, IsAgenda-released, IsAgenda-left}
+use Rattle.unit_step.proofs.SetMarks.{marked-cleared}
 use Rattle.unit_step.proofs.agenda.Agenda.rouse.Goals.{In-Some, Then-index}
 use Rattle.unit_step.proofs.agenda.Agenda.rouse.Goals as goal
 

@@ -25,7 +25,8 @@ use Rattle.unit_step.specs.Dense.{AreDense, AreSeatsOf}
 use Rattle.unit_step.specs.Lasting.{BeginsAt, AreLasting, texts_lasting}
 use Rattle.unit_step.proofs.LastingRoused.{AreLasting-numbered, AreLasting-noted, AreLasting-roused, texts_lasting-numbered, same_texts_left}
 use Rattle.unit_step.proofs.FillingLemmas.{on_err}
-use Rattle.unit_step.proofs.FinishingRoused.{AreMade, IsMachine-wider, AreMade-held, parts_counted, unlisted, known_inside, IsMachine-roused, Rouses-roused}
+use Rattle.unit_step.proofs.FinishingRoused.{AreMade, AreMade-held, parts_counted, unlisted, known_inside, IsMachine-roused, Rouses-roused}
+use Rattle.unit_step.proofs.StayingParts.{IsMachine-wider}
 use Rattle.unit_step.proofs.MachineLemmas.{HaveSameReaders-refl}
 use Rattle.unit_step.proofs.machine.Machine.rouse.Goals.{In_ok-fresh, After-numbers_of, In_ok-numbers, After-widen_for_codes, In_ok-seats, After-note_all}
 use Rattle.unit_step.proofs.machine.Machine.rouse.Goals as goal
