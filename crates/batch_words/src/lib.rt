@@ -12,6 +12,7 @@
 //! ```
 //!
 //! For the proofs of crates above: `LaneLemmas` (a column's bit of a word that is made of others).
+//! They cite `RunLemmas` too, whose head says what it is of.
 //!
 //! Parallel-pattern simulation by the bits of a word is an old device; for ternary states by two rails see
 //! Bryant, "Boolean Analysis of MOS Circuits", 1987.

@@ -9,8 +9,9 @@
 //! a group of 201 members    GroupNodes, with the group's least node and 201
 //! ```
 //!
-//! For the proofs of crates above: `SizeLemmas` (the first group that is too large), `PairedLists`, `PartLemmas`
-//! (the part of a group fits the graph), `MemberLemmas` (the members of all parts are the storage nodes).
+//! For the proofs of crates above: `SizeLemmas` (the first group that is too large), `PairedLists`,
+//! `PartLemmas` (the part of a group fits the graph), `MemberLemmas` (the members of all parts are
+//! the storage nodes). They cite `ReadLemmas` too, whose head says what it is of.
 //!
 //! After Beatty and Bryant, "Fast Incremental Circuit Analysis Using Extracted Hierarchy", 1988.
 #![tactic(auto)]

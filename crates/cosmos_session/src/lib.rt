@@ -16,8 +16,11 @@
 //! session.apply(&command, analyst, out)?     for `set a=1`, then for `phase`: `1 1 10` is written
 //! ```
 //!
-//! For the proofs of crates above: `EffectLemmas`, how each formed command ends, and that what is done
-//! keeps the data ready; `BoundLemmas`, that the lines of a formed command can be read again.
+//! For the proofs of crates above: `EffectLemmas`, how each formed command ends, and that what is
+//! done keeps the data ready; `BoundLemmas`, that the lines of a formed command can be read again.
+//! They cite `BeatLemmas`, `ClockLemmas`, `EditLemmas`, `LineLemmas`, `MachineLemmas`,
+//! `OutcomeLemmas`, `RefusalLemmas`, `SizeLemmas` and `StateLemmas` too, whose heads say what they
+//! are of.
 //!
 //! After Bryant, "A Switch-Level Model and Simulator for MOS Digital Systems", 1984, and Bryant, Beatty,
 //! Brace, Cho and Sheffler, "COSMOS: A Compiled Simulator for MOS Circuits", 1987.

@@ -18,6 +18,8 @@
 //!             fault 2 detected 2 a
 //!             faults 2 detected 1 possible 1 undetected 0 refused 0
 //! ```
+//!
+//! The proofs of crates above cite `FrontLemmas`, whose head says what it is of.
 #![tactic(auto)]
 
 mod bench;

@@ -20,6 +20,8 @@
 //!                                        is Ok(Some(set a=0)): the node stays as it is
 //! verdict(&good, &bad)                   is Verdict::Detected { row: 2, entry: 0 }
 //! ```
+//!
+//! The proofs of crates above cite `DifferenceLemmas`, whose head says what it is of.
 #![tactic(auto)]
 
 mod bench;

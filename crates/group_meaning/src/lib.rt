@@ -13,7 +13,8 @@
 //!
 //! For the proofs of crates above: `LinkLemmas`, linked nodes; `GroupLemmas`, members and switches of
 //! a group; `StoragePaths`, unblocked paths over storage nodes; `UniqueGroups` and `ExistingGroups`,
-//! that a graph has one list of groups.
+//! that a graph has one list of groups. They cite `AscendingLists` and `MappedLists` too, whose heads
+//! say what they are of.
 //!
 //! After Bryant, Beatty, Brace, Cho and Sheffler, "COSMOS: A Compiled Simulator for MOS Circuits",
 //! 1987.

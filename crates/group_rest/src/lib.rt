@@ -11,6 +11,9 @@
 //! a is 0, out takes 1, and a stays: out rests
 //! ```
 //!
+//! The proofs of crates above cite `AlikeGroups`, `ReadNodes` and `RestingGroups`, whose heads say
+//! what they are of.
+//!
 //! After Bryant, "Boolean Analysis of MOS Circuits", 1987.
 #![tactic(auto)]
 

@@ -13,7 +13,8 @@
 //!
 //! For the proofs of crates above: `LocalNodes` and `LocalEdges`, the nodes and switches of a local
 //! graph beside those that they stand for; `GroupLemmas`, that a group's members and switches are of
-//! its graph; `Locality`, the law of local responses.
+//! its graph; `Locality`, the law of local responses. They cite `AlikeNodes`, `LocalHops`,
+//! `LocalRanges` and `WellFormedTexts` too, whose heads say what they are of.
 //!
 //! After Beatty and Bryant, "Fast Incremental Circuit Analysis Using Extracted Hierarchy", 1988.
 #![tactic(auto)]

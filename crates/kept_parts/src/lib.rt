@@ -11,8 +11,9 @@
 //! with the bound 1 both stay, and all other texts that are kept are cut
 //! ```
 //!
-//! For the proofs of crates above: `GroupParts` (the parts of the texts of a graph's groups), `BoundLemmas` (which texts
-//! are in use, and what a cut leaves).
+//! For the proofs of crates above: `GroupParts` (the parts of the texts of a graph's groups),
+//! `BoundLemmas` (which texts are in use, and what a cut leaves). They cite `NumberLemmas`,
+//! `PairLemmas` and `PlaceLemmas` too, whose heads say what they are of.
 //!
 //! After Beatty and Bryant, "Fast Incremental Circuit Analysis Using Extracted Hierarchy", 1988.
 #![tactic(auto)]

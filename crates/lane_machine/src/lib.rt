@@ -11,6 +11,8 @@
 //! a step runs the inverter's code once: hi of out is 0b101, lo is 0b110
 //! ```
 //!
+//! The proofs of crates above cite `ColumnLemmas`, whose head says what it is of.
+//!
 //! After Bryant, Beatty, Brace, Cho and Sheffler, "COSMOS: A Compiled Simulator for MOS Circuits",
 //! 1987; the columns are the bits of words, an old device of parallel simulation.
 #![tactic(auto)]

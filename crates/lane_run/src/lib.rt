@@ -8,6 +8,8 @@
 //! ```text
 //! run_batch(alloc, session, "set a=01X\nphase\n", out, analyst)   writes `1 1 1 01`, `2 1 1 10` and `3 1 0 XX`
 //! ```
+//!
+//! The proofs of crates above cite `RunLemmas`, whose head says what it is of.
 #![tactic(auto)]
 
 mod batch;

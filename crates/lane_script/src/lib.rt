@@ -11,6 +11,8 @@
 //! read_lane_command(alloc, b"set a=01", 3)        is Err(ScriptFault::BadValue)
 //! read_lane_command(alloc, b"expect a=1", 3)      is Err(ScriptFault::BadCommand)
 //! ```
+//!
+//! The proofs of crates above cite `ColumnLemmas`, whose head says what it is of.
 #![tactic(auto)]
 
 mod command;

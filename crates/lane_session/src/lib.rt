@@ -16,6 +16,9 @@
 //! session.apply(&command, analyst, out)?     for `set a=01X`, then for `phase`: a row of three lines is written
 //! ```
 //!
+//! The proofs of crates above cite `BeatLemmas`, `FormLemmas`, `RefusalLemmas`, `RowLemmas` and
+//! `StepLemmas`, whose heads say what they are of.
+//!
 //! After Bryant, Beatty, Brace, Cho and Sheffler, "COSMOS: A Compiled Simulator for MOS Circuits", 1987; the columns
 //! are the bits of words, an old device of parallel simulation.
 #![tactic(auto)]

@@ -25,6 +25,9 @@
 //!     }
 //! }
 //! ```
+//!
+//! The proofs of crates above cite `DecimalLemmas`, `FeedLemmas` and `LineLemmas`, whose heads say
+//! what they are of.
 #![tactic(auto)]
 
 mod bytes;

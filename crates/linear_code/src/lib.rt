@@ -10,6 +10,8 @@
 //! node 0 i in, node 1 s out, t0 = ! h0, next 1 t0 h0      out is the complement of in
 //! ```
 //!
+//! The proofs of crates above cite `TextLemmas`, whose head says what it is of.
+//!
 //! After Bryant, Beatty, Brace, Cho and Sheffler, "COSMOS: A Compiled Simulator for MOS Circuits",
 //! 1987.
 #![tactic(auto)]

@@ -20,7 +20,8 @@
 //!
 //! For the proofs of crates above: `KeptLemmas` and `EditLemmas` say that each edit keeps a circuit
 //! well formed, `EditLemmas` also which nodes and places an edit of transistors makes and that the
-//! nodes' names stay visible, and `NameLemmas` which node a name stands for as names are added.
+//! nodes' names stay visible, and `NameLemmas` which node a name stands for as names are added. They
+//! cite `NamingLemmas` too, whose heads say what they are of.
 //!
 //! After Bryant, "A Switch-Level Model and Simulator for MOS Digital Systems", 1984.
 #![tactic(auto)]

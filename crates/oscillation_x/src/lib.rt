@@ -11,7 +11,8 @@
 //! gives X; the answer is 5 steps, and that it joined
 //! ```
 //!
-//! For the proofs of crates above: `SettlingExists`, that every state settles.
+//! For the proofs of crates above: `SettlingExists`, that every state settles. They cite
+//! `KnownStates` and `SettlingLemmas` too, whose heads say what they are of.
 //!
 //! In the manner of MOSSIM II: Bryant, "A Switch-Level Model and Simulator for MOS Digital
 //! Systems", 1984. The limit, and that it counts steps of the whole graph, are this project's own.

@@ -13,8 +13,9 @@
 //! ```
 //!
 //! For the proofs of crates above: `PathLemmas`, paths as walks that are cut, joined and raised;
-//! `StrongestPaths`, the strengths of the strongest definite paths; `TableMeaning`, what a table of them says; `ReachedNodes`, `ExistingSteps`,
-//! `UniqueSteps` and `InputNodes`, the laws of `laws` that other proofs start from.
+//! `StrongestPaths`, the strengths of the strongest definite paths; `TableMeaning`, what a table of
+//! them says; `ReachedNodes`, `ExistingSteps`, `UniqueSteps` and `InputNodes`, the laws of `laws`
+//! that other proofs start from. They cite `RestingSteps` too, whose head says what it is of.
 //!
 //! After Bryant, "A Switch-Level Model and Simulator for MOS Digital Systems", 1984, and "Boolean
 //! Analysis of MOS Circuits", 1987.

@@ -18,6 +18,9 @@
 //! let text = read_front(alloc, &mut files, "row.net", 1000)?;
 //! send(&mut out, &text)?;
 //! ```
+//!
+//! The proofs of crates above cite `ResultLemmas`, `SendingLemmas` and `TakenLemmas`, whose heads say
+//! what they are of.
 #![tactic(auto)]
 
 mod calls;

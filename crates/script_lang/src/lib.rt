@@ -10,6 +10,9 @@
 //! read_command(alloc, b"| a comment")     is Ok(None)
 //! read_command(alloc, b"limit")           is Err(ScriptFault::FewWords)
 //! ```
+//!
+//! The proofs of crates above cite `CutLemmas`, `FormLemmas`, `ListLemmas` and `VerbLemmas`, whose
+//! heads say what they are of.
 #![tactic(auto)]
 
 mod command;

@@ -13,9 +13,10 @@
 //! ```
 //!
 //! For the proofs of crates above: `EndLemmas`, what is told in one sense is told in another;
-//! `FirstRefusedLemmas`, how what comes of a script's lines joins; `HaltLemmas`, what the refusal of a line
-//! tells; `ReadingLemmas`, that lines are read as ever where no node is stuck; `LowerLemmas`, that a session
-//! starts ready.
+//! `FirstRefusedLemmas`, how what comes of a script's lines joins; `HaltLemmas`, what the refusal of
+//! a line tells; `ReadingLemmas`, that lines are read as ever where no node is stuck; `LowerLemmas`,
+//! that a session starts ready. They cite `RunLemmas`, `SizeLemmas` and `TurnLemmas` too, whose heads
+//! say what they are of.
 #![tactic(auto)]
 
 mod codes;

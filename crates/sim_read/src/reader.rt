@@ -249,8 +249,7 @@ fn read_capacitance(draft: &mut Draft, words: Words<'_>) -> Result<(), LineStop>
     }
 }
 
-// Reads the attributes of a node, by the words after the first of the line, and marks the node where
-// they set something at it.
+// Reads the attributes of a node, by the words after the line's first, and marks the node if they set something.
 fn read_set(draft: &mut Draft, words: Words<'_>) -> Result<(), LineStop>
     ensures ok { OnOk result (spec.known_meaning draft.old (Some Record.Attributes) words.entry ≡ Ok draft.new) }
     ensures refused { IfErr result
@@ -325,8 +324,7 @@ fn add_alias(circuit: &mut Circuit, first: &[u8], second: &[u8]) -> Result<(), L
     }
 }
 
-// Reads the attributes of a node, by the words after the first of the line, and answers the node
-// where they set something at it.
+// Reads the attributes of a node, by the words after the line's first, and answers the node if they set something.
 fn read_attributes(circuit: &mut Circuit, mut words: Words<'_>) -> Result<Option<usize>, LineStop>
     ensures ok { OnOk result
         (spec.record_meaning circuit.old Record.Attributes words.entry ≡ Ok circuit.new) }

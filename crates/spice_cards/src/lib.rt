@@ -18,10 +18,11 @@
 //! place among all bytes, and a part has the place of its words in that list, in numbers of 32 bits, so
 //! that the cards of a long text take little more than their words; the text itself may be let go.
 //!
-//! For the proofs of crates above: `VisibleLemmas` says that the words of the parts of a deck that isn't
-//! refused are visible names, and that each part has those that it needs; `ReadingLemmas` that what a name
-//! stands for is as all entries of its table are; `FrontLemmas` that the cards of a text are those of its
-//! front; `RefusalLemmas` that a refusal tells of a line. `Worked` has the text of a worked deck.
+//! For the proofs of crates above: `VisibleLemmas` says that the words of the parts of a deck that
+//! isn't refused are visible names, and that each part has those that it needs; `ReadingLemmas` that
+//! what a name stands for is as all entries of its table are; `FrontLemmas` that the cards of a text
+//! are those of its front; `RefusalLemmas` that a refusal tells of a line. `Worked` has the text of a
+//! worked deck. They cite `PlaceLemmas` too, whose head says what it is of.
 //!
 //! The cards are those of Nagel and Pederson, "SPICE (Simulation Program with Integrated Circuit
 //! Emphasis)", 1973, in this project's profile: docs/FORMATS.md has it whole.

@@ -12,6 +12,10 @@
 //! a step runs its code: out takes 1              the part is not marked, until a is placed anew
 //! ```
 //!
+//! The proofs of crates above cite `EditingLemmas`, `FittingLemmas`, `KeptLemmas`, `MakingLemmas`,
+//! `MarkLemmas`, `PartLemmas`, `PlacingLemmas`, `SetMarks` and `TakingLemmas`, whose heads say what
+//! they are of.
+//!
 //! After Bryant, Beatty, Brace, Cho and Sheffler, "COSMOS: A Compiled Simulator for MOS Circuits",
 //! 1987.
 #![tactic(auto)]

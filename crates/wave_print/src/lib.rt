@@ -13,6 +13,8 @@
 //! fault_line(&mut out, FaultPlace::NetWhole, FaultCode::G1GroupNodes, b"s1", 201)
 //!     appends `net: G1 GroupNodes s1 201` and LF
 //! ```
+//!
+//! The proofs of crates above cite `WaveLemmas`, whose head says what it is of.
 #![tactic(auto)]
 
 mod faults;
