@@ -37,7 +37,7 @@ use Rattle.lane_session.specs.Stages.{HeldLanes, StageData, states_in, SameState
 use Rattle.lane_session.proofs.EditLemmas.{edit_does}
 use Rattle.lane_session.proofs.BuildLemmas.{length-used_more}
 use Rattle.lane_session.proofs.SharedLemmas.{effect-edit, effect-set, effect-charge, refusal-shared}
-use Rattle.lane_session.proofs.ColumnStates.{data_of, AreSound-same}
+use Rattle.lane_session.proofs.ColumnStates.{data_of, AreSound-same, sound_after, done_quietly}
 
 -- ---- edits
 

@@ -29,7 +29,8 @@ use Rattle.lane_session.specs.LaneSessions.{LaneSessionData, session_in}
 use Rattle.lane_session.specs.Stages.{HeldLanes, StageData, states_in, AreSound, IsSoundState, Serves, AreInside, NamesFree, Shares, QuietlyTogether, one_column, with_columns, is_edit}
 use Rattle.lane_session.proofs.SharedLemmas.{effect-watch, effect-limit, effect-clock}
 use Rattle.lane_session.proofs.EditLemmas.{edit_does}
-use Rattle.lane_session.proofs.InsideLemmas.{done_quietly, unshared, unshared_inside, none_serves}
+use Rattle.lane_session.proofs.InsideLemmas.{unshared, unshared_inside, none_serves}
+use Rattle.lane_session.proofs.ColumnStates.{done_quietly}
 use Rattle.lane_session.proofs.ColumnStates.{data_of, same_itself}
 
 -- ---- the plain session

@@ -36,7 +36,7 @@ use Rattle.unit_step.proofs.KeptLemmas.{made_at}
 use Rattle.unit_step.proofs.MakingLemmas.{formed_parts, reads_inside}
 use Rattle.unit_step.proofs.BuildLemmas.{fresh_parts, lists_inside}
 use Rattle.unit_step.proofs.FinishingFits.{FitsGraph-covered}
-use Rattle.unit_step.proofs.StayingParts.{members_sum, members_count, none_stale_new, AreOwners-new, one_place}
+use Rattle.unit_step.proofs.StayingParts.{members_sum, members_count, none_stale_new, AreOwners-new, one_place, IsRunnable-new, Covers-roused, parts_roused}
 
 -- what stands in a list that is made item by item, where nothing makes nothing
 read_map : {A B : Type 0} (h : A → Option B) (xs : List (Option A)) (k : ℕ) →
