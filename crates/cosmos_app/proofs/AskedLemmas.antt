@@ -3,9 +3,9 @@ use Rattle.std.proofs.Common.{◌≡◌, ℕ, List, [], Option, IfSome, Result, 
 use Rattle.port_edge.specs.Taken.{Taken}
 use Rattle.netlist.specs.Circuits.{CircuitData}
 use Rattle.group_text.specs.Texts.{GroupTextData}
-use Rattle.script_run.specs.declared.stop.Stop.{Stop}
-use Rattle.script_run.specs.declared.stop.End as end
-use Rattle.script_run.specs.Ends.{IsToldBy}
+use Rattle.run_ends.specs.declared.stop.Stop.{Stop}
+use Rattle.run_ends.specs.declared.stop.End as end
+use Rattle.run_ends.specs.Ends.{IsToldBy}
 use Rattle.cosmos_app.specs.declared.request.Alone.{Alone}
 use Rattle.cosmos_app.specs.declared.request.Alone.TheVariants.{Generate, SumUp, Unclear}
 use Rattle.cosmos_app.specs.declared.request.Question as code_question

@@ -1,12 +1,12 @@
 -- The ports' counts after a part of a run, and after the run by its status.
 use Rattle.std.proofs.Common.{◌≡◌, ℕ, Result, Ok, Err, refl, sym, subst}
-use Rattle.script_run.specs.declared.stop.End as end
-use Rattle.script_run.specs.declared.stop.End.TheVariants as ended
-use Rattle.script_run.specs.declared.stop.Stop.{Stop}
-use Rattle.script_run.specs.declared.stop.Stop.TheVariants.{Read, Write, Memory}
-use Rattle.script_run.specs.declared.status.Status.{Status}
-use Rattle.script_run.specs.Ends.{status_after}
-use Rattle.script_run.specs.Stops.{faults_read, faults_written, IsRefusedOnce}
+use Rattle.run_ends.specs.declared.stop.End as end
+use Rattle.run_ends.specs.declared.stop.End.TheVariants as ended
+use Rattle.run_ends.specs.declared.stop.Stop.{Stop}
+use Rattle.run_ends.specs.declared.stop.Stop.TheVariants.{Read, Write, Memory}
+use Rattle.run_ends.specs.declared.status.Status.{Status}
+use Rattle.run_ends.specs.Ends.{status_after}
+use Rattle.run_ends.specs.Stops.{faults_read, faults_written, IsRefusedOnce}
 use Rattle.cosmos_app.specs.Counts.{files_count, sink_count, HasRefused}
 
 -- the counts by the status of the end

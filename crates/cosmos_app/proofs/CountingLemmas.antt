@@ -16,20 +16,20 @@ use Rattle.fault_sim.specs.Masks.{masked_reading}
 use Rattle.cosmos_session.specs.Bounds.{IsBounded}
 use Rattle.cosmos_session.specs.Sessions.{SessionData, HeldSession}
 use Rattle.cosmos_session.specs.Lines.{Line, text_of}
-use Rattle.script_run.specs.declared.status.Status.TheVariants.{Done, ScriptRefused}
-use Rattle.script_run.specs.declared.stop.Stop.{Stop}
-use Rattle.script_run.specs.declared.stop.Stop.TheVariants.{Read, Write, Memory}
-use Rattle.script_run.specs.declared.stop.End as end
+use Rattle.run_ends.specs.declared.status.Status.TheVariants.{Done, ScriptRefused}
+use Rattle.run_ends.specs.declared.stop.Stop.{Stop}
+use Rattle.run_ends.specs.declared.stop.Stop.TheVariants.{Read, Write, Memory}
+use Rattle.run_ends.specs.declared.stop.End as end
 use Rattle.script_run.specs.declared.script.Turn.{Turn}
 use Rattle.script_run.specs.declared.script.Turn.TheVariants.{Accepted, Refused, TooLarge}
-use Rattle.script_run.specs.Codes.{Cause, plain_cause, size_cause, cause_line}
-use Rattle.script_run.specs.Stops.{written_at}
-use Rattle.script_run.specs.Runs.{Answer, plain_answer, Reading, Runs, ends, passes, obeys, refuses, plain_reading, too_large, at_end, refused_at, after_command, Outcome}
-use Rattle.script_run.specs.Answers.{IsTooLarge}
+use Rattle.run_ends.specs.Causes.{Cause, plain_cause, size_cause, cause_line}
+use Rattle.run_ends.specs.Stops.{written_at}
+use Rattle.run_ends.specs.Answers.{Answer, plain_answer, IsTooLarge}
+use Rattle.script_run.specs.Runs.{Reading, Runs, ends, passes, obeys, refuses, plain_reading, too_large, at_end, refused_at, after_command, Outcome}
 use Rattle.cosmos_app.specs.Summaries.{summary_of, summed_up, IsSummedUp}
 use Rattle.cosmos_app.specs.Countings.{AreAlike, HasCounted, HasHalted, HasOutgrown}
 use Rattle.script_run.specs.Turns.{TakesTurn, Follows}
-use Rattle.script_run.specs.Ends.{IsTold, IsToldBy}
+use Rattle.run_ends.specs.Ends.{IsTold, IsToldBy}
 use Rattle.cosmos_app.proofs.AlikeLemmas.{performs_alike}
 use Rattle.script_run.proofs.FirstRefusedLemmas.{after_command-twice}
 use Rattle.script_run.proofs.ReadingLemmas.{masked-plain}

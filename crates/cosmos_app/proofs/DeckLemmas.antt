@@ -10,11 +10,11 @@ use Rattle.spice_read.proofs.ReaderLemmas.{circuit_of-front_of}
 use Rattle.port_edge.specs.Ports.{with_name}
 use Rattle.port_edge.specs.Taken.{Taken}
 use Rattle.group_text.specs.Texts.{GroupTextData}
-use Rattle.script_run.specs.declared.stop.Stop.{Stop}
-use Rattle.script_run.specs.declared.stop.End as end
-use Rattle.script_run.specs.Runs.{Answer}
-use Rattle.script_run.specs.Ends.{IsTold, IsToldBy}
-use Rattle.script_run.proofs.EndLemmas.{told_by_none}
+use Rattle.run_ends.specs.declared.stop.Stop.{Stop}
+use Rattle.run_ends.specs.declared.stop.End as end
+use Rattle.run_ends.specs.Answers.{Answer}
+use Rattle.run_ends.specs.Ends.{IsTold, IsToldBy}
+use Rattle.run_ends.proofs.EndLemmas.{told_by_none}
 use Rattle.cosmos_app.specs.declared.reading.DeckRefusal.{DeckRefusal}
 use Rattle.cosmos_app.specs.Decks.{deck_meant}
 use Rattle.cosmos_app.specs.Answers.{IsDeckRefusal, IsDeckSimulation}

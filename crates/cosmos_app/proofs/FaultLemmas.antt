@@ -5,14 +5,14 @@ use Rattle.port_edge.specs.Ports.{with_name}
 use Rattle.port_edge.specs.Taken.{Taken, with_files}
 use Rattle.netlist.specs.Circuits.{CircuitData}
 use Rattle.group_text.specs.Texts.{GroupTextData}
-use Rattle.script_run.specs.declared.stop.Stop.{Stop}
-use Rattle.script_run.specs.declared.stop.End as end
-use Rattle.script_run.specs.Ends.{IsToldBy}
+use Rattle.run_ends.specs.declared.stop.Stop.{Stop}
+use Rattle.run_ends.specs.declared.stop.End as end
+use Rattle.run_ends.specs.Ends.{IsToldBy}
 use Rattle.fault_runs.specs.Judging.{AreJudgedFaults}
 use Rattle.fault_runs.proofs.FrontLemmas.{are_judged-front}
 use Rattle.cosmos_app.specs.Starts.{Started, StartsAtMost, StartsInOrder}
 use Rattle.cosmos_app.specs.Wholes.{ReadsWhole}
-use Rattle.cosmos_app.proofs.EndLemmas.{told_by_as}
+use Rattle.run_ends.proofs.EndLemmas.{told_by_as}
 use Rattle.cosmos_app.proofs.WholeLemmas.{whole_file, whole_both}
 
 -- what was told of the texts that were read

@@ -14,11 +14,11 @@ use Rattle.sim_read.proofs.StandingLemmas.{goes_on-both, goes_on-none}
 use Rattle.netlist.specs.Circuits.{CircuitData, IsCircuit}
 use Rattle.sim_read.specs.declared.fault.NetRefusal.{NetRefusal}
 use Rattle.sim_read.specs.Meaning.{netlist_of}
-use Rattle.script_run.specs.declared.stop.Stop.{Stop}
-use Rattle.script_run.specs.declared.stop.Stop.TheVariants.{Memory, Write}
+use Rattle.run_ends.specs.declared.stop.Stop.{Stop}
+use Rattle.run_ends.specs.declared.stop.Stop.TheVariants.{Memory, Write}
 use Rattle.cosmos_app.specs.Feeding.{FeedsFile, FeedsFront, FeedsPiece}
 use Rattle.cosmos_app.specs.Starts.{Started, StartsFile}
-use Rattle.script_run.specs.Stops.{faults_read, read_at}
+use Rattle.run_ends.specs.Stops.{faults_read, read_at}
 use Rattle.cosmos_app.proofs.LowerLemmas.{netlist_of-netlist}
 
 -- what was fed so far

@@ -4,12 +4,11 @@ use Rattle.std.specs.Io.KnownBytes.{append_known}
 use Rattle.port_edge.specs.Sending.{WritesPart}
 use Rattle.netlist.specs.Circuits.{CircuitData}
 use Rattle.group_report.specs.Report.{IsReport}
-use Rattle.script_run.specs.declared.stop.End.TheVariants as ended
-use Rattle.script_run.specs.declared.status.Status.TheVariants as status
-use Rattle.script_run.specs.Runs.{plain_answer}
-use Rattle.script_run.specs.Answers.{IsStopped}
+use Rattle.run_ends.specs.declared.stop.End.TheVariants as ended
+use Rattle.run_ends.specs.declared.status.Status.TheVariants as status
+use Rattle.run_ends.specs.Answers.{plain_answer, IsStopped}
 use Rattle.cosmos_app.specs.Answers.{IsGroups}
-use Rattle.script_run.specs.Ends.{IsTold}
+use Rattle.run_ends.specs.Ends.{IsTold}
 
 -- the whole report was written
 pub told_report : (c : CircuitData) (old new : Option (List ℕ)) →

@@ -12,16 +12,15 @@ use Rattle.circuit_texts.specs.declared.texts.BuildFault.{BuildFault}
 use Rattle.circuit_texts.specs.declared.texts.BuildFault.TheVariants.{NoMemory}
 use Rattle.circuit_listing.specs.Faithful.{IsFaithful}
 use Rattle.circuit_texts.specs.Sizes.{AllFit, TellsTooLarge}
-use Rattle.script_run.specs.declared.stop.Stop.{Stop}
-use Rattle.script_run.specs.declared.stop.Stop.TheVariants.{Memory}
-use Rattle.script_run.specs.declared.status.Status.TheVariants as status
-use Rattle.script_run.specs.declared.stop.End as end
-use Rattle.script_run.specs.Runs.{Answer}
-use Rattle.script_run.specs.Answers.{IsTooLarge}
+use Rattle.run_ends.specs.declared.stop.Stop.{Stop}
+use Rattle.run_ends.specs.declared.stop.Stop.TheVariants.{Memory}
+use Rattle.run_ends.specs.declared.status.Status.TheVariants as status
+use Rattle.run_ends.specs.declared.stop.End as end
+use Rattle.run_ends.specs.Answers.{Answer, IsTooLarge}
 use Rattle.cosmos_app.specs.Answers.{distinct_texts, IsCompiled}
-use Rattle.script_run.specs.Ends.{IsTold, IsToldBy}
+use Rattle.run_ends.specs.Ends.{IsTold, IsToldBy}
 use Rattle.cosmos_app.specs.Sendings.{IsTextOf}
-use Rattle.script_run.proofs.EndLemmas.{told_as, told_by_none}
+use Rattle.run_ends.proofs.EndLemmas.{told_as, told_by_none}
 
 -- what was told of a listing's text is told of the answer to `compile`
 module _ (c : CircuitData) (listing : ListingData) (is : IsListing listing) (faithful : IsFaithful c listing) (fits : AllFit c.graph) (groups : List Group) (are : AreGroups c.graph groups) where

@@ -5,14 +5,14 @@ use Rattle.netlist.specs.Circuits.{CircuitData}
 use Rattle.sim_read.specs.declared.fault.NetRefusal.{NetRefusal}
 use Rattle.sim_read.specs.Meaning.{netlist_of}
 use Rattle.group_text.specs.Texts.{GroupTextData}
-use Rattle.script_run.specs.declared.stop.Stop.{Stop}
-use Rattle.script_run.specs.declared.stop.End as end
-use Rattle.script_run.specs.Runs.{Answer}
+use Rattle.run_ends.specs.declared.stop.Stop.{Stop}
+use Rattle.run_ends.specs.declared.stop.End as end
+use Rattle.run_ends.specs.Answers.{Answer}
 use Rattle.cosmos_app.specs.Requests.{Question}
 use Rattle.cosmos_app.specs.Answers.{IsOver, IsNetRefusal, IsAnswerIn}
-use Rattle.script_run.specs.Ends.{IsTold, IsToldBy}
+use Rattle.run_ends.specs.Ends.{IsTold, IsToldBy}
 use Rattle.cosmos_app.proofs.LowerLemmas.{netlist_of-front_of}
-use Rattle.script_run.proofs.EndLemmas.{told_by_none}
+use Rattle.run_ends.proofs.EndLemmas.{told_by_none}
 
 -- a netlist means what its front that was read means
 pub netlist_of-read : (net text seen : List ℕ) → text ≡ front_of net → seen ≡ text → netlist_of net ≡ netlist_of seen

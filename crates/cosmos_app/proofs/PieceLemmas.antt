@@ -8,11 +8,9 @@ use Rattle.linear_code.specs.Listing.{ListingData}
 use Rattle.linear_code.specs.ListingText.{listing_text}
 use Rattle.linear_code.specs.TextPlaces.{IsPlace, text_from}
 use Rattle.linear_code.specs.Pieces.{IsLeft}
-use Rattle.script_run.specs.declared.status.Status.TheVariants as status
-use Rattle.script_run.specs.Runs.{plain_answer}
-use Rattle.script_run.specs.Answers.{IsWritten, IsStopped}
-use Rattle.cosmos_app.specs.Sendings.{IsTextOf}
-use Rattle.cosmos_app.specs.Sendings.{SendsSome}
+use Rattle.run_ends.specs.declared.status.Status.TheVariants as status
+use Rattle.run_ends.specs.Answers.{plain_answer, IsWritten, IsStopped}
+use Rattle.cosmos_app.specs.Sendings.{IsTextOf, SendsSome}
 
 module _ (listing : ListingData) (old new : TextPlace) (before after : Option (List ℕ)) (piece base : List ℕ) (left : IsLeft base piece (text_from listing old) (text_from listing new)) (none : base ≡ []) where
   -- the piece is what lies between the places

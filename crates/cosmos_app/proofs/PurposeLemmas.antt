@@ -8,10 +8,12 @@ use Rattle.cosmos_session.specs.Sessions.{SessionData, start_of}
 use Rattle.lane_session.specs.LaneSessions.{LaneSessionData, session_in, IsStart}
 use Rattle.lane_run.specs.Batches.{IsBatchAnswer}
 use Rattle.lane_run.proofs.RunLemmas.{together-same}
-use Rattle.script_run.specs.declared.stop.Stop.{Stop}
-use Rattle.script_run.specs.declared.stop.End as end
-use Rattle.script_run.specs.Runs.{Answer, Runs, plain_reading, answer_told, IsScriptAnswer}
-use Rattle.script_run.specs.Ends.{IsToldBy, TellsRun}
+use Rattle.run_ends.specs.declared.stop.Stop.{Stop}
+use Rattle.run_ends.specs.declared.stop.End as end
+use Rattle.run_ends.specs.Answers.{Answer}
+use Rattle.script_run.specs.Runs.{Runs, plain_reading, answer_told, IsScriptAnswer}
+use Rattle.run_ends.specs.Ends.{IsToldBy}
+use Rattle.script_run.specs.Ends.{TellsRun}
 use Rattle.cosmos_app.specs.declared.request.Purpose.{Purpose}
 use Rattle.cosmos_app.specs.declared.request.Purpose.TheVariants.{Lines, Columns, Reasons}
 use Rattle.cosmos_app.specs.Requests.{run_seen}
@@ -20,7 +22,7 @@ use Rattle.cosmos_app.specs.Answers.{IsSimulation, IsAnswerIn}
 use Rattle.cosmos_app.specs.Purposes.{IsRunFor}
 use Rattle.cosmos_app.specs.Starts.{Started, StartsAtMost, ScriptStarts}
 use Rattle.cosmos_app.specs.Wholes.{scripts_of}
-use Rattle.cosmos_app.proofs.EndLemmas.{told_by_as}
+use Rattle.run_ends.proofs.EndLemmas.{told_by_as}
 
 -- ---- each purpose
 

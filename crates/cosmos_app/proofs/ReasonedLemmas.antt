@@ -7,19 +7,19 @@ use Rattle.group_text.specs.Texts.{GroupTextData}
 use Rattle.circuit_texts.specs.declared.texts.BuildFault.{BuildFault}
 use Rattle.wave_print.specs.declared.faults.FaultPlace.TheVariants.{Script}
 use Rattle.cosmos_session.specs.Sessions.{SessionData, start_of}
-use Rattle.script_run.specs.declared.status.Status.TheVariants.{Done, Usage, ScriptRefused}
+use Rattle.run_ends.specs.declared.status.Status.TheVariants.{Done, Usage, ScriptRefused}
 use Rattle.script_run.specs.declared.halt.Halt.{Halt}
 use Rattle.script_run.specs.declared.halt.Halt.TheVariants.{End, Refused, TooLarge}
-use Rattle.script_run.specs.declared.stop.End as end
-use Rattle.script_run.specs.declared.stop.Stop.{Stop}
-use Rattle.script_run.specs.declared.stop.Stop.TheVariants.{Read, Write, Memory}
-use Rattle.script_run.specs.Codes.{Cause, plain_cause}
-use Rattle.script_run.specs.Runs.{Reading, Answer, RefusedLine, plain_answer, plain_reading}
-use Rattle.script_run.specs.Answers.{IsRefusalFor, IsTooLarge}
+use Rattle.run_ends.specs.declared.stop.End as end
+use Rattle.run_ends.specs.declared.stop.Stop.{Stop}
+use Rattle.run_ends.specs.declared.stop.Stop.TheVariants.{Read, Write, Memory}
+use Rattle.run_ends.specs.Causes.{Cause, plain_cause}
+use Rattle.script_run.specs.Runs.{Reading, RefusedLine, plain_reading}
+use Rattle.run_ends.specs.Answers.{Answer, plain_answer, IsRefusalFor, IsTooLarge}
 use Rattle.script_run.specs.Halts.{HasObeyed, HasOutgrown, HaltsAt, TellsHalt}
-use Rattle.script_run.specs.Stops.{faults_written}
-use Rattle.script_run.specs.Ends.{IsTold, IsToldBy}
-use Rattle.script_run.proofs.EndLemmas.{told_as}
+use Rattle.run_ends.specs.Stops.{faults_written}
+use Rattle.run_ends.specs.Ends.{IsTold, IsToldBy}
+use Rattle.run_ends.proofs.EndLemmas.{told_as}
 use Rattle.cosmos_app.specs.Reasoned.{unknown_node_line, ExplainsNode, IsExplained, IsExplainedAt, IsReasoned}
 use Rattle.cosmos_app.specs.Explaining.{TellsSize, IsHaltExplained}
 

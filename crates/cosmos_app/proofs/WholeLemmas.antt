@@ -6,13 +6,13 @@ use Rattle.netlist.specs.Circuits.{CircuitData}
 use Rattle.sim_read.specs.declared.fault.NetRefusal.{NetRefusal}
 use Rattle.sim_read.specs.Meaning.{netlist_of}
 use Rattle.port_edge.specs.Taken.{Taken, with_files}
-use Rattle.script_run.specs.declared.stop.End as end
-use Rattle.script_run.specs.declared.stop.End.TheVariants as ended
-use Rattle.script_run.specs.declared.stop.Stop.{Stop}
-use Rattle.script_run.specs.declared.stop.Stop.TheVariants.{Read, Write, Memory}
-use Rattle.script_run.specs.declared.status.Status.{Status}
+use Rattle.run_ends.specs.declared.stop.End as end
+use Rattle.run_ends.specs.declared.stop.End.TheVariants as ended
+use Rattle.run_ends.specs.declared.stop.Stop.{Stop}
+use Rattle.run_ends.specs.declared.stop.Stop.TheVariants.{Read, Write, Memory}
+use Rattle.run_ends.specs.declared.status.Status.{Status}
 use Rattle.cosmos_app.specs.Requests.{Question, Request}
-use Rattle.script_run.specs.Ends.{status_after}
+use Rattle.run_ends.specs.Ends.{status_after}
 use Rattle.cosmos_app.specs.Wholes.{scripts_of, needed, files_of, ReadsWhole, ReadsAll}
 
 -- a file whose front was read was read whole

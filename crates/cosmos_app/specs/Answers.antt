@@ -23,14 +23,14 @@ use Rattle.group_report.specs.Report.{IsReport}
 use Rattle.net_gen.specs.declared.families.GenPart.{GenPart}
 use Rattle.net_gen.specs.declared.families.GenPart.TheVariants as part
 use Rattle.cosmos_session.specs.Sessions.{start_of}
-use Rattle.script_run.specs.declared.status.Status.{Status}
-use Rattle.script_run.specs.declared.status.Status.TheVariants as status
+use Rattle.run_ends.specs.declared.status.Status.{Status}
+use Rattle.run_ends.specs.declared.status.Status.TheVariants as status
 use Rattle.cosmos_app.specs.Codes.{net_code}
 use Rattle.cosmos_app.specs.Batching.{IsBatch}
 use Rattle.cosmos_app.specs.Samples.{Sample, text_of}
 use Rattle.cosmos_app.specs.Requests.{Question, Simulate, Batch, Check, Groups, Compile, Explain, Judge, Request, About, Generate, SumUp, OverDeck, Unclear, request_of}
-use Rattle.script_run.specs.Runs.{Answer, plain_answer, plain_reading, IsScriptAnswer}
-use Rattle.script_run.specs.Answers.{IsRefusal, IsTooLarge, IsWritten, IsStopped, IsAnalysed}
+use Rattle.run_ends.specs.Answers.{Answer, plain_answer, IsRefusal, IsTooLarge, IsWritten, IsStopped, IsAnalysed}
+use Rattle.script_run.specs.Runs.{plain_reading, IsScriptAnswer}
 use Rattle.cosmos_app.specs.Summaries.{IsSummedUp}
 use Rattle.cosmos_app.specs.Reasoned.{IsReasoned}
 use Rattle.fault_runs.specs.Judging.{AreJudgedFaults}

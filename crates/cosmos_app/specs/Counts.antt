@@ -2,8 +2,8 @@
 -- that exactly one call failed, the last.
 use Rattle.std.specs.Prelude.{◌≡◌, ℕ, ◌⊎◌}
 use Rattle.ternary.specs.Counts.{raised}
-use Rattle.script_run.specs.declared.status.Status.{Status}
-use Rattle.script_run.specs.declared.status.Status.TheVariants.{ReadFault, WriteFault, NoMemory}
+use Rattle.run_ends.specs.declared.status.Status.{Status}
+use Rattle.run_ends.specs.declared.status.Status.TheVariants.{ReadFault, WriteFault, NoMemory}
 
 -- the count of the files' faults after a run: one more where reading failed
 abbrev pub files_count : ℕ → Status → ℕ

@@ -9,9 +9,8 @@ use Rattle.circuit_texts.specs.Sizes.{TellsTooLarge}
 use Rattle.cosmos_session.specs.Sessions.{SessionData}
 use Rattle.script_run.specs.declared.halt.Halt.{Halt}
 use Rattle.script_run.specs.declared.halt.Halt.TheVariants.{End, Refused, TooLarge}
-use Rattle.script_run.specs.declared.status.Status.TheVariants.{ScriptRefused}
-use Rattle.script_run.specs.Runs.{Answer}
-use Rattle.script_run.specs.Answers.{IsRefusal, IsTooLarge}
+use Rattle.run_ends.specs.declared.status.Status.TheVariants.{ScriptRefused}
+use Rattle.run_ends.specs.Answers.{Answer, IsRefusal, IsTooLarge}
 use Rattle.cosmos_app.specs.Reasoned.{IsExplained}
 
 -- these are the groups of the graph, with its count of nodes

@@ -1,7 +1,7 @@
 -- Inside the program: what the lines of a script are run for.
 use Rattle.std.specs.Prelude.{ℕ, List}
 use Rattle.netlist.specs.Circuits.{CircuitData}
-use Rattle.script_run.specs.Runs.{Answer}
+use Rattle.run_ends.specs.Answers.{Answer}
 use Rattle.cosmos_app.specs.declared.request.Purpose.{Purpose}
 use Rattle.cosmos_app.specs.declared.request.Purpose.TheVariants.{Lines, Columns, Reasons}
 use Rattle.cosmos_app.specs.Batching.{IsBatch, lanes_seen}

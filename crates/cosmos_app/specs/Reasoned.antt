@@ -12,10 +12,11 @@ use Rattle.why_path.specs.Lines.{IsReasonLine, no_reason_line_of}
 use Rattle.wave_print.specs.declared.faults.FaultPlace.TheVariants.{Node}
 use Rattle.wave_print.specs.declared.faults.FaultCode.TheVariants.{E1UnknownNode}
 use Rattle.cosmos_session.specs.Sessions.{SessionData, start_of}
-use Rattle.script_run.specs.declared.status.Status.{Status}
-use Rattle.script_run.specs.declared.status.Status.TheVariants.{Done, Usage, ScriptRefused}
-use Rattle.script_run.specs.Codes.{plain_cause, cause_line}
-use Rattle.script_run.specs.Runs.{Outcome, RefusedLine, Runs, Answer, plain_reading, refusal_text}
+use Rattle.run_ends.specs.declared.status.Status.{Status}
+use Rattle.run_ends.specs.declared.status.Status.TheVariants.{Done, Usage, ScriptRefused}
+use Rattle.run_ends.specs.Causes.{plain_cause, cause_line}
+use Rattle.script_run.specs.Runs.{Outcome, RefusedLine, Runs, plain_reading, refusal_text}
+use Rattle.run_ends.specs.Answers.{Answer}
 
 -- the line tells this walk, or that there is none
 abbrev pub TellsWalk : CircuitData → List Tern → Bool → Option Walk → List ℕ → Type 0

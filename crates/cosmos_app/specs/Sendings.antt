@@ -5,8 +5,8 @@ use Rattle.linear_code.specs.declared.listing_text.TextPlace.{TextPlace}
 use Rattle.linear_code.specs.Listing.{ListingData}
 use Rattle.linear_code.specs.ListingText.{listing_text}
 use Rattle.linear_code.specs.TextPlaces.{IsPlace, text_from}
-use Rattle.script_run.specs.declared.status.Status.TheVariants.{Done}
-use Rattle.script_run.specs.Runs.{Answer}
+use Rattle.run_ends.specs.declared.status.Status.TheVariants.{Done}
+use Rattle.run_ends.specs.Answers.{Answer}
 
 -- the text between two places was sent; where none of it is left the answer is false, and else some was sent
 pub record SendsSome (listing : ListingData) (old new : TextPlace) (before after : Option (List ℕ)) (more : Bool) : Type 0 where

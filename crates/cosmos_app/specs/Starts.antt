@@ -1,7 +1,7 @@
 -- Which files a run starts, and in which order.
 use Rattle.std.specs.Prelude.{◌≡◌, ℕ, ⊤, ◌⊎◌, List, Option, IfSome, Result, Ok, Err}
 use Rattle.port_edge.specs.Ports.{with_name}
-use Rattle.script_run.specs.declared.stop.Stop.{Stop}
+use Rattle.run_ends.specs.declared.stop.Stop.{Stop}
 use Rattle.netlist.specs.Circuits.{CircuitData}
 use Rattle.sim_read.specs.Meaning.{netlist_of}
 use Rattle.spice_read.specs.Making.{circuit_of}

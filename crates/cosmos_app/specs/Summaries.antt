@@ -8,9 +8,10 @@ use Rattle.wave_print.specs.Lines.{summary_line_of}
 use Rattle.cosmos_session.specs.Sessions.{SessionData}
 use Rattle.cosmos_session.specs.Effects.{is_state}
 use Rattle.cosmos_session.specs.Lines.{Line, Wave, Unmet, Reported}
-use Rattle.script_run.specs.declared.status.Status.{Status}
-use Rattle.script_run.specs.declared.status.Status.TheVariants.{Done}
-use Rattle.script_run.specs.Runs.{Answer, RefusedLine, Outcome, Runs, plain_reading, refusal_text, status_told}
+use Rattle.run_ends.specs.declared.status.Status.{Status}
+use Rattle.run_ends.specs.declared.status.Status.TheVariants.{Done}
+use Rattle.run_ends.specs.Answers.{Answer}
+use Rattle.script_run.specs.Runs.{RefusedLine, Outcome, Runs, plain_reading, refusal_text, status_told}
 
 -- how many waveform lines a line is
 abbrev pub waves_of : Line → ℕ

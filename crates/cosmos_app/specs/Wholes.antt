@@ -7,8 +7,8 @@ use Rattle.sim_read.specs.Meaning.{netlist_of}
 use Rattle.spice_cards.specs.declared.fault.DeckFault.{DeckFault}
 use Rattle.spice_read.specs.Making.{circuit_of}
 use Rattle.port_edge.specs.Taken.{Taken, with_files}
-use Rattle.script_run.specs.declared.status.Status.{Status}
-use Rattle.script_run.specs.declared.status.Status.TheVariants.{ReadFault, WriteFault, NoMemory}
+use Rattle.run_ends.specs.declared.status.Status.{Status}
+use Rattle.run_ends.specs.declared.status.Status.TheVariants.{ReadFault, WriteFault, NoMemory}
 use Rattle.cosmos_app.specs.Requests.{Question, Simulate, Batch, Explain, Judge, Request, About, Generate, SumUp, OverDeck, Unclear}
 
 -- the files that a question needs beside the netlist, the last one first

@@ -3,8 +3,8 @@
 ghost use Rattle.std.specs.Prelude.{◌≡◌, ◌≢◌, IfErr};
 ghost use Rattle.std.specs.Option.{option_map};
 ghost use Rattle.netlist.specs.Circuits.{IsCircuit};
-ghost use Rattle.script_run.specs.Stops.{faults_written, IsRefusedOnce};
-ghost use Rattle.script_run.specs.Ends.{IsToldBy};
+ghost use Rattle.run_ends.specs.Stops.{faults_written, IsRefusedOnce};
+ghost use Rattle.run_ends.specs.Ends.{IsToldBy};
 ghost use Rattle.cosmos_app.specs.Batching as spec;
 
 use crate::lanes::Lanes;
@@ -14,7 +14,7 @@ use lane_session::LaneSession;
 use line_words::decimal;
 use netlist::Circuit;
 use port_edge::Sink;
-use script_run::{End, Stop};
+use run_ends::{End, Stop};
 use std::alloc::Global;
 
 /// The number of columns that a word writes, from 1 to 64.

@@ -15,7 +15,8 @@ use cosmos_session::Session;
 use group_analysis::Analyst;
 use line_words::{cut_line, decimal, front, lines, words};
 use port_edge::HonestSink;
-use script_run::{Halt, Stop, Turn, run_line};
+use run_ends::Stop;
+use script_run::{Halt, Turn, run_line};
 use std::alloc::Global;
 use wave_print::Summary;
 

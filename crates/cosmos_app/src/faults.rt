@@ -3,8 +3,8 @@
 ghost use Rattle.std.specs.Prelude.{◌≡◌, ◌+◌, [], ◌∷◌, IfSome, IfOk};
 ghost use Rattle.port_edge.specs.Taken.{TakesFiles};
 ghost use Rattle.netlist.specs.Circuits.{HasVisibleNames};
-ghost use Rattle.script_run.specs.Stops.{faults_read, faults_written, IsRefusedOnce};
-ghost use Rattle.script_run.specs.Ends.{IsToldBy, IsUntouched};
+ghost use Rattle.run_ends.specs.Stops.{faults_read, faults_written, IsRefusedOnce};
+ghost use Rattle.run_ends.specs.Ends.{IsToldBy, IsUntouched};
 ghost use Rattle.fault_runs.specs.Judging.{AreJudgedFaults};
 ghost use Rattle.cosmos_app.specs.Starts.{StartsInOrder};
 ghost use Rattle.cosmos_app.specs.Wholes.{ReadsWhole};
@@ -15,7 +15,7 @@ use group_analysis::Analyst;
 use line_words::MOST_FILE_BYTES;
 use netlist::Circuit;
 use port_edge::{Files, Sink};
-use script_run::{End, Stop};
+use run_ends::{End, Stop};
 use std::alloc::Global;
 
 /// Reads the script and then the list of faults, and judges the faults in the circuit, each by a run of the

@@ -3,13 +3,13 @@
 ghost use Rattle.std.specs.Prelude.{◌≡◌, ◌≢◌, IfErr};
 ghost use Rattle.cosmos_app.specs.Samples.{sample_seen};
 ghost use Rattle.cosmos_app.specs.Answers.{IsGenerated};
-ghost use Rattle.script_run.specs.Ends.{IsTold};
-ghost use Rattle.script_run.specs.Stops.{faults_written, IsRefusedOnce};
+ghost use Rattle.run_ends.specs.Ends.{IsTold};
+ghost use Rattle.run_ends.specs.Stops.{faults_written, IsRefusedOnce};
 
 use crate::sample::Sample;
 use net_gen::{GenPart, generate};
 use port_edge::{Sink, send};
-use script_run::{End, Stop};
+use run_ends::{End, Stop};
 use std::alloc::Global;
 
 /// Writes a part of a sample.

@@ -40,5 +40,6 @@ mod sample;
 mod summary;
 mod top;
 
-pub use script_run::{Status, scripts_end_at_their_first_refused_line};
+pub use run_ends::Status;
+pub use script_run::scripts_end_at_their_first_refused_line;
 pub use top::run;

@@ -2,12 +2,12 @@
 
 ghost use Rattle.std.specs.Prelude.{◌≡◌, ◌≢◌, IfErr};
 ghost use Rattle.cosmos_app.specs.Answers.{IsDeckRefusal, IsNetRefusal, IsUsage};
-ghost use Rattle.script_run.specs.Ends.{IsTold};
-ghost use Rattle.script_run.specs.Stops.{faults_written, IsRefusedOnce};
+ghost use Rattle.run_ends.specs.Ends.{IsTold};
+ghost use Rattle.run_ends.specs.Stops.{faults_written, IsRefusedOnce};
 
 use crate::codes::net_code;
 use port_edge::{Sink, send};
-use script_run::{End, Stop, refuse};
+use run_ends::{End, Stop, refuse};
 use sim_read::NetRefusal;
 use spice_cards::{DeckWhat, deck_line};
 use std::alloc::Global;

@@ -4,8 +4,8 @@ ghost use Rattle.std.specs.Prelude.{◌≡◌, ◌≢◌, ℕ, List, IfErr, coun
 ghost use Rattle.netlist.specs.Circuits.{IsCircuit, HasVisibleNames};
 ghost use Rattle.cosmos_app.specs.Requests.{report_seen};
 ghost use Rattle.cosmos_app.specs.Answers.{IsAnswerIn, IsCheck, IsGroups};
-ghost use Rattle.script_run.specs.Ends.{IsTold, IsToldBy};
-ghost use Rattle.script_run.specs.Stops.{faults_written, IsRefusedOnce};
+ghost use Rattle.run_ends.specs.Ends.{IsTold, IsToldBy};
+ghost use Rattle.run_ends.specs.Stops.{faults_written, IsRefusedOnce};
 
 use crate::compile::write_listing;
 use crate::request::Report;
@@ -14,7 +14,7 @@ use group_report::report_groups;
 use netlist::Circuit;
 use path_meaning::Graph;
 use port_edge::{Sink, send};
-use script_run::{End, Stop};
+use run_ends::{End, Stop};
 use std::alloc::Global;
 use table_keys::TableKeys;
 use wave_print::{CHECK_LINE_ROOM, LineBuf, check_line};

@@ -9,11 +9,11 @@ ghost use Rattle.cosmos_app.specs.Answers.{IsAnswer, IsAnswered, IsAnswerIn, IsA
 ghost use Rattle.cosmos_app.specs.Purposes.{IsRunFor};
 ghost use Rattle.sim_read.specs.Meaning.{netlist_of};
 ghost use Rattle.spice_read.specs.Making.{circuit_of};
-ghost use Rattle.script_run.specs.Stops.{faults_read, faults_written, IsRefusedOnce};
+ghost use Rattle.run_ends.specs.Stops.{faults_read, faults_written, IsRefusedOnce};
 ghost use Rattle.cosmos_app.specs.Counts.{files_count, sink_count, HasRefused};
 ghost use Rattle.cosmos_app.specs.Wholes.{files_of, needed, needed_over, scripts_of, ReadsAll, ReadsWhole};
 ghost use Rattle.cosmos_app.specs.Starts.{DeckStarts, QuestionStarts, RequestStarts, ScriptStarts, StartsAtMost};
-ghost use Rattle.script_run.specs.Ends.{IsToldBy, IsUntouched, status_after};
+ghost use Rattle.run_ends.specs.Ends.{IsToldBy, IsUntouched, status_after};
 
 use crate::batch::run_columns;
 use crate::explain::explain;
@@ -29,7 +29,8 @@ use group_analysis::Analyst;
 use line_words::MOST_FILE_BYTES;
 use netlist::Circuit;
 use port_edge::{Files, Sink};
-use script_run::{End, Status, Stop, run_lines};
+use run_ends::{End, Status, Stop};
+use script_run::run_lines;
 use std::alloc::Global;
 use table_keys::TableKeys;
 
@@ -196,7 +197,7 @@ fn answer_about<F: Files, S: Sink, A: Analyst>(
 }
 
 // Reads the deck, and runs the script in its circuit.
-#[tactic(auto, using(script_run::proofs::EndLemmas::read_none, crate::proofs::EndLemmas::untouched_none))]
+#[tactic(auto, using(run_ends::proofs::EndLemmas::read_none, run_ends::proofs::EndLemmas::untouched_none))]
 fn simulate_deck<F: Files, S: Sink, A: Analyst>(
     alloc: Global,
     deck: &str,

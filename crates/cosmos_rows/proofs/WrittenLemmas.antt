@@ -14,9 +14,9 @@ use Rattle.circuit_texts.specs.Sizes.{fault_in, AllFit, TellsTooLarge}
 use Rattle.linear_code.specs.Listing.{ListingData, Entry, IsListing, IsListingStep}
 use Rattle.linear_code.specs.ListingText.{listing_text}
 use Rattle.circuit_listing.specs.Faithful.{IsFaithful}
-use Rattle.script_run.specs.declared.status.Status.{Status}
-use Rattle.script_run.specs.declared.status.Status.TheVariants as status
-use Rattle.script_run.specs.Answers.{IsAnalysed, IsWritten}
+use Rattle.run_ends.specs.declared.status.Status.{Status}
+use Rattle.run_ends.specs.declared.status.Status.TheVariants as status
+use Rattle.run_ends.specs.Answers.{IsAnalysed, IsWritten}
 use Rattle.cosmos_app.specs.Answers.{IsAnswer, IsAnswered, IsCompiled}
 use Rattle.cosmos_rows.specs.Written.{AskForListing}
 

@@ -18,7 +18,7 @@ use Rattle.cosmos_session.specs.Effects.{Effect, places_in}
 use Rattle.cosmos_session.specs.Sinks.{IsSinkFault, refusals_sent, refusals_with}
 use Rattle.cosmos_session.specs.Outcomes.{Does, Performs, DoesPart, Begins, Obeys, Sent, TakesBeats}
 use Rattle.cosmos_session.specs.Stages.{Readied}
-use Rattle.cosmos_session.proofs.SizeLemmas.{told_node}
+use Rattle.circuit_texts.proofs.SizeLemmas.{told_node}
 
 -- lines whose text was sent, or a part of it, were sent
 pub sent_text : (before after : Option (List ℕ)) (lines : List Line) (text : List ℕ) (result : Result (Unit {0}) ApplyFault) → text ≡ text_of lines →

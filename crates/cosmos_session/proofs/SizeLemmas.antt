@@ -1,18 +1,14 @@
--- A graph's groups have texts, or one of them is the first that is too large; and a fault that tells of a group names a node of the graph.
-use Rattle.std.proofs.Common.{◌≡◌, ℕ, zero, suc, ◌+◌, ◌<◌, ◌⊎◌, inl, inr, List, length, map, get_or, Option, Some, None, refl, sym, ap, subst, ◌∙◌, arith}
+-- A graph's groups have texts, or one of them is the first that is too large.
+use Rattle.std.proofs.Common.{◌≡◌, ℕ, zero, suc, ◌+◌, ◌<◌, ◌⊎◌, inl, inr, List, length, map, get_or, Option, Some, None, refl, ap, subst, ◌∙◌, arith}
 use Rattle.std.proofs.lemmas.Bool.{cases_lt}
 use Rattle.std.specs.Prelude.{slice_get}
-use Rattle.std.proofs.lemmas.Option.{slice_get-get_or, slice_get_within, get_or_from_slice_get}
-use Rattle.std.proofs.lemmas.List.Elements.{All-contains_itself}
-use Rattle.path_meaning.specs.Graphs.{GraphData, IsWired, IsStorage, nodes}
-use Rattle.group_meaning.specs.Groups.{Group, IsGroup, id_of, AreGroups}
-use Rattle.group_meaning.proofs.GroupLemmas.{member_storage}
+use Rattle.std.proofs.lemmas.Option.{slice_get-get_or}
+use Rattle.path_meaning.specs.Graphs.{GraphData, IsWired}
+use Rattle.group_meaning.specs.Groups.{Group, id_of, AreGroups}
 use Rattle.group_meaning.proofs.ExistingGroups.{exists}
 use Rattle.group_text.specs.declared.text.TextFault.{TextFault}
-use Rattle.group_text.specs.declared.text.TextFault.TheVariants as text
 use Rattle.group_text.specs.Texts.{GroupTextData, text_of_group}
 use Rattle.circuit_texts.specs.declared.texts.BuildFault.{BuildFault}
-use Rattle.circuit_texts.specs.declared.texts.BuildFault.TheVariants.{GroupNodes, GroupSwitches}
 use Rattle.circuit_texts.specs.Sizes.{fault_in, at_node, IsFirstTooLarge, TellsTooLarge}
 use Rattle.circuit_texts.specs.Building.{HasTexts}
 
@@ -85,26 +81,3 @@ texts_or_size g wired =
       },
     )
     by groups are (inr large) = inr (large.0, record { groups = groups; are = are; first = large.1 })
-
--- the node that a too large group's fault tells of is the group's least one
-node_is : (node id count : ℕ) (cause : TextFault) (fault : BuildFault) → fault ≡ at_node id cause →
-    (fault ≡ GroupNodes node count) ⊎ (fault ≡ GroupSwitches node count) → node ≡ id
-node_is node id count (text.GroupNodes m) fault named (inl is) = cc
-node_is node id count (text.GroupNodes m) fault named (inr is) = absurd (cc)
-node_is node id count (text.GroupSwitches m) fault named (inl is) = absurd (cc)
-node_is node id count (text.GroupSwitches m) fault named (inr is) = cc
-node_is node id count text.NoMemory fault named (inl is) = absurd (cc)
-node_is node id count text.NoMemory fault named (inr is) = absurd (cc)
-
--- so it is a node of the graph
-pub told_node : (g : GraphData) (fault : BuildFault) (node count : ℕ) → TellsTooLarge g fault →
-    (fault ≡ GroupNodes node count) ⊎ (fault ≡ GroupSwitches node count) → node < nodes g
-told_node g fault node count told is =
-    let first = told.first in
-    let group = first.group in
-    let inside = slice_get_within told.groups first.k group first.stands in
-    let is_group : IsGroup g group =
-    subst (IsGroup g) (get_or_from_slice_get told.groups first.k group group first.stands) (told.are.each first.k group inside) in
-    let storage : IsStorage g (id_of group) =
-    member_storage g group is_group (id_of group) (All-contains_itself group.members 0 0 is_group.some) in
-    subst (λ n. n < nodes g) (sym (node_is node (id_of group) count first.cause fault first.named is)) storage.inside

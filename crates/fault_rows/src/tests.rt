@@ -4,7 +4,7 @@ use fault_runs::judge_faults;
 use netlist::Circuit;
 use node_elimination::SymbolicAnalyst;
 use port_edge::HonestSink;
-use script_run::{End, Stop};
+use run_ends::{End, Stop};
 use sim_read::read_netlist;
 use std::alloc::Global;
 use std::test::Fail;

@@ -17,13 +17,13 @@ use Rattle.cosmos_session.specs.Lines.{Line, text_of}
 use Rattle.cosmos_session.specs.Bounds.{IsBounded, IsReadable}
 use Rattle.script_run.specs.declared.script.Turn.{Turn}
 use Rattle.script_run.specs.declared.script.Turn.TheVariants.{Accepted, Refused, TooLarge}
-use Rattle.script_run.specs.Codes.{plain_cause}
+use Rattle.run_ends.specs.Causes.{plain_cause}
 use Rattle.script_run.specs.Runs.{RefusedLine, after_command}
 use Rattle.script_run.specs.Turns.{TakesTurn}
 use Rattle.script_run.specs.Halts.{HasObeyed, HasOutgrown}
 use Rattle.script_run.proofs.ReadingLemmas.{masked-sound}
 use Rattle.script_run.proofs.RunLemmas.{HasCome, comes_to, comes_on, halts_refused, halts_large, halts_end, outcome_exists}
-use Rattle.script_run.proofs.SizeLemmas.{size_caused}
+use Rattle.run_ends.proofs.SizeLemmas.{size_caused}
 use Rattle.fault_sim.specs.declared.trace.Trace.{Trace}
 use Rattle.fault_sim.specs.declared.verdicts.Verdict.{Verdict}
 use Rattle.fault_sim.specs.declared.verdicts.Verdict.TheVariants.{Detected, Possible, Undetected}

@@ -7,7 +7,8 @@ use Rattle.group_text.specs.Texts.{GroupTextData}
 use Rattle.fault_sim.specs.declared.fault.Fault.{Fault}
 use Rattle.fault_sim.specs.declared.trace.Trace.{Trace}
 use Rattle.fault_sim.specs.Masks.{masked_reading}
-use Rattle.script_run.specs.Runs.{Answer, Outcome, Runs}
+use Rattle.run_ends.specs.Answers.{Answer}
+use Rattle.script_run.specs.Runs.{Outcome, Runs}
 use Rattle.fault_runs.specs.declared.list.ListedFault.{ListedFault}
 use Rattle.fault_runs.specs.declared.list.ListRefusal.{ListRefusal}
 use Rattle.fault_runs.specs.Lists.{faults_of, faults_in}

@@ -20,13 +20,12 @@ use Rattle.fault_sim.specs.Benches.{JudgesBy}
 use Rattle.fault_sim.specs.Faults.{IsFault}
 use Rattle.script_run.specs.declared.halt.Halt.{Halt}
 use Rattle.script_run.specs.declared.halt.Halt.TheVariants.{End, Refused, TooLarge}
-use Rattle.script_run.specs.declared.status.Status.TheVariants as status
-use Rattle.script_run.specs.declared.stop.Stop.{Stop}
-use Rattle.script_run.specs.declared.stop.End as end
-use Rattle.script_run.specs.Codes.{Cause, plain_cause, cause_line}
-use Rattle.script_run.specs.Runs.{Answer}
-use Rattle.script_run.specs.Answers.{IsStopped, IsWritten, IsAnalysed, IsRefusalFor, IsTooLarge}
-use Rattle.script_run.specs.Ends.{IsTold, IsToldBy}
+use Rattle.run_ends.specs.declared.status.Status.TheVariants as status
+use Rattle.run_ends.specs.declared.stop.Stop.{Stop}
+use Rattle.run_ends.specs.declared.stop.End as end
+use Rattle.run_ends.specs.Causes.{Cause, plain_cause, cause_line}
+use Rattle.run_ends.specs.Answers.{Answer, IsStopped, IsWritten, IsAnalysed, IsRefusalFor, IsTooLarge}
+use Rattle.run_ends.specs.Ends.{IsTold, IsToldBy}
 use Rattle.script_run.specs.Halts.{IsCutShort, TellsCutShort}
 use Rattle.fault_runs.specs.declared.list.ListedFault.{ListedFault}
 use Rattle.fault_runs.specs.declared.counts.VerdictCounts.{VerdictCounts}

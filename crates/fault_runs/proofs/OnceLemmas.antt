@@ -22,13 +22,13 @@ use Rattle.script_lang.specs.declared.command.Command.{Command}
 use Rattle.script_lang.specs.declared.command.Command.TheVariants.{Input, Store, Set, Charge, Watch, Limit, Step, Phase, Clock, Cycle, Expect, Add, Del, Strength, Kind, Wire, Report, Keep}
 use Rattle.script_lang.specs.declared.command.ScriptFault.{ScriptFault}
 use Rattle.script_lang.specs.Commands.{reading_of}
-use Rattle.cosmos_session.specs.Sessions.{SessionData}
+use Rattle.cosmos_session.specs.Sessions.{SessionData, places_of}
 use Rattle.cosmos_session.specs.Preparing.{BuildsIf, builds}
 use Rattle.cosmos_session.specs.Lines.{Line}
 use Rattle.cosmos_session.specs.Effects.{Effect, IsPhase, AreBeats, with_beat, places_in}
-use Rattle.cosmos_session.specs.Sessions.{places_of}
 use Rattle.cosmos_session.specs.Outcomes.{Performs}
-use Rattle.script_run.specs.Runs.{Answer, Outcome, Runs, ends, passes, obeys, refuses}
+use Rattle.run_ends.specs.Answers.{Answer}
+use Rattle.script_run.specs.Runs.{Outcome, Runs, ends, passes, obeys, refuses}
 use Rattle.fault_sim.specs.declared.fault.Fault.{Fault}
 use Rattle.fault_sim.specs.declared.fault.Fault.TheVariants.{Open, Closed, Stuck}
 use Rattle.fault_sim.specs.declared.trace.Trace.{Trace}

@@ -19,12 +19,12 @@ use Rattle.fault_sim.specs.Masks.{masked_reading}
 use Rattle.fault_sim.specs.Rows.{AreRows}
 use Rattle.script_run.specs.declared.halt.Halt.{Halt}
 use Rattle.script_run.specs.declared.halt.Halt.TheVariants.{End, Refused, TooLarge}
-use Rattle.script_run.specs.Codes.{plain_cause}
+use Rattle.run_ends.specs.Causes.{plain_cause}
 use Rattle.script_run.specs.Runs.{Reading, RefusedLine, Outcome, Runs, ends, passes, obeys, refuses}
 use Rattle.script_run.specs.Halts.{HasObeyed, HaltsAt}
 use Rattle.script_run.proofs.ReadingLemmas.{IsSound, masked-sound}
 use Rattle.script_run.proofs.RunLemmas.{outcome_exists}
-use Rattle.script_run.proofs.SizeLemmas.{size_caused}
+use Rattle.run_ends.proofs.SizeLemmas.{size_caused}
 use Rattle.fault_runs.specs.declared.list.ListedFault.{ListedFault}
 use Rattle.fault_runs.specs.Rows.{row_of}
 use Rattle.fault_runs.specs.Traces.{start_with, commands_under, stuck_under, AreDone, RunsUnder, Shows}

@@ -8,9 +8,9 @@ use Rattle.fault_sim.specs.declared.trace.Trace.{Trace}
 use Rattle.fault_sim.specs.declared.verdicts.Verdict.{Verdict}
 use Rattle.fault_sim.specs.declared.verdicts.Verdict.TheVariants.{Detected, Refused, Possible, Undetected}
 use Rattle.fault_sim.specs.Traces.{IsVerdict}
-use Rattle.script_run.specs.declared.status.Status.TheVariants as status
-use Rattle.script_run.specs.Runs.{Answer, RefusedLine, Outcome, refusal_text}
-use Rattle.script_run.specs.Answers.{IsRefusal}
+use Rattle.run_ends.specs.declared.status.Status.TheVariants as status
+use Rattle.run_ends.specs.Answers.{Answer, IsRefusal}
+use Rattle.script_run.specs.Runs.{RefusedLine, Outcome, refusal_text}
 use Rattle.fault_runs.specs.declared.list.ListedFault.{ListedFault}
 use Rattle.fault_runs.specs.declared.list.ListRefusal.{ListRefusal}
 use Rattle.fault_runs.specs.Lists.{faults_in}

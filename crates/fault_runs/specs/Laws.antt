@@ -7,7 +7,7 @@ use Rattle.netlist.specs.Circuits.{CircuitData}
 use Rattle.group_text.specs.Texts.{GroupTextData}
 use Rattle.script_lang.specs.declared.command.Command.TheVariants.{Keep}
 use Rattle.script_lang.specs.Commands.{reading_of}
-use Rattle.script_run.specs.Runs.{Answer}
+use Rattle.run_ends.specs.Answers.{Answer}
 use Rattle.fault_sim.specs.declared.fault.Fault.{Fault}
 use Rattle.fault_sim.specs.declared.trace.Trace.{Trace}
 use Rattle.fault_runs.specs.Traces.{IsTrace}

@@ -14,9 +14,10 @@ use Rattle.cosmos_session.specs.Effects.{Effect}
 use Rattle.cosmos_session.specs.Outcomes.{Does}
 use Rattle.script_run.specs.declared.halt.Halt.{Halt}
 use Rattle.script_run.specs.declared.halt.Halt.TheVariants.{End, Refused, TooLarge}
-use Rattle.script_run.specs.Codes.{Cause, plain_cause, size_cause}
-use Rattle.script_run.specs.Runs.{Answer, RefusedLine, Outcome}
-use Rattle.script_run.specs.declared.status.Status.TheVariants as status
+use Rattle.run_ends.specs.Causes.{Cause, plain_cause, size_cause}
+use Rattle.run_ends.specs.Answers.{Answer}
+use Rattle.script_run.specs.Runs.{RefusedLine, Outcome}
+use Rattle.run_ends.specs.declared.status.Status.TheVariants as status
 use Rattle.fault_sim.specs.declared.fault.Fault.{Fault}
 use Rattle.fault_sim.specs.declared.trace.Trace.{Trace}
 use Rattle.fault_sim.specs.Rows.{AreRows}

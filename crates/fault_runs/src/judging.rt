@@ -7,8 +7,8 @@ ghost use Rattle.netlist.specs.Circuits.{HasVisibleNames, IsCircuit};
 ghost use Rattle.wave_print.specs.Verdicts.{faults_line_of};
 ghost use Rattle.cosmos_session.specs.Sessions.{start_of};
 ghost use Rattle.fault_sim.specs.Faults.{IsFault};
-ghost use Rattle.script_run.specs.Ends.{IsToldBy};
-ghost use Rattle.script_run.specs.Stops.{faults_written, IsRefusedOnce};
+ghost use Rattle.run_ends.specs.Ends.{IsToldBy};
+ghost use Rattle.run_ends.specs.Stops.{faults_written, IsRefusedOnce};
 ghost use Rattle.fault_runs.specs.Judging.{AnswersList, AreJudgedFaults, IsJudgement, named_entry, verdict_line};
 ghost use Rattle.fault_runs.specs.Runnings.{TellsJudged};
 
@@ -21,7 +21,8 @@ use fault_sim::{Trace, Verdict};
 use group_analysis::Analyst;
 use netlist::Circuit;
 use port_edge::{Sink, send};
-use script_run::{End, Halt, Stop, refuse, refuse_halt};
+use run_ends::{End, Stop, refuse};
+use script_run::{Halt, refuse_halt};
 use std::alloc::Global;
 use ternary::NoMemory;
 use wave_print::{

@@ -10,16 +10,16 @@ use Rattle.wave_print.specs.declared.faults.FaultPlace.TheVariants.{Script}
 use Rattle.cosmos_session.specs.Sessions.{SessionData}
 use Rattle.script_run.specs.declared.halt.Halt.{Halt}
 use Rattle.script_run.specs.declared.halt.Halt.TheVariants.{End, Refused, TooLarge}
-use Rattle.script_run.specs.declared.status.Status.TheVariants.{ScriptRefused}
-use Rattle.script_run.specs.declared.stop.Stop.{Stop}
-use Rattle.script_run.specs.declared.stop.End as end
-use Rattle.script_run.specs.declared.stop.End.TheVariants as ended
-use Rattle.script_run.specs.Codes.{Cause, plain_cause, cause_line}
-use Rattle.script_run.specs.Runs.{RefusedLine, Answer, refusal_text}
-use Rattle.script_run.specs.Answers.{IsRefusalFor, IsTooLarge, IsStopped}
+use Rattle.run_ends.specs.declared.status.Status.TheVariants.{ScriptRefused}
+use Rattle.run_ends.specs.declared.stop.Stop.{Stop}
+use Rattle.run_ends.specs.declared.stop.End as end
+use Rattle.run_ends.specs.declared.stop.End.TheVariants as ended
+use Rattle.run_ends.specs.Causes.{Cause, plain_cause, cause_line}
+use Rattle.script_run.specs.Runs.{RefusedLine, refusal_text}
+use Rattle.run_ends.specs.Answers.{Answer, IsRefusalFor, IsTooLarge, IsStopped}
 use Rattle.script_run.specs.Halts.{IsCutShort, TellsCutShort}
-use Rattle.script_run.specs.Ends.{IsTold, IsToldBy}
-use Rattle.script_run.proofs.SizeLemmas.{size_caused}
+use Rattle.run_ends.specs.Ends.{IsTold, IsToldBy}
+use Rattle.run_ends.proofs.SizeLemmas.{size_caused}
 use Rattle.lane_run.specs.Batches.{IsBatchAnswer, RunsTogether, status_ended}
 use Rattle.lane_run.specs.Turns.{HaveObeyed, HaveOutgrown, HaltsAt, BreakOff}
 

@@ -14,9 +14,10 @@ use Rattle.cosmos_session.specs.Sessions.{SessionData}
 use Rattle.wave_print.specs.declared.faults.FaultCode.{FaultCode}
 use Rattle.lane_session.specs.LaneSessions.{LaneSessionData, session_in}
 use Rattle.lane_session.specs.Outcomes.{KeepsTogether, ObeysTogether}
-use Rattle.script_run.specs.Codes.{plain_cause, script_code}
+use Rattle.run_ends.specs.Causes.{plain_cause}
+use Rattle.script_run.specs.Codes.{script_code}
 use Rattle.script_run.specs.Runs.{refused, unread}
-use Rattle.script_run.specs.Stops.{IsRefusedOnce}
+use Rattle.run_ends.specs.Stops.{IsRefusedOnce}
 use Rattle.script_run.specs.Turns.{turn_after}
 use Rattle.lane_run.specs.Turns.{AreIdle, AskTogether, AreRefused, TakesTurn}
 

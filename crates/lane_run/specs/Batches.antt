@@ -3,9 +3,10 @@ use Rattle.std.specs.Prelude.{◌≡◌, ℕ, ◌<◌, List, ◌++◌, Option, N
 use Rattle.group_text.specs.Texts.{GroupTextData}
 use Rattle.lane_script.specs.Columns.{column_reading_of}
 use Rattle.cosmos_session.specs.Sessions.{SessionData}
-use Rattle.script_run.specs.declared.status.Status.{Status}
-use Rattle.script_run.specs.declared.status.Status.TheVariants.{Done, ScriptRefused}
-use Rattle.script_run.specs.Runs.{Reading, RefusedLine, Outcome, Runs, Answer, refusal_text}
+use Rattle.run_ends.specs.declared.status.Status.{Status}
+use Rattle.run_ends.specs.declared.status.Status.TheVariants.{Done, ScriptRefused}
+use Rattle.script_run.specs.Runs.{Reading, RefusedLine, Outcome, Runs, refusal_text}
+use Rattle.run_ends.specs.Answers.{Answer}
 use Rattle.lane_session.specs.Rows.{Interleaves}
 
 -- how lines are read in one of so many columns, whatever the circuit is: as a plain script's whose values are the column's letters

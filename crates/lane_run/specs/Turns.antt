@@ -14,10 +14,10 @@ use Rattle.lane_session.specs.LaneSessions.{LaneSessionData, session_in}
 use Rattle.lane_session.specs.Outcomes.{AcceptsTogether, KeepsTogether, RefusesSizeTogether, BeginsTogether}
 use Rattle.script_run.specs.declared.halt.Halt.{Halt}
 use Rattle.script_run.specs.declared.halt.Halt.TheVariants as halt
-use Rattle.script_run.specs.declared.stop.Stop.{Stop}
+use Rattle.run_ends.specs.declared.stop.Stop.{Stop}
 use Rattle.script_run.specs.declared.script.Turn.{Turn}
 use Rattle.script_run.specs.declared.script.Turn.TheVariants.{Accepted, Refused, TooLarge}
-use Rattle.script_run.specs.Codes.{plain_cause, size_cause, Cause}
+use Rattle.run_ends.specs.Causes.{plain_cause, size_cause, Cause}
 use Rattle.script_run.specs.Runs.{IsIdle, Asks, IsRefused, RefusedLine}
 use Rattle.lane_run.specs.Batches.{reading_in, RunsTogether}
 

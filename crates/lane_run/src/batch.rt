@@ -3,17 +3,18 @@
 ghost use Rattle.std.specs.Prelude.{◌≡◌, ◌≢◌, IfErr};
 ghost use Rattle.line_words.specs.Files as file;
 ghost use Rattle.lane_session.specs.LaneSessions.{session_in};
-ghost use Rattle.script_run.specs.Stops.{faults_written, IsRefusedOnce};
+ghost use Rattle.run_ends.specs.Stops.{faults_written, IsRefusedOnce};
 ghost use Rattle.lane_run.specs.Batches.{IsBatchAnswer};
 ghost use Rattle.lane_run.specs.Turns.{TakesTurn, TellsHalt};
-ghost use Rattle.script_run.specs.Ends.{IsToldBy};
+ghost use Rattle.run_ends.specs.Ends.{IsToldBy};
 
 use group_analysis::Analyst;
 use lane_script::read_lane_command;
 use lane_session::LaneSession;
 use line_words::{Line, cut_line, front, lines};
 use port_edge::Sink;
-use script_run::{End, Halt, Stop, Turn, refuse_halt, script_code, turn_of};
+use run_ends::{End, Stop};
+use script_run::{Halt, Turn, refuse_halt, script_code, turn_of};
 use std::alloc::Global;
 use wave_print::FaultCode;
 

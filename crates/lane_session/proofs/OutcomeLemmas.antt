@@ -26,7 +26,7 @@ use Rattle.cosmos_session.specs.Effects.{Effect, IsUnitStep, places_in, wave_by}
 use Rattle.cosmos_session.specs.Sinks.{IsSinkFault, faults_applied, refusals_sent}
 use Rattle.cosmos_session.specs.Outcomes.{DoesPart}
 use Rattle.cosmos_session.proofs.OutcomeLemmas.{refusal_of-built}
-use Rattle.cosmos_session.proofs.SizeLemmas.{told_node}
+use Rattle.circuit_texts.proofs.SizeLemmas.{told_node}
 use Rattle.lane_session.specs.LaneSessions.{LaneSessionData, session_in, Stands}
 use Rattle.lane_session.specs.Rows.{Interleaves, row_text}
 use Rattle.lane_session.specs.Outcomes.{Tells, PerformsTogether, BeginsTogether, RefusesSizeTogether, ObeysTogether}

@@ -5,7 +5,7 @@ use Rattle.group_text.specs.Texts.{GroupTextData}
 use Rattle.cosmos_session.specs.Sessions.{SessionData}
 use Rattle.cosmos_session.specs.Preparing.{builds}
 use Rattle.cosmos_session.specs.Lines.{Line}
-use Rattle.script_run.specs.Codes.{Cause}
+use Rattle.run_ends.specs.Causes.{Cause}
 use Rattle.script_run.specs.Runs.{Reading, Outcome, Runs, IsRefused, at_end, refused_at, after_command}
 use Rattle.script_run.specs.Runs.Runs.{ends, passes, obeys, refuses}
 use Rattle.script_run.specs.Runs.IsRefused.{too_long, unread, refused, too_large}

@@ -11,15 +11,16 @@ use Rattle.cosmos_session.specs.Sessions.{SessionData}
 use Rattle.cosmos_session.specs.Lines.{text_of}
 use Rattle.script_run.specs.declared.halt.Halt.{Halt}
 use Rattle.script_run.specs.declared.halt.Halt.TheVariants.{End, Refused, TooLarge}
-use Rattle.script_run.specs.declared.status.Status.TheVariants.{ScriptRefused}
-use Rattle.script_run.specs.declared.stop.Stop.{Stop}
-use Rattle.script_run.specs.declared.stop.End as end
-use Rattle.script_run.specs.Codes.{Cause, plain_cause, cause_line}
-use Rattle.script_run.specs.Runs.{Reading, RefusedLine, Answer, answer_told, refusal_text, status_told, IsScriptAnswer}
-use Rattle.script_run.specs.Answers.{IsRefusalFor, IsTooLarge, IsStopped}
+use Rattle.run_ends.specs.declared.status.Status.TheVariants.{ScriptRefused}
+use Rattle.run_ends.specs.declared.stop.Stop.{Stop}
+use Rattle.run_ends.specs.declared.stop.End as end
+use Rattle.run_ends.specs.Causes.{Cause, plain_cause, cause_line}
+use Rattle.script_run.specs.Runs.{Reading, RefusedLine, answer_told, refusal_text, status_told, IsScriptAnswer}
+use Rattle.run_ends.specs.Answers.{Answer, IsRefusalFor, IsTooLarge, IsStopped}
 use Rattle.script_run.specs.Halts.{HasObeyed, HasOutgrown, HaltsAt, BreaksOff, IsCutShort, TellsCutShort}
-use Rattle.script_run.specs.Ends.{IsTold, TellsRun, status_of}
-use Rattle.script_run.proofs.SizeLemmas.{size_caused}
+use Rattle.run_ends.specs.Ends.{IsTold, status_of}
+use Rattle.script_run.specs.Ends.{TellsRun}
+use Rattle.run_ends.proofs.SizeLemmas.{size_caused}
 
 module _ (reading : Reading) (cut : Option ℕ) (start : SessionData) (lines : List (ℕ × List ℕ)) (new : SessionData) (before mid : Option (List ℕ)) (asked told : List GroupTextData) where
   -- all lines were obeyed

@@ -1,7 +1,5 @@
 pub mod LowerLemmas
 pub mod ReadingLemmas
-pub mod EndLemmas
-pub mod SizeLemmas
 pub mod PerformLemmas
 pub mod FirstRefusedLemmas
 pub mod TurnLemmas

@@ -8,7 +8,7 @@ use Rattle.cosmos_session.specs.Sessions.{SessionData}
 use Rattle.cosmos_session.specs.Refusals.{refusal_of}
 use Rattle.cosmos_session.specs.Preparing.{builds, with_present, IsBuild, BuildsIf}
 use Rattle.cosmos_session.specs.Outcomes.{Performs}
-use Rattle.script_run.proofs.SizeLemmas.{not_both}
+use Rattle.run_ends.proofs.SizeLemmas.{not_both}
 
 -- what is kept and counted is read by no refusal
 refusal-with_present : (session : SessionData) (present : List GroupTextData) (command : Command) →

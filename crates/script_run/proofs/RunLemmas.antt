@@ -17,17 +17,18 @@ use Rattle.cosmos_session.specs.Lines.{Line, text_of}
 use Rattle.cosmos_session.specs.Outcomes.{Keeps}
 use Rattle.wave_print.specs.declared.faults.FaultCode.{FaultCode}
 use Rattle.wave_print.specs.declared.faults.FaultCode.TheVariants.{S11TooLong}
-use Rattle.script_run.specs.declared.stop.Stop.{Stop}
+use Rattle.run_ends.specs.declared.stop.Stop.{Stop}
 use Rattle.script_run.specs.declared.script.Turn.{Turn}
 use Rattle.script_run.specs.declared.script.Turn.TheVariants.{Accepted, Refused, TooLarge}
-use Rattle.script_run.specs.Codes.{Cause, plain_cause, size_cause, script_code, refusal_code}
+use Rattle.run_ends.specs.Causes.{Cause, plain_cause, size_cause}
+use Rattle.script_run.specs.Codes.{script_code, refusal_code}
 use Rattle.script_run.specs.Runs.{Reading, RefusedLine, Outcome, Runs, ends, passes, obeys, refuses, IsIdle, Asks, IsRefused, too_long, unread, refused, too_large, at_end, refused_at, after_command}
 use Rattle.script_run.specs.Turns.{Follows, TakesTurn}
 use Rattle.script_run.specs.Halts.{HasObeyed, HasOutgrown, BreaksOff}
 use Rattle.cosmos_session.proofs.EffectLemmas.{refused as refused_so, too_large as large_so, performed as performed_so}
 use Rattle.script_run.proofs.LowerLemmas.{command_ends, ready-performs, text_of-append}
 use Rattle.script_run.proofs.ReadingLemmas.{IsSound}
-use Rattle.script_run.proofs.SizeLemmas.{size_caused}
+use Rattle.run_ends.proofs.SizeLemmas.{size_caused}
 use Rattle.script_run.proofs.FirstRefusedLemmas.{after_command-twice}
 
 -- a fault of a line has a code, but for want of memory

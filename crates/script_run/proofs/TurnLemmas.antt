@@ -11,9 +11,10 @@ use Rattle.cosmos_session.specs.declared.fault.ApplyFault.TheVariants.{Refused, 
 use Rattle.cosmos_session.specs.Sessions.{SessionData, HeldSession}
 use Rattle.cosmos_session.specs.Outcomes.{Obeys}
 use Rattle.wave_print.specs.declared.faults.FaultCode.{FaultCode}
-use Rattle.script_run.specs.Codes.{plain_cause, script_code}
+use Rattle.run_ends.specs.Causes.{plain_cause}
+use Rattle.script_run.specs.Codes.{script_code}
 use Rattle.script_run.specs.Runs.{Reading, Asks, IsRefused, unread, refused}
-use Rattle.script_run.specs.Stops.{IsRefusedOnce}
+use Rattle.run_ends.specs.Stops.{IsRefusedOnce}
 use Rattle.script_run.specs.Turns.{TakesTurn, turn_after}
 
 -- a line that asks for a command comes to what the command comes to, and the sink lacked memory once at the most

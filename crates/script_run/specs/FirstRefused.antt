@@ -5,7 +5,7 @@ use Rattle.script_lang.specs.declared.command.Command.{Command}
 use Rattle.cosmos_session.specs.Sessions.{SessionData}
 use Rattle.cosmos_session.specs.Lines.{Line}
 use Rattle.cosmos_session.specs.Outcomes.{Performs}
-use Rattle.script_run.specs.Codes.{Cause}
+use Rattle.run_ends.specs.Causes.{Cause}
 use Rattle.script_run.specs.Runs.{Reading, Outcome, Runs, IsIdle, Asks, IsRefused, at_end, refused_at, after_command}
 
 -- a line that is obeyed: it asks for nothing, or its command does what these lines tell, for which these texts are analysed

@@ -12,11 +12,11 @@ use Rattle.cosmos_session.specs.Lines.{text_of}
 use Rattle.wave_print.specs.declared.faults.FaultPlace.TheVariants.{Script}
 use Rattle.script_run.specs.declared.halt.Halt.{Halt}
 use Rattle.script_run.specs.declared.halt.Halt.TheVariants.{End, Refused, TooLarge}
-use Rattle.script_run.specs.declared.status.Status.TheVariants.{ScriptRefused}
-use Rattle.script_run.specs.declared.stop.Stop.{Stop}
-use Rattle.script_run.specs.Codes.{Cause, plain_cause, size_cause}
-use Rattle.script_run.specs.Runs.{Reading, RefusedLine, Outcome, Runs, Answer}
-use Rattle.script_run.specs.Answers.{IsRefusal, IsTooLarge}
+use Rattle.run_ends.specs.declared.status.Status.TheVariants.{ScriptRefused}
+use Rattle.run_ends.specs.declared.stop.Stop.{Stop}
+use Rattle.run_ends.specs.Causes.{Cause, plain_cause, size_cause}
+use Rattle.script_run.specs.Runs.{Reading, RefusedLine, Outcome, Runs}
+use Rattle.run_ends.specs.Answers.{Answer, IsRefusal, IsTooLarge}
 
 -- the lines of a script were obeyed, to these data and to this refused line, if one ended them: what they tell was written, and their
 -- texts were analysed

@@ -1,9 +1,6 @@
-pub mod Statuses
 pub mod Codes
 pub mod Runs
 pub mod FirstRefused
-pub mod Answers
-pub mod Stops
 pub mod Turns
 pub mod Halts
 pub mod Ends

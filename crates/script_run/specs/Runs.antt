@@ -18,9 +18,11 @@ use Rattle.cosmos_session.specs.Outcomes.{Performs}
 use Rattle.wave_print.specs.declared.faults.FaultPlace.TheVariants.{Script}
 use Rattle.wave_print.specs.declared.faults.FaultCode.{FaultCode}
 use Rattle.wave_print.specs.declared.faults.FaultCode.TheVariants.{S11TooLong}
-use Rattle.script_run.specs.declared.status.Status.{Status}
-use Rattle.script_run.specs.declared.status.Status.TheVariants.{Done, Mismatch, ScriptRefused}
-use Rattle.script_run.specs.Codes.{Cause, plain_cause, size_cause, cause_line, script_code, refusal_code}
+use Rattle.run_ends.specs.declared.status.Status.{Status}
+use Rattle.run_ends.specs.declared.status.Status.TheVariants.{Done, Mismatch, ScriptRefused}
+use Rattle.run_ends.specs.Answers.{Answer}
+use Rattle.run_ends.specs.Causes.{Cause, plain_cause, size_cause, cause_line}
+use Rattle.script_run.specs.Codes.{script_code, refusal_code}
 
 -- how a line is read in a circuit: the command that it asks for, nothing to do, or why it is no command
 abbrev pub Reading : Type 0
@@ -91,16 +93,6 @@ pub data Runs (reading : Reading) (cut : Option ℕ) : SessionData → List (ℕ
       Runs reading cut session (line ∷ lines) (after_command performs.does.lines texts rest)
   refuses : (session : SessionData) (line : ℕ × List ℕ) (lines : List (ℕ × List ℕ)) (cause : Cause) →
       IsRefused reading cut session line cause → Runs reading cut session (line ∷ lines) (refused_at session line.0 cause)
-
--- what the program answers: its status, the text that it writes, and the texts of groups that it has analysed
-pub record Answer : Type 0 where
-  pub status : Status
-  pub text : List ℕ
-  pub texts : List GroupTextData
-
--- an answer for which no text of a group is analysed
-abbrev pub plain_answer : Status → List ℕ → Answer
-plain_answer status text = record { status = status; text = text; texts = [] }
 
 -- the text of the refusal that ended a script: the fault's line is the last
 abbrev pub refusal_text : Option RefusedLine → List ℕ

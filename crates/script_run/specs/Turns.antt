@@ -6,13 +6,14 @@ use Rattle.circuit_texts.specs.declared.texts.BuildFault.TheVariants as build
 use Rattle.script_lang.specs.declared.command.Command.{Command}
 use Rattle.cosmos_session.specs.Sessions.{HeldSession}
 use Rattle.cosmos_session.specs.Outcomes.{Accepts, Begins, Keeps, RefusesSize}
-use Rattle.script_run.specs.declared.stop.Stop.{Stop}
-use Rattle.script_run.specs.declared.stop.Stop.TheVariants as stop
+use Rattle.run_ends.specs.declared.stop.Stop.{Stop}
+use Rattle.run_ends.specs.declared.stop.Stop.TheVariants as stop
 use Rattle.script_run.specs.declared.script.Turn.{Turn}
 use Rattle.script_run.specs.declared.script.Turn.TheVariants.{Accepted, Refused, TooLarge}
 use Rattle.cosmos_session.specs.declared.fault.ApplyFault.{ApplyFault}
 use Rattle.cosmos_session.specs.declared.fault.ApplyFault.TheVariants as apply
-use Rattle.script_run.specs.Codes.{plain_cause, refusal_code}
+use Rattle.run_ends.specs.Causes.{plain_cause}
+use Rattle.script_run.specs.Codes.{refusal_code}
 use Rattle.script_run.specs.Runs.{Reading, IsIdle, Asks, IsRefused}
 
 -- the line asks for nothing, and nothing changes

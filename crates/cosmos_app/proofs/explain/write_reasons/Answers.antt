@@ -2,7 +2,7 @@
 use Rattle.std.proofs.Common.{inr, [], refl, ap, subst, ◌∙◌}
 use Rattle.std.specs.Io.KnownBytes.{append_known}
 use Rattle.port_edge.specs.Sending.{WritesPart}
-use Rattle.script_run.specs.declared.status.Status.TheVariants as status
+use Rattle.run_ends.specs.declared.status.Status.TheVariants as status
 use Rattle.cosmos_app.proofs.explain.write_reasons.Goals as goal
 
 pub returns-in-Ok-clause-told : goal.returns-in-Ok-clause-told

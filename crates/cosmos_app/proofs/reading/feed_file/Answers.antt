@@ -1,7 +1,7 @@
 use Rattle.std.proofs.Common.{◌+◌, ap, ◌∙◌}
 use Rattle.line_words.specs.declared.files.TheConstants.{MOST_FILE_BYTES}
 use Rattle.port_edge.proofs.TakenLemmas.{files_read}
-use Rattle.script_run.specs.Stops.{faults_read}
+use Rattle.run_ends.specs.Stops.{faults_read}
 use Rattle.cosmos_app.proofs.FeedingLemmas.{at_ok_of, feeds_file, started_whole, takes_none}
 use Rattle.cosmos_app.proofs.reading.feed_file.Goals as goal
 

@@ -2,8 +2,8 @@
 use Rattle.std.proofs.Common.{inr, refl, subst, ◌∙◌}
 use Rattle.port_edge.specs.Sending.{WritesPart}
 use Rattle.spice_cards.specs.Reports.{deck_line_of}
-use Rattle.script_run.specs.declared.status.Status.TheVariants as status
-use Rattle.script_run.specs.Runs.{plain_answer}
+use Rattle.run_ends.specs.declared.status.Status.TheVariants as status
+use Rattle.run_ends.specs.Answers.{plain_answer}
 use Rattle.cosmos_app.proofs.refusal.refuse_deck.Goals as goal
 
 pub returns-clause-told : goal.returns-clause-told

@@ -2,11 +2,11 @@
 use Rattle.std.proofs.Common.{◌≡◌, ℕ, List, [], Option, Result, sym, ap, subst}
 use Rattle.netlist.specs.Circuits.{CircuitData}
 use Rattle.group_text.specs.Texts.{GroupTextData}
-use Rattle.script_run.specs.declared.stop.End as end
-use Rattle.script_run.specs.declared.stop.Stop.{Stop}
-use Rattle.script_run.specs.Runs.{Answer}
-use Rattle.script_run.specs.Ends.{IsTold, IsToldBy}
-use Rattle.script_run.proofs.EndLemmas.{told_by_none}
+use Rattle.run_ends.specs.declared.stop.End as end
+use Rattle.run_ends.specs.declared.stop.Stop.{Stop}
+use Rattle.run_ends.specs.Answers.{Answer}
+use Rattle.run_ends.specs.Ends.{IsTold, IsToldBy}
+use Rattle.run_ends.proofs.EndLemmas.{told_by_none}
 use Rattle.cosmos_app.specs.declared.request.Report.{Report}
 use Rattle.cosmos_app.specs.Requests.{report_seen}
 use Rattle.cosmos_app.specs.Answers.{IsAnswerIn, IsCheck, IsGroups}

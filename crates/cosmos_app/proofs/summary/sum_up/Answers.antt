@@ -1,11 +1,11 @@
 -- What is told of the meaning of the netlist is told of its text.
 use Rattle.std.proofs.Common.{sym, ap, subst, ◌∙◌}
 use Rattle.net_gen.specs.declared.families.GenPart.TheVariants.{Script}
-use Rattle.script_run.specs.Runs.{Answer}
+use Rattle.run_ends.specs.Answers.{Answer}
 use Rattle.cosmos_app.specs.Samples.{sample_seen, text_of}
 use Rattle.cosmos_app.specs.Answers.{IsOver, IsNetRefusal, IsSummary}
-use Rattle.script_run.specs.Ends.{IsToldBy}
-use Rattle.script_run.proofs.EndLemmas.{told_by_none}
+use Rattle.run_ends.specs.Ends.{IsToldBy}
+use Rattle.run_ends.proofs.EndLemmas.{told_by_none}
 use Rattle.cosmos_app.proofs.summary.sum_up.Goals as goal
 
 pub returns-in-Ok-clause-told : goal.returns-in-Ok-clause-told

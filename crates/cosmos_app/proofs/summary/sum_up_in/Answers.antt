@@ -8,7 +8,7 @@ use Rattle.line_words.specs.Files as file
 use Rattle.cosmos_app.specs.Countings.{IsBlank}
 use Rattle.cosmos_app.specs.Samples.{sample_seen, text_of}
 use Rattle.cosmos_app.specs.Summaries.{IsSummedUp}
-use Rattle.script_run.specs.Ends.{IsToldBy}
+use Rattle.run_ends.specs.Ends.{IsToldBy}
 use Rattle.cosmos_app.proofs.summary.sum_up_in.Goals as goal
 
 pub sum_up_lines-requires : goal.sum_up_lines-requires

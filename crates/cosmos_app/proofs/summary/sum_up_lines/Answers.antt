@@ -3,7 +3,7 @@ use Rattle.std.proofs.Common.{inr, subst, sym}
 use Rattle.line_words.specs.Files as file
 use Rattle.circuit_texts.specs.Sizes.{TellsTooLarge}
 use Rattle.netlist.specs.Circuits.{CircuitData}
-use Rattle.script_run.specs.Codes.{plain_cause}
+use Rattle.run_ends.specs.Causes.{plain_cause}
 use Rattle.cosmos_app.specs.Countings as spec
 use Rattle.cosmos_app.proofs.CountingLemmas.{told_counted, told_halted, told_outgrown}
 use Rattle.cosmos_app.proofs.summary.sum_up_lines.Goals as goal

@@ -2,8 +2,8 @@
 use Rattle.std.proofs.Common.{List, ℕ, ap, refl, ◌∙◌, ◌++◌}
 use Rattle.std.specs.Io.KnownBytes.{append_known}
 use Rattle.wave_print.specs.Lines.{summary_line_of}
-use Rattle.script_run.specs.declared.status.Status.TheVariants as status
-use Rattle.script_run.specs.Runs.{plain_answer}
+use Rattle.run_ends.specs.declared.status.Status.TheVariants as status
+use Rattle.run_ends.specs.Answers.{plain_answer}
 use Rattle.cosmos_app.proofs.summary.write_summary.Goals as goal
 
 pub returns-in-Ok-clause-told : goal.returns-in-Ok-clause-told

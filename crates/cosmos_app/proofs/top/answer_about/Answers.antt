@@ -2,10 +2,9 @@
 use Rattle.std.proofs.Common.{Ok, Err, ap, inl, inr, ◌∙◌}
 use Rattle.port_edge.proofs.ResultLemmas.{at_ok}
 use Rattle.port_edge.proofs.TakenLemmas.{files_both}
-use Rattle.script_run.specs.Stops.{faults_read}
-use Rattle.script_run.proofs.EndLemmas.{read_none}
+use Rattle.run_ends.specs.Stops.{faults_read}
+use Rattle.run_ends.proofs.EndLemmas.{read_none, untouched_none}
 use Rattle.cosmos_app.specs.Requests.{question_seen}
-use Rattle.cosmos_app.proofs.EndLemmas.{untouched_none}
 use Rattle.cosmos_app.proofs.FeedingLemmas.{at_each}
 use Rattle.cosmos_app.proofs.NetLemmas.{means_as, told_over, told_refusal}
 use Rattle.cosmos_app.proofs.StartLemmas.{starts_beside}

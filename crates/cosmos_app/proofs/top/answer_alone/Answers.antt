@@ -1,8 +1,8 @@
 -- What was told of the case is told of what is asked.
 use Rattle.std.proofs.Common.{sym, ap, subst}
-use Rattle.script_run.specs.Runs.{Answer}
-use Rattle.script_run.specs.Ends.{IsToldBy}
-use Rattle.script_run.proofs.EndLemmas.{told_by_none}
+use Rattle.run_ends.specs.Answers.{Answer}
+use Rattle.run_ends.specs.Ends.{IsToldBy}
+use Rattle.run_ends.proofs.EndLemmas.{told_by_none}
 use Rattle.cosmos_app.specs.declared.request.Alone.{Alone}
 use Rattle.cosmos_app.specs.Requests.{alone_seen}
 use Rattle.cosmos_app.specs.Samples.{sample_seen}

@@ -3,9 +3,8 @@ use Rattle.std.proofs.Common.{◌+◌, refl}
 use Rattle.port_edge.proofs.ResultLemmas.{at_known, at_ok}
 use Rattle.port_edge.proofs.TakenLemmas.{files_none}
 use Rattle.line_words.specs.declared.files.TheConstants.{MOST_FILE_BYTES}
-use Rattle.script_run.proofs.EndLemmas.{read_none}
+use Rattle.run_ends.proofs.EndLemmas.{read_none, untouched_none}
 use Rattle.cosmos_app.proofs.AskedLemmas.{told_question, starts_question, whole_question, starts_reported, scripts_reported}
-use Rattle.cosmos_app.proofs.EndLemmas.{untouched_none}
 use Rattle.cosmos_app.proofs.PurposeLemmas.{told_asked, starts_asked, scripts_asked}
 use Rattle.cosmos_app.proofs.WholeLemmas.{whole_none}
 use Rattle.cosmos_app.proofs.top.answer_in.Goals as goal

@@ -2,7 +2,8 @@
 use Rattle.std.proofs.Common.{sym, ap, ◌∙◌}
 use Rattle.cosmos_app.specs.Requests.{names_of, request_of}
 use Rattle.cosmos_app.specs.Counts.{files_count, sink_count}
-use Rattle.cosmos_app.proofs.EndLemmas.{answered_known, untouched_seen, read_cause}
+use Rattle.cosmos_app.proofs.EndLemmas.{answered_known}
+use Rattle.run_ends.proofs.EndLemmas.{untouched_seen, read_cause}
 use Rattle.cosmos_app.proofs.CountLemmas.{files_counted, sink_counted, refused_counted}
 use Rattle.cosmos_app.proofs.WholeLemmas.{whole_all}
 use Rattle.cosmos_app.proofs.top.run.Goals as goal

@@ -1,8 +1,7 @@
 -- What was told of the text that was read is told of the script.
 use Rattle.std.proofs.Common.{◌∙◌}
 use Rattle.port_edge.proofs.ResultLemmas.{at_ok}
-use Rattle.script_run.proofs.EndLemmas.{read_none}
-use Rattle.cosmos_app.proofs.EndLemmas.{untouched_none}
+use Rattle.run_ends.proofs.EndLemmas.{read_none, untouched_none}
 use Rattle.cosmos_app.proofs.PurposeLemmas.{told_run_for}
 use Rattle.cosmos_app.proofs.WholeLemmas.{whole_file}
 use Rattle.cosmos_app.proofs.top.run_script.Goals as goal

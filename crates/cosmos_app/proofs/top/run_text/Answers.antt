@@ -2,9 +2,9 @@
 use Rattle.std.proofs.Common.{◌≡◌, ℕ, List, Option, Result, sym, subst}
 use Rattle.netlist.specs.Circuits.{CircuitData}
 use Rattle.group_text.specs.Texts.{GroupTextData}
-use Rattle.script_run.specs.declared.stop.End as end
-use Rattle.script_run.specs.declared.stop.Stop.{Stop}
-use Rattle.script_run.specs.Ends.{IsToldBy}
+use Rattle.run_ends.specs.declared.stop.End as end
+use Rattle.run_ends.specs.declared.stop.Stop.{Stop}
+use Rattle.run_ends.specs.Ends.{IsToldBy}
 use Rattle.cosmos_app.specs.declared.request.Purpose.{Purpose}
 use Rattle.cosmos_app.specs.Purposes.{IsRunFor}
 use Rattle.cosmos_app.proofs.top.run_text.Goals as goal

@@ -1,5 +1,5 @@
 use Rattle.std.proofs.Common.{◌≡◌, ◌≢◌, true, false, [], length, Some, sym, ap, ◌∙◌}
-use Rattle.script_run.specs.declared.status.Status.TheVariants as status
+use Rattle.run_ends.specs.declared.status.Status.TheVariants as status
 use Rattle.cosmos_rows.proofs.WrittenLemmas.{WritesListing, writes_listing, nodes_listed, text_written, step_told}
 use Rattle.cosmos_rows.proofs.written.step_by_program.Goals as goal
 

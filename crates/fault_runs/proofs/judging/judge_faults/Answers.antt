@@ -1,11 +1,10 @@
 -- The faults that were read are those of the list; where the list is refused its line is the answer.
 use Rattle.std.proofs.Common.{sym, ap, subst, ◌∙◌}
 use Rattle.wave_print.specs.declared.faults.FaultPlace.TheVariants as place
-use Rattle.script_run.specs.declared.status.Status.TheVariants as status
-use Rattle.script_run.specs.Runs.{Answer}
-use Rattle.script_run.specs.Answers.{IsRefusal}
-use Rattle.script_run.specs.Ends.{IsToldBy}
-use Rattle.script_run.proofs.EndLemmas.{told_by_none}
+use Rattle.run_ends.specs.declared.status.Status.TheVariants as status
+use Rattle.run_ends.specs.Answers.{Answer, IsRefusal}
+use Rattle.run_ends.specs.Ends.{IsToldBy}
+use Rattle.run_ends.proofs.EndLemmas.{told_by_none}
 use Rattle.fault_runs.specs.Judging.{AnswersList}
 use Rattle.fault_runs.proofs.judging.judge_faults.Goals as goal
 

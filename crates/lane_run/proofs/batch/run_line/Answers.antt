@@ -1,6 +1,6 @@
 -- A line comes to what its command comes to in each column, or is refused as it is read.
 use Rattle.std.proofs.Common.{sym, ◌∙◌, inl}
-use Rattle.script_run.specs.Stops.{IsRefusedOnce}
+use Rattle.run_ends.specs.Stops.{IsRefusedOnce}
 use Rattle.script_run.proofs.TurnLemmas.{is_inside}
 use Rattle.lane_session.specs.LaneSessions.{session_in}
 use Rattle.lane_run.specs.Turns.{TakesTurn}

@@ -3,7 +3,7 @@ use Rattle.std.proofs.Common.{◌≡◌, ◌⊎◌, ap, sym, subst, ◌∙◌, r
 use Rattle.netlist.specs.Circuits.{CircuitData}
 use Rattle.script_lang.specs.declared.command.ScriptFault.TheVariants.{NoMemory}
 use Rattle.fault_sim.specs.Masks.{masked_reading}
-use Rattle.script_run.specs.Stops.{IsRefusedOnce}
+use Rattle.run_ends.specs.Stops.{IsRefusedOnce}
 use Rattle.script_run.specs.Turns.{TakesTurn}
 use Rattle.script_run.proofs.TurnLemmas.{takes_turn, is_unread, is_inside}
 use Rattle.script_run.proofs.script.run_line.Given.{Over}

@@ -1,5 +1,5 @@
 ghost use Rattle.std.specs.Prelude.{◌≡◌};
-ghost use Rattle.script_run.specs.Stops.{read_stop_of, write_stop_of};
+ghost use Rattle.run_ends.specs.Stops.{read_stop_of, write_stop_of};
 
 use port_edge::PortFault;
 use ternary::NoMemory;
@@ -53,7 +53,7 @@ impl Stop {
 }
 
 impl From<NoMemory> for Stop {
-    ghost use Rattle.script_run.specs.declared.stop.Stop.TheVariants.{Memory};
+    ghost use Rattle.run_ends.specs.declared.stop.Stop.TheVariants.{Memory};
 
     ghost from_gives = { λ _ stop. stop ≡ Memory };
 

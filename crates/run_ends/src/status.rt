@@ -1,5 +1,5 @@
 ghost use Rattle.std.specs.Prelude.{◌≡◌};
-ghost use Rattle.script_run.specs.Statuses.{code_of};
+ghost use Rattle.run_ends.specs.Statuses.{code_of};
 
 /// What a run of the program comes to.
 #[derive(Clone, Copy, Debug, PartialEq, Eq)]

@@ -1,8 +1,8 @@
 -- The group's least node has a name, by which it is told.
 use Rattle.std.proofs.Common.{inl, inr}
-use Rattle.script_run.specs.Ends.{status_of}
-use Rattle.script_run.proofs.SizeLemmas.{node-inside, told_nodes, told_switches}
-use Rattle.script_run.proofs.refusal.refuse_size.Goals as goal
+use Rattle.run_ends.specs.Ends.{status_of}
+use Rattle.run_ends.proofs.SizeLemmas.{node-inside, told_nodes, told_switches}
+use Rattle.run_ends.proofs.refusal.refuse_size.Goals as goal
 
 pub name_of-name-requires : goal.name_of-name-requires
 name_of-name-requires g c = node-inside c.args.circuit.now.graph c.args.fault c.in-GroupNodes.node c.in-GroupNodes.count c.requires (inl c.in-GroupNodes.is)

@@ -4,8 +4,8 @@ use Rattle.std.specs.Prelude.{◌≡◌, ℕ, ◌⊎◌, Result, Ok, Err}
 use Rattle.ternary.specs.Counts.{raised}
 use Rattle.port_edge.specs.declared.ports.PortFault.{PortFault}
 use Rattle.port_edge.specs.declared.ports.PortFault.TheVariants.{Failed, NoMemory}
-use Rattle.script_run.specs.declared.stop.Stop.{Stop}
-use Rattle.script_run.specs.declared.stop.Stop.TheVariants.{Read, Write, Memory}
+use Rattle.run_ends.specs.declared.stop.Stop.{Stop}
+use Rattle.run_ends.specs.declared.stop.Stop.TheVariants.{Read, Write, Memory}
 
 -- what a fault of reading stops with
 abbrev pub read_stop_of : PortFault → Stop

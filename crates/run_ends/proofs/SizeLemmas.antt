@@ -17,14 +17,14 @@ use Rattle.circuit_texts.specs.declared.texts.BuildFault.{BuildFault}
 use Rattle.circuit_texts.specs.declared.texts.BuildFault.TheVariants.{GroupNodes, GroupSwitches, NoMemory}
 use Rattle.circuit_texts.specs.Sizes.{fault_in, at_node, TellsTooLarge}
 use Rattle.circuit_texts.specs.Building.{HasTexts}
-use Rattle.script_run.specs.declared.stop.Stop.{Stop}
-use Rattle.script_run.specs.declared.stop.End as end
-use Rattle.script_run.specs.declared.status.Status.{Status}
-use Rattle.script_run.specs.Codes.{Cause, size_cause}
-use Rattle.script_run.specs.Answers.{IsTooLarge, IsRefusalFor}
-use Rattle.script_run.specs.Ends.{IsTold}
-use Rattle.cosmos_session.proofs.SizeLemmas.{told_node}
-use Rattle.script_run.proofs.EndLemmas.{told_as}
+use Rattle.run_ends.specs.declared.stop.Stop.{Stop}
+use Rattle.run_ends.specs.declared.stop.End as end
+use Rattle.run_ends.specs.declared.status.Status.{Status}
+use Rattle.run_ends.specs.Causes.{Cause, size_cause}
+use Rattle.run_ends.specs.Answers.{IsTooLarge, IsRefusalFor}
+use Rattle.run_ends.specs.Ends.{IsTold}
+use Rattle.circuit_texts.proofs.SizeLemmas.{told_node}
+use Rattle.run_ends.proofs.EndLemmas.{told_as}
 
 -- a graph whose groups have texts has no group that is too large
 pub not_both : (g : GraphData) (fault : BuildFault) (texts : List GroupTextData) → TellsTooLarge g fault → ¬ HasTexts g texts

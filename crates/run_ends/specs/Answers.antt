@@ -1,5 +1,5 @@
 -- What is answered: the lines of refusals, and what a call that meets a fault may have written.
-use Rattle.std.specs.Prelude.{◌≡◌, ◌⊎◌, ℕ, List, ◌++◌, Option, Some}
+use Rattle.std.specs.Prelude.{◌≡◌, ◌⊎◌, ℕ, List, [], ◌++◌, Option, Some}
 use Rattle.std.specs.Io.KnownBytes.{append_known}
 use Rattle.port_edge.specs.Sending.{WritesPart}
 use Rattle.netlist.specs.Circuits.{CircuitData}
@@ -8,9 +8,18 @@ use Rattle.wave_print.specs.declared.faults.FaultCode.{FaultCode}
 use Rattle.group_text.specs.Texts.{GroupTextData}
 use Rattle.circuit_texts.specs.declared.texts.BuildFault.{BuildFault}
 use Rattle.circuit_texts.specs.Sizes.{TellsTooLarge}
-use Rattle.script_run.specs.declared.status.Status.{Status}
-use Rattle.script_run.specs.Codes.{Cause, plain_cause, size_cause, cause_line}
-use Rattle.script_run.specs.Runs.{Answer, plain_answer}
+use Rattle.run_ends.specs.declared.status.Status.{Status}
+use Rattle.run_ends.specs.Causes.{Cause, plain_cause, size_cause, cause_line}
+
+-- what the program answers: its status, the text that it writes, and the texts of groups that it has analysed
+pub record Answer : Type 0 where
+  pub status : Status
+  pub text : List ℕ
+  pub texts : List GroupTextData
+
+-- an answer for which no text of a group is analysed
+abbrev pub plain_answer : Status → List ℕ → Answer
+plain_answer status text = record { status = status; text = text; texts = [] }
 
 -- the answer is the line of a refusal alone, for this cause
 abbrev pub IsRefusalFor : FaultPlace → Cause → Status → Answer → Type 0

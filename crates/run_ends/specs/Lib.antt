@@ -1,0 +1,5 @@
+pub mod Statuses
+pub mod Stops
+pub mod Causes
+pub mod Answers
+pub mod Ends
