@@ -51,17 +51,3 @@ impl Draws {
         self.number / DROPPED
     }
 }
-
-#[cfg(test)]
-mod tests {
-    use super::*;
-
-    #[test]
-    fn first_draws_from_seed_1(rt: HostRuntime) {
-        let mut draws = Draws::new(1);
-        assert_eq!(rt; draws.next(), 16838);
-        assert_eq!(rt; draws.next(), 5758);
-        assert_eq!(rt; draws.next(), 10113);
-        assert_eq!(rt; draws.next(), 17515);
-    }
-}
