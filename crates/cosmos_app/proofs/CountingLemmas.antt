@@ -20,19 +20,19 @@ use Rattle.run_ends.specs.declared.status.Status.TheVariants.{Done, ScriptRefuse
 use Rattle.run_ends.specs.declared.stop.Stop.{Stop}
 use Rattle.run_ends.specs.declared.stop.Stop.TheVariants.{Read, Write, Memory}
 use Rattle.run_ends.specs.declared.stop.End as end
-use Rattle.script_run.specs.declared.script.Turn.{Turn}
-use Rattle.script_run.specs.declared.script.Turn.TheVariants.{Accepted, Refused, TooLarge}
+use Rattle.script_meaning.specs.declared.turn.Turn.{Turn}
+use Rattle.script_meaning.specs.declared.turn.Turn.TheVariants.{Accepted, Refused, TooLarge}
 use Rattle.run_ends.specs.Causes.{Cause, plain_cause, size_cause, cause_line}
 use Rattle.run_ends.specs.Stops.{written_at}
 use Rattle.run_ends.specs.Answers.{Answer, plain_answer, IsTooLarge}
-use Rattle.script_run.specs.Runs.{Reading, Runs, ends, passes, obeys, refuses, plain_reading, too_large, at_end, refused_at, after_command, Outcome}
+use Rattle.script_meaning.specs.Runs.{Reading, Runs, ends, passes, obeys, refuses, plain_reading, too_large, at_end, refused_at, after_command, Outcome}
 use Rattle.cosmos_app.specs.Summaries.{summary_of, summed_up, IsSummedUp}
 use Rattle.cosmos_app.specs.Countings.{AreAlike, HasCounted, HasHalted, HasOutgrown}
-use Rattle.script_run.specs.Turns.{TakesTurn, Follows}
+use Rattle.script_meaning.specs.Turns.{TakesTurn, Follows}
 use Rattle.run_ends.specs.Ends.{IsTold, IsToldBy}
 use Rattle.cosmos_app.proofs.AlikeLemmas.{performs_alike}
-use Rattle.script_run.proofs.FirstRefusedLemmas.{after_command-twice}
-use Rattle.script_run.proofs.ReadingLemmas.{masked-plain}
+use Rattle.script_meaning.proofs.FirstRefusedLemmas.{after_command-twice}
+use Rattle.script_meaning.proofs.ReadingLemmas.{masked-plain}
 
 -- the lines since the start, as they were counted, and the texts that were analysed, which each outcome from here goes on from
 pub record HasTallied (nodes switches : ℕ) (cut : Option ℕ) (start : SessionData) (all : List (ℕ × List ℕ)) (asked : List GroupTextData)

@@ -8,8 +8,8 @@ use Rattle.group_text.specs.Texts.{GroupTextData}
 use Rattle.run_ends.specs.declared.stop.Stop.{Stop}
 use Rattle.run_ends.specs.declared.stop.End as end
 use Rattle.run_ends.specs.Ends.{IsToldBy}
-use Rattle.fault_runs.specs.Judging.{AreJudgedFaults}
-use Rattle.fault_runs.proofs.FrontLemmas.{are_judged-front}
+use Rattle.fault_meaning.specs.Judging.{AreJudgedFaults}
+use Rattle.fault_meaning.proofs.FrontLemmas.{are_judged-front}
 use Rattle.cosmos_app.specs.Starts.{Started, StartsAtMost, StartsInOrder}
 use Rattle.cosmos_app.specs.Wholes.{ReadsWhole}
 use Rattle.run_ends.proofs.EndLemmas.{told_by_as}

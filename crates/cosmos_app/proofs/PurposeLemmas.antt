@@ -11,9 +11,9 @@ use Rattle.lane_run.proofs.RunLemmas.{together-same}
 use Rattle.run_ends.specs.declared.stop.Stop.{Stop}
 use Rattle.run_ends.specs.declared.stop.End as end
 use Rattle.run_ends.specs.Answers.{Answer}
-use Rattle.script_run.specs.Runs.{Runs, plain_reading, answer_told, IsScriptAnswer}
+use Rattle.script_meaning.specs.Runs.{Runs, plain_reading, answer_told, IsScriptAnswer}
 use Rattle.run_ends.specs.Ends.{IsToldBy}
-use Rattle.script_run.specs.Ends.{TellsRun}
+use Rattle.script_meaning.specs.Ends.{TellsRun}
 use Rattle.cosmos_app.specs.declared.request.Purpose.{Purpose}
 use Rattle.cosmos_app.specs.declared.request.Purpose.TheVariants.{Lines, Columns, Reasons}
 use Rattle.cosmos_app.specs.Requests.{run_seen}

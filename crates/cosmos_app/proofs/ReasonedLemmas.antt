@@ -8,15 +8,15 @@ use Rattle.circuit_texts.specs.declared.texts.BuildFault.{BuildFault}
 use Rattle.wave_print.specs.declared.faults.FaultPlace.TheVariants.{Script}
 use Rattle.cosmos_session.specs.Sessions.{SessionData, start_of}
 use Rattle.run_ends.specs.declared.status.Status.TheVariants.{Done, Usage, ScriptRefused}
-use Rattle.script_run.specs.declared.halt.Halt.{Halt}
-use Rattle.script_run.specs.declared.halt.Halt.TheVariants.{End, Refused, TooLarge}
+use Rattle.script_meaning.specs.declared.halt.Halt.{Halt}
+use Rattle.script_meaning.specs.declared.halt.Halt.TheVariants.{End, Refused, TooLarge}
 use Rattle.run_ends.specs.declared.stop.End as end
 use Rattle.run_ends.specs.declared.stop.Stop.{Stop}
 use Rattle.run_ends.specs.declared.stop.Stop.TheVariants.{Read, Write, Memory}
 use Rattle.run_ends.specs.Causes.{Cause, plain_cause}
-use Rattle.script_run.specs.Runs.{Reading, RefusedLine, plain_reading}
+use Rattle.script_meaning.specs.Runs.{Reading, RefusedLine, plain_reading}
 use Rattle.run_ends.specs.Answers.{Answer, plain_answer, IsRefusalFor, IsTooLarge}
-use Rattle.script_run.specs.Halts.{HasObeyed, HasOutgrown, HaltsAt, TellsHalt}
+use Rattle.script_meaning.specs.Halts.{HasObeyed, HasOutgrown, HaltsAt, TellsHalt}
 use Rattle.run_ends.specs.Stops.{faults_written}
 use Rattle.run_ends.specs.Ends.{IsTold, IsToldBy}
 use Rattle.run_ends.proofs.EndLemmas.{told_as}

@@ -30,10 +30,10 @@ use Rattle.cosmos_app.specs.Batching.{IsBatch}
 use Rattle.cosmos_app.specs.Samples.{Sample, text_of}
 use Rattle.cosmos_app.specs.Requests.{Question, Simulate, Batch, Check, Groups, Compile, Explain, Judge, Request, About, Generate, SumUp, OverDeck, Unclear, request_of}
 use Rattle.run_ends.specs.Answers.{Answer, plain_answer, IsRefusal, IsTooLarge, IsWritten, IsStopped, IsAnalysed}
-use Rattle.script_run.specs.Runs.{plain_reading, IsScriptAnswer}
+use Rattle.script_meaning.specs.Runs.{plain_reading, IsScriptAnswer}
 use Rattle.cosmos_app.specs.Summaries.{IsSummedUp}
 use Rattle.cosmos_app.specs.Reasoned.{IsReasoned}
-use Rattle.fault_runs.specs.Judging.{AreJudgedFaults}
+use Rattle.fault_meaning.specs.Judging.{AreJudgedFaults}
 
 -- the answer is the usage line alone
 abbrev pub IsUsage : Answer → Type 0

@@ -10,10 +10,10 @@ use Rattle.circuit_texts.specs.Sizes.{TellsTooLarge}
 use Rattle.wave_print.specs.declared.lines.Summary.{Summary}
 use Rattle.cosmos_session.specs.Sessions.{SessionData}
 use Rattle.cosmos_session.specs.Lines.{Line, Wave, Unmet, Reported}
-use Rattle.script_run.specs.declared.halt.Halt.{Halt}
-use Rattle.script_run.specs.declared.halt.Halt.TheVariants.{End, Refused, TooLarge}
+use Rattle.script_meaning.specs.declared.halt.Halt.{Halt}
+use Rattle.script_meaning.specs.declared.halt.Halt.TheVariants.{End, Refused, TooLarge}
 use Rattle.run_ends.specs.Causes.{Cause, plain_cause, size_cause}
-use Rattle.script_run.specs.Runs.{Outcome, Runs, plain_reading}
+use Rattle.script_meaning.specs.Runs.{Outcome, Runs, plain_reading}
 use Rattle.cosmos_app.specs.Summaries.{summary_of, mark_count}
 
 -- nothing was counted so far

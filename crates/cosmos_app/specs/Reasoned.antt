@@ -15,7 +15,7 @@ use Rattle.cosmos_session.specs.Sessions.{SessionData, start_of}
 use Rattle.run_ends.specs.declared.status.Status.{Status}
 use Rattle.run_ends.specs.declared.status.Status.TheVariants.{Done, Usage, ScriptRefused}
 use Rattle.run_ends.specs.Causes.{plain_cause, cause_line}
-use Rattle.script_run.specs.Runs.{Outcome, RefusedLine, Runs, plain_reading, refusal_text}
+use Rattle.script_meaning.specs.Runs.{Outcome, RefusedLine, Runs, plain_reading, refusal_text}
 use Rattle.run_ends.specs.Answers.{Answer}
 
 -- the line tells this walk, or that there is none

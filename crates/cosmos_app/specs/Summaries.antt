@@ -11,7 +11,7 @@ use Rattle.cosmos_session.specs.Lines.{Line, Wave, Unmet, Reported}
 use Rattle.run_ends.specs.declared.status.Status.{Status}
 use Rattle.run_ends.specs.declared.status.Status.TheVariants.{Done}
 use Rattle.run_ends.specs.Answers.{Answer}
-use Rattle.script_run.specs.Runs.{RefusedLine, Outcome, Runs, plain_reading, refusal_text, status_told}
+use Rattle.script_meaning.specs.Runs.{RefusedLine, Outcome, Runs, plain_reading, refusal_text, status_told}
 
 -- how many waveform lines a line is
 abbrev pub waves_of : Line → ℕ

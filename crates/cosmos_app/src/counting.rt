@@ -16,7 +16,8 @@ use group_analysis::Analyst;
 use line_words::{cut_line, decimal, front, lines, words};
 use port_edge::HonestSink;
 use run_ends::Stop;
-use script_run::{Halt, Turn, run_line};
+use script_meaning::{Halt, Turn};
+use script_run::run_line;
 use std::alloc::Global;
 use wave_print::Summary;
 

@@ -5,7 +5,7 @@ ghost use Rattle.port_edge.specs.Taken.{TakesFiles};
 ghost use Rattle.netlist.specs.Circuits.{HasVisibleNames};
 ghost use Rattle.run_ends.specs.Stops.{faults_read, faults_written, IsRefusedOnce};
 ghost use Rattle.run_ends.specs.Ends.{IsToldBy, IsUntouched};
-ghost use Rattle.fault_runs.specs.Judging.{AreJudgedFaults};
+ghost use Rattle.fault_meaning.specs.Judging.{AreJudgedFaults};
 ghost use Rattle.cosmos_app.specs.Starts.{StartsInOrder};
 ghost use Rattle.cosmos_app.specs.Wholes.{ReadsWhole};
 

@@ -41,5 +41,5 @@ mod summary;
 mod top;
 
 pub use run_ends::Status;
-pub use script_run::scripts_end_at_their_first_refused_line;
+pub use script_meaning::scripts_end_at_their_first_refused_line;
 pub use top::run;

@@ -25,7 +25,7 @@ use net_gen::{GenPart, generate};
 use netlist::Circuit;
 use port_edge::{Sink, send};
 use run_ends::{End, Stop, refuse, refuse_size};
-use script_run::Halt;
+use script_meaning::Halt;
 use sim_read::{NetFault, NetRefusal, read_netlist};
 use std::alloc::Global;
 use table_keys::TableKeys;

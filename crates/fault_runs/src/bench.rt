@@ -4,8 +4,8 @@ ghost use Rattle.std.specs.Prelude.{◌≡◌, None, Some, IfOk};
 ghost use Rattle.netlist.specs.Circuits.{HasVisibleNames};
 ghost use Rattle.fault_sim.specs.Benches.{JudgesBy};
 ghost use Rattle.fault_sim.specs.Faults.{IsFault};
-ghost use Rattle.fault_runs.specs.Runnings.{HasTraced};
-ghost use Rattle.fault_runs.specs.Traces.{start_with};
+ghost use Rattle.fault_meaning.specs.Runnings.{HasTraced};
+ghost use Rattle.fault_meaning.specs.Traces.{start_with};
 
 use crate::early::{calm_from, judge_under};
 use crate::running::run_under;
@@ -33,8 +33,8 @@ pub(crate) struct FaultBench<'a> {
 impl<'a> Model for FaultBench<'a> {
     ghost use Rattle.std.specs.Prelude.{IfSome};
     ghost use Rattle.netlist.specs.Circuits.{HasVisibleNames};
-    ghost use Rattle.fault_runs.specs.Early.{IsCalmFrom};
-    ghost use Rattle.fault_runs.specs.Runnings.{BenchData, kept_in};
+    ghost use Rattle.fault_meaning.specs.Early.{IsCalmFrom};
+    ghost use Rattle.fault_meaning.specs.Runnings.{BenchData, kept_in};
 
     ghost Value = { BenchData };
 
@@ -117,7 +117,7 @@ impl<'a> FaultBench<'a> {
 }
 
 impl<'a, A: Analyst> Bench<A> for FaultBench<'a> {
-    ghost use Rattle.fault_runs.specs.Runnings.{HasTraced};
+    ghost use Rattle.fault_meaning.specs.Runnings.{HasTraced};
 
     ghost start = { λ bench. bench.start };
 

@@ -5,32 +5,23 @@ ghost use Rattle.netlist.specs.Circuits.{HasVisibleNames};
 ghost use Rattle.cosmos_session.specs.Bounds.{IsBounded};
 ghost use Rattle.fault_sim.specs.Benches.{JudgesBy};
 ghost use Rattle.fault_sim.specs.Faults.{IsFault};
-ghost use Rattle.fault_runs.specs.Early as spec;
-ghost use Rattle.fault_runs.specs.Runnings.{IsTraced, StandsAtStart};
+ghost use Rattle.fault_meaning.specs.Early as spec;
+ghost use Rattle.fault_meaning.specs.Runnings.{IsTraced, StandsAtStart};
 
 use crate::running::{are_bounded, put_fault, stuck_under};
 use cosmos_session::Session;
+use fault_meaning::Bearing;
 use fault_sim::{Fault, Names, Trace, Verdict, read_rows, verdict};
 use group_analysis::Analyst;
 use line_words::{cut_line, front, lines};
 use netlist::Circuit;
 use port_edge::HonestSink;
 use script_lang::{Command, ScriptFault, read_command};
-use script_run::{Turn, run_line};
+use script_meaning::Turn;
+use script_run::run_line;
 use std::alloc::Global;
 use ternary::{NoMemory, Tern};
 use wave_print::wave_values;
-
-/// What a line of a script means for what is built.
-#[derive(Clone, Copy, Debug, PartialEq, Eq)]
-pub(crate) enum Bearing {
-    /// After it a build may have other texts analysed, or keep others.
-    Unsettles,
-    /// It builds.
-    Builds,
-    /// It does neither.
-    Stays,
-}
 
 /// The number of the first line of a script that builds and after which no line edits the circuit or is
 /// `keep`, where there is one.

@@ -9,20 +9,21 @@ ghost use Rattle.cosmos_session.specs.Sessions.{start_of};
 ghost use Rattle.fault_sim.specs.Faults.{IsFault};
 ghost use Rattle.run_ends.specs.Ends.{IsToldBy};
 ghost use Rattle.run_ends.specs.Stops.{faults_written, IsRefusedOnce};
-ghost use Rattle.fault_runs.specs.Judging.{AnswersList, AreJudgedFaults, IsJudgement, named_entry, verdict_line};
-ghost use Rattle.fault_runs.specs.Runnings.{TellsJudged};
+ghost use Rattle.fault_meaning.specs.Judging.{AnswersList, AreJudgedFaults, IsJudgement, named_entry, verdict_line};
+ghost use Rattle.fault_meaning.specs.Runnings.{TellsJudged};
 
 use crate::bench::FaultBench;
-use crate::counts::VerdictCounts;
 use crate::list::{FaultList, read_list};
 use crate::running::run_under;
 use cosmos_session::Session;
+use fault_meaning::VerdictCounts;
 use fault_sim::{Trace, Verdict};
 use group_analysis::Analyst;
 use netlist::Circuit;
 use port_edge::{Sink, send};
 use run_ends::{End, Stop, refuse};
-use script_run::{Halt, refuse_halt};
+use script_meaning::Halt;
+use script_run::refuse_halt;
 use std::alloc::Global;
 use ternary::NoMemory;
 use wave_print::{

@@ -6,11 +6,10 @@
 //! beside the good one, and its verdict is written as soon as it is known. A run ends at its first strong
 //! difference, where nothing after it would be analysed or kept (`early`).
 //!
-//! The layer above rests on its contract `told`, which is `AreJudgedFaults` in `specs/Judging`: the first
+//! The layer above rests on its contract `told`, which is `AreJudgedFaults` of `fault_meaning`: the first
 //! refused line of the list alone, or the line of the script that is refused in the good run alone, or a
-//! line for each verdict in order and the line of the counts. What a run under a fault is stands in
-//! `specs/Traces`: the fault's commands have their effects, and then the script runs as the stuck node
-//! changes it.
+//! line for each verdict in order and the line of the counts. All definitions, and the lemmas that the
+//! proofs here cite, stand in that crate.
 //!
 //! ```text
 //! judge_faults(alloc, inverter, b"..", b"open 1\nzero a\n", &mut out, &mut analyst)
@@ -18,17 +17,12 @@
 //!             fault 2 detected 2 a
 //!             faults 2 detected 1 possible 1 undetected 0 refused 0
 //! ```
-//!
-//! The proofs of crates above cite `FrontLemmas`, whose head says what it is of.
 #![tactic(auto)]
 
 mod bench;
-mod counts;
 mod early;
 mod judging;
-mod laws;
 mod list;
 mod running;
 
 pub use judging::judge_faults;
-pub use laws::{each_entry_is_named, each_text_is_analysed_once};

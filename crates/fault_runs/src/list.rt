@@ -2,8 +2,9 @@
 
 ghost use Rattle.std.specs.Prelude.{◌≡◌, ◌++◌, All, IfOk, IfSome, OnOk};
 ghost use Rattle.fault_sim.specs.Faults.{IsFault};
-ghost use Rattle.fault_runs.specs.Lists as spec;
+ghost use Rattle.fault_meaning.specs.Lists as spec;
 
+use fault_meaning::{ListRefusal, ListedFault};
 use fault_sim::{Fault, ListFault, read_fault};
 use line_words::{Line, cut_line, front, lines};
 use netlist::Circuit;
@@ -11,20 +12,6 @@ use script_lang::ItemList;
 use std::alloc::Global;
 use ternary::NoMemory;
 use wave_print::FaultCode;
-
-/// A fault of a list, with the number of its line.
-#[derive(Clone, Copy, Debug, PartialEq, Eq)]
-pub(crate) struct ListedFault {
-    pub(crate) line: u64,
-    pub(crate) fault: Fault,
-}
-
-/// The first refused line of a list, by its number, and the code of its refusal.
-#[derive(Clone, Copy, Debug, PartialEq, Eq)]
-pub(crate) struct ListRefusal {
-    pub(crate) line: u64,
-    pub(crate) code: FaultCode,
-}
 
 /// The faults of a list, which contracts see as a list.
 pub(crate) type FaultList = ItemList<ListedFault>;

@@ -8,9 +8,9 @@ ghost use Rattle.cosmos_session.specs.Outcomes.{Does};
 ghost use Rattle.cosmos_session.specs.Refusals.{refusal_of};
 ghost use Rattle.fault_sim.specs.Changes.{commands_in};
 ghost use Rattle.fault_sim.specs.Faults.{IsFault};
-ghost use Rattle.fault_runs.specs.Traces.{AreDone, commands_under};
-ghost use Rattle.fault_runs.specs.Traces as traces;
-ghost use Rattle.fault_runs.specs.Runnings as spec;
+ghost use Rattle.fault_meaning.specs.Traces.{AreDone, commands_under};
+ghost use Rattle.fault_meaning.specs.Traces as traces;
+ghost use Rattle.fault_meaning.specs.Runnings as spec;
 
 use cosmos_session::{ApplyFault, Session};
 use fault_sim::{Fault, Names, Trace, fault_commands, read_rows, stuck_node};
@@ -18,7 +18,8 @@ use group_analysis::Analyst;
 use netlist::Circuit;
 use port_edge::HonestSink;
 use script_lang::{Command, Name};
-use script_run::{Halt, obey_lines};
+use script_meaning::Halt;
+use script_run::obey_lines;
 use std::alloc::Global;
 use ternary::{NoMemory, Tern};
 

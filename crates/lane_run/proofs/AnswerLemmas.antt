@@ -8,16 +8,16 @@ use Rattle.group_text.specs.Texts.{GroupTextData}
 use Rattle.circuit_texts.specs.declared.texts.BuildFault.{BuildFault}
 use Rattle.wave_print.specs.declared.faults.FaultPlace.TheVariants.{Script}
 use Rattle.cosmos_session.specs.Sessions.{SessionData}
-use Rattle.script_run.specs.declared.halt.Halt.{Halt}
-use Rattle.script_run.specs.declared.halt.Halt.TheVariants.{End, Refused, TooLarge}
+use Rattle.script_meaning.specs.declared.halt.Halt.{Halt}
+use Rattle.script_meaning.specs.declared.halt.Halt.TheVariants.{End, Refused, TooLarge}
 use Rattle.run_ends.specs.declared.status.Status.TheVariants.{ScriptRefused}
 use Rattle.run_ends.specs.declared.stop.Stop.{Stop}
 use Rattle.run_ends.specs.declared.stop.End as end
 use Rattle.run_ends.specs.declared.stop.End.TheVariants as ended
 use Rattle.run_ends.specs.Causes.{Cause, plain_cause, cause_line}
-use Rattle.script_run.specs.Runs.{RefusedLine, refusal_text}
+use Rattle.script_meaning.specs.Runs.{RefusedLine, refusal_text}
 use Rattle.run_ends.specs.Answers.{Answer, IsRefusalFor, IsTooLarge, IsStopped}
-use Rattle.script_run.specs.Halts.{IsCutShort, TellsCutShort}
+use Rattle.script_meaning.specs.Halts.{IsCutShort, TellsCutShort}
 use Rattle.run_ends.specs.Ends.{IsTold, IsToldBy}
 use Rattle.run_ends.proofs.SizeLemmas.{size_caused}
 use Rattle.lane_run.specs.Batches.{IsBatchAnswer, RunsTogether, status_ended}

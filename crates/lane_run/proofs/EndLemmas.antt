@@ -18,7 +18,7 @@ use Rattle.cosmos_session.specs.Outcomes.{Performs}
 use Rattle.cosmos_session.proofs.EffectLemmas as effects
 use Rattle.cosmos_session.proofs.SizeLemmas.{texts_or_size}
 use Rattle.run_ends.proofs.SizeLemmas.{not_both}
-use Rattle.script_run.proofs.LowerLemmas.{command_ends, ready-performs}
+use Rattle.script_meaning.proofs.LowerLemmas.{command_ends, ready-performs}
 use Rattle.lane_session.specs.Outcomes.{Tells, PerformsTogether}
 use Rattle.lane_session.proofs.RowLemmas.{rows_exist, choose}
 use Rattle.lane_session.proofs.RefusalLemmas.{builds_alike}

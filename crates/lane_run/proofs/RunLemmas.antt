@@ -20,12 +20,12 @@ use Rattle.lane_session.specs.Outcomes.{KeepsTogether, PerformsTogether}
 use Rattle.lane_session.proofs.RowLemmas.{rows-none, rows-append}
 use Rattle.lane_session.proofs.StepLemmas.{column_stands, circuit_stands}
 use Rattle.run_ends.specs.declared.stop.Stop.{Stop}
-use Rattle.script_run.specs.declared.script.Turn.TheVariants.{Accepted, Refused, TooLarge}
+use Rattle.script_meaning.specs.declared.turn.Turn.TheVariants.{Accepted, Refused, TooLarge}
 use Rattle.run_ends.specs.Causes.{Cause, plain_cause, size_cause}
-use Rattle.script_run.specs.Codes.{refusal_code}
-use Rattle.script_run.specs.Runs.{RefusedLine, Runs, ends, passes, obeys, refuses, too_long, unread, refused, too_large, at_end, refused_at, after_command}
+use Rattle.script_meaning.specs.Codes.{refusal_code}
+use Rattle.script_meaning.specs.Runs.{RefusedLine, Runs, ends, passes, obeys, refuses, too_long, unread, refused, too_large, at_end, refused_at, after_command}
 use Rattle.run_ends.proofs.SizeLemmas.{size_caused}
-use Rattle.script_run.proofs.RunLemmas.{script_coded}
+use Rattle.script_meaning.proofs.RunLemmas.{script_coded}
 use Rattle.lane_run.specs.Batches.{reading_in, RunsTogether}
 use Rattle.lane_run.specs.Turns.{AreIdle, AskTogether, AreRefused, Follows, TakesTurn, HaveObeyed, HaveOutgrown, BreakOff}
 use Rattle.lane_run.proofs.LineLemmas.{LineReads, fails, idles, commands, line_reads}

@@ -15,10 +15,10 @@ use Rattle.wave_print.specs.declared.faults.FaultCode.{FaultCode}
 use Rattle.lane_session.specs.LaneSessions.{LaneSessionData, session_in}
 use Rattle.lane_session.specs.Outcomes.{KeepsTogether, ObeysTogether}
 use Rattle.run_ends.specs.Causes.{plain_cause}
-use Rattle.script_run.specs.Codes.{script_code}
-use Rattle.script_run.specs.Runs.{refused, unread}
+use Rattle.script_meaning.specs.Codes.{script_code}
+use Rattle.script_meaning.specs.Runs.{refused, unread}
 use Rattle.run_ends.specs.Stops.{IsRefusedOnce}
-use Rattle.script_run.specs.Turns.{turn_after}
+use Rattle.script_meaning.specs.Turns.{turn_after}
 use Rattle.lane_run.specs.Turns.{AreIdle, AskTogether, AreRefused, TakesTurn}
 
 -- a line that asks for a command comes to what the command comes to, and the sink lacked memory once at the most

@@ -5,7 +5,7 @@ use Rattle.lane_script.specs.Columns.{column_reading_of}
 use Rattle.cosmos_session.specs.Sessions.{SessionData}
 use Rattle.run_ends.specs.declared.status.Status.{Status}
 use Rattle.run_ends.specs.declared.status.Status.TheVariants.{Done, ScriptRefused}
-use Rattle.script_run.specs.Runs.{Reading, RefusedLine, Outcome, Runs, refusal_text}
+use Rattle.script_meaning.specs.Runs.{Reading, RefusedLine, Outcome, Runs, refusal_text}
 use Rattle.run_ends.specs.Answers.{Answer}
 use Rattle.lane_session.specs.Rows.{Interleaves}
 

@@ -12,13 +12,13 @@ use Rattle.lane_script.specs.Forms.{IsFormed}
 use Rattle.cosmos_session.specs.Sessions.{SessionData}
 use Rattle.lane_session.specs.LaneSessions.{LaneSessionData, session_in}
 use Rattle.lane_session.specs.Outcomes.{AcceptsTogether, KeepsTogether, RefusesSizeTogether, BeginsTogether}
-use Rattle.script_run.specs.declared.halt.Halt.{Halt}
-use Rattle.script_run.specs.declared.halt.Halt.TheVariants as halt
+use Rattle.script_meaning.specs.declared.halt.Halt.{Halt}
+use Rattle.script_meaning.specs.declared.halt.Halt.TheVariants as halt
 use Rattle.run_ends.specs.declared.stop.Stop.{Stop}
-use Rattle.script_run.specs.declared.script.Turn.{Turn}
-use Rattle.script_run.specs.declared.script.Turn.TheVariants.{Accepted, Refused, TooLarge}
+use Rattle.script_meaning.specs.declared.turn.Turn.{Turn}
+use Rattle.script_meaning.specs.declared.turn.Turn.TheVariants.{Accepted, Refused, TooLarge}
 use Rattle.run_ends.specs.Causes.{plain_cause, size_cause, Cause}
-use Rattle.script_run.specs.Runs.{IsIdle, Asks, IsRefused, RefusedLine}
+use Rattle.script_meaning.specs.Runs.{IsIdle, Asks, IsRefused, RefusedLine}
 use Rattle.lane_run.specs.Batches.{reading_in, RunsTogether}
 
 -- in each column the line asks for nothing

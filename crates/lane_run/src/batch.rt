@@ -14,7 +14,8 @@ use lane_session::LaneSession;
 use line_words::{Line, cut_line, front, lines};
 use port_edge::Sink;
 use run_ends::{End, Stop};
-use script_run::{Halt, Turn, refuse_halt, script_code, turn_of};
+use script_meaning::{Halt, Turn};
+use script_run::{refuse_halt, script_code, turn_of};
 use std::alloc::Global;
 use wave_print::FaultCode;
 

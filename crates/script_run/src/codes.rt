@@ -1,7 +1,7 @@
 //! The codes under which faults of scripts are printed.
 
 ghost use Rattle.std.specs.Prelude.{◌≡◌};
-ghost use Rattle.script_run.specs.Codes as spec;
+ghost use Rattle.script_meaning.specs.Codes as spec;
 
 use cosmos_session::Refusal;
 use script_lang::ScriptFault;

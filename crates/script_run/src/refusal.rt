@@ -3,12 +3,12 @@
 ghost use Rattle.std.specs.Prelude.{◌≡◌, ◌≢◌, IfErr};
 ghost use Rattle.run_ends.specs.Ends.{IsTold};
 ghost use Rattle.run_ends.specs.Stops.{faults_written, IsRefusedOnce};
-ghost use Rattle.script_run.specs.Halts.{IsCutShort, TellsCutShort};
+ghost use Rattle.script_meaning.specs.Halts.{IsCutShort, TellsCutShort};
 
-use crate::halt::Halt;
 use netlist::Circuit;
 use port_edge::Sink;
 use run_ends::{End, Stop, refuse, refuse_size};
+use script_meaning::Halt;
 use std::alloc::Global;
 use wave_print::FaultPlace;
 

@@ -5,15 +5,14 @@ ghost use Rattle.line_words.specs.Files as file;
 ghost use Rattle.fault_sim.specs.Masks.{masked_reading};
 ghost use Rattle.cosmos_session.specs.Sessions.{IsReady};
 ghost use Rattle.cosmos_session.specs.Sinks.{faults_applied};
-ghost use Rattle.script_run.specs.Runs.{plain_reading, status_told};
-ghost use Rattle.script_run.specs.Turns.{TakesTurn, turn_after};
-ghost use Rattle.script_run.specs.Halts.{TellsHalt};
-ghost use Rattle.script_run.specs.Ends.{TellsRun};
+ghost use Rattle.script_meaning.specs.Runs.{plain_reading, status_told};
+ghost use Rattle.script_meaning.specs.Turns.{TakesTurn, turn_after};
+ghost use Rattle.script_meaning.specs.Halts.{TellsHalt};
+ghost use Rattle.script_meaning.specs.Ends.{TellsRun};
 ghost use Rattle.run_ends.specs.Ends.{status_of};
 ghost use Rattle.run_ends.specs.Stops.{faults_written, IsRefusedOnce};
 
 use crate::codes::{refusal_code, script_code};
-use crate::halt::Halt;
 use crate::refusal::refuse_halt;
 use circuit_texts::BuildFault;
 use cosmos_session::{ApplyFault, Session};
@@ -22,20 +21,10 @@ use group_analysis::Analyst;
 use line_words::{Line, cut_line, front, lines};
 use port_edge::Sink;
 use run_ends::{End, Stop};
+use script_meaning::{Halt, Turn};
 use std::alloc::Global;
 use ternary::Tern;
 use wave_print::FaultCode;
-
-/// What became of a line of the script.
-#[derive(Clone, Copy, Debug, PartialEq, Eq)]
-pub enum Turn {
-    /// It was obeyed, or there was nothing to do.
-    Accepted,
-    /// It is refused under this code.
-    Refused(FaultCode),
-    /// It is refused since the circuit can't be built for its command.
-    TooLarge(BuildFault),
-}
 
 /// Runs the lines of a script, in order, to the end or to the first that is refused, and writes the line
 /// of its refusal.

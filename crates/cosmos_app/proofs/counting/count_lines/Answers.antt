@@ -3,10 +3,10 @@ use Rattle.std.proofs.Common.{◌≡◌, List, [], ℕ, Some, Ok, ap, ◌∙◌}
 use Rattle.std.specs.List.{enumerate_from}
 use Rattle.line_words.specs.Lines.{lines_of}
 use Rattle.line_words.specs.Files as file
-use Rattle.script_run.specs.declared.script.Turn.{Turn}
-use Rattle.script_run.specs.declared.script.Turn.TheVariants.{Accepted, Refused, TooLarge}
-use Rattle.script_run.specs.Runs.{plain_reading}
-use Rattle.script_run.specs.Turns.{TakesTurn}
+use Rattle.script_meaning.specs.declared.turn.Turn.{Turn}
+use Rattle.script_meaning.specs.declared.turn.Turn.TheVariants.{Accepted, Refused, TooLarge}
+use Rattle.script_meaning.specs.Runs.{plain_reading}
+use Rattle.script_meaning.specs.Turns.{TakesTurn}
 use Rattle.cosmos_app.proofs.CountingLemmas.{tallies_first, turn_plain, tallies_on, tallies_all, halts_refused, halts_large}
 use Rattle.cosmos_app.proofs.counting.count_lines.Given.{Over}
 use Rattle.cosmos_app.proofs.counting.count_lines.Goals.{In_ok-run_line}

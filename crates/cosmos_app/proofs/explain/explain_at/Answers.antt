@@ -2,11 +2,11 @@
 use Rattle.std.proofs.Common.{◌≢◌, ℕ, List, Option, Result, refl, subst, sym}
 use Rattle.netlist.specs.Circuits.{CircuitData}
 use Rattle.cosmos_session.specs.Sessions.{SessionData}
-use Rattle.script_run.specs.declared.halt.Halt.{Halt}
-use Rattle.script_run.specs.declared.halt.Halt.TheVariants.{End, Refused, TooLarge}
+use Rattle.script_meaning.specs.declared.halt.Halt.{Halt}
+use Rattle.script_meaning.specs.declared.halt.Halt.TheVariants.{End, Refused, TooLarge}
 use Rattle.run_ends.specs.declared.stop.End as end
 use Rattle.run_ends.specs.declared.stop.Stop.{Stop}
-use Rattle.script_run.specs.Halts.{IsCutShort, TellsCutShort}
+use Rattle.script_meaning.specs.Halts.{IsCutShort, TellsCutShort}
 use Rattle.run_ends.specs.Ends.{IsTold}
 use Rattle.cosmos_app.specs.Explaining.{TellsSize, IsHaltExplained}
 use Rattle.cosmos_app.proofs.explain.explain_at.Goals as goal

@@ -2,7 +2,7 @@
 use Rattle.std.proofs.Common.{None}
 use Rattle.fault_sim.specs.Masks.{masked_reading}
 use Rattle.line_words.specs.Files as file
-use Rattle.script_run.proofs.ReadingLemmas.{masked-plain}
+use Rattle.script_meaning.proofs.ReadingLemmas.{masked-plain}
 use Rattle.cosmos_app.proofs.ReasonedLemmas.{dropped, dropped_stop}
 use Rattle.cosmos_app.proofs.explain.run_unwritten.Goals as goal
 

@@ -3,7 +3,7 @@ use Rattle.std.proofs.Common.{ℕ, List, None, sym, ap, ◌∙◌, subst}
 use Rattle.std.specs.List.{enumerate_from}
 use Rattle.line_words.specs.Lines.{lines_of}
 use Rattle.line_words.specs.Files as file
-use Rattle.fault_runs.proofs.FromLemmas.{HasScanned, scanned_first, scanned_on, scanned_last}
+use Rattle.fault_meaning.proofs.FromLemmas.{HasScanned, scanned_first, scanned_on, scanned_last}
 use Rattle.fault_runs.proofs.early.calm_from.Goals as goal
 
 pub loop-line-init : goal.loop-line-init

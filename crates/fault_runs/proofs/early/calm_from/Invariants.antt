@@ -1,5 +1,5 @@
 use Rattle.line_words.specs.Files as file
-use Rattle.fault_runs.proofs.FromLemmas.{HasScanned}
+use Rattle.fault_meaning.proofs.FromLemmas.{HasScanned}
 use Rattle.fault_runs.proofs.early.calm_from.Given as goal
 
 abbrev pub invariant-loop-line : goal.invariant-loop-line

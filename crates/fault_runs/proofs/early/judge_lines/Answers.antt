@@ -5,10 +5,10 @@ use Rattle.port_edge.specs.HonestPorts.{HonestSinkData}
 use Rattle.line_words.specs.Lines.{lines_of}
 use Rattle.line_words.specs.Files as file
 use Rattle.fault_sim.specs.Masks.{masked_reading}
-use Rattle.script_run.proofs.RunLemmas.{HasCome, comes_first, comes_to}
-use Rattle.fault_runs.specs.Early.{JudgesText, TellsAfter}
-use Rattle.fault_runs.proofs.PlaceLemmas.{IsPlaced, placed_first}
-use Rattle.fault_runs.proofs.EndLemmas.{ends_here, goes_past, ends_whole}
+use Rattle.script_meaning.proofs.RunLemmas.{HasCome, comes_first, comes_to}
+use Rattle.fault_meaning.specs.Early.{JudgesText, TellsAfter}
+use Rattle.fault_meaning.proofs.PlaceLemmas.{IsPlaced, placed_first}
+use Rattle.fault_meaning.proofs.EndLemmas.{ends_here, goes_past, ends_whole}
 use Rattle.fault_runs.proofs.early.judge_lines.Goals as goal
 
 pub loop-line-init : goal.loop-line-init

@@ -1,8 +1,8 @@
 use Rattle.std.proofs.Common.{[], Some}
 use Rattle.line_words.specs.Files as file
 use Rattle.fault_sim.specs.Masks.{masked_reading}
-use Rattle.script_run.proofs.RunLemmas.{HasCome}
-use Rattle.fault_runs.proofs.PlaceLemmas.{IsPlaced}
+use Rattle.script_meaning.proofs.RunLemmas.{HasCome}
+use Rattle.fault_meaning.proofs.PlaceLemmas.{IsPlaced}
 use Rattle.fault_runs.proofs.early.judge_lines.Given as goal
 
 abbrev pub invariant-loop-line : goal.invariant-loop-line

@@ -1,5 +1,5 @@
 -- A line that is accepted ends the run early or not at all; one that is refused ends it.
-use Rattle.fault_runs.proofs.EndLemmas.{tells_early, tells_refused}
+use Rattle.fault_meaning.proofs.EndLemmas.{tells_early, tells_refused}
 use Rattle.fault_runs.proofs.early.verdict_after.Goals as goal
 
 pub returns-in-Accepted : goal.returns-in-Accepted

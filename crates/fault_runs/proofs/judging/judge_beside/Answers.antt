@@ -3,7 +3,7 @@ use Rattle.std.proofs.Common.{All, inl, refl, sym, subst}
 use Rattle.std.proofs.lemmas.Result.{err_from_is_err_and}
 use Rattle.fault_sim.specs.Faults.{IsFault}
 use Rattle.run_ends.specs.Ends.{IsToldBy}
-use Rattle.fault_runs.specs.Runnings.{BenchData, TellsJudged}
+use Rattle.fault_meaning.specs.Runnings.{BenchData, TellsJudged}
 use Rattle.fault_runs.proofs.judging.judge_beside.Goals as goal
 
 pub judge_each-requires-clause-faults : goal.judge_each-requires-clause-faults

@@ -1,7 +1,7 @@
 -- Each fault takes the verdicts one step on; at each exit what was written so far becomes what is told of all.
 use Rattle.std.proofs.Common.{inl, length, refl, ap, ◌∙◌, arith}
 use Rattle.std.proofs.lemmas.Result.{err_from_is_err_and}
-use Rattle.fault_runs.proofs.JudgingLemmas.{judged_first, stopped_before, few_counted, fault_here, judged_on, stopped_in_line, judged_all, stopped_at_counts}
+use Rattle.fault_meaning.proofs.JudgingLemmas.{judged_first, stopped_before, few_counted, fault_here, judged_on, stopped_in_line, judged_all, stopped_at_counts}
 use Rattle.fault_runs.proofs.judging.judge_each.Goals as goal
 
 pub loop-listed-init : goal.loop-listed-init

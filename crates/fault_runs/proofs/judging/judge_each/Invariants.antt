@@ -1,5 +1,5 @@
 use Rattle.std.proofs.Common.{◌≡◌}
-use Rattle.fault_runs.proofs.JudgingLemmas.{HasJudged}
+use Rattle.fault_meaning.proofs.JudgingLemmas.{HasJudged}
 use Rattle.fault_runs.proofs.judging.judge_each.Given as goal
 
 abbrev pub invariant-loop-listed : goal.invariant-loop-listed

@@ -5,7 +5,7 @@ use Rattle.run_ends.specs.declared.status.Status.TheVariants as status
 use Rattle.run_ends.specs.Answers.{Answer, IsRefusal}
 use Rattle.run_ends.specs.Ends.{IsToldBy}
 use Rattle.run_ends.proofs.EndLemmas.{told_by_none}
-use Rattle.fault_runs.specs.Judging.{AnswersList}
+use Rattle.fault_meaning.specs.Judging.{AnswersList}
 use Rattle.fault_runs.proofs.judging.judge_faults.Goals as goal
 
 pub returns-in-Ok-clause-told : goal.returns-in-Ok-clause-told

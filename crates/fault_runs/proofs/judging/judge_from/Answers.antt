@@ -2,8 +2,8 @@
 use Rattle.std.proofs.Common.{◌∙◌, sym, ap, subst}
 use Rattle.netlist.specs.Circuits.{CircuitData}
 use Rattle.cosmos_session.specs.Sessions.{SessionData, start_of}
-use Rattle.script_run.specs.Halts.{IsCutShort}
-use Rattle.fault_runs.proofs.JudgingLemmas.{told_verdicts, told_cut_short, cut_short}
+use Rattle.script_meaning.specs.Halts.{IsCutShort}
+use Rattle.fault_meaning.proofs.JudgingLemmas.{told_verdicts, told_cut_short, cut_short}
 use Rattle.fault_runs.proofs.judging.judge_from.Goals as goal
 
 pub run_under-requires-clause-stands : goal.run_under-requires-clause-stands

@@ -1,7 +1,7 @@
 -- Where the line isn't made nothing is written.
 use Rattle.port_edge.proofs.ResultLemmas.{at_err}
 use Rattle.port_edge.proofs.SendingLemmas.{part_none}
-use Rattle.fault_runs.specs.Judging.{verdict_line}
+use Rattle.fault_meaning.specs.Judging.{verdict_line}
 use Rattle.fault_runs.proofs.judging.send_verdict.Goals as goal
 
 pub returns-in_err-put_verdict-clause-part : goal.returns-in_err-put_verdict-clause-part

@@ -1,7 +1,7 @@
 -- A line inside the list is what it is read as.
-use Rattle.script_run.proofs.TurnLemmas.{is_inside}
+use Rattle.script_meaning.proofs.TurnLemmas.{is_inside}
 use Rattle.std.proofs.Common.{ap, ◌∙◌, Err}
-use Rattle.fault_runs.proofs.ListLemmas.{listed_inside}
+use Rattle.fault_meaning.proofs.ListLemmas.{listed_inside}
 use Rattle.fault_runs.proofs.list.read_line.Goals as goal
 
 pub returns-in-Ok-clause-value : goal.returns-in-Ok-clause-value

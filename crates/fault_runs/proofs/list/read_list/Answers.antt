@@ -3,9 +3,9 @@ use Rattle.std.proofs.Common.{◌≡◌, ℕ, List, Option, Ok, Err, sym, ap, �
 use Rattle.std.specs.List.{enumerate_from}
 use Rattle.line_words.specs.Lines.{lines_of}
 use Rattle.line_words.specs.Files as file
-use Rattle.fault_runs.specs.declared.list.ListedFault.{ListedFault}
-use Rattle.fault_runs.specs.Lists.{faults_of}
-use Rattle.fault_runs.proofs.ListLemmas.{HasRead, read_first, read_on, read_refused, read_last}
+use Rattle.fault_meaning.specs.declared.listed.ListedFault.{ListedFault}
+use Rattle.fault_meaning.specs.Lists.{faults_of}
+use Rattle.fault_meaning.proofs.ListLemmas.{HasRead, read_first, read_on, read_refused, read_last}
 use Rattle.fault_runs.proofs.list.read_list.Goals as goal
 
 pub loop-line-init : goal.loop-line-init

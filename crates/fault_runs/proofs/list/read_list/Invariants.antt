@@ -1,5 +1,5 @@
 use Rattle.line_words.specs.Files as file
-use Rattle.fault_runs.proofs.ListLemmas.{HasRead}
+use Rattle.fault_meaning.proofs.ListLemmas.{HasRead}
 use Rattle.fault_runs.proofs.list.read_list.Given as goal
 
 abbrev pub invariant-loop-line : goal.invariant-loop-line

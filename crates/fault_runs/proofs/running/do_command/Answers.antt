@@ -1,6 +1,6 @@
 -- A quiet command that is accepted has its effect alone; one that isn't refused can lack memory alone.
 use Rattle.std.proofs.Common.{Some, subst}
-use Rattle.fault_runs.proofs.BeginLemmas.{CallComesTo, quiet_call, quiet_fault}
+use Rattle.fault_meaning.proofs.BeginLemmas.{CallComesTo, quiet_call, quiet_fault}
 use Rattle.fault_runs.proofs.running.do_command.Goals as goal
 
 pub want_of_memory-requires : goal.want_of_memory-requires

@@ -4,8 +4,8 @@ use Rattle.cosmos_session.specs.Sessions.{SessionData}
 use Rattle.fault_sim.specs.declared.fault.Fault.{Fault}
 use Rattle.fault_sim.specs.Changes.{commands_of}
 use Rattle.fault_sim.specs.Faults.{IsFault}
-use Rattle.fault_runs.specs.Runnings as spec
-use Rattle.fault_runs.proofs.BeginLemmas.{quiet_commands, allowed_commands}
+use Rattle.fault_meaning.specs.Runnings as spec
+use Rattle.fault_meaning.proofs.BeginLemmas.{quiet_commands, allowed_commands}
 use Rattle.fault_runs.proofs.running.put_fault.Goals as goal
 
 pub do_commands-requires-clause-quiet : goal.do_commands-requires-clause-quiet

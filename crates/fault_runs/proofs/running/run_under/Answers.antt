@@ -6,9 +6,9 @@ use Rattle.port_edge.specs.HonestPorts.{HonestSinkData}
 use Rattle.group_text.specs.Texts.{GroupTextData}
 use Rattle.cosmos_session.specs.Sessions.{SessionData}
 use Rattle.fault_sim.specs.Masks.{masked_reading}
-use Rattle.script_run.specs.Halts.{HaltsAt}
-use Rattle.fault_runs.specs.Traces.{AreDone, commands_under, stuck_under}
-use Rattle.fault_runs.proofs.RunLemmas.{runs_to}
+use Rattle.script_meaning.specs.Halts.{HaltsAt}
+use Rattle.fault_meaning.specs.Traces.{AreDone, commands_under, stuck_under}
+use Rattle.fault_meaning.proofs.RunLemmas.{runs_to}
 use Rattle.fault_runs.proofs.running.run_under.Goals as goal
 
 pub obey_lines-requires : goal.obey_lines-requires

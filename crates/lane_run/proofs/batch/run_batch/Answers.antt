@@ -2,7 +2,7 @@
 use Rattle.std.proofs.Common.{sym, subst}
 use Rattle.std.proofs.lemmas.Result.{err_from_is_err_and}
 use Rattle.netlist.specs.Circuits.{CircuitData}
-use Rattle.script_run.specs.Halts.{IsCutShort}
+use Rattle.script_meaning.specs.Halts.{IsCutShort}
 use Rattle.lane_run.proofs.AnswerLemmas.{cut_short, told_cut, told_end, told_stop}
 use Rattle.lane_run.proofs.batch.run_batch.Goals as goal
 

@@ -1,7 +1,7 @@
 -- A line comes to what its command comes to in each column, or is refused as it is read.
 use Rattle.std.proofs.Common.{sym, ◌∙◌, inl}
 use Rattle.run_ends.specs.Stops.{IsRefusedOnce}
-use Rattle.script_run.proofs.TurnLemmas.{is_inside}
+use Rattle.script_meaning.proofs.TurnLemmas.{is_inside}
 use Rattle.lane_session.specs.LaneSessions.{session_in}
 use Rattle.lane_run.specs.Turns.{TakesTurn}
 use Rattle.lane_run.proofs.TurnLemmas.{takes_turn, are_unread, keeps_all, asks_together, idle_together, unread_in}

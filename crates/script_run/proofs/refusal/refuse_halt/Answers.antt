@@ -1,8 +1,8 @@
 -- Lines that were cut short ended at a refused line, whose refusal is told.
 use Rattle.std.proofs.Common.{inr, sym, subst}
-use Rattle.script_run.specs.declared.halt.Halt.{Halt}
+use Rattle.script_meaning.specs.declared.halt.Halt.{Halt}
 use Rattle.run_ends.specs.Ends.{IsTold}
-use Rattle.script_run.specs.Halts.{IsCutShort, TellsCutShort}
+use Rattle.script_meaning.specs.Halts.{IsCutShort, TellsCutShort}
 use Rattle.script_run.proofs.refusal.refuse_halt.Goals as goal
 
 pub unreachable-requires : goal.unreachable-requires

@@ -3,8 +3,8 @@ use Rattle.std.proofs.Common.{List, ℕ, inr, refl, sym, ap, ◌∙◌}
 use Rattle.std.specs.List.{enumerate_from}
 use Rattle.std.proofs.lemmas.Result.{err_from_is_err_and}
 use Rattle.line_words.specs.Lines.{lines_of}
-use Rattle.script_run.proofs.ReadingLemmas.{masked-sound}
-use Rattle.script_run.proofs.RunLemmas.{comes_first, comes_to, comes_on, halts_refused, halts_large, halts_stop, halts_end}
+use Rattle.script_meaning.proofs.ReadingLemmas.{masked-sound}
+use Rattle.script_meaning.proofs.RunLemmas.{comes_first, comes_to, comes_on, halts_refused, halts_large, halts_stop, halts_end}
 use Rattle.script_run.proofs.script.obey_lines.Goals as goal
 
 pub loop-line-init : goal.loop-line-init

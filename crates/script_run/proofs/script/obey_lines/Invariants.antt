@@ -1,7 +1,7 @@
 use Rattle.std.proofs.Common.{◌≡◌}
 use Rattle.line_words.specs.Files as file
 use Rattle.fault_sim.specs.Masks.{masked_reading}
-use Rattle.script_run.proofs.RunLemmas.{HasCome}
+use Rattle.script_meaning.proofs.RunLemmas.{HasCome}
 use Rattle.script_run.proofs.script.obey_lines.Given as goal
 
 abbrev pub invariant-loop-line : goal.invariant-loop-line

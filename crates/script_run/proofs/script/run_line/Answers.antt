@@ -4,8 +4,8 @@ use Rattle.netlist.specs.Circuits.{CircuitData}
 use Rattle.script_lang.specs.declared.command.ScriptFault.TheVariants.{NoMemory}
 use Rattle.fault_sim.specs.Masks.{masked_reading}
 use Rattle.run_ends.specs.Stops.{IsRefusedOnce}
-use Rattle.script_run.specs.Turns.{TakesTurn}
-use Rattle.script_run.proofs.TurnLemmas.{takes_turn, is_unread, is_inside}
+use Rattle.script_meaning.specs.Turns.{TakesTurn}
+use Rattle.script_meaning.proofs.TurnLemmas.{takes_turn, is_unread, is_inside}
 use Rattle.script_run.proofs.script.run_line.Given.{Over}
 use Rattle.script_run.proofs.script.run_line.Goals.{After-turn_of}
 use Rattle.script_run.proofs.script.run_line.Goals as goal

@@ -2,9 +2,9 @@
 use Rattle.std.proofs.Common.{sym, subst}
 use Rattle.std.proofs.lemmas.Result.{err_from_is_err_and}
 use Rattle.netlist.specs.Circuits.{CircuitData}
-use Rattle.script_run.specs.Halts.{IsCutShort}
-use Rattle.script_run.proofs.ReadingLemmas.{masked-plain}
-use Rattle.script_run.proofs.HaltLemmas.{cut_short, told_end, told_cut, told_broken}
+use Rattle.script_meaning.specs.Halts.{IsCutShort}
+use Rattle.script_meaning.proofs.ReadingLemmas.{masked-plain}
+use Rattle.script_meaning.proofs.HaltLemmas.{cut_short, told_end, told_cut, told_broken}
 use Rattle.script_run.proofs.script.run_lines.Goals as goal
 
 pub returns-in_err-halt-clause-told : goal.returns-in_err-halt-clause-told

@@ -1,9 +1,9 @@
 -- The session stands at the start with what the last one keeps, so what it comes to has a trace of the bench.
 use Rattle.std.proofs.Common.{refl, ap, ◌∙◌}
 use Rattle.cosmos_session.specs.Sessions.{HeldSession}
-use Rattle.fault_runs.specs.Runnings.{BenchData}
-use Rattle.fault_runs.proofs.RunLemmas.{traced}
-use Rattle.fault_runs.proofs.BenchLemmas.{bench_traced}
+use Rattle.fault_meaning.specs.Runnings.{BenchData}
+use Rattle.fault_meaning.proofs.RunLemmas.{traced}
+use Rattle.fault_meaning.proofs.BenchLemmas.{bench_traced}
 use Rattle.fault_runs.proofs.bench.FaultBenchBench.run.Goals as goal
 
 pub returns-clause-trace : goal.returns-clause-trace

@@ -1,0 +1,16 @@
+pub mod ListLemmas
+pub mod TextLemmas
+pub mod BeginLemmas
+pub mod VerdictLemmas
+pub mod RunLemmas
+pub mod CountLemmas
+pub mod JudgingLemmas
+pub mod FrontLemmas
+pub mod OnceLemmas
+pub mod NameLemmas
+pub mod CalmLemmas
+pub mod DetectedLemmas
+pub mod PlaceLemmas
+pub mod EndLemmas
+pub mod BenchLemmas
+pub mod FromLemmas

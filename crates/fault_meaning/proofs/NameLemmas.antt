@@ -1,0 +1,188 @@
+-- Each entry of a row of a trace has a name: the watch list only grows, and each row has one value for each entry of its moment.
+use Rattle.std.proofs.Common.{◌≡◌, ◌≢◌, ℕ, ◌≤◌, ◌<◌, if◌then◌else◌, Bool, true, false, List, [], ◌∷◌, ◌++◌, length, map, get_or, slice_get, All, Option, Some, None, refl, sym, ap, subst, ◌∙◌, arith, length-append}
+use Rattle.std.specs.Prelude.{filter_map}
+use Rattle.std.proofs.lemmas.List.{length-map}
+use Rattle.std.proofs.lemmas.List.Elements.{All-nil, All-cons, All-append, All-head, All-tail, All-weaker, All-get_or}
+use Rattle.std.proofs.lemmas.Option.{slice_get_within, slice_get-get_or, get_or_from_slice_get}
+use Rattle.ternary.specs.declared.tern.Tern.{Tern}
+use Rattle.path_meaning.specs.Switching.{state_at}
+use Rattle.netlist.specs.Circuits.{CircuitData, called}
+use Rattle.netlist.specs.Edits.{node_named}
+use Rattle.group_text.specs.Texts.{GroupTextData}
+use Rattle.script_lang.specs.declared.command.Command.{Command}
+use Rattle.script_lang.specs.declared.command.Command.TheVariants.{Input, Store, Set, Charge, Watch, Limit, Step, Phase, Clock, Cycle, Expect, Add, Del, Strength, Kind, Wire, Report, Keep}
+use Rattle.cosmos_session.specs.Sessions.{SessionData, places_of}
+use Rattle.cosmos_session.specs.Preparing.{BuildsIf, builds}
+use Rattle.cosmos_session.specs.Lines.{Line, Wave, Unmet, Reported}
+use Rattle.cosmos_session.specs.Effects.{Effect, IsPhase, AreBeats, with_beat, places_in, wave_by, is_state, unmet_line, unmet_lines}
+use Rattle.cosmos_session.specs.Outcomes.{Performs}
+use Rattle.script_meaning.specs.Runs.{Reading, Outcome, Runs, ends, passes, obeys, refuses}
+use Rattle.fault_sim.specs.declared.fault.Fault.{Fault}
+use Rattle.fault_sim.specs.declared.trace.Trace.{Trace}
+use Rattle.fault_meaning.specs.Rows.{row_of}
+use Rattle.fault_meaning.specs.Traces.{IsTrace}
+
+-- a waveform line has no more values than so many
+abbrev FitsIn : ℕ → Line → Type 0
+FitsIn most (Wave n k mark values) = length values ≤ most
+FitsIn most (Unmet name want got n) = Unit {0}
+FitsIn most (Reported groups texts new) = Unit {0}
+
+-- the watch list grew, and no line has more values than it has entries
+record AreFitting (old new : SessionData) (lines : List Line) : Type 0 where
+  grows : length old.watched ≤ length new.watched
+  fit : All (FitsIn (length new.watched)) lines
+
+module _ (some most : ℕ) (low : some ≤ most) where
+  wider : (line : Line) → FitsIn some line → FitsIn most line
+  wider (Wave n k mark values) fits = omega (arith, fits, low)
+  wider (Unmet name want got n) fits = tt
+  wider (Reported groups texts new) fits = tt
+
+  all_wider : (lines : List Line) → All (FitsIn some) lines → All (FitsIn most) lines
+  all_wider lines all = All-weaker (FitsIn some) (FitsIn most) wider lines all
+
+still_fitting : (old new : SessionData) (lines : List Line) → new.watched ≡ old.watched → lines ≡ [] → AreFitting old new lines
+still_fitting old new lines same none =
+    let long : length new.watched ≡ length old.watched = ap length same in
+    record { grows = omega (arith, long); fit = subst (All (FitsIn (length new.watched))) (sym none) (All-nil (FitsIn (length new.watched))) }
+
+wave_fitting : (old new : SessionData) (lines : List Line) (k : ℕ) (mark : Bool) → new.watched ≡ old.watched → lines ≡ wave_by new k mark ∷ [] →
+    AreFitting old new lines
+wave_fitting old new lines k mark same wrote =
+    let long : length new.watched ≡ length old.watched = ap length same in
+    let values : length (map (state_at new.state) new.watched) ≡ length new.watched = length-map new.watched (state_at new.state) in
+    record {
+      grows = omega (arith, long);
+      fit = subst (All (FitsIn (length new.watched))) (sym wrote)
+          (All-cons (FitsIn (length new.watched)) (wave_by new k mark) [] (omega (arith, values)) (All-nil (FitsIn (length new.watched))));
+    }
+
+phase_fitting : (old new : SessionData) (lines : List Line) → IsPhase old new lines → AreFitting old new lines
+phase_fitting old new lines phase =
+    wave_fitting old new lines phase.steps phase.joined (ap (λ (session : SessionData). session.watched) phase.moved) phase.wrote
+
+both_fitting : (old mid new : SessionData) (front back : List Line) → AreFitting old mid front → AreFitting mid new back → AreFitting old new (front ++ back)
+both_fitting old mid new front back first second = record {
+  grows = omega (arith, first.grows, second.grows);
+  fit = All-append (FitsIn (length new.watched)) front back (all_wider (length mid.watched) (length new.watched) second.grows front first.fit) second.fit;
+}
+
+beats_fitting : (places : List ℕ) (old new : SessionData) (lines : List Line) → AreBeats old places new lines → AreFitting old new lines
+beats_fitting [] old new lines beats = still_fitting old new lines (ap (λ (session : SessionData). session.watched) beats.0) beats.1
+beats_fitting (place ∷ places) old new lines (mid, front, back, phase, beats, joined) =
+    let first = phase_fitting (with_beat old place) mid front phase in
+    subst (AreFitting old new) (sym joined)
+    (both_fitting old mid new front back (record { grows = first.grows; fit = first.fit }) (beats_fitting places mid new back beats))
+
+-- what each given value has, all of them have
+All-filter_map : {X Y : Type 0} (P : Y → Type 0) (h : X → Option Y) → ((x : X) (y : Y) → h x ≡ Some y → P y) → (xs : List X) → All P (filter_map h xs)
+All-filter_map P h each [] = All-nil P
+All-filter_map {X} {Y} P h each (x ∷ xs) = by (All-filter_map P h each xs) (h x) refl
+  where
+    by : All P (filter_map h xs) → (given : Option Y) → h x ≡ given → All P (filter_map h (x ∷ xs))
+    by rest None is = rw is rest
+    by rest (Some y) is = rw is (All-cons P y (filter_map h xs) (each x y is) rest)
+
+-- the lines of expectations have no values
+unmet_fitting : (most : ℕ) (session : SessionData) (list : List (List ℕ × Tern)) → All (FitsIn most) (unmet_lines session list)
+unmet_fitting most session list = All-filter_map (FitsIn most) (unmet_line session) each list
+  where
+    no_wave : (met : Bool) (name : List ℕ) (want got : Tern) (count n k : ℕ) (mark : Bool) (values : List Tern) →
+        (if met then None else Some (Unmet name want got count)) ≢ Some (Wave n k mark values)
+    no_wave true name want got count n k mark values is = absurd (cc)
+    no_wave false name want got count n k mark values is = absurd (cc)
+
+    each : (item : List ℕ × Tern) (line : Line) → unmet_line session item ≡ Some line → FitsIn most line
+    each item (Wave n k mark values) is =
+        let got = state_at session.state (node_named session.circuit item.0) in
+        absurd (no_wave (is_state got item.1) item.0 item.1 got session.count n k mark values is)
+    each item (Unmet name want got n) is = tt
+    each item (Reported groups texts new) is = tt
+
+effect_fitting : (old new : SessionData) (command : Command) (lines : List Line) → Effect old command new lines → AreFitting old new lines
+effect_fitting old new (Input names) lines effect = still_fitting old new lines (ap (λ (session : SessionData). session.watched) effect.0) effect.1
+effect_fitting old new (Store name size) lines effect = still_fitting old new lines (ap (λ (session : SessionData). session.watched) effect.0) effect.1
+effect_fitting old new (Set list) lines effect = still_fitting old new lines (ap (λ (session : SessionData). session.watched) effect.0) effect.1
+effect_fitting old new (Charge list) lines effect = still_fitting old new lines (ap (λ (session : SessionData). session.watched) effect.0) effect.1
+effect_fitting old new (Watch names) lines effect =
+    let long : length new.watched ≡ length (old.watched ++ map (node_named old.circuit) names) =
+    ap (λ (session : SessionData). length session.watched) effect.0 in
+    record {
+      grows = omega (arith, long, length-append old.watched (map (node_named old.circuit) names));
+      fit = subst (All (FitsIn (length new.watched))) (sym effect.1) (All-nil (FitsIn (length new.watched)));
+    }
+effect_fitting old new (Limit number) lines effect = still_fitting old new lines (ap (λ (session : SessionData). session.watched) effect.0) effect.1
+effect_fitting old new Step lines effect =
+    wave_fitting old new lines 1 false (ap (λ (session : SessionData). session.watched) effect.moved) effect.wrote
+effect_fitting old new Phase lines effect = phase_fitting old new lines effect
+effect_fitting old new (Clock list) lines effect = still_fitting old new lines (ap (λ (session : SessionData). session.watched) effect.0) effect.1
+effect_fitting old new (Cycle times) lines effect = beats_fitting (places_in (places_of old.clocks) times) old new lines effect
+effect_fitting old new (Expect list) lines effect =
+    let long : length new.watched ≡ length old.watched = ap (λ (session : SessionData). length session.watched) effect.0 in
+    record {
+      grows = omega (arith, long);
+      fit = subst (All (FitsIn (length new.watched))) (sym effect.1) (unmet_fitting (length new.watched) old list);
+    }
+effect_fitting old new (Add kind gate source drain strength) lines effect =
+    still_fitting old new lines (ap (λ (session : SessionData). session.watched) effect.0) effect.1
+effect_fitting old new (Del number) lines effect = still_fitting old new lines (ap (λ (session : SessionData). session.watched) effect.0) effect.1
+effect_fitting old new (Strength number strength) lines effect =
+    still_fitting old new lines (ap (λ (session : SessionData). session.watched) effect.0) effect.1
+effect_fitting old new (Kind number kind) lines effect = still_fitting old new lines (ap (λ (session : SessionData). session.watched) effect.0) effect.1
+effect_fitting old new (Wire number gate source drain) lines effect =
+    still_fitting old new lines (ap (λ (session : SessionData). session.watched) effect.0) effect.1
+effect_fitting old new Report lines effect =
+    let long : length new.watched ≡ length old.watched = ap (λ (session : SessionData). length session.watched) effect.moved in
+    record {
+      grows = omega (arith, long);
+      fit = subst (All (FitsIn (length new.watched))) (sym effect.wrote)
+          (All-cons (FitsIn (length new.watched)) _ [] tt (All-nil (FitsIn (length new.watched))));
+    }
+effect_fitting old new (Keep number) lines effect = still_fitting old new lines (ap (λ (session : SessionData). session.watched) effect.0) effect.1
+
+built_watched : (does : Bool) (old mid : SessionData) (texts : List GroupTextData) → BuildsIf does old mid texts → mid.watched ≡ old.watched
+built_watched true old mid texts build = ap (λ (session : SessionData). session.watched) build.used
+built_watched false old mid texts still = ap (λ (session : SessionData). session.watched) still.0
+
+performs_fitting : (old new : SessionData) (command : Command) (text : List ℕ) (texts : List GroupTextData) →
+    (performs : Performs old command new text texts) → AreFitting old new performs.does.lines
+performs_fitting old new command text texts performs =
+    let long : length performs.mid.watched ≡ length old.watched = ap length (built_watched (builds command) old performs.mid texts performs.prepares) in
+    let done = effect_fitting performs.mid new command performs.does.lines performs.does.effect in
+    record { grows = omega (arith, long, done.grows); fit = done.fit }
+
+runs_fitting : (reading : Reading) (cut : Option ℕ) (session : SessionData) (lines : List (ℕ × List ℕ)) (outcome : Outcome) →
+    Runs reading cut session lines outcome → AreFitting session outcome.end outcome.lines
+runs_fitting reading cut _ _ _ (ends session) = still_fitting session session [] refl refl
+runs_fitting reading cut _ _ _ (passes session line lines rest idle runs) = runs_fitting reading cut session lines rest runs
+runs_fitting reading cut _ _ _ (obeys session new line lines command text texts rest asks performs runs) =
+    both_fitting session new rest.end performs.does.lines rest.lines (performs_fitting session new command text texts performs)
+    (runs_fitting reading cut new lines rest runs)
+runs_fitting reading cut _ _ _ (refuses session line lines cause is) = still_fitting session session [] refl refl
+
+-- ---- rows
+
+rows_fitting : (most : ℕ) (lines : List Line) → All (FitsIn most) lines → All (λ row. length row ≤ most) (filter_map row_of lines)
+rows_fitting most [] all = All-nil (λ (row : List Tern). length row ≤ most)
+rows_fitting most (Wave n k mark values ∷ lines) all =
+    All-cons (λ (row : List Tern). length row ≤ most) values (filter_map row_of lines) (All-head (FitsIn most) (Wave n k mark values) lines all)
+    (rows_fitting most lines (All-tail (FitsIn most) (Wave n k mark values) lines all))
+rows_fitting most (Unmet name want got n ∷ lines) all = rows_fitting most lines (All-tail (FitsIn most) (Unmet name want got n) lines all)
+rows_fitting most (Reported groups texts new ∷ lines) all = rows_fitting most lines (All-tail (FitsIn most) (Reported groups texts new) lines all)
+
+pub entries_named : (circuit : CircuitData) (script : List ℕ) (kept : List GroupTextData) (fault : Option Fault) (trace : Trace)
+    (texts after : List GroupTextData) → IsTrace circuit script kept fault trace texts after → (row entry : ℕ) (values : List Tern) (value : Tern) →
+    slice_get trace.rows row ≡ Some values → slice_get values entry ≡ Some value → (name : List ℕ) × (slice_get trace.names entry ≡ Some name)
+entries_named circuit script kept fault trace texts after is row entry values value in_row in_entry =
+    let outcome = is.outcome in
+    let watched = outcome.end.watched in
+    let fitting = runs_fitting _ _ _ _ outcome is.runs.runs in
+    let rows = subst (All (λ (one : List Tern). length one ≤ length watched)) (sym is.shows.rows) (rows_fitting (length watched) outcome.lines fitting.fit) in
+    let here : length (get_or trace.rows row values) ≤ length watched =
+    All-get_or (λ (one : List Tern). length one ≤ length watched) trace.rows row values (slice_get_within trace.rows row values in_row) rows in
+    let same : get_or trace.rows row values ≡ values = get_or_from_slice_get trace.rows row values values in_row in
+    let low : entry < length values = slice_get_within values entry value in_entry in
+    let long : length trace.names ≡ length watched = ap length is.shows.names ∙ length-map watched (called outcome.end.circuit) in
+    let inside : length values ≤ length watched = subst (λ (one : List Tern). length one ≤ length watched) same here in
+    (get_or trace.names entry [], slice_get-get_or trace.names entry [] (omega (arith, low, inside, long)))

@@ -1,5 +1,0 @@
-use Rattle.fault_runs.proofs.OnceLemmas.{analysed_once}
-use Rattle.fault_runs.proofs.laws.each_text_is_analysed_once.Goals as goal
-
-pub returns : goal.returns
-returns c = analysed_once
