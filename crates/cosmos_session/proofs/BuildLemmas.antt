@@ -9,8 +9,8 @@ use Rattle.group_text.specs.FirstTexts.{new_texts}
 use Rattle.straight_code.specs.Code.{CodeData}
 use Rattle.analysis_cache.specs.Keeping.{KeptData, IsGrown, entry_texts, texts_of}
 use Rattle.circuit_texts.specs.Building.{Builds}
-use Rattle.unit_step.specs.Machines.{MachineData}
-use Rattle.unit_step.proofs.KeptLemmas.{built_texts_are_kept}
+use Rattle.machine_laws.specs.Machines.{MachineData}
+use Rattle.machine_laws.proofs.KeptLemmas.{built_texts_are_kept}
 use Rattle.cosmos_session.specs.Sessions.{SessionData, HeldSession, IsSession}
 use Rattle.cosmos_session.specs.Machines.{Serves, IsHeldSession, AreAmong, kept_in, last_in}
 use Rattle.cosmos_session.specs.Stages.{StageData, BuiltFrom, Readied}

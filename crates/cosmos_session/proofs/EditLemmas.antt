@@ -15,10 +15,10 @@ use Rattle.path_meaning.specs.Graphs.{GraphData, nodes}
 use Rattle.channel_groups.specs.declared.change.Change.{Change}
 use Rattle.channel_groups.specs.Changes.{undo}
 use Rattle.group_text.specs.Texts.{GroupTextData}
-use Rattle.unit_step.specs.Machines.{MachineData}
-use Rattle.unit_step.specs.Fitting.{Covers}
-use Rattle.unit_step.specs.Editing.{with_new_nodes}
-use Rattle.unit_step.proofs.KeptLemmas.{edits_keep_texts}
+use Rattle.machine_laws.specs.Machines.{MachineData}
+use Rattle.machine_laws.specs.Fitting.{Covers}
+use Rattle.machine_laws.specs.Editing.{with_new_nodes}
+use Rattle.machine_laws.proofs.KeptLemmas.{edits_keep_texts}
 use Rattle.netlist.specs.declared.TheConstants.{MOST_NODES, MOST_SWITCHES}
 use Rattle.netlist.specs.declared.fault.EditFault.{EditFault}
 use Rattle.netlist.specs.declared.fault.EditFault.TheVariants as edit

@@ -8,10 +8,10 @@ use Rattle.group_analysis.specs.Using.{used_texts}
 use Rattle.analysis_cache.proofs.UseLemmas.{is_among-used, each_present}
 use Rattle.analysis_cache.proofs.OrderLemmas.{used_texts-none, used_texts-kept_after, is_among-used_kept}
 use Rattle.circuit_texts.specs.Building.{HasTexts, Builds, IsCutOff}
-use Rattle.unit_step.specs.Machines.{MachineData}
-use Rattle.unit_step.specs.Fitting.{IsKeptBy}
-use Rattle.unit_step.specs.Lasting.{HasLast}
-use Rattle.unit_step.proofs.KeptLemmas.{among_more}
+use Rattle.machine_laws.specs.Machines.{MachineData}
+use Rattle.machine_laws.specs.Fitting.{IsKeptBy}
+use Rattle.machine_laws.specs.Beginnings.{HasLast}
+use Rattle.machine_laws.proofs.KeptLemmas.{among_more}
 use Rattle.cosmos_session.specs.Machines.{AreAmong}
 
 -- where there is no machine, what is kept stands as the table has it

@@ -12,13 +12,14 @@ use Rattle.path_meaning.specs.Graphs.{GraphData, level_of}
 use Rattle.path_meaning.specs.Step.{IsStep}
 use Rattle.oscillation_x.specs.Settling.{Settles}
 use Rattle.group_text.specs.Texts.{GroupTextData}
-use Rattle.unit_step.specs.declared.part.HeldPart.{HeldPart}
-use Rattle.unit_step.specs.Parts.{HasMember}
-use Rattle.unit_step.specs.Machines.{MachineData, IsMarked}
-use Rattle.unit_step.specs.Stepping.{Concerns, ReadsChange}
-use Rattle.unit_step.specs.Fitting.{Covers, FitsGraph, IsKeptBy}
-use Rattle.unit_step.proofs.PartLemmas.{member_in_group}
-use Rattle.unit_step.proofs.KeptLemmas.{placing_keeps_texts, fitting_machines_share_texts}
+use Rattle.machine_parts.specs.declared.part.HeldPart.{HeldPart}
+use Rattle.machine_parts.specs.Parts.{HasMember}
+use Rattle.machine_laws.specs.Machines.{MachineData}
+use Rattle.machine_parts.specs.Marking.{IsMarked}
+use Rattle.machine_parts.specs.Stepping.{Concerns, ReadsChange}
+use Rattle.machine_laws.specs.Fitting.{Covers, FitsGraph, IsKeptBy}
+use Rattle.machine_laws.proofs.PartGroups.{member_in_group}
+use Rattle.machine_laws.proofs.KeptLemmas.{placing_keeps_texts, fitting_machines_share_texts}
 use Rattle.group_meaning.proofs.GroupLemmas.{member_storage}
 use Rattle.netlist.specs.Names.{node_of}
 use Rattle.netlist.specs.Circuits.{CircuitData}

@@ -6,8 +6,8 @@ use Rattle.group_meaning.proofs.UniqueGroups.{unique}
 use Rattle.group_text.specs.Texts.{GroupTextData, text_of_group}
 use Rattle.group_text.specs.FirstTexts.{first_texts}
 use Rattle.circuit_texts.specs.Building.{HasTexts}
-use Rattle.unit_step.specs.Parts.{has_members}
-use Rattle.unit_step.specs.Machines.{MachineData}
+use Rattle.machine_parts.specs.Parts.{has_members}
+use Rattle.machine_laws.specs.Machines.{MachineData}
 use Rattle.cosmos_session.specs.Sessions.{SessionData}
 use Rattle.cosmos_session.specs.Lines.{Reported}
 use Rattle.cosmos_session.specs.Effects.{IsReported}

@@ -8,7 +8,8 @@ use Rattle.path_meaning.specs.Step.{IsStep}
 use Rattle.path_meaning.proofs.UniqueSteps.{unique}
 use Rattle.oscillation_x.specs.Settling.{Settles, Joining}
 use Rattle.oscillation_x.proofs.SettlingLemmas.{Stepping-steady}
-use Rattle.unit_step.specs.Machines.{MachineData, IsMarked}
+use Rattle.machine_laws.specs.Machines.{MachineData}
+use Rattle.machine_parts.specs.Marking.{IsMarked}
 use Rattle.cosmos_session.specs.Stages.{TakesStep}
 
 -- without joining steps the state stays

@@ -3,11 +3,10 @@ use Rattle.std.proofs.Common.{◌≡◌, ℕ, Bool, List, Some, None, refl, sym,
 use Rattle.ternary.specs.declared.tern.Tern.{Tern}
 use Rattle.path_meaning.specs.Graphs.{GraphData}
 use Rattle.channel_groups.specs.declared.change.Change.{Change}
-use Rattle.unit_step.specs.Parts.{HasMember}
-use Rattle.unit_step.specs.Machines.{MachineData}
-use Rattle.unit_step.specs.Stepping.{Places}
-use Rattle.unit_step.specs.Fitting.{Covers, FitsGraph}
-use Rattle.unit_step.specs.Editing.{Edits, Finishes}
+use Rattle.machine_parts.specs.Parts.{HasMember}
+use Rattle.machine_laws.specs.Machines.{MachineData, Places}
+use Rattle.machine_laws.specs.Fitting.{Covers, FitsGraph}
+use Rattle.machine_laws.specs.Editing.{Edits, Finishes}
 use Rattle.cosmos_session.specs.Machines.{FitsIn, without_room}
 use Rattle.cosmos_session.specs.Stages.{BuiltFrom, PutsNode, TakesStep, TakesPhase}
 

@@ -3,7 +3,7 @@ use Rattle.std.proofs.Common.{◌≡◌, ℕ, List, Option, None, Some, sym, ap,
 use Rattle.path_meaning.specs.Graphs.{GraphData}
 use Rattle.group_text.specs.Texts.{GroupTextData}
 use Rattle.group_analysis.specs.Using.{used_texts}
-use Rattle.unit_step.specs.Machines.{MachineData}
+use Rattle.machine_laws.specs.Machines.{MachineData}
 use Rattle.netlist.specs.Circuits.{CircuitData}
 use Rattle.cosmos_session.specs.Sessions.{HeldSession, ClockData}
 use Rattle.cosmos_session.specs.Machines.{AreAmong, IsHeldSession, kept_in, last_in}

@@ -4,7 +4,7 @@ use Rattle.ternary.specs.declared.tern.Tern.{Tern}
 use Rattle.strength_order.specs.declared.TheConstants.{INPUT_LEVEL}
 use Rattle.path_meaning.specs.Graphs.{GraphData, level_of}
 use Rattle.group_text.specs.Texts.{GroupTextData}
-use Rattle.unit_step.specs.Machines.{MachineData}
+use Rattle.machine_laws.specs.Machines.{MachineData}
 use Rattle.cosmos_session.specs.Sessions.{HeldSession, ClockData}
 use Rattle.cosmos_session.specs.Effects.{states_with}
 use Rattle.cosmos_session.specs.Machines.{Serves, FitsIn, IsHeldSession, moves_of, placed_of}

@@ -10,10 +10,10 @@ use Rattle.group_text.specs.Texts.{GroupTextData}
 use Rattle.channel_groups.specs.declared.change.Change.{Change}
 use Rattle.channel_groups.specs.Changes.{undo}
 use Rattle.channel_groups.proofs.EditLemmas.{undo-level}
-use Rattle.unit_step.specs.Machines.{MachineData}
-use Rattle.unit_step.specs.Fitting.{Covers, IsKeptBy}
-use Rattle.unit_step.specs.Laws.{with_empty_place}
-use Rattle.unit_step.proofs.KeptLemmas.{empty_places_are_covered, empty_places_keep_texts}
+use Rattle.machine_laws.specs.Machines.{MachineData}
+use Rattle.machine_laws.specs.Fitting.{Covers, IsKeptBy}
+use Rattle.machine_laws.specs.Laws.{with_empty_place}
+use Rattle.machine_laws.proofs.KeptLemmas.{empty_places_are_covered, empty_places_keep_texts}
 use Rattle.netlist.specs.Circuits.{CircuitData, IsCircuit}
 use Rattle.netlist.specs.Edits.{with_transistor, with_wires, with_place, with_level}
 use Rattle.netlist.proofs.EditLemmas.{nodes-with_transistor, nodes-with_wires, levels-with_transistor, levels-with_wires, places-with_transistor, places-with_wires}

@@ -7,10 +7,11 @@ use Rattle.path_meaning.specs.Graphs.{GraphData}
 use Rattle.group_text.specs.Texts.{GroupTextData}
 use Rattle.group_text.specs.FirstTexts.{is_among}
 use Rattle.group_analysis.specs.Using.{used_texts}
-use Rattle.unit_step.specs.declared.part.HeldPart.{HeldPart}
-use Rattle.unit_step.specs.Machines.{MachineData, IsMarked}
-use Rattle.unit_step.specs.Stepping.{Concerns, ReadsChange}
-use Rattle.unit_step.specs.Fitting.{Covers, FitsGraph, IsKeptBy}
+use Rattle.machine_parts.specs.declared.part.HeldPart.{HeldPart}
+use Rattle.machine_laws.specs.Machines.{MachineData}
+use Rattle.machine_parts.specs.Marking.{IsMarked}
+use Rattle.machine_parts.specs.Stepping.{Concerns, ReadsChange}
+use Rattle.machine_laws.specs.Fitting.{Covers, FitsGraph, IsKeptBy}
 use Rattle.netlist.specs.Circuits.{CircuitData}
 use Rattle.netlist.specs.Edits.{node_named}
 use Rattle.script_lang.specs.declared.command.Command.{Command}

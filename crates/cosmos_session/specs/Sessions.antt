@@ -7,7 +7,7 @@ use Rattle.path_meaning.specs.Graphs.{nodes}
 use Rattle.path_meaning.specs.Rails.{IsSound}
 use Rattle.path_meaning.specs.declared.TheConstants.{RAILS}
 use Rattle.group_text.specs.Texts.{GroupTextData}
-use Rattle.unit_step.specs.Machines.{MachineData}
+use Rattle.machine_laws.specs.Machines.{MachineData}
 use Rattle.netlist.specs.Circuits.{CircuitData, IsCircuit}
 use Rattle.script_lang.specs.declared.TheConstants.{MOST_TIMES}
 use Rattle.cosmos_session.specs.declared.TheConstants.{MOST_WATCHED, FIRST_LIMIT}

@@ -11,11 +11,12 @@ use Rattle.circuit_texts.specs.declared.texts.BuildFault.{BuildFault}
 use Rattle.circuit_texts.specs.declared.texts.BuildFault.TheVariants as build
 use Rattle.circuit_texts.specs.Sizes.{TellsTooLarge}
 use Rattle.circuit_texts.specs.Building.{IsCutOff}
-use Rattle.unit_step.specs.Parts.{HasMember}
-use Rattle.unit_step.specs.Machines.{MachineData, IsMarked}
-use Rattle.unit_step.specs.Stepping.{Places, ReadsChange}
-use Rattle.unit_step.specs.Fitting.{Covers, FitsGraph, IsKeptBy}
-use Rattle.unit_step.specs.Editing.{Edits}
+use Rattle.machine_parts.specs.Parts.{HasMember}
+use Rattle.machine_laws.specs.Machines.{MachineData, Places}
+use Rattle.machine_parts.specs.Marking.{IsMarked}
+use Rattle.machine_parts.specs.Stepping.{ReadsChange}
+use Rattle.machine_laws.specs.Fitting.{Covers, FitsGraph, IsKeptBy}
+use Rattle.machine_laws.specs.Editing.{Edits}
 use Rattle.channel_groups.specs.declared.change.Change.{Change}
 use Rattle.netlist.specs.Circuits.{CircuitData}
 use Rattle.netlist.specs.Edits.{node_named}

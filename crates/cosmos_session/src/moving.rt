@@ -6,9 +6,9 @@ ghost use Rattle.ternary.specs.Counts.{raised};
 ghost use Rattle.path_meaning.specs.declared.TheConstants.{RAILS};
 ghost use Rattle.path_meaning.specs.Step.{IsStep};
 ghost use Rattle.oscillation_x.specs.Settling.{Settles};
-ghost use Rattle.unit_step.specs.Machines.{IsMarked};
-ghost use Rattle.unit_step.specs.Stepping.{Advances};
-ghost use Rattle.unit_step.specs.Fitting.{FitsGraph};
+ghost use Rattle.machine_parts.specs.Marking.{IsMarked};
+ghost use Rattle.machine_laws.specs.Machines.{Advances};
+ghost use Rattle.machine_laws.specs.Fitting.{FitsGraph};
 ghost use Rattle.cosmos_session.specs.Machines.{without_room};
 ghost use Rattle.cosmos_session.specs.Stages.{PutsNode, TakesStep, TakesPhase};
 

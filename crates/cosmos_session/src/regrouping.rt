@@ -3,10 +3,10 @@
 ghost use Rattle.std.specs.Prelude.{◌≡◌, ◌≢◌, ◌+◌, ◌-◌, ◌≤◌, length, IfSome, IfOk, IfErr};
 ghost use Rattle.path_meaning.specs.Graphs.{nodes, IsWired};
 ghost use Rattle.channel_groups.specs.Changes.{undo};
-ghost use Rattle.unit_step.specs.Fitting.{Covers};
+ghost use Rattle.machine_laws.specs.Fitting.{Covers};
 ghost use Rattle.group_analysis.specs.Using.{used_texts};
 ghost use Rattle.analysis_cache.specs.Keeping.{texts_of};
-ghost use Rattle.unit_step.specs.Editing.{with_new_nodes, Edits};
+ghost use Rattle.machine_laws.specs.Editing.{with_new_nodes, Edits};
 ghost use Rattle.cosmos_session.specs.Machines.{AreAmong, kept_in, last_in};
 ghost use Rattle.cosmos_session.specs.Stages.{state_held, machine_held, spare_held, before_place, before_level, EditsFrom};
 

@@ -9,9 +9,9 @@ ghost use Rattle.analysis_cache.specs.Keeping.{texts_of, IsGrown};
 ghost use Rattle.circuit_texts.specs.Sizes.{TellsTooLarge};
 ghost use Rattle.circuit_texts.specs.Building.{Builds, IsCutOff};
 ghost use Rattle.unit_step.specs.declared.editing.TheConstants.{NEW_NODES};
-ghost use Rattle.unit_step.specs.Parts.{has_members};
-ghost use Rattle.unit_step.specs.Fitting.{Covers};
-ghost use Rattle.unit_step.specs.Editing.{with_new_nodes};
+ghost use Rattle.machine_parts.specs.Parts.{has_members};
+ghost use Rattle.machine_laws.specs.Fitting.{Covers};
+ghost use Rattle.machine_laws.specs.Editing.{with_new_nodes};
 ghost use Rattle.cosmos_session.specs.Machines.{Serves, FitsIn, AreAmong, kept_in, last_in, without_room};
 ghost use Rattle.cosmos_session.specs.Stages.{PutsIn, MovesBy, TakesStep, TakesPhase, EditsFrom, BuiltFrom};
 

@@ -4,11 +4,10 @@ use Rattle.std.specs.Prelude.{Contains, slice_set, replicate}
 use Rattle.std.specs.List.{range_with_len}
 use Rattle.std.proofs.lemmas.List.{length-set, length_push, get_or_push, get_or_append_left, get_or_default}
 use Rattle.std.proofs.lemmas.List.Elements.{Contains-push, Contains-push_cases, Contains-append_left}
-use Rattle.unit_step.specs.Machines.{IsMarked}
-use Rattle.unit_step.specs.Marking.{AreOnce}
-use Rattle.unit_step.proofs.MarkLemmas.{AreOnce-push, count_marked-set, count_marked-cleared}
-use Rattle.unit_step.proofs.SetMarks.{marked-set, marked-stays, marked-set_cases, marked-kept, marked-cleared, marked-cleared_was}
-use Rattle.unit_step.proofs.MakingLemmas.{none_marked, IsAgenda-all as all_listed}
+use Rattle.machine_parts.specs.Marking.{IsMarked, AreOnce}
+use Rattle.machine_parts.proofs.MarkLemmas.{AreOnce-push, count_marked-set, count_marked-cleared}
+use Rattle.machine_parts.proofs.SetMarks.{marked-set, marked-stays, marked-set_cases, marked-kept, marked-cleared, marked-cleared_was}
+use Rattle.machine_parts.proofs.MakingLemmas.{none_marked, IsAgenda-all as all_listed}
 use Rattle.lane_machine.specs.Marking.{IsAgenda}
 
 -- one part more is marked

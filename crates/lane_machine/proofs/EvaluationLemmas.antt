@@ -10,14 +10,14 @@ use Rattle.path_meaning.specs.Switching.{state_at}
 use Rattle.straight_code.specs.Code.{CodeData, code_value}
 use Rattle.batch_words.specs.Lanes.{is_in_lane, HasLane}
 use Rattle.batch_words.proofs.RunLemmas.{high_at_node, low_at_node}
-use Rattle.unit_step.specs.declared.part.HeldPart.{HeldPart}
-use Rattle.unit_step.specs.Parts.{Stands, IsMemberAt}
-use Rattle.unit_step.specs.Machines.{IsMarked, count_marked}
-use Rattle.unit_step.specs.Stepping.{Gives}
+use Rattle.machine_parts.specs.declared.part.HeldPart.{HeldPart}
+use Rattle.machine_parts.specs.Parts.{Stands, IsMemberAt}
+use Rattle.machine_parts.specs.Marking.{IsMarked, count_marked}
+use Rattle.machine_parts.specs.Stepping.{Gives}
 use Rattle.part_words.specs.Noting.{after}
-use Rattle.unit_step.proofs.PartLemmas.{same_part}
-use Rattle.unit_step.proofs.MarkLemmas.{count_marked-cleared}
-use Rattle.unit_step.proofs.SetMarks.{marked-cleared_was, marked-cleared_cases}
+use Rattle.machine_parts.proofs.PartLemmas.{same_part}
+use Rattle.machine_parts.proofs.MarkLemmas.{count_marked-cleared}
+use Rattle.machine_parts.proofs.SetMarks.{marked-cleared_was, marked-cleared_cases}
 use Rattle.lane_machine.specs.declared.evaluation.WordChange.{WordChange}
 use Rattle.lane_machine.specs.declared.evaluation.Desk.{Desk}
 use Rattle.lane_machine.specs.Columns.{HasColumn}

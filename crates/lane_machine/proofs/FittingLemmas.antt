@@ -12,13 +12,12 @@ use Rattle.path_meaning.specs.Step.{IsStep}
 use Rattle.oscillation_x.specs.Settling.{IsJoinStep}
 use Rattle.batch_words.specs.Lanes.{is_in_lane, HasLane}
 use Rattle.batch_words.proofs.RunLemmas.{high_at_node, low_at_node}
-use Rattle.unit_step.specs.declared.part.HeldPart.{HeldPart}
-use Rattle.unit_step.specs.Machines.{MachineData}
-use Rattle.unit_step.specs.Stepping.{Places}
-use Rattle.unit_step.specs.Columns.{AdvancesInColumn}
-use Rattle.unit_step.specs.Fitting.{FitsGraph}
-use Rattle.unit_step.proofs.FittingLemmas as unit
-use Rattle.unit_step.proofs.PlacingLemmas.{placing_keeps_fit}
+use Rattle.machine_parts.specs.declared.part.HeldPart.{HeldPart}
+use Rattle.machine_laws.specs.Machines.{MachineData, Places}
+use Rattle.machine_laws.specs.Columns.{AdvancesInColumn}
+use Rattle.machine_laws.specs.Fitting.{FitsGraph}
+use Rattle.machine_laws.proofs.FittingLemmas as unit
+use Rattle.machine_laws.proofs.PlacingLemmas.{placing_keeps_fit}
 use Rattle.lane_machine.specs.Columns.{LaneData, state_with, column, column_of, HasFit, FitsInLanes, HasSoundLane}
 use Rattle.lane_machine.specs.Running.{StepsTo, AreColumns}
 use Rattle.lane_machine.specs.Stepping.{StepsLanes}

@@ -4,14 +4,14 @@ use Rattle.std.specs.Prelude.{Contains, slice_index_or, slice_set, replicate}
 use Rattle.std.proofs.lemmas.Bool.{cases_eq, cases_lt, lt-ltb, le-ltb}
 use Rattle.std.proofs.lemmas.List.{get_or-set_same, get_or-set_other, get_or_past, get_or_default, length-set, length-map, length-replicate, map-set, take_more}
 use Rattle.std.proofs.lemmas.List.Elements.{Contains-push, Contains-push_cases, Contains-append_left, Contains-get_or}
-use Rattle.unit_step.specs.declared.part.HeldPart.{HeldPart}
-use Rattle.unit_step.specs.Parts.{Stands, ReadsAt, IsStale, AreApart}
-use Rattle.unit_step.specs.Marking.{MarksAll}
-use Rattle.unit_step.specs.Stepping.{Concerns}
-use Rattle.unit_step.specs.Columns.{AreSeated}
-use Rattle.unit_step.proofs.PartLemmas.{same_part}
-use Rattle.unit_step.proofs.MakingLemmas.{member_at_front, front_of_member}
-use Rattle.unit_step.proofs.TakingLemmas.{Contains-from_take}
+use Rattle.machine_parts.specs.declared.part.HeldPart.{HeldPart}
+use Rattle.machine_parts.specs.Parts.{Stands, ReadsAt, IsStale, AreApart}
+use Rattle.machine_parts.specs.Marking.{MarksAll}
+use Rattle.machine_parts.specs.Stepping.{Concerns}
+use Rattle.machine_laws.specs.Columns.{AreSeated}
+use Rattle.machine_parts.proofs.PartLemmas.{same_part}
+use Rattle.machine_parts.proofs.MakingLemmas.{member_at_front, front_of_member}
+use Rattle.part_steps.proofs.TakingLemmas.{Contains-from_take}
 use Rattle.lane_machine.specs.Evaluating.{Rooms, IsSeated, HasRoomFor}
 use Rattle.lane_machine.specs.Columns.{column, HasColumn}
 use Rattle.lane_machine.specs.Running.{listed_at, nodes_of, IsAmong, AreLists, IsRunnable, AreUsed, AreColumns, IsLaneMachine, StepsInAll}

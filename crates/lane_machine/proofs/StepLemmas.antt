@@ -12,13 +12,12 @@ use Rattle.path_meaning.specs.Switching.{state_at}
 use Rattle.oscillation_x.specs.Settling.{StaysOrBecomesX}
 use Rattle.batch_words.specs.Lanes.{is_in_lane, HasLane}
 use Rattle.batch_words.proofs.RunLemmas.{high_counted, high_at_node, low_at_node}
-use Rattle.unit_step.specs.declared.part.HeldPart.{HeldPart}
-use Rattle.unit_step.specs.Machines.{IsMarked}
-use Rattle.unit_step.specs.Stepping.{IsGiven, Moves, StaysMarked}
+use Rattle.machine_parts.specs.declared.part.HeldPart.{HeldPart}
+use Rattle.machine_parts.specs.Marking.{IsMarked, MarksAll}
+use Rattle.machine_parts.specs.Stepping.{IsGiven, Moves, StaysMarked}
 use Rattle.part_words.specs.Noting.{after}
-use Rattle.unit_step.specs.Columns.{KeepsMarks}
-use Rattle.unit_step.specs.Marking.{MarksAll}
-use Rattle.unit_step.proofs.PartLemmas.{given_once}
+use Rattle.machine_laws.specs.Columns.{KeepsMarks}
+use Rattle.machine_parts.proofs.PartLemmas.{given_once}
 use Rattle.lane_machine.specs.declared.evaluation.WordChange.{WordChange}
 use Rattle.lane_machine.specs.Columns.{column, HasColumn}
 use Rattle.lane_machine.specs.Noting.{HasChange}

@@ -6,9 +6,9 @@ use Rattle.ternary.specs.declared.tern.Tern.TheVariants.{Zero, One, Unk}
 use Rattle.path_meaning.specs.Graphs.{GraphData, nodes}
 use Rattle.path_meaning.specs.Rails.{IsSound}
 use Rattle.batch_words.specs.Lanes.{is_in_lane, HasLane}
-use Rattle.unit_step.specs.declared.part.HeldPart.{HeldPart}
-use Rattle.unit_step.specs.Machines.{MachineData}
-use Rattle.unit_step.specs.Fitting.{FitsGraph}
+use Rattle.machine_parts.specs.declared.part.HeldPart.{HeldPart}
+use Rattle.machine_laws.specs.Machines.{MachineData}
+use Rattle.machine_laws.specs.Fitting.{FitsGraph}
 
 -- the number of columns, the parts, which of them are marked, and both rails of each node's states, bit i for column i
 pub record LaneData : Type 0 where

@@ -5,12 +5,12 @@ use Rattle.ternary.specs.declared.tern.Tern.{Tern}
 use Rattle.ternary.specs.Tern.{may_one, may_zero}
 use Rattle.path_meaning.specs.Switching.{state_at}
 use Rattle.batch_words.specs.Lanes.{is_in_lane}
-use Rattle.unit_step.specs.declared.part.HeldPart.{HeldPart}
-use Rattle.unit_step.specs.Machines.{IsMarked, members_of}
-use Rattle.unit_step.specs.Stepping.{Gives}
-use Rattle.unit_step.specs.Evaluating as single
+use Rattle.machine_parts.specs.declared.part.HeldPart.{HeldPart}
+use Rattle.machine_parts.specs.Marking.{IsMarked, members_of}
+use Rattle.machine_parts.specs.Stepping.{Gives}
+use Rattle.machine_parts.specs.Evaluating as single
 use Rattle.part_words.specs.Noting.{after}
-use Rattle.unit_step.specs.Making.{IsCodeRoom}
+use Rattle.machine_parts.specs.Making.{IsCodeRoom}
 use Rattle.lane_machine.specs.declared.evaluation.WordChange.{WordChange}
 use Rattle.lane_machine.specs.declared.evaluation.Desk.{Desk}
 use Rattle.lane_machine.specs.Columns.{HasColumn}

@@ -1,7 +1,7 @@
 -- Lists of parts for nodes, one part after another.
 use Rattle.std.specs.Prelude.{◌≡◌, ℕ, ◌<◌, ◌⊎◌, Bool, List, length, Contains, Vec}
 use Rattle.std.proofs.Common.{Global}
-use Rattle.unit_step.specs.declared.part.HeldPart.{HeldPart}
+use Rattle.machine_parts.specs.declared.part.HeldPart.{HeldPart}
 use Rattle.lane_machine.specs.Running.{listed_at, IsAmong}
 
 -- the part with this number is listed at these nodes too

@@ -1,7 +1,6 @@
 -- Marks of parts, and the list in which the marked parts stand.
 use Rattle.std.specs.Prelude.{ℕ, ◌≤◌, Bool, List, length, Contains}
-use Rattle.unit_step.specs.Machines.{IsMarked, count_marked}
-use Rattle.unit_step.specs.Marking.{AreOnce}
+use Rattle.machine_parts.specs.Marking.{IsMarked, count_marked, AreOnce}
 
 -- each marked part stands in the list, once, and no other; and there is room for a list of all parts
 pub record IsAgenda (marks : List Bool) (work : List ℕ) (capacity : ℕ) : Type 0 where

@@ -1,7 +1,7 @@
 -- Words of a node that are placed from outside.
 use Rattle.std.specs.Prelude.{◌≡◌, ℕ, slice_set}
-use Rattle.unit_step.specs.Marking.{MarksAll}
-use Rattle.unit_step.specs.Stepping.{Concerns}
+use Rattle.machine_parts.specs.Marking.{MarksAll}
+use Rattle.machine_parts.specs.Stepping.{Concerns}
 use Rattle.lane_machine.specs.Columns.{LaneData}
 
 -- a node has these words, the parts that it concerns are marked, and all else stays

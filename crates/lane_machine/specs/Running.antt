@@ -5,12 +5,11 @@ use Rattle.std.proofs.Common.{Global}
 use Rattle.ternary.specs.declared.tern.Tern.{Tern}
 use Rattle.oscillation_x.specs.Settling.{StaysOrBecomesX}
 use Rattle.batch_words.specs.Lanes.{is_in_lane, HasLane}
-use Rattle.unit_step.specs.declared.part.HeldPart.{HeldPart}
-use Rattle.unit_step.specs.Parts.{Stands, IsStale, AreApart}
-use Rattle.unit_step.specs.Machines.{members_of}
-use Rattle.unit_step.specs.Stepping.{Moves}
-use Rattle.unit_step.specs.Columns.{KeepsMarks}
-use Rattle.unit_step.specs.Marking.{IsReached}
+use Rattle.machine_parts.specs.declared.part.HeldPart.{HeldPart}
+use Rattle.machine_parts.specs.Parts.{Stands, IsStale, AreApart}
+use Rattle.machine_parts.specs.Marking.{members_of, IsReached}
+use Rattle.machine_parts.specs.Stepping.{Moves}
+use Rattle.machine_laws.specs.Columns.{KeepsMarks}
 use Rattle.lane_machine.specs.Evaluating.{Rooms, IsSeated}
 use Rattle.lane_machine.specs.declared.evaluation.WordChange.{WordChange}
 use Rattle.lane_machine.specs.Columns.{column, HasColumn}

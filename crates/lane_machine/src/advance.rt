@@ -1,6 +1,6 @@
 //! One step of all columns: all marked parts are evaluated on the old words, and then the changes are taken over.
 ghost use Rattle.std.specs.Prelude.{◌≡◌, ℕ, ◌<◌, true, length, Contains};
-ghost use Rattle.unit_step.specs.Marking.{MarksAll};
+ghost use Rattle.machine_parts.specs.Marking.{MarksAll};
 ghost use Rattle.lane_machine.specs.Evaluating.{rooms, IsEven};
 ghost use Rattle.lane_machine.specs.Running.{IsRunnable, StepsInAll};
 

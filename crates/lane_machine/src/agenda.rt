@@ -1,8 +1,7 @@
 //! Which parts are marked, and the list of these.
 ghost use Rattle.std.specs.Prelude.{◌≡◌, ℕ, ◌<◌, true, false, slice_set, length, replicate, Contains, IfOk, IfSome};
 ghost use Rattle.std.specs.Option.{IfNone};
-ghost use Rattle.unit_step.specs.Machines.{IsMarked};
-ghost use Rattle.unit_step.specs.Marking.{MarksAll};
+ghost use Rattle.machine_parts.specs.Marking.{IsMarked, MarksAll};
 
 use std::alloc::{AllocError, Global};
 use std::marker::Model;

@@ -1,6 +1,6 @@
 //! The changes of a step are taken over.
 ghost use Rattle.std.specs.Prelude.{◌≡◌, ℕ, ◌<◌, true, false, length, All, Contains, slice_index};
-ghost use Rattle.unit_step.specs.Marking.{MarksAll};
+ghost use Rattle.machine_parts.specs.Marking.{MarksAll};
 ghost use Rattle.batch_words.specs.Lanes.{is_in_lane};
 ghost use Rattle.lane_machine.specs.declared.evaluation.WordChange.{WordChange};
 ghost use Rattle.lane_machine.specs.Noting.{differs_in};

@@ -18,7 +18,7 @@ use Rattle.netlist.specs.Circuits.{CircuitData}
 use Rattle.group_text.specs.Texts.{GroupTextData}
 use Rattle.group_text.specs.Compared.{same_text}
 use Rattle.group_text.specs.FirstTexts.{new_texts}
-use Rattle.unit_step.specs.Editing.{with_new_nodes}
+use Rattle.machine_laws.specs.Editing.{with_new_nodes}
 use Rattle.lane_machine.specs.Columns.{LaneData, FitsInLanes}
 use Rattle.lane_machine.specs.Building.{HasBuilt, IsCutInColumns}
 use Rattle.script_lang.specs.declared.command.Command.{Command}

@@ -19,7 +19,7 @@ use Rattle.cosmos_session.specs.Effects.{Effect, assigned, with_inputs}
 use Rattle.cosmos_session.specs.Outcomes.{Does}
 use Rattle.cosmos_session.proofs.EffectLemmas.{nodes-with_inputs}
 use Rattle.cosmos_session.proofs.EditLemmas.{same_states}
-use Rattle.unit_step.specs.Editing.{with_new_nodes}
+use Rattle.machine_laws.specs.Editing.{with_new_nodes}
 use Rattle.lane_session.specs.Stages.{one_column, is_edit}
 use Rattle.lane_session.proofs.RefusalLemmas.{refused_alike}
 

@@ -29,14 +29,15 @@ use Rattle.kept_parts.proofs.NumberLemmas as numbers
 use Rattle.circuit_texts.specs.Reading.{AreReads}
 use Rattle.circuit_texts.proofs.PairedLists.{partner_first, partner_second}
 use Rattle.circuit_texts.proofs.ReadLemmas.{read_inside}
-use Rattle.unit_step.specs.declared.part.HeldPart.{HeldPart}
-use Rattle.unit_step.specs.Parts.{Stands, AreApart, has_members}
-use Rattle.unit_step.specs.Making.{held, started}
+use Rattle.machine_parts.specs.declared.part.HeldPart.{HeldPart}
+use Rattle.machine_parts.specs.Parts.{Stands, AreApart, has_members}
+use Rattle.machine_parts.specs.Making.{held}
+use Rattle.unit_step.specs.Drafting.{started}
 use Rattle.unit_step.specs.declared.planning.Plan.{Plan}
 use Rattle.unit_step.specs.Planning.{IsPlan}
-use Rattle.unit_step.specs.Fitting.{IsCoded, IsPartOf, HasPart, IsTextOf, FitsGraph}
-use Rattle.unit_step.specs.Finishing.{IsFresh}
-use Rattle.unit_step.proofs.PartLemmas.{one_group}
+use Rattle.machine_laws.specs.Fitting.{IsCoded, IsPartOf, HasPart, IsTextOf, FitsGraph}
+use Rattle.machine_laws.specs.Finishing.{IsFresh}
+use Rattle.machine_laws.proofs.PartGroups.{one_group}
 
 -- all texts, of parts that each have one
 some_texts-all : (texts : List GroupTextData) → some_texts (map Some texts) ≡ texts

@@ -1,6 +1,6 @@
 -- A draft of a plan's parts: the machine that starts so fits the graph, and the texts of the graph's groups are those of its last build.
-use Rattle.std.proofs.Common.{◌≡◌, ℕ, zero, suc, List, [], ◌∷◌, length, map, Some, None, Result, Ok, Err, IfOk, Vec, Global, refl, sym, subst, ◌∙◌}
-use Rattle.std.specs.Prelude.{Option, zip, replicate, slice_index_or}
+use Rattle.std.proofs.Common.{◌≡◌, ℕ, zero, suc, List, [], ◌∷◌, length, map, Some, None, Result, Ok, Err, IfOk, Vec, Global, refl, sym, subst, ◌∙◌, ap}
+use Rattle.std.specs.Prelude.{Option, zip, replicate, slice_index_or, slice_get}
 use Rattle.std.specs.List.{AllZip}
 use Rattle.ternary.specs.declared.memory.NoMemory.{NoMemory}
 use Rattle.ternary.specs.declared.tern.Tern.{Tern}
@@ -13,17 +13,42 @@ use Rattle.circuit_texts.specs.Parts as made
 use Rattle.circuit_texts.proofs.MemberLemmas.{AreMembers-from_groups}
 use Rattle.circuit_texts.proofs.PairedLists.{partner_first}
 use Rattle.kept_parts.specs.Uses.{UsesData, texts_used}
-use Rattle.unit_step.specs.declared.part.HeldPart.{HeldPart}
+use Rattle.machine_parts.specs.declared.part.HeldPart.{HeldPart}
 use Rattle.unit_step.specs.declared.planning.Plan.{Plan}
 use Rattle.unit_step.specs.declared.drafting.Draft.{Draft}
-use Rattle.unit_step.specs.Making.{held, started}
+use Rattle.machine_parts.specs.Making.{held}
+use Rattle.unit_step.specs.Drafting.{started, drafted}
 use Rattle.unit_step.specs.Planning.{IsPlan}
-use Rattle.unit_step.specs.Drafting.{drafted}
-use Rattle.unit_step.specs.Fitting.{FitsGraph}
-use Rattle.unit_step.specs.Lasting.{Begins, AreInOrder, HasLast, texts_lasting}
-use Rattle.unit_step.proofs.MakingLemmas.{apart_parts}
+use Rattle.machine_laws.specs.Fitting.{FitsGraph}
+use Rattle.machine_laws.specs.Beginnings.{Begins, AreInOrder, HasLast}
+use Rattle.unit_step.specs.Lasting.{texts_lasting}
+use Rattle.machine_parts.proofs.MakingLemmas.{apart_parts}
 use Rattle.unit_step.proofs.BuildLemmas.{fresh_parts, FitsGraph-started}
-use Rattle.unit_step.proofs.LastingGroups.{HasLast-order}
+use Rattle.machine_laws.proofs.LastingGroups.{HasLast-order}
+use Rattle.std.proofs.lemmas.Option.{same_Some, none-some}
+use Rattle.std.specs.declared.rc.Rc.{Rc}
+use Rattle.straight_code.specs.Code.{CodeData}
+use Rattle.kept_parts.specs.Coded.{AreCoded}
+use Rattle.part_steps.specs.Dense.{HaveCodes}
+
+-- the part that is held under a number has the code of the part with this number
+held_code : (parts : List Part) (reads : List (Vec ℕ Global)) (k : ℕ) (one : HeldPart) → slice_get (map held (zip parts reads)) k ≡ Some one →
+    (part : Part) × (slice_get parts k ≡ Some part) × (one.code ≡ Some part.code)
+held_code [] reads k one at = absurd (none-some one at)
+held_code (part ∷ parts) [] k one at = absurd (none-some one at)
+held_code (part ∷ parts) (nodes ∷ reads) zero one at =
+    (part, refl, sym (ap (λ (p : HeldPart). p.code) (same_Some (held (part, nodes)) one at)))
+held_code (part ∷ parts) (nodes ∷ reads) (suc k) one at = held_code parts reads k one at
+
+pub HaveCodes-held : (numbers : List (Option ℕ)) (parts : List Part) (reads : List (Vec ℕ Global)) → AreCoded numbers parts →
+    HaveCodes numbers (map held (zip parts reads))
+HaveCodes-held numbers parts reads are = record {
+  codes = are.codes;
+  each = λ k n part code number_is part_is has.
+      let (one, there, is) = held_code parts reads k part part_is in
+      let same : one.code ≡ code = same_Some one.code code (sym is ∙ has) in
+      are.each k n one number_is there ∙ ap (λ (shared : Rc CodeData Global). Some shared.value) same;
+}
 
 -- a machine that starts with the parts of a plan fits the graph, whatever its last texts were
 pub FitsGraph-planned : (g : GraphData) (plan : Plan) → IsPlan g plan.state.items plan → length plan.state.items ≡ nodes g → IsRailed g →

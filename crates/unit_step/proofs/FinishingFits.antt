@@ -16,15 +16,17 @@ use Rattle.circuit_texts.specs.Sizes.{fault_in}
 use Rattle.circuit_texts.specs.Building.{Fills}
 use Rattle.kept_parts.specs.Uses.{some_texts, count_distinct}
 use Rattle.kept_parts.proofs.PlaceLemmas.{or_true}
-use Rattle.unit_step.specs.declared.part.HeldPart.{HeldPart}
-use Rattle.unit_step.specs.Parts.{Stands}
-use Rattle.unit_step.specs.Machines.{MachineData, IsMarked}
-use Rattle.unit_step.specs.Evaluating.{Rooms}
-use Rattle.unit_step.specs.Running.{IsRunnable}
-use Rattle.unit_step.specs.Fitting.{IsPartOf, Covers, FitsGraph, IsKeptBy}
-use Rattle.unit_step.specs.Editing.{Rouses}
-use Rattle.unit_step.proofs.KeptLemmas.{group_there}
-use Rattle.unit_step.proofs.FinishingTexts.{new_texts-waiting, same_distinct}
+use Rattle.machine_parts.specs.declared.part.HeldPart.{HeldPart}
+use Rattle.machine_parts.specs.Parts.{Stands}
+use Rattle.machine_laws.specs.Machines.{MachineData}
+use Rattle.machine_parts.specs.Marking.{IsMarked}
+use Rattle.machine_parts.specs.Evaluating.{Rooms}
+use Rattle.machine_parts.specs.Running.{IsRunnable}
+use Rattle.machine_laws.specs.Fitting.{Covers, FitsGraph, IsKeptBy}
+use Rattle.machine_laws.specs.Editing.{Rouses}
+use Rattle.machine_laws.proofs.KeptLemmas.{group_there}
+use Rattle.machine_laws.proofs.FinishingTexts.{new_texts-waiting, same_distinct}
+use Rattle.machine_laws.proofs.PartGroups.{some_members}
 
 -- the text of a part is among those of the parts that have one
 pub among_some : (uses : List (Option GroupTextData)) (k : ℕ) (text : GroupTextData) → slice_index_or uses k None ≡ Some text →
@@ -84,10 +86,6 @@ both_ways false false to back = refl
 -- no part of the machine is stale
 abbrev pub AllCoded : MachineData → Type 0
 AllCoded m = (k : ℕ) (part : HeldPart) → Stands m.parts k part → 0 < part.members → part.code ≢ None
-
--- the part of a group has a member
-pub some_members : {g : GraphData} {group : Group} {part : HeldPart} → IsPartOf g group part → 0 < part.members
-some_members is_part = omega (arith, is_part.count, is_part.is_group.some)
 
 -- where no part waits none is stale
 pub none_stale : (parts : List HeldPart) (marks waiting : List Bool) (count : ℕ) (lists : List (SmallVec ℕ)) (room : Rooms) →

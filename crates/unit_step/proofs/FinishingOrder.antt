@@ -13,13 +13,14 @@ use Rattle.analysis_cache.proofs.OrderLemmas.{kept_after-fresh, new_texts-used, 
 use Rattle.circuit_texts.specs.Building.{HasTexts, Builds, Fills, BuildsSome, IsCutOff}
 use Rattle.kept_parts.specs.Uses.{some_texts}
 use Rattle.kept_parts.proofs.PlaceLemmas.{or_true}
-use Rattle.unit_step.specs.Machines.{MachineData}
-use Rattle.unit_step.specs.Fitting.{FitsGraph}
-use Rattle.unit_step.specs.Editing.{Finishes, Rouses}
-use Rattle.unit_step.specs.Lasting.{AreInOrder, HasLast, IsLeft}
-use Rattle.unit_step.proofs.KeptLemmas.{among_more}
+use Rattle.machine_laws.specs.Machines.{MachineData}
+use Rattle.machine_laws.specs.Fitting.{FitsGraph}
+use Rattle.machine_laws.specs.Editing.{Finishes, Rouses}
+use Rattle.machine_laws.specs.Beginnings.{AreInOrder, HasLast}
+use Rattle.unit_step.specs.Lasting.{IsLeft}
+use Rattle.machine_laws.proofs.KeptLemmas.{among_more}
 use Rattle.unit_step.proofs.FinishingFits.{same_texts}
-use Rattle.unit_step.proofs.LastingGroups.{HasLast-order, FitsGraph-last}
+use Rattle.machine_laws.proofs.LastingGroups.{HasLast-order, FitsGraph-last}
 
 -- what holds of each of some items holds of each of a front of them
 all_front : {X : Type 0} (P : X → Type 0) (xs ys : List X) → All P (xs ++ ys) → All P xs

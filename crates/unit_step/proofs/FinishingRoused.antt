@@ -20,23 +20,24 @@ use Rattle.circuit_texts.proofs.PartLemmas.{IsPart-from_group}
 use Rattle.circuit_texts.specs.Sizes.{fault_in}
 use Rattle.circuit_texts.proofs.PairedLists.{partner_first}
 use Rattle.kept_parts.specs.Uses.{UsesData, texts_used, count_distinct}
-use Rattle.unit_step.specs.declared.part.HeldPart.{HeldPart}
-use Rattle.unit_step.specs.Parts.{ReadsAt}
-use Rattle.unit_step.specs.Machines.{MachineData, IsMarked}
-use Rattle.unit_step.specs.Making.{held, IsFormed, IsCodeRoom}
-use Rattle.unit_step.specs.Editing.{Rouses}
-use Rattle.unit_step.specs.Evaluating.{Rooms}
-use Rattle.unit_step.specs.Running.{IsMachine}
-use Rattle.unit_step.specs.Readers.{readers_of}
-use Rattle.unit_step.specs.Fitting.{IsPartOf, Covers}
-use Rattle.unit_step.specs.Finishing.{IsFresh, IsSlotOf, AreWaiting, Puts}
-use Rattle.unit_step.specs.Readers.{ListsAll}
-use Rattle.unit_step.proofs.PartLemmas.{same_part}
-use Rattle.unit_step.proofs.KeptLemmas.{made_at}
-use Rattle.unit_step.proofs.MakingLemmas.{formed_parts, reads_inside}
+use Rattle.machine_parts.specs.declared.part.HeldPart.{HeldPart}
+use Rattle.machine_parts.specs.Parts.{ReadsAt}
+use Rattle.machine_laws.specs.Machines.{MachineData}
+use Rattle.machine_parts.specs.Marking.{IsMarked}
+use Rattle.machine_parts.specs.Making.{held, IsFormed, IsCodeRoom}
+use Rattle.machine_laws.specs.Editing.{Rouses}
+use Rattle.machine_parts.specs.Evaluating.{Rooms}
+use Rattle.machine_parts.specs.Running.{IsMachine}
+use Rattle.machine_parts.specs.Readers.{readers_of, ListsAll}
+use Rattle.machine_laws.specs.Fitting.{IsPartOf, Covers}
+use Rattle.machine_laws.specs.Finishing.{IsFresh, IsSlotOf, AreWaiting}
+use Rattle.machine_parts.specs.Putting.{Puts}
+use Rattle.machine_parts.proofs.PartLemmas.{same_part}
+use Rattle.machine_laws.proofs.KeptLemmas.{made_at}
+use Rattle.machine_parts.proofs.MakingLemmas.{formed_parts, reads_inside}
 use Rattle.unit_step.proofs.BuildLemmas.{fresh_parts, lists_inside}
 use Rattle.unit_step.proofs.FinishingFits.{FitsGraph-covered}
-use Rattle.unit_step.proofs.StayingParts.{members_sum, members_count, none_stale_new, AreOwners-new, one_place, IsRunnable-new, Covers-roused, parts_roused}
+use Rattle.machine_laws.proofs.StayingParts.{members_sum, members_count, none_stale_new, AreOwners-new, one_place, IsRunnable-new, Covers-roused, parts_roused}
 
 -- what stands in a list that is made item by item, where nothing makes nothing
 read_map : {A B : Type 0} (h : A → Option B) (xs : List (Option A)) (k : ℕ) →

@@ -6,13 +6,14 @@ use Rattle.std.proofs.lemmas.List.{get_or_default, get_or-set_other, get_or-take
 use Rattle.std.proofs.lemmas.List.Elements.{All-append, Contains-append_left, Contains-append_right}
 use Rattle.group_text.specs.Texts.{GroupTextData}
 use Rattle.kept_parts.specs.Uses.{some_texts}
-use Rattle.unit_step.specs.declared.part.HeldPart.{HeldPart}
+use Rattle.machine_parts.specs.declared.part.HeldPart.{HeldPart}
 use Rattle.unit_step.specs.declared.lasting.Lasting.{Lasting}
-use Rattle.unit_step.specs.Parts.{Stands, IsMemberAt}
-use Rattle.unit_step.specs.Seating.{IsVacant}
-use Rattle.unit_step.specs.Lasting.{BeginsAt, Begins, AreLasting, starts_of, texts_numbered}
-use Rattle.unit_step.proofs.PartLemmas.{same_part}
-use Rattle.unit_step.proofs.SlotLemmas.{Stands-other, Stands-was, Stands-same, Stands-before, Stands-cases}
+use Rattle.machine_parts.specs.Parts.{Stands, IsMemberAt}
+use Rattle.machine_laws.specs.Seating.{IsVacant}
+use Rattle.machine_laws.specs.Beginnings.{BeginsAt, Begins}
+use Rattle.unit_step.specs.Lasting.{AreLasting, starts_of, texts_numbered}
+use Rattle.machine_parts.proofs.PartLemmas.{same_part}
+use Rattle.machine_laws.proofs.SlotLemmas.{Stands-other, Stands-was, Stands-same, Stands-before, Stands-cases}
 
 -- the node at which a part begins is among its starts
 starts_there : (part : HeldPart) (node : ℕ) → IsMemberAt part 0 node → Contains (starts_of part) node

@@ -5,11 +5,12 @@ use Rattle.std.specs.Option.{IfSome}
 use Rattle.std.proofs.lemmas.Bool.{cases_eq, lt-ltb, ltb-true}
 use Rattle.std.proofs.lemmas.List.{get_or_default, get_or-set_same, get_or-set_other, get_or_append_left, get_or-take, length-set, length_push, length-take, take_more}
 use Rattle.std.proofs.lemmas.List.Elements.{All-contains, Contains-get_or, Contains-push, Contains-push_cases, Contains-append_cases, Contains-append_left, Contains-append_right}
-use Rattle.unit_step.specs.declared.part.HeldPart.{HeldPart}
+use Rattle.machine_parts.specs.declared.part.HeldPart.{HeldPart}
 use Rattle.unit_step.specs.declared.lasting.Lasting.{Lasting}
-use Rattle.unit_step.specs.Parts.{Stands, HasMember, AreApart, has_members}
-use Rattle.unit_step.specs.Lasting.{BeginsAt, Begins, AreLasting, starts_of, with_beginning}
-use Rattle.unit_step.proofs.PartLemmas.{same_part}
+use Rattle.machine_parts.specs.Parts.{Stands, HasMember, AreApart, has_members}
+use Rattle.machine_laws.specs.Beginnings.{BeginsAt, Begins}
+use Rattle.unit_step.specs.Lasting.{AreLasting, starts_of, with_beginning}
+use Rattle.machine_parts.proofs.PartLemmas.{same_part}
 
 module _ (parts : List HeldPart) where
   -- where a part begins it has a member

@@ -8,9 +8,10 @@ use Rattle.std.specs.Option.{option_and_then}
 use Rattle.std.proofs.lemmas.List.Elements.{Contains-append_right}
 use Rattle.group_text.specs.Texts.{GroupTextData}
 use Rattle.kept_parts.specs.Uses.{UsesData, some_texts, texts_used}
-use Rattle.unit_step.specs.declared.part.HeldPart.{HeldPart}
+use Rattle.machine_parts.specs.declared.part.HeldPart.{HeldPart}
 use Rattle.unit_step.specs.declared.lasting.Lasting.{Lasting}
-use Rattle.unit_step.specs.Lasting.{Begins, AreInOrder, AreLasting, texts_lasting}
+use Rattle.machine_laws.specs.Beginnings.{Begins, AreInOrder}
+use Rattle.unit_step.specs.Lasting.{AreLasting, texts_lasting}
 
 -- the places from this one on at which there is something
 abbrev places_of : {X : Type 0} → ℕ → List (Option X) → List ℕ

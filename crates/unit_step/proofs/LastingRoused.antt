@@ -8,18 +8,20 @@ use Rattle.group_meaning.specs.Groups.{Group}
 use Rattle.group_text.specs.Texts.{GroupTextData}
 use Rattle.kept_parts.specs.Uses.{UsesData, IsNumbered, some_texts, count_distinct}
 use Rattle.kept_parts.proofs.NumberLemmas.{used_known_more}
-use Rattle.unit_step.specs.declared.part.HeldPart.{HeldPart}
+use Rattle.machine_parts.specs.declared.part.HeldPart.{HeldPart}
 use Rattle.unit_step.specs.declared.lasting.Lasting.{Lasting}
-use Rattle.unit_step.specs.Parts.{IsMemberAt}
-use Rattle.unit_step.specs.Machines.{MachineData}
-use Rattle.unit_step.specs.Evaluating.{Rooms, IsSeated}
-use Rattle.unit_step.specs.Fitting.{Covers}
-use Rattle.unit_step.specs.Finishing.{IsFresh, AreWaiting, Puts}
-use Rattle.unit_step.specs.Lasting.{BeginsAt, AreLasting, texts_lasting, texts_numbered}
-use Rattle.unit_step.proofs.PartLemmas.{member_from_part}
+use Rattle.machine_parts.specs.Parts.{IsMemberAt}
+use Rattle.machine_laws.specs.Machines.{MachineData}
+use Rattle.machine_parts.specs.Evaluating.{Rooms, IsSeated}
+use Rattle.machine_laws.specs.Fitting.{Covers}
+use Rattle.machine_laws.specs.Finishing.{IsFresh, AreWaiting}
+use Rattle.machine_parts.specs.Putting.{Puts}
+use Rattle.machine_laws.specs.Beginnings.{BeginsAt}
+use Rattle.unit_step.specs.Lasting.{AreLasting, texts_lasting, texts_numbered}
+use Rattle.machine_laws.proofs.PartGroups.{member_from_part}
 use Rattle.unit_step.proofs.FinishingRoused.{read_same}
-use Rattle.unit_step.proofs.StayingParts.{Stands-at, at-Stands, stays_or_comes}
-use Rattle.unit_step.proofs.LastingGroups.{first_member}
+use Rattle.machine_laws.proofs.StayingParts.{Stands-at, at-Stands, stays_or_comes}
+use Rattle.machine_laws.proofs.LastingGroups.{first_member}
 
 -- the same is known where further texts get numbers
 pub AreLasting-numbered : (parts : List HeldPart) (old new : UsesData) (count : ℕ) (lasting : Lasting) → IsNumbered old new →

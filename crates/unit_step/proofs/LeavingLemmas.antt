@@ -4,7 +4,7 @@ use Rattle.std.specs.Prelude.{Contains, slice_index_or, slice_set}
 use Rattle.std.proofs.lemmas.Bool.{cases_eq}
 use Rattle.std.proofs.lemmas.List.{get_or-set_same, get_or-set_other, length-set, take_more}
 use Rattle.std.proofs.lemmas.List.Elements.{Contains-push, Contains-push_cases, Contains-append_left}
-use Rattle.unit_step.specs.Seating.{Disowns}
+use Rattle.machine_laws.specs.Seating.{Disowns}
 
 -- one node more has no owner
 pub Disowns-more : (members : List ℕ) (i node : ℕ) (old mid : List (Option ℕ)) → i < length members → node ≡ get_or members i 0 →

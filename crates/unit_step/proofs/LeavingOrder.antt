@@ -20,10 +20,11 @@ use Rattle.analysis_cache.proofs.DistinctLemmas.{first_texts-filter}
 use Rattle.analysis_cache.proofs.OrderLemmas.{among_all, used-same_left}
 use Rattle.kept_parts.specs.Uses.{UsesData, AreSame, CutsTo, some_texts, texts_used, in_use}
 use Rattle.kept_parts.proofs.PlaceLemmas.{among_at}
-use Rattle.unit_step.specs.declared.part.HeldPart.{HeldPart}
+use Rattle.machine_parts.specs.declared.part.HeldPart.{HeldPart}
 use Rattle.unit_step.specs.declared.lasting.Lasting.{Lasting}
-use Rattle.unit_step.specs.Parts.{Stands, AreApart}
-use Rattle.unit_step.specs.Lasting.{Begins, AreInOrder, AreLasting, AreLeavers, UsesLeavers, IsLeft, is_unused, texts_lasting}
+use Rattle.machine_parts.specs.Parts.{Stands, AreApart}
+use Rattle.machine_laws.specs.Beginnings.{Begins, AreInOrder}
+use Rattle.unit_step.specs.Lasting.{AreLasting, AreLeavers, UsesLeavers, IsLeft, is_unused, texts_lasting}
 use Rattle.unit_step.proofs.FinishingFits.{among_some, some_part}
 use Rattle.unit_step.proofs.LastingLemmas.{BeginsAt-first, Begins-once}
 use Rattle.unit_step.proofs.LastingOrder.{text_at, text_of_part, number_of_text}

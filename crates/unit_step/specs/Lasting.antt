@@ -1,41 +1,16 @@
 -- Which texts a machine's groups had at its last build, and what an edit and a build make of that.
 -- After Beatty and Bryant, "Fast Incremental Circuit Analysis Using Extracted Hierarchy", 1988.
 use Rattle.std.specs.Prelude.{◌≡◌, ℕ, ◌<◌, ◌≤◌, min, Bool, List, [], ◌∷◌, length, map, filter, take, not, if◌then◌else◌, All, Contains, Option, None, Some, slice_get, slice_set, slice_index, slice_index_or}
-use Rattle.std.specs.List.{AllZip}
 use Rattle.std.specs.List.Sorted.{IsStrictlyIncreasing}
 use Rattle.std.specs.Option.{option_and_then}
-use Rattle.path_meaning.specs.Graphs.{GraphData}
-use Rattle.group_meaning.specs.Groups.{Group, AreGroups}
-use Rattle.group_text.specs.Texts.{GroupTextData, text_of_group}
+use Rattle.group_text.specs.Texts.{GroupTextData}
 use Rattle.group_text.specs.FirstTexts.{is_among}
 use Rattle.group_analysis.specs.Using.{used_texts, kept_after}
 use Rattle.kept_parts.specs.Uses.{UsesData, texts_used, some_texts}
-use Rattle.unit_step.specs.declared.part.HeldPart.{HeldPart}
+use Rattle.machine_parts.specs.declared.part.HeldPart.{HeldPart}
 use Rattle.unit_step.specs.declared.lasting.Lasting.{Lasting}
-use Rattle.unit_step.specs.Parts.{Stands, IsMemberAt, has_members}
-
--- the part with this number begins at the node, which is its first member
-pub record BeginsAt (parts : List HeldPart) (k node : ℕ) : Type 0 where
-  pub part : HeldPart
-  pub stands : Stands parts k part
-  pub first : IsMemberAt part 0 node
-
--- some part that begins at the node has this, of what stands for each part
-pub record Begins {X : Type 0} (parts : List HeldPart) (all : List (Option X)) (node : ℕ) (x : X) : Type 0 where
-  pub k : ℕ
-  pub at : BeginsAt parts k node
-  pub has : slice_index_or all k None ≡ Some x
-
--- these are the texts of the parts that have one, in the order of the nodes at which the parts begin
-pub record AreInOrder (parts : List HeldPart) (uses : List (Option GroupTextData)) (texts : List GroupTextData) : Type 0 where
-  pub places : List ℕ
-  pub ascending : IsStrictlyIncreasing places
-  pub each : AllZip (Begins parts uses) places texts
-  pub all : (node : ℕ) (text : GroupTextData) → Begins parts uses node text → Contains places node
-
--- these are the texts of the graph's groups, in order
-abbrev pub HasLast : GraphData → List GroupTextData → Type 0
-HasLast g texts = (groups : List Group) → AreGroups g groups → texts ≡ map (text_of_group g) groups
+use Rattle.machine_parts.specs.Parts.{has_members}
+use Rattle.machine_laws.specs.Beginnings.{Begins}
 
 -- the text with each of these numbers, where there is a number
 abbrev pub texts_numbered : List GroupTextData → List (Option ℕ) → List GroupTextData

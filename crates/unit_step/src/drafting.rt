@@ -5,25 +5,24 @@ ghost use Rattle.path_meaning.specs.Rails.{IsRailed, IsSound};
 ghost use Rattle.analysis_cache.specs.Keeping.{texts_of};
 ghost use Rattle.group_text.specs.FirstTexts.{is_among};
 ghost use Rattle.kept_parts.specs.Uses.{texts_used};
-ghost use Rattle.unit_step.specs.Parts.{AreApart};
-ghost use Rattle.unit_step.specs.Making.{IsFormed};
+ghost use Rattle.machine_parts.specs.Parts.{AreApart};
+ghost use Rattle.machine_parts.specs.Making.{IsFormed};
 ghost use Rattle.unit_step.specs.Planning.{IsPlan};
-ghost use Rattle.unit_step.specs.Fitting.{FitsGraph};
-ghost use Rattle.unit_step.specs.Lasting.{AreInOrder, HasLast, texts_lasting};
+ghost use Rattle.machine_laws.specs.Fitting.{FitsGraph};
+ghost use Rattle.machine_laws.specs.Beginnings.{AreInOrder, HasLast};
+ghost use Rattle.unit_step.specs.Lasting.{texts_lasting};
 ghost use Rattle.unit_step.specs.Drafting.{CanStart, drafted};
-ghost use Rattle.unit_step.specs.Dense.{HaveCodes};
+ghost use Rattle.part_steps.specs.Dense.{AreDense, HasInputs, HaveCodes};
 
-use crate::agenda::Agenda;
-use crate::dense::DenseParts;
-use crate::evaluation::Desk;
 use crate::lasting::Lasting;
-use crate::making::{all_owners, count_held, desk_for, held_parts};
-use crate::part::HeldPart;
 use crate::planning::Plan;
-use crate::readers::ReaderLists;
 use analysis_cache::Kept;
 use channel_groups::Groups;
 use kept_parts::{TextUses, parts_by_number};
+use machine_parts::HeldPart;
+use part_steps::{
+    Agenda, DenseParts, Desk, ReaderLists, all_owners, count_held, desk_for, held_parts,
+};
 use path_meaning::{Graph, graphs_are_wired};
 use std::alloc::Global;
 use ternary::{NoMemory, Tern};
@@ -103,7 +102,7 @@ impl Draft {
         let readers = ReaderLists::of_parts(alloc, &parts, nodes)?;
         let owners = all_owners(alloc, &parts, nodes)?;
         let desk = desk_for(alloc, &parts)?;
-        let dense = DenseParts::of_parts(alloc, &parts, &uses)?;
+        let dense = dense_of(alloc, &parts, &uses)?;
         let lasting = Lasting::of_parts(alloc, &parts, &uses, nodes)?;
         Ok(Draft {
             groups,
@@ -119,4 +118,26 @@ impl Draft {
             desk,
         })
     }
+}
+
+// What a step reads of these parts; those whose texts have one number share their code. More codes or nodes than
+// a number of 32 bits can count are refused as want of memory.
+#[tactic(auto, using(part_steps::proofs::DenseLemmas::no_seats, part_steps::proofs::DenseLemmas::places_none))]
+fn dense_of(alloc: Global, parts: &[HeldPart], uses: &TextUses) -> Result<DenseParts, NoMemory>
+    requires inputs { All HasInputs parts.now }
+    requires numbered { length uses.now.numbers ≡ length parts.now }
+    requires coded { HaveCodes uses.now.numbers parts.now }
+    ensures { IfOk result (AreDense parts.now) }
+{
+    let mut places = vec![in alloc; None; uses.known().len()]?;
+    let mut dense = DenseParts {
+        codes: Vec::new(alloc),
+        nodes: Vec::new(alloc),
+        seats: Vec::with_capacity(alloc, parts.len())?,
+    };
+    for (k, part) in parts.iter().enumerate() {
+        let seat = dense.seat_shared(part, uses.number_of(k), &mut places)?;
+        dense.seats.push_reserved(seat);
+    }
+    Ok(dense)
 }

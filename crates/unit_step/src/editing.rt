@@ -5,11 +5,12 @@ ghost use Rattle.group_meaning.specs.Groups.{Group, AreGroups};
 ghost use Rattle.channel_groups.specs.Grouping.{AreOf, has_member};
 ghost use Rattle.channel_groups.specs.Changes.{undo, touched_size};
 ghost use Rattle.unit_step.specs.declared.editing.TheConstants.{NEW_NODES};
-ghost use Rattle.unit_step.specs.Machines.{groups_in, IsMarked};
-ghost use Rattle.unit_step.specs.Parts.{HasMember, AreApart, IsStale};
-ghost use Rattle.unit_step.specs.Seating.{AreOfSome, IsWithAny, RenewsAll, RenewsAt, members_in};
-ghost use Rattle.unit_step.specs.Fitting.{Covers};
-ghost use Rattle.unit_step.specs.Editing.{with_new_nodes, Edits};
+ghost use Rattle.machine_laws.specs.Machines.{groups_in};
+ghost use Rattle.machine_parts.specs.Marking.{IsMarked};
+ghost use Rattle.machine_parts.specs.Parts.{HasMember, AreApart, IsStale};
+ghost use Rattle.machine_laws.specs.Seating.{AreOfSome, IsWithAny, RenewsAll, RenewsAt, members_in};
+ghost use Rattle.machine_laws.specs.Fitting.{Covers};
+ghost use Rattle.machine_laws.specs.Editing.{with_new_nodes, Edits};
 
 use crate::machine::Machine;
 use crate::seating::owner_of;

@@ -1,9 +1,9 @@
 //! Nodes that are added to a machine.
 ghost use Rattle.std.specs.Prelude.{◌≡◌, ◌+◌, ◌-◌, ◌++◌, ◌≤◌, None, length, replicate, vec_capacity, OnOk, OnErr};
-ghost use Rattle.unit_step.specs.Editing.{with_new_nodes};
+ghost use Rattle.machine_laws.specs.Editing.{with_new_nodes};
 
 use crate::machine::Machine;
-use std::alloc::{AllocError, Global};
+use std::alloc::AllocError;
 use ternary::Tern;
 
 impl Machine {

@@ -4,14 +4,15 @@ ghost use Rattle.group_text.specs.FirstTexts.{is_among};
 ghost use Rattle.group_analysis.specs.Using.{used_texts};
 ghost use Rattle.analysis_cache.specs.Keeping.{texts_of};
 ghost use Rattle.group_text.specs.Texts.{GroupTextData};
-ghost use Rattle.unit_step.specs.Parts.{AreApart};
-ghost use Rattle.unit_step.specs.Running.{AreOwners};
-ghost use Rattle.unit_step.specs.Lasting.{AreLasting, Begins, BeginsAt, UsesLeavers, UsesLeaver, starts_of, text_in, texts_lasting, with_beginning};
+ghost use Rattle.machine_parts.specs.Parts.{AreApart};
+ghost use Rattle.machine_parts.specs.Running.{AreOwners};
+ghost use Rattle.unit_step.specs.Lasting.{AreLasting, UsesLeavers, UsesLeaver, starts_of, text_in, texts_lasting, with_beginning};
+ghost use Rattle.machine_laws.specs.Beginnings.{Begins, BeginsAt};
 
-use crate::part::HeldPart;
 use crate::seating::owner_of;
 use analysis_cache::Kept;
 use kept_parts::TextUses;
+use machine_parts::HeldPart;
 use std::alloc::{AllocError, Global};
 
 // For each node the number of the text of the part that began there at the last build, if one did that has a

@@ -12,41 +12,30 @@
 //! a step runs its code: out takes 1              the part is not marked, until a is placed anew
 //! ```
 //!
-//! The proofs of crates above cite `EditingLemmas`, `FittingLemmas`, `KeptLemmas`, `MakingLemmas`,
-//! `MarkLemmas`, `PartLemmas`, `PlacingLemmas`, `SetMarks` and `TakingLemmas`, whose heads say what
-//! they are of.
+//! What a step reads and runs is in `part_steps`, and the laws are in `machine_laws`, which the proofs of crates
+//! above cite, as they do `machine_parts`.
 //!
 //! After Bryant, Beatty, Brace, Cho and Sheffler, "COSMOS: A Compiled Simulator for MOS Circuits",
 //! 1987.
 #![tactic(auto)]
 
-mod advance;
-mod agenda;
-mod batches;
-mod dense;
 mod drafting;
 mod editing;
-mod evaluation;
 mod finishing;
 mod growing;
 mod lasting;
-mod laws;
 mod machine;
-mod making;
-mod part;
 mod planning;
-mod readers;
 mod rousing;
 mod seating;
 mod waking;
 
-pub use agenda::numbers_below;
 pub use editing::{EditRefused, NEW_NODES};
 pub use growing::grow;
-pub use laws::{
+pub use machine::Machine;
+pub use machine_laws::{
     alike_groups_keep_their_parts, columns_step_apart, empty_places_are_covered,
     machines_have_kept_texts, placing_keeps_fits, steps_are_unit_steps,
 };
-pub use machine::Machine;
-pub use making::{Needs, needs_of};
-pub use part::HeldPart;
+pub use machine_parts::HeldPart;
+pub use part_steps::{Needs, needs_of, numbers_below};

@@ -1,25 +1,12 @@
 //! The stale parts get their codes.
 ghost use Rattle.std.specs.Prelude.{◌≡◌, ◌<◌, length, map, All, Some, IfOk, slice_get};
 ghost use Rattle.kept_parts.specs.Uses.{IsNumbered, texts_used};
-ghost use Rattle.unit_step.specs.Finishing.{Puts};
+ghost use Rattle.machine_parts.specs.Putting.{Puts};
 
 use group_text::GroupText;
 use kept_parts::TextUses;
 use std::alloc::{AllocError, Global};
 use ternary::NoMemory;
-
-// Puts these in these slots.
-pub(crate) fn put_in<T: Drop>(slots: &[usize], fresh: Vec<T>, all: &mut [T])
-    requires inside { All (λ k. k < length all.old) slots.now }
-    requires counted { length fresh.items ≡ length slots.now }
-    ensures { Puts slots.now fresh.items all.old all.new }
-{
-    let mut place = 0;
-    for one in fresh {
-        all[slots[place]] = one;
-        place += 1;
-    }
-}
 
 // The numbers of these texts.
 pub(crate) fn numbers_of(

@@ -1,11 +1,11 @@
 //! Parts that lose their group in an edit, and parts for the groups that an edit makes.
 ghost use Rattle.std.specs.Prelude.{◌≡◌, ℕ, ◌+◌, ◌<◌, ◌∷◌, [], None, length, slice_index, slice_index_or, All, Contains, IfOk, OnOk, OnErr};
-ghost use Rattle.unit_step.specs.Parts.{HasMember};
-ghost use Rattle.unit_step.specs.Seating.{Disowns, Vacates, Seats, Clears, Renews, one_of, IsVacant, IsStalePartOf};
+ghost use Rattle.machine_parts.specs.Parts.{HasMember};
+ghost use Rattle.machine_laws.specs.Seating.{Disowns, Vacates, Seats, Clears, Renews, one_of, IsVacant, IsStalePartOf};
 
 use crate::machine::Machine;
-use crate::making::{own, widen_for_parts};
-use crate::part::HeldPart;
+use machine_parts::HeldPart;
+use part_steps::{own, widen_for_parts};
 use std::alloc::{AllocError, Global};
 use std::mem;
 use ternary::NoMemory;

@@ -2,13 +2,13 @@
 ghost use Rattle.std.specs.Prelude.{◌≡◌, ◌≢◌, ℕ, ◌<◌, None, Some, [], length, map, All, Contains, IfOk, slice_index_or};
 ghost use Rattle.std.specs.List.Sorted.{IsStrictlyIncreasing};
 ghost use Rattle.channel_groups.specs.Grouping.{AreOf, IsId};
-ghost use Rattle.unit_step.specs.Machines.{IsMarked};
-ghost use Rattle.unit_step.specs.Finishing.{first_node};
+ghost use Rattle.machine_parts.specs.Marking.{IsMarked};
+ghost use Rattle.machine_laws.specs.Finishing.{first_node};
 
-use crate::agenda::Agenda;
-use crate::part::HeldPart;
 use channel_groups::{GroupId, Groups};
 use group_text::GroupText;
+use machine_parts::HeldPart;
+use part_steps::Agenda;
 use path_meaning::{Graph, graphs_are_wired};
 use std::alloc::{AllocError, Global};
 

@@ -3,10 +3,9 @@ use Rattle.std.proofs.Common.{◌≡◌, true, length, sym, subst, ◌∙◌, ar
 use Rattle.std.specs.Prelude.{Contains, slice_index_or}
 use Rattle.std.proofs.lemmas.List.Sums.{count_by-le-length}
 use Rattle.std.proofs.lemmas.List.Elements.{Contains-get_or}
-use Rattle.unit_step.specs.Machines.{members_of}
-use Rattle.unit_step.specs.Marking.{MarksAll}
-use Rattle.unit_step.proofs.MarkLemmas.{marked_sum-within}
-use Rattle.unit_step.proofs.SetMarks.{marked_inside}
+use Rattle.machine_parts.specs.Marking.{members_of, MarksAll}
+use Rattle.machine_parts.proofs.MarkLemmas.{marked_sum-within}
+use Rattle.machine_parts.proofs.SetMarks.{marked_inside}
 use Rattle.lane_machine.specs.Evaluating.{rooms, IsSeated}
 use Rattle.lane_machine.specs.Running.{AreWritten, ReadsAny}
 use Rattle.lane_machine.proofs.EvaluationLemmas.{cleared_rooms}

@@ -1,7 +1,7 @@
 -- One part more is marked.
 use Rattle.std.proofs.Common.{arith, refl}
 use Rattle.std.proofs.lemmas.List.Elements.{Contains-get_or}
-use Rattle.unit_step.proofs.MarkLemmas.{MarksAll-more}
+use Rattle.machine_parts.proofs.MarkLemmas.{MarksAll-more}
 use Rattle.lane_machine.proofs.agenda.mark_all.Goals as goal
 
 pub mark-requires : goal.mark-requires

@@ -1,7 +1,7 @@
 -- The parts so far are marked.
 use Rattle.std.proofs.Common.{take}
 use Rattle.std.specs.Prelude.{Contains}
-use Rattle.unit_step.specs.Marking.{MarksAll}
+use Rattle.machine_parts.specs.Marking.{MarksAll}
 use Rattle.lane_machine.proofs.agenda.mark_all.Given as goal
 
 abbrev pub invariant-loop-k : goal.invariant-loop-k

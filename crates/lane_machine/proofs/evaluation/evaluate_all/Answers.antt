@@ -2,9 +2,9 @@
 use Rattle.std.proofs.Common.{◌≡◌, ◌<◌, ℕ, [], ◌∷◌, ◌++◌, Vec, Global, false, length, sym, ap, subst, ◌∙◌, arith}
 use Rattle.std.specs.Prelude.{slice_index_or}
 use Rattle.std.proofs.lemmas.List.{length-set}
-use Rattle.unit_step.specs.Machines.{members_of}
-use Rattle.unit_step.proofs.MarkLemmas.{marked_sum-cleared}
-use Rattle.unit_step.proofs.SetMarks.{marked_inside}
+use Rattle.machine_parts.specs.Marking.{members_of}
+use Rattle.machine_parts.proofs.MarkLemmas.{marked_sum-cleared}
+use Rattle.machine_parts.proofs.SetMarks.{marked_inside}
 use Rattle.lane_machine.specs.Evaluating.{rooms, Rooms, IsSeated}
 use Rattle.lane_machine.proofs.EvaluationLemmas.{Evaluated-more, done_room-more}
 use Rattle.lane_machine.proofs.evaluation.evaluate_all.Goals as goal

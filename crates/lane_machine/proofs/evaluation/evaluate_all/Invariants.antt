@@ -1,7 +1,7 @@
 -- What was evaluated so far is done, and for the rest there is room.
 use Rattle.std.proofs.Common.{◌≡◌, ◌+◌, ◌≤◌, length, vec_len}
 use Rattle.std.specs.Prelude.{vec_capacity}
-use Rattle.unit_step.specs.Machines.{count_marked, marked_sum, members_of}
+use Rattle.machine_parts.specs.Marking.{count_marked, marked_sum, members_of}
 use Rattle.lane_machine.specs.Evaluating.{rooms, IsEven, Evaluated}
 use Rattle.lane_machine.proofs.evaluation.evaluate_all.Given as goal
 

@@ -1,8 +1,8 @@
 -- One part more is listed.
 use Rattle.std.proofs.Common.{◌+◌, ◌<◌, ◌≤◌, ℕ, List, All, length, sym, ap, subst, arith}
 use Rattle.std.proofs.lemmas.List.{with_items_is}
-use Rattle.unit_step.specs.declared.part.HeldPart.{HeldPart}
-use Rattle.unit_step.specs.Parts.{Stands}
+use Rattle.machine_parts.specs.declared.part.HeldPart.{HeldPart}
+use Rattle.machine_parts.specs.Parts.{Stands}
 use Rattle.lane_machine.specs.Running.{nodes_of}
 use Rattle.lane_machine.specs.Making.{Lists, AreListed}
 use Rattle.lane_machine.proofs.MakingLemmas.{AreListed-more}

@@ -1,7 +1,7 @@
 -- Nor has one part more.
 use Rattle.std.proofs.Common.{◌≤◌, take, subst, arith}
 use Rattle.std.proofs.lemmas.List.Elements.{All-more, All-weaker}
-use Rattle.unit_step.specs.declared.part.HeldPart.{HeldPart}
+use Rattle.machine_parts.specs.declared.part.HeldPart.{HeldPart}
 use Rattle.lane_machine.proofs.making.most_members.Goals as goal
 
 pub loop-part-preserved : goal.loop-part-preserved

@@ -2,7 +2,7 @@
 use Rattle.std.proofs.Common.{◌<◌, inl, get_or, refl, ◌∙◌, arith}
 use Rattle.std.specs.Prelude.{length}
 use Rattle.std.proofs.lemmas.List.{get_or_default}
-use Rattle.unit_step.proofs.MarkLemmas.{MarksAll-reached}
+use Rattle.machine_parts.proofs.MarkLemmas.{MarksAll-reached}
 use Rattle.lane_machine.specs.declared.evaluation.WordChange.{WordChange}
 use Rattle.lane_machine.specs.Running.{listed_at}
 use Rattle.lane_machine.proofs.TakingLemmas.{AreWritten-none, AreWritten-more, list_read}

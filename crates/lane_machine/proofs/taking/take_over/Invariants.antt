@@ -1,6 +1,6 @@
 -- The changes so far are taken over, and their readers marked.
 use Rattle.std.proofs.Common.{take}
-use Rattle.unit_step.specs.Marking.{MarksAll}
+use Rattle.machine_parts.specs.Marking.{MarksAll}
 use Rattle.lane_machine.specs.Running.{AreWritten, ReadsAny}
 use Rattle.lane_machine.proofs.taking.take_over.Given as goal
 

@@ -3,7 +3,7 @@ use Rattle.ternary.specs.declared.tern.Tern.{Tern}
 use Rattle.ternary.specs.declared.tern.Tern.TheVariants.{Unk}
 use Rattle.batch_words.specs.Lanes.{HasLane}
 use Rattle.batch_words.proofs.RunLemmas.{high_counted}
-use Rattle.unit_step.proofs.EditingLemmas.{grown-more}
+use Rattle.machine_parts.proofs.EditingLemmas.{grown-more}
 use Rattle.lane_session.proofs.ColumnLemmas.{HasLane-push, HasValue-unknown}
 use Rattle.lane_session.proofs.stage.grow_rails.Goals as goal
 

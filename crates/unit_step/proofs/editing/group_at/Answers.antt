@@ -1,6 +1,6 @@
 -- The group with the id of the group of a node is the group of the node.
 use Rattle.std.proofs.Common.{sym}
-use Rattle.unit_step.proofs.RenewingLemmas.{group_by_id}
+use Rattle.machine_laws.proofs.RenewingLemmas.{group_by_id}
 use Rattle.unit_step.proofs.editing.group_at.Goals as goal
 
 pub returns : goal.returns

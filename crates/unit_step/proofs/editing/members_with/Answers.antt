@@ -2,8 +2,8 @@
 use Rattle.std.proofs.Common.{◌≡◌, ◌+◌, ◌++◌, ◌∷◌, [], ℕ, Vec, Global, take, get_or, sym, ap, subst, ◌∙◌, arith}
 use Rattle.std.specs.Prelude.{◌↔◌, Contains}
 use Rattle.std.proofs.lemmas.List.{take_more, take_all}
-use Rattle.unit_step.specs.Seating.{IsWithAny}
-use Rattle.unit_step.proofs.RenewingLemmas.{with_any_more, with_none_more, with_none_start}
+use Rattle.machine_laws.specs.Seating.{IsWithAny}
+use Rattle.machine_laws.proofs.RenewingLemmas.{with_any_more, with_none_more, with_none_start}
 use Rattle.unit_step.proofs.editing.members_with.Goals as goal
 use Rattle.unit_step.proofs.editing.members_with.Goals.{then-node-count+in_ok-add_members, else-node-count}
 

@@ -1,7 +1,7 @@
 -- The members of the groups of the nodes so far.
 use Rattle.std.proofs.Common.{take, ℕ}
 use Rattle.std.specs.Prelude.{◌↔◌, Contains}
-use Rattle.unit_step.specs.Seating.{IsWithAny}
+use Rattle.machine_laws.specs.Seating.{IsWithAny}
 use Rattle.unit_step.proofs.editing.members_with.Given as goal
 
 abbrev pub invariant-loop-node : goal.invariant-loop-node

@@ -1,7 +1,7 @@
 -- One node more is X.
 use Rattle.std.proofs.Common.{◌≡◌, [], ◌∷◌, ◌++◌, rules, arith}
 use Rattle.ternary.specs.declared.tern.Tern.TheVariants.{Unk}
-use Rattle.unit_step.proofs.EditingLemmas.{grown-more}
+use Rattle.machine_parts.proofs.EditingLemmas.{grown-more}
 use Rattle.unit_step.proofs.growing.grow.Goals as goal
 
 pub loop-node-preserved : goal.loop-node-preserved

@@ -1,6 +1,6 @@
 -- One node more is there.
 use Rattle.std.proofs.Common.{◌≡◌, None, [], ◌∷◌, ◌++◌, rules, arith}
-use Rattle.unit_step.proofs.EditingLemmas.{replicated-more}
+use Rattle.machine_parts.proofs.EditingLemmas.{replicated-more}
 use Rattle.unit_step.proofs.growing.grow_none.Goals as goal
 
 pub loop-node-preserved : goal.loop-node-preserved

@@ -2,9 +2,9 @@
 use Rattle.std.proofs.Common.{◌≡◌, ℕ, ◌<◌, None, List, length, sym, ap, subst, ◌∙◌, arith}
 use Rattle.std.specs.Prelude.{slice_index_or}
 use Rattle.std.proofs.lemmas.List.{get_or_default}
-use Rattle.unit_step.specs.declared.part.HeldPart.{HeldPart}
-use Rattle.unit_step.specs.Parts.{HasMember}
-use Rattle.unit_step.specs.Lasting.{Begins, BeginsAt}
+use Rattle.machine_parts.specs.declared.part.HeldPart.{HeldPart}
+use Rattle.machine_parts.specs.Parts.{HasMember}
+use Rattle.machine_laws.specs.Beginnings.{Begins, BeginsAt}
 use Rattle.unit_step.proofs.LastingLemmas.{HasMember-first, BeginsAt-read, begins_once, if_some_each}
 use Rattle.unit_step.proofs.lasting.number_at.Goals as goal
 

@@ -2,7 +2,7 @@
 use Rattle.std.proofs.Common.{◌≡◌, ◌+◌, ◌<◌, [], ◌∷◌, ◌++◌, Some, None, get_or, map, take, length, refl, ap, ◌∙◌, arith}
 use Rattle.std.specs.Prelude.{slice_set}
 use Rattle.std.proofs.lemmas.List.{length-map, length-take-le, map_more, get_or-set_same}
-use Rattle.unit_step.proofs.FinishingParts.{Puts-more, set_twice}
+use Rattle.part_steps.proofs.PuttingLemmas.{Puts-more, set_twice}
 use Rattle.unit_step.proofs.rousing.put_texts.Goals as goal
 
 pub set-requires-clause-none : goal.set-requires-clause-none

@@ -1,6 +1,6 @@
 -- The parts so far have their texts.
 use Rattle.std.proofs.Common.{◌≡◌, map, take, Some}
-use Rattle.unit_step.specs.Finishing.{Puts}
+use Rattle.machine_parts.specs.Putting.{Puts}
 use Rattle.unit_step.proofs.rousing.put_texts.Given as goal
 
 abbrev pub invariant-loop-place : goal.invariant-loop-place

@@ -1,6 +1,6 @@
 -- The nodes so far have no owner.
 use Rattle.std.proofs.Common.{take}
-use Rattle.unit_step.specs.Seating.{Disowns}
+use Rattle.machine_laws.specs.Seating.{Disowns}
 use Rattle.unit_step.proofs.seating.disown.Given as goal
 
 abbrev pub invariant-loop-node : goal.invariant-loop-node

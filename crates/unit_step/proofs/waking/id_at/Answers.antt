@@ -1,6 +1,6 @@
 -- The group with a least node is the one that has it as a member.
 use Rattle.std.proofs.Common.{◌≡◌, Some, None, ◌∙◌, arith}
-use Rattle.unit_step.proofs.FinishingGroups.{group_of_member, node_inside}
+use Rattle.machine_laws.proofs.FinishingGroups.{group_of_member, node_inside}
 use Rattle.unit_step.proofs.waking.id_at.Goals as goal
 
 pub group_of-requires : goal.group_of-requires

@@ -7,8 +7,8 @@ use Rattle.std.proofs.lemmas.List.Filters.{dedup_is}
 use Rattle.std.proofs.lemmas.List.Kept.{Contains-dedup_nat, Contains-from_dedup}
 use Rattle.std.proofs.lemmas.List.Sorted.{Contains-permutation, IsPermutation-sym}
 use Rattle.std.proofs.lemmas.Map.Keys.{IsStrictlyIncreasing-dedup}
-use Rattle.unit_step.specs.Machines.{IsMarked}
-use Rattle.unit_step.specs.Finishing.{first_node}
+use Rattle.machine_parts.specs.Marking.{IsMarked}
+use Rattle.machine_laws.specs.Finishing.{first_node}
 use Rattle.unit_step.proofs.waking.least_members.Goals as goal
 use Rattle.unit_step.proofs.waking.least_members.Goals.{then-does_wait+in_ok-push, else-does_wait}
 

@@ -1,8 +1,8 @@
 -- The first nodes of the parts so far that wait.
 use Rattle.std.proofs.Common.{◌≡◌, ℕ, take}
 use Rattle.std.specs.Prelude.{Contains}
-use Rattle.unit_step.specs.Machines.{IsMarked}
-use Rattle.unit_step.specs.Finishing.{first_node}
+use Rattle.machine_parts.specs.Marking.{IsMarked}
+use Rattle.machine_laws.specs.Finishing.{first_node}
 use Rattle.unit_step.proofs.waking.least_members.Given as goal
 
 abbrev pub invariant-loop-k : goal.invariant-loop-k

@@ -2,7 +2,7 @@
 use Rattle.std.proofs.Common.{◌≡◌, ℕ, ◌∙◌, List, Option, None, IfSome, refl, sym, ap, subst}
 use Rattle.group_text.specs.Texts.{GroupTextData}
 use Rattle.netlist.specs.Circuits.{CircuitData}
-use Rattle.unit_step.specs.Machines.{MachineData}
+use Rattle.machine_laws.specs.Machines.{MachineData}
 use Rattle.analysis_cache.specs.Keeping.{KeptData, texts_of}
 use Rattle.cosmos_session.specs.Sessions.{HeldSession, IsSession, start_of}
 use Rattle.cosmos_session.specs.Machines.{AreAmong, IsHeldSession, IsMachineOf, kept_in, last_in}

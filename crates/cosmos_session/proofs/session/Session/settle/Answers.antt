@@ -1,6 +1,6 @@
 use Rattle.std.proofs.Common.{ℕ, Bool, refl, sym, subst, rules}
 use Rattle.analysis_cache.specs.Keeping.{texts_of}
-use Rattle.unit_step.specs.Machines.{MachineData}
+use Rattle.machine_laws.specs.Machines.{MachineData}
 use Rattle.cosmos_session.specs.Sessions.{HeldSession}
 use Rattle.cosmos_session.specs.Machines.{IsBuilt}
 use Rattle.cosmos_session.specs.Stages.{MovesBy, TakesPhase, IsSettled}

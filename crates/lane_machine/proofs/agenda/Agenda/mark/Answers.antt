@@ -1,6 +1,6 @@
 -- A part that isn't marked comes to the list, in which there is room for it.
 use Rattle.std.proofs.Common.{◌<◌, length, ap, arith}
-use Rattle.unit_step.proofs.MarkLemmas.{unmarked_read, count_marked-below}
+use Rattle.machine_parts.proofs.MarkLemmas.{unmarked_read, count_marked-below}
 use Rattle.lane_machine.proofs.AgendaLemmas.{IsAgenda-marked}
 use Rattle.lane_machine.proofs.agenda.Agenda.mark.Goals as goal
 

@@ -2,7 +2,7 @@
 use Rattle.std.proofs.Common.{ℕ, List, arith, subst}
 use Rattle.std.specs.Prelude.{vec_capacity}
 use Rattle.std.proofs.lemmas.List.Elements.{Contains-push}
-use Rattle.unit_step.proofs.SetMarks.{marked_inside}
+use Rattle.machine_parts.proofs.SetMarks.{marked_inside}
 use Rattle.lane_machine.specs.Marking.{IsAgenda}
 use Rattle.lane_machine.proofs.AgendaLemmas.{IsAgenda-popped}
 use Rattle.lane_machine.proofs.agenda.Agenda.pop.Goals as goal

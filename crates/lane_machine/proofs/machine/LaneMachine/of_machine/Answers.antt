@@ -1,7 +1,7 @@
 -- The parts are those of a machine that fits the graph, all of them marked, so each column fits it.
 use Rattle.std.proofs.Common.{◌≡◌, length, sym, subst, ◌∙◌, arith}
-use Rattle.unit_step.specs.Columns.{AreSeated}
-use Rattle.unit_step.specs.Parts.{ReadsAt, IsStale}
+use Rattle.machine_laws.specs.Columns.{AreSeated}
+use Rattle.machine_parts.specs.Parts.{ReadsAt, IsStale}
 use Rattle.lane_machine.specs.Columns.{FitsInLanes}
 use Rattle.lane_machine.proofs.FittingLemmas.{FitsInLanes-fresh, AreColumns-sound, if_made}
 use Rattle.lane_machine.proofs.machine.LaneMachine.of_machine.Goals as goal

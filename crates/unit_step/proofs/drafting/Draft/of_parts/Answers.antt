@@ -1,29 +1,29 @@
 -- All that was made is of these parts, so the machine can run.
 use Rattle.std.proofs.Common.{◌≡◌, ℕ, true, false, length, ap, refl, sym, subst, ◌∙◌, arith}
 use Rattle.std.specs.Prelude.{All, Contains, replicate, count_by}
-use Rattle.unit_step.specs.Parts.{ReadsAt, AreApart, has_members}
-use Rattle.unit_step.specs.Evaluating.{rooms}
-use Rattle.unit_step.specs.Running.{AreOwners}
-use Rattle.unit_step.specs.Readers.{readers_of}
-use Rattle.unit_step.specs.Making.{HasRoomFor}
-use Rattle.unit_step.specs.Dense.{AreDense, HasInputs, HaveCodes}
+use Rattle.machine_parts.specs.Parts.{ReadsAt, AreApart, has_members}
+use Rattle.part_steps.specs.Desks.{rooms}
+use Rattle.machine_parts.specs.Running.{AreOwners}
+use Rattle.machine_parts.specs.Readers.{readers_of}
+use Rattle.machine_parts.specs.Making.{HasRoomFor}
+use Rattle.part_steps.specs.Dense.{AreDense, HasInputs, HaveCodes}
 use Rattle.unit_step.specs.Lasting.{AreLasting}
 use Rattle.unit_step.proofs.LastingOrder.{AreInOrder-lasting}
-use Rattle.unit_step.proofs.MakingLemmas.{IsMachine-started}
+use Rattle.machine_parts.proofs.MakingLemmas.{IsMachine-started}
 use Rattle.unit_step.proofs.drafting.Draft.of_parts.Goals as goal
 
 pub all_owners-requires-clause-apart : goal.all_owners-requires-clause-apart
 all_owners-requires-clause-apart c = subst AreApart (sym c.deref-3.ensures.value) c.requires.apart
 
-pub of_parts-requires-2-clause-inputs : goal.of_parts-requires-2-clause-inputs
-of_parts-requires-2-clause-inputs c =
+pub dense_of-requires-clause-inputs : goal.dense_of-requires-clause-inputs
+dense_of-requires-clause-inputs c =
     subst (All HasInputs) (sym c.deref-5.ensures.value) (λ k d inside code has. (c.requires.formed k d inside).inputs code has)
 
-pub of_parts-requires-2-clause-coded : goal.of_parts-requires-2-clause-coded
-of_parts-requires-2-clause-coded c = subst (HaveCodes c.args.uses.numbers) (sym c.deref-5.ensures.value) c.requires.coded
+pub dense_of-requires-clause-coded : goal.dense_of-requires-clause-coded
+dense_of-requires-clause-coded c = subst (HaveCodes c.args.uses.numbers) (sym c.deref-5.ensures.value) c.requires.coded
 
-pub of_parts-requires-3-clause-apart : goal.of_parts-requires-3-clause-apart
-of_parts-requires-3-clause-apart c = subst AreApart (sym c.deref-6.ensures.value) c.requires.apart
+pub of_parts-requires-2-clause-apart : goal.of_parts-requires-2-clause-apart
+of_parts-requires-2-clause-apart c = subst AreApart (sym c.deref-6.ensures.value) c.requires.apart
 
 pub returns-clause-starts : goal.returns-clause-starts
 returns-clause-starts c =

@@ -10,12 +10,11 @@ use Rattle.circuit_texts.specs.Reading.{AreReads}
 use Rattle.circuit_texts.proofs.MemberLemmas.{AreMembers-from_groups}
 use Rattle.kept_parts.specs.Uses.{texts_used}
 use Rattle.kept_parts.proofs.GroupParts.{parts_of_groups, parts_fit}
-use Rattle.unit_step.specs.Making.{started}
-use Rattle.unit_step.specs.Fitting.{FitsGraph}
-use Rattle.unit_step.proofs.MakingLemmas.{formed_parts, apart_parts, reads_inside, held_count}
+use Rattle.unit_step.specs.Drafting.{started}
+use Rattle.machine_laws.specs.Fitting.{FitsGraph}
+use Rattle.machine_parts.proofs.MakingLemmas.{formed_parts, apart_parts, reads_inside, held_count}
 use Rattle.unit_step.proofs.BuildLemmas.{lists_inside, numbers_counted, all_numbered}
-use Rattle.unit_step.proofs.DenseLemmas.{HaveCodes-held}
-use Rattle.unit_step.proofs.DraftLemmas.{FitsGraph-planned, FitsGraph-drafted, HasLast-drafted}
+use Rattle.unit_step.proofs.DraftLemmas.{HaveCodes-held, FitsGraph-planned, FitsGraph-drafted, HasLast-drafted}
 use Rattle.unit_step.proofs.drafting.Draft.of_plan.Goals.{In_ok-parts, In_ok-held}
 use Rattle.unit_step.proofs.drafting.Draft.of_plan.Goals as goal
 

@@ -2,8 +2,8 @@
 use Rattle.std.proofs.Common.{◌≡◌, ℕ, ◌<◌, ◌≤◌, ◌++◌, List, take, length, get_or, sym, subst, ◌∙◌, arith}
 use Rattle.std.specs.Prelude.{Contains, slice_index_or}
 use Rattle.std.proofs.lemmas.List.{take_all}
-use Rattle.unit_step.specs.declared.part.HeldPart.{HeldPart}
-use Rattle.unit_step.specs.Parts.{Stands}
+use Rattle.machine_parts.specs.declared.part.HeldPart.{HeldPart}
+use Rattle.machine_parts.specs.Parts.{Stands}
 use Rattle.unit_step.specs.Lasting.{starts_of}
 use Rattle.unit_step.proofs.LastingLemmas.{noted-stays, noted-only, noted-all}
 use Rattle.unit_step.proofs.lasting.Lasting.note_all.Goals as goal

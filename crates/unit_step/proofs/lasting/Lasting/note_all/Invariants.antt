@@ -1,7 +1,7 @@
 -- The nodes at which the parts so far begin are noted.
 use Rattle.std.proofs.Common.{◌≡◌, ℕ, ◌⊎◌, take}
 use Rattle.std.specs.Prelude.{Contains}
-use Rattle.unit_step.specs.Lasting.{BeginsAt}
+use Rattle.machine_laws.specs.Beginnings.{BeginsAt}
 use Rattle.unit_step.proofs.lasting.Lasting.note_all.Given as goal
 
 abbrev pub invariant-loop-k : goal.invariant-loop-k

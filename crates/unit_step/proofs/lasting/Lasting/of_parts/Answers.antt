@@ -2,8 +2,8 @@
 use Rattle.std.proofs.Common.{◌≡◌, ℕ, ◌+◌, ◌<◌, ◌≤◌, None, Some, All, length, sym, ap, subst, ◌∙◌, arith}
 use Rattle.std.specs.Option.{IfSome}
 use Rattle.std.proofs.lemmas.List.{get_or_past, with_items_is}
-use Rattle.unit_step.specs.declared.part.HeldPart.{HeldPart}
-use Rattle.unit_step.specs.Parts.{Stands}
+use Rattle.machine_parts.specs.declared.part.HeldPart.{HeldPart}
+use Rattle.machine_parts.specs.Parts.{Stands}
 use Rattle.unit_step.specs.Lasting.{with_beginning}
 use Rattle.unit_step.proofs.LastingLemmas.{AreBegun, AreBegun-more}
 use Rattle.unit_step.proofs.lasting.Lasting.of_parts.Goals as goal

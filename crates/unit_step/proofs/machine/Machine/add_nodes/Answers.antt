@@ -3,8 +3,8 @@ use Rattle.std.proofs.Common.{◌≡◌, ◌+◌, ◌-◌, ◌++◌, ℕ, List, 
 use Rattle.std.specs.Prelude.{replicate, slice_index_or}
 use Rattle.std.proofs.lemmas.List.{length-append, length-replicate}
 use Rattle.ternary.specs.declared.tern.Tern.TheVariants.{Unk}
-use Rattle.unit_step.specs.Evaluating.{rooms}
-use Rattle.unit_step.proofs.EditingLemmas.{none_more, IsMachine-grown}
+use Rattle.part_steps.specs.Desks.{rooms}
+use Rattle.machine_parts.proofs.EditingLemmas.{none_more, IsMachine-grown}
 use Rattle.unit_step.proofs.LastingEdits.{AreLasting-same, AreLasting-grown, texts_numbered-grown}
 use Rattle.unit_step.proofs.machine.Machine.add_nodes.Goals as goal
 

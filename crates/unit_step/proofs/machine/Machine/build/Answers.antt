@@ -7,8 +7,8 @@ use Rattle.analysis_cache.specs.Keeping.{texts_of}
 use Rattle.analysis_cache.specs.Adding.{FillsAll}
 use Rattle.circuit_texts.specs.Building.{Builds, BuildsFresh}
 use Rattle.kept_parts.specs.Uses.{UsesData}
-use Rattle.unit_step.specs.Fitting.{FitsGraph}
-use Rattle.unit_step.proofs.FillingLemmas.{on_err, IsGrown-same, IsGrown-filled, IsGrown-cut_off, Builds-first, cut_off_front, cut_off_end}
+use Rattle.machine_laws.specs.Fitting.{FitsGraph}
+use Rattle.machine_laws.proofs.FillingLemmas.{on_err, IsGrown-same, IsGrown-filled, IsGrown-cut_off, Builds-first, cut_off_front, cut_off_end}
 use Rattle.unit_step.proofs.BuildLemmas.{HasTexts-planned, planned_texts}
 use Rattle.unit_step.proofs.machine.Machine.build.Given.{Over}
 use Rattle.unit_step.proofs.machine.Machine.build.Goals.{In_ok-plan}

@@ -6,10 +6,10 @@ use Rattle.channel_groups.specs.Changes.{undo, nodes_before, nodes_after, touche
 use Rattle.group_meaning.specs.Groups.{Group, AreGroups}
 use Rattle.channel_groups.specs.Grouping.{GroupsData}
 use Rattle.unit_step.specs.contracts.machine.Machine.{the_view}
-use Rattle.unit_step.specs.Machines.{MachineData, groups_in}
-use Rattle.unit_step.specs.Editing.{with_new_nodes, Edits}
-use Rattle.unit_step.specs.Seating.{Clears, IsWithAny, RenewsAll}
-use Rattle.unit_step.proofs.CoveringLemmas.{counted_grown, grown_again, member_below, follows}
+use Rattle.machine_laws.specs.Machines.{MachineData, groups_in}
+use Rattle.machine_laws.specs.Editing.{with_new_nodes, Edits}
+use Rattle.machine_laws.specs.Seating.{Clears, IsWithAny, RenewsAll}
+use Rattle.machine_laws.proofs.CoveringLemmas.{counted_grown, grown_again, member_below, follows}
 use Rattle.unit_step.proofs.machine.Machine.follow.Given.{Over}
 use Rattle.unit_step.proofs.machine.Machine.follow.Goals.{In-Some}
 use Rattle.unit_step.proofs.machine.Machine.follow.Goals as goal

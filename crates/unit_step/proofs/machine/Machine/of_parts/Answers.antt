@@ -3,12 +3,14 @@ use Rattle.std.proofs.Common.{◌≡◌, [], None, length, map, sym, ap, subst, 
 use Rattle.std.specs.Prelude.{zip, replicate}
 use Rattle.std.proofs.lemmas.List.{length-replicate}
 use Rattle.kept_parts.specs.Uses.{UsesData, texts_used}
-use Rattle.unit_step.specs.Making.{held, started}
-use Rattle.unit_step.specs.Dense.{HaveCodes}
-use Rattle.unit_step.specs.Lasting.{AreInOrder, texts_lasting}
+use Rattle.machine_parts.specs.Making.{held}
+use Rattle.unit_step.specs.Drafting.{started}
+use Rattle.part_steps.specs.Dense.{HaveCodes}
+use Rattle.machine_laws.specs.Beginnings.{AreInOrder}
+use Rattle.unit_step.specs.Lasting.{texts_lasting}
 use Rattle.kept_parts.proofs.NumberLemmas.{none_used}
-use Rattle.unit_step.proofs.MakingLemmas.{formed_parts, apart_parts, reads_inside, held_count}
-use Rattle.unit_step.proofs.DenseLemmas.{HaveCodes-none}
+use Rattle.machine_parts.proofs.MakingLemmas.{formed_parts, apart_parts, reads_inside, held_count}
+use Rattle.part_steps.proofs.DenseLemmas.{HaveCodes-none}
 use Rattle.unit_step.proofs.DraftLemmas.{drafted-of, none_last}
 use Rattle.unit_step.proofs.machine.Machine.of_parts.Goals as goal
 

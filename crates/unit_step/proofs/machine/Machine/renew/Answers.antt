@@ -1,5 +1,5 @@
 -- The members are cleared, and their part is seated.
-use Rattle.unit_step.proofs.ClearingLemmas.{on_ok, Renews-seated}
+use Rattle.machine_laws.proofs.ClearingLemmas.{on_ok, Renews-seated}
 use Rattle.unit_step.proofs.machine.Machine.renew.Goals as goal
 
 pub returns-clause-ok : goal.returns-clause-ok

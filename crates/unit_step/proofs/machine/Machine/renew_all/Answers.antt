@@ -2,8 +2,8 @@
 use Rattle.std.proofs.Common.{◌≡◌, ◌+◌, ◌++◌, ◌∷◌, [], take, get_or, sym, ap, subst, ◌∙◌, length, arith}
 use Rattle.std.proofs.lemmas.List.{take_more, take_all}
 use Rattle.std.proofs.lemmas.List.Elements.{Contains-get_or}
-use Rattle.unit_step.specs.Seating.{RenewsAll, RenewsAt}
-use Rattle.unit_step.proofs.RenewingLemmas.{RenewsAll-start, RenewsAll-more}
+use Rattle.machine_laws.specs.Seating.{RenewsAll, RenewsAt}
+use Rattle.machine_laws.proofs.RenewingLemmas.{RenewsAll-start, RenewsAll-more}
 use Rattle.unit_step.proofs.machine.Machine.renew_all.Goals as goal
 
 pub loop-node-init : goal.loop-node-init

@@ -1,10 +1,10 @@
 -- The node has a part, or its group gets one, or it has no group.
 use Rattle.std.proofs.Common.{inl, inr, length, refl, sym, ap, subst, arith}
-use Rattle.unit_step.specs.Machines.{MachineData}
-use Rattle.unit_step.specs.Seating.{Renews}
-use Rattle.unit_step.proofs.ClearingLemmas.{on_ok}
-use Rattle.unit_step.proofs.RenewingLemmas.{found_group, none_found, group_in, members_inside, members_once, outside_none}
-use Rattle.unit_step.proofs.OwnerLemmas.{owner_has, no_owner}
+use Rattle.machine_laws.specs.Machines.{MachineData}
+use Rattle.machine_laws.specs.Seating.{Renews}
+use Rattle.machine_laws.proofs.ClearingLemmas.{on_ok}
+use Rattle.machine_laws.proofs.RenewingLemmas.{found_group, none_found, group_in, members_inside, members_once, outside_none}
+use Rattle.machine_parts.proofs.OwnerLemmas.{owner_has, no_owner}
 use Rattle.unit_step.proofs.machine.Machine.renew_at.Goals as goal
 
 pub returns-then-node-nodes-clause-ok : goal.returns-then-node-nodes-clause-ok

@@ -9,25 +9,27 @@ use Rattle.path_meaning.specs.Rails.{IsSound}
 use Rattle.group_text.specs.Texts.{GroupTextData, text_of_group}
 use Rattle.kept_parts.specs.Uses.{texts_used, count_distinct}
 use Rattle.kept_parts.proofs.GroupParts.{parts_of_groups}
-use Rattle.unit_step.specs.declared.part.HeldPart.{HeldPart}
+use Rattle.machine_parts.specs.declared.part.HeldPart.{HeldPart}
 use Rattle.unit_step.specs.declared.lasting.Lasting.{Lasting}
 use Rattle.unit_step.specs.contracts.machine.Machine.{the_view}
-use Rattle.unit_step.specs.Machines.{MachineData}
-use Rattle.unit_step.specs.Making.{IsCodeRoom}
-use Rattle.unit_step.specs.Evaluating.{rooms}
-use Rattle.unit_step.specs.Running.{IsMachine}
-use Rattle.unit_step.specs.Fitting.{Covers}
-use Rattle.unit_step.specs.Editing.{Rouses}
-use Rattle.unit_step.specs.Finishing.{IsWaking, Puts}
-use Rattle.unit_step.specs.Marking.{AreOnce}
-use Rattle.unit_step.specs.Readers.{ListsAll, HaveSameReaders}
-use Rattle.unit_step.specs.Dense.{AreDense, AreSeatsOf}
-use Rattle.unit_step.specs.Lasting.{BeginsAt, AreLasting, texts_lasting}
+use Rattle.machine_laws.specs.Machines.{MachineData}
+use Rattle.machine_parts.specs.Making.{IsCodeRoom}
+use Rattle.part_steps.specs.Desks.{rooms}
+use Rattle.machine_parts.specs.Running.{IsMachine}
+use Rattle.machine_laws.specs.Fitting.{Covers}
+use Rattle.machine_laws.specs.Editing.{Rouses}
+use Rattle.unit_step.specs.Waking.{IsWaking}
+use Rattle.machine_parts.specs.Putting.{Puts}
+use Rattle.machine_parts.specs.Marking.{AreOnce}
+use Rattle.machine_parts.specs.Readers.{ListsAll, HaveSameReaders}
+use Rattle.part_steps.specs.Dense.{AreDense, AreSeatsOf}
+use Rattle.machine_laws.specs.Beginnings.{BeginsAt}
+use Rattle.unit_step.specs.Lasting.{AreLasting, texts_lasting}
 use Rattle.unit_step.proofs.LastingRoused.{AreLasting-numbered, AreLasting-noted, AreLasting-roused, texts_lasting-numbered, same_texts_left}
-use Rattle.unit_step.proofs.FillingLemmas.{on_err}
+use Rattle.machine_laws.proofs.FillingLemmas.{on_err}
 use Rattle.unit_step.proofs.FinishingRoused.{AreMade, AreMade-held, parts_counted, unlisted, known_inside, IsMachine-roused, Rouses-roused}
-use Rattle.unit_step.proofs.StayingParts.{IsMachine-wider}
-use Rattle.unit_step.proofs.MachineLemmas.{HaveSameReaders-refl}
+use Rattle.machine_laws.proofs.StayingParts.{IsMachine-wider}
+use Rattle.machine_parts.proofs.MachineLemmas.{HaveSameReaders-refl}
 use Rattle.unit_step.proofs.machine.Machine.rouse.Goals.{In_ok-fresh, After-numbers_of, In_ok-numbers, After-widen_for_codes, In_ok-seats, After-note_all}
 use Rattle.unit_step.proofs.machine.Machine.rouse.Goals as goal
 

@@ -6,14 +6,14 @@ use Rattle.channel_groups.proofs.StoreLemmas.{same_more}
 use Rattle.group_text.specs.Texts.{GroupTextData}
 use Rattle.kept_parts.specs.Uses.{UsesData, texts_used}
 use Rattle.kept_parts.proofs.NumberLemmas.{texts_added}
-use Rattle.unit_step.specs.Machines.{MachineData}
-use Rattle.unit_step.specs.Evaluating.{rooms}
-use Rattle.unit_step.specs.Parts.{HasMember}
-use Rattle.unit_step.specs.Marking.{AgendaData}
-use Rattle.unit_step.specs.Making.{Owns}
-use Rattle.unit_step.specs.Dense.{AreDense}
+use Rattle.machine_laws.specs.Machines.{MachineData}
+use Rattle.part_steps.specs.Desks.{rooms}
+use Rattle.machine_parts.specs.Parts.{HasMember}
+use Rattle.machine_parts.specs.Marking.{AgendaData}
+use Rattle.machine_parts.specs.Making.{Owns}
+use Rattle.part_steps.specs.Dense.{AreDense}
 use Rattle.unit_step.specs.Lasting.{texts_lasting}
-use Rattle.unit_step.proofs.SeatingLemmas.{IsMachine-roomier, IsMachine-seated}
+use Rattle.machine_laws.proofs.SeatingLemmas.{IsMachine-roomier, IsMachine-seated}
 use Rattle.unit_step.proofs.LastingEdits.{AreLasting-same, AreLasting-seated}
 use Rattle.unit_step.proofs.machine.Machine.seat.Goals as goal
 

@@ -4,13 +4,12 @@ use Rattle.std.specs.Prelude.{Contains, slice_index_or, slice_set}
 use Rattle.std.proofs.lemmas.List.{get_or_default, length-set}
 use Rattle.ternary.specs.Counts.{raised}
 use Rattle.unit_step.specs.contracts.machine.Machine.{the_view}
-use Rattle.unit_step.specs.Machines.{MachineData}
-use Rattle.unit_step.specs.Evaluating.{rooms}
-use Rattle.unit_step.specs.Readers.{readers_of}
-use Rattle.unit_step.specs.Stepping.{Places}
+use Rattle.machine_laws.specs.Machines.{MachineData, Places}
+use Rattle.part_steps.specs.Desks.{rooms}
+use Rattle.machine_parts.specs.Readers.{readers_of}
 use Rattle.unit_step.specs.Lasting.{AreLasting}
-use Rattle.unit_step.proofs.PlacingLemmas.{placing_keeps_cover, placing_keeps_fit}
-use Rattle.unit_step.proofs.MachineLemmas.{IsMachine-again, owner_inside, at_owner, at_no_owner, Places-marked}
+use Rattle.machine_laws.proofs.PlacingLemmas.{placing_keeps_cover, placing_keeps_fit, Places-marked}
+use Rattle.machine_parts.proofs.MachineLemmas.{IsMachine-again, owner_inside, at_owner, at_no_owner}
 use Rattle.unit_step.proofs.machine.Machine.set_node.Goals.{After-index-owner, After-mark_all}
 use Rattle.unit_step.proofs.machine.Machine.set_node.Goals as goal
 

@@ -6,14 +6,16 @@ use Rattle.group_text.specs.Texts.{GroupTextData}
 use Rattle.group_text.specs.FirstTexts.{is_among}
 use Rattle.analysis_cache.specs.Keeping.{texts_of}
 use Rattle.kept_parts.specs.Uses.{AreSame, UsesData, some_texts, texts_used}
-use Rattle.unit_step.specs.declared.part.HeldPart.{HeldPart}
+use Rattle.machine_parts.specs.declared.part.HeldPart.{HeldPart}
 use Rattle.unit_step.specs.declared.lasting.Lasting.{Lasting}
-use Rattle.unit_step.specs.Parts.{Stands, AreApart}
-use Rattle.unit_step.specs.Machines.{MachineData}
-use Rattle.unit_step.specs.Evaluating.{Rooms, rooms}
-use Rattle.unit_step.specs.Running.{IsMachine}
-use Rattle.unit_step.specs.Lasting.{AreInOrder, AreLasting, IsLeft, texts_lasting}
-use Rattle.unit_step.proofs.SeatingLemmas.{seat_of}
+use Rattle.machine_parts.specs.Parts.{Stands, AreApart}
+use Rattle.machine_laws.specs.Machines.{MachineData}
+use Rattle.machine_parts.specs.Evaluating.{Rooms}
+use Rattle.part_steps.specs.Desks.{rooms}
+use Rattle.machine_parts.specs.Running.{IsMachine}
+use Rattle.machine_laws.specs.Beginnings.{AreInOrder}
+use Rattle.unit_step.specs.Lasting.{AreLasting, IsLeft, texts_lasting}
+use Rattle.machine_laws.proofs.SeatingLemmas.{seat_of}
 use Rattle.unit_step.proofs.LastingOrder.{AreInOrder-lasting, text_at, text_of_part}
 use Rattle.unit_step.proofs.LeavingOrder.{AreSame-order, IsLeft-settled, in_use-kept, present-kept}
 use Rattle.unit_step.proofs.machine.Machine.settle_last.Given.{Over}

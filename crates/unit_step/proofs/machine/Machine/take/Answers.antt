@@ -5,11 +5,11 @@ use Rattle.std.specs.Vec.{with_items}
 use Rattle.std.proofs.lemmas.List.{with_items_is}
 use Rattle.ternary.specs.declared.tern.Tern.{Tern}
 use Rattle.oscillation_x.specs.Settling.{StaysOrBecomesX}
-use Rattle.unit_step.specs.Machines.{marked_sum, instructions_of}
-use Rattle.unit_step.specs.Stepping.{Moves, Remarks}
-use Rattle.unit_step.specs.Evaluating.{rooms}
+use Rattle.machine_parts.specs.Marking.{marked_sum, instructions_of}
+use Rattle.machine_parts.specs.Stepping.{Moves, Remarks}
+use Rattle.part_steps.specs.Desks.{rooms}
 use Rattle.unit_step.specs.Lasting.{AreLasting}
-use Rattle.unit_step.proofs.MachineLemmas.{IsMachine-again}
+use Rattle.machine_parts.proofs.MachineLemmas.{IsMachine-again}
 use Rattle.unit_step.proofs.machine.Machine.take.Given.{Over}
 use Rattle.unit_step.proofs.machine.Machine.take.Goals.{After-advance-changed}
 use Rattle.unit_step.proofs.machine.Machine.take.Goals as goal

@@ -4,9 +4,9 @@ use Rattle.std.specs.Prelude.{Contains}
 use Rattle.std.proofs.lemmas.Bool.{cases_lt}
 use Rattle.std.proofs.lemmas.List.{get_or_past, length-map}
 use Rattle.smallvec.specs.SmallVec.{SmallVec}
-use Rattle.unit_step.specs.Parts.{ReadsAt}
-use Rattle.unit_step.specs.Evaluating.{rooms}
-use Rattle.unit_step.specs.Readers.{readers_of}
+use Rattle.machine_parts.specs.Parts.{ReadsAt}
+use Rattle.part_steps.specs.Desks.{rooms}
+use Rattle.machine_parts.specs.Readers.{readers_of}
 use Rattle.unit_step.proofs.machine.Machine.taken_apart.Goals as goal
 
 pub returns-clause-seated : goal.returns-clause-seated

@@ -5,15 +5,17 @@ use Rattle.std.specs.List.{sum_by}
 use Rattle.std.proofs.lemmas.List.{with_items_is, get_or_default}
 use Rattle.std.proofs.lemmas.List.Sums.{get_or-le-sum_by}
 use Rattle.kept_parts.proofs.NumberLemmas.{texts_freed}
-use Rattle.unit_step.specs.declared.part.HeldPart.{HeldPart}
-use Rattle.unit_step.specs.Parts.{Stands, has_members}
-use Rattle.unit_step.specs.Machines.{MachineData, members_of}
-use Rattle.unit_step.specs.Evaluating.{rooms, IsSeated}
-use Rattle.unit_step.specs.Seating.{Disowns, IsVacant, one_of}
-use Rattle.unit_step.specs.Readers.{Unlists}
-use Rattle.unit_step.specs.Dense.{AreDense}
+use Rattle.machine_parts.specs.declared.part.HeldPart.{HeldPart}
+use Rattle.machine_parts.specs.Parts.{Stands, has_members}
+use Rattle.machine_laws.specs.Machines.{MachineData}
+use Rattle.machine_parts.specs.Marking.{members_of}
+use Rattle.part_steps.specs.Desks.{rooms}
+use Rattle.machine_parts.specs.Evaluating.{IsSeated}
+use Rattle.machine_laws.specs.Seating.{Disowns, IsVacant, one_of}
+use Rattle.machine_parts.specs.Readers.{Unlists}
+use Rattle.part_steps.specs.Dense.{AreDense}
 use Rattle.unit_step.specs.Lasting.{starts_of, texts_numbered, texts_lasting}
-use Rattle.unit_step.proofs.SeatingLemmas.{seat_of, members_there, reads_there, IsMachine-vacated}
+use Rattle.machine_laws.proofs.SeatingLemmas.{seat_of, members_there, reads_there, IsMachine-vacated}
 use Rattle.unit_step.proofs.LastingEdits.{AreLasting-same, AreLasting-vacated}
 use Rattle.unit_step.proofs.machine.Machine.vacate.Goals.{After-replace-gone}
 use Rattle.unit_step.proofs.machine.Machine.vacate.Goals as goal

@@ -1,8 +1,8 @@
 -- One node more is cleared.
 use Rattle.std.proofs.Common.{◌≡◌, ◌+◌, ◌++◌, ◌∷◌, [], take, get_or, sym, subst}
 use Rattle.std.proofs.lemmas.List.{take_more}
-use Rattle.unit_step.specs.Seating.{Clears}
-use Rattle.unit_step.proofs.ClearingLemmas.{Clears-start, Clears-more}
+use Rattle.machine_laws.specs.Seating.{Clears}
+use Rattle.machine_laws.proofs.ClearingLemmas.{Clears-start, Clears-more}
 use Rattle.unit_step.proofs.machine.Machine.vacate_all.Goals as goal
 
 pub loop-node-init : goal.loop-node-init

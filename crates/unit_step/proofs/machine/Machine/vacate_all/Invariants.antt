@@ -1,6 +1,6 @@
 -- The nodes so far are cleared.
 use Rattle.std.proofs.Common.{take}
-use Rattle.unit_step.specs.Seating.{Clears}
+use Rattle.machine_laws.specs.Seating.{Clears}
 use Rattle.unit_step.proofs.machine.Machine.vacate_all.Given as goal
 
 abbrev pub invariant-loop-node : goal.invariant-loop-node

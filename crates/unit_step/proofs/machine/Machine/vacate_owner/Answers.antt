@@ -1,9 +1,9 @@
 -- The part that has the node loses its group, or no part has it.
 use Rattle.std.proofs.Common.{length, ap, subst}
-use Rattle.unit_step.specs.Machines.{MachineData}
-use Rattle.unit_step.specs.Parts.{HasMember, AreApart}
-use Rattle.unit_step.proofs.ClearingLemmas.{on_ok, Clears-none, Clears-vacated}
-use Rattle.unit_step.proofs.OwnerLemmas.{owner_has, no_owner}
+use Rattle.machine_laws.specs.Machines.{MachineData}
+use Rattle.machine_parts.specs.Parts.{HasMember, AreApart}
+use Rattle.machine_laws.proofs.ClearingLemmas.{on_ok, Clears-none, Clears-vacated}
+use Rattle.machine_parts.proofs.OwnerLemmas.{owner_has, no_owner}
 use Rattle.unit_step.proofs.machine.Machine.vacate_owner.Goals.{In-Some}
 use Rattle.unit_step.proofs.machine.Machine.vacate_owner.Goals as goal
 

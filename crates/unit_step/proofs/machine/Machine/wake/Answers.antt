@@ -4,9 +4,9 @@ use Rattle.group_text.specs.FirstTexts.{new_texts}
 use Rattle.analysis_cache.specs.Keeping.{texts_of}
 use Rattle.circuit_texts.specs.Building.{BuildsFresh}
 use Rattle.kept_parts.specs.Uses.{count_distinct}
-use Rattle.unit_step.specs.Machines.{MachineData}
-use Rattle.unit_step.proofs.FillingLemmas.{IsGrown-same, IsGrown-filled, IsGrown-cut_off, Fills-filled, cut_off_front, cut_off_end}
-use Rattle.unit_step.proofs.FinishingBuilds.{waiting_texts}
+use Rattle.machine_laws.specs.Machines.{MachineData}
+use Rattle.machine_laws.proofs.FillingLemmas.{IsGrown-same, IsGrown-filled, IsGrown-cut_off, Fills-filled, cut_off_front, cut_off_end}
+use Rattle.machine_laws.proofs.FinishingBuilds.{waiting_texts}
 use Rattle.unit_step.proofs.FinishingFits.{AllCoded, none_stale, Rouses-coded, Fills-none}
 use Rattle.unit_step.proofs.machine.Machine.wake.Given.{Over}
 use Rattle.unit_step.proofs.machine.Machine.wake.Goals.{Then-none_waits, In_ok-waking}

@@ -12,11 +12,12 @@ use Rattle.circuit_texts.specs.Choosing.{chosen}
 use Rattle.circuit_texts.specs.Reading.{AreReads}
 use Rattle.unit_step.specs.declared.waking.Waking.{Waking}
 use Rattle.unit_step.specs.contracts.machine.Machine.{the_view}
-use Rattle.unit_step.specs.Parts.{IsStale}
-use Rattle.unit_step.specs.Machines.{MachineData}
-use Rattle.unit_step.specs.Fitting.{Covers}
-use Rattle.unit_step.specs.Finishing.{first_node, AreWaiting, IsWaking}
-use Rattle.unit_step.proofs.FinishingWaiting.{nodes_owned, nodes_are_ids, waiting_groups, chosen_waiting, AreWaiting-found, TellsTooLarge-waiting}
+use Rattle.machine_parts.specs.Parts.{IsStale}
+use Rattle.machine_laws.specs.Machines.{MachineData}
+use Rattle.machine_laws.specs.Fitting.{Covers}
+use Rattle.machine_laws.specs.Finishing.{first_node, AreWaiting}
+use Rattle.unit_step.specs.Waking.{IsWaking}
+use Rattle.machine_laws.proofs.FinishingWaiting.{nodes_owned, nodes_are_ids, waiting_groups, chosen_waiting, AreWaiting-found, TellsTooLarge-waiting}
 use Rattle.unit_step.proofs.machine.Machine.waking.Goals.{In_ok-nodes, In_ok-slots, In_ok-ids}
 use Rattle.unit_step.proofs.machine.Machine.waking.Goals as goal
 

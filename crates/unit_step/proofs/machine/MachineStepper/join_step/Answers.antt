@@ -1,5 +1,5 @@
 -- A joining step is the graph's joining step on a graph that the machine fits.
-use Rattle.unit_step.proofs.FittingLemmas.{joining_steps_are_join_steps}
+use Rattle.machine_laws.proofs.FittingLemmas.{joining_steps_are_join_steps}
 use Rattle.unit_step.proofs.machine.MachineStepper.join_step.Goals as goal
 
 pub returns-clause-step : goal.returns-clause-step

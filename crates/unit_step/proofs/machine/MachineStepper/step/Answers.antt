@@ -1,5 +1,5 @@
 -- A step is the unit step on a graph that the machine fits.
-use Rattle.unit_step.proofs.FittingLemmas.{steps_are_unit_steps}
+use Rattle.machine_laws.proofs.FittingLemmas.{steps_are_unit_steps}
 use Rattle.unit_step.proofs.machine.MachineStepper.step.Goals as goal
 
 pub returns-clause-step : goal.returns-clause-step

@@ -1,0 +1,309 @@
+-- The groups whose parts wait, found by the least members of these parts.
+use Rattle.std.proofs.Common.{◌≡◌, ◌≢◌, ℕ, zero, suc, ◌<◌, Bool, true, false, cond, eqb, List, [], ◌∷◌, length, map, filter, get_or, All, Option, Some, None, refl, sym, ap, subst, ◌∙◌, arith, true≢false, eq-eqb}
+use Rattle.std.specs.Prelude.{Contains, is_some, slice_get, slice_index, slice_index_or}
+use Rattle.std.specs.List.{AllZip, filter_map, cons_option}
+use Rattle.std.specs.List.Sorted.{IsStrictlyIncreasing}
+use Rattle.std.proofs.lemmas.Bool.Decides.{Decides-eqb}
+use Rattle.std.proofs.lemmas.List.{get_or_default, get_or-take, get_or-map, length-map}
+use Rattle.std.proofs.lemmas.List.Elements.{Contains-append_right}
+use Rattle.std.proofs.lemmas.List.Kept.{AllPairs-from_increasing, IsStrictlyIncreasing-filter}
+use Rattle.std.proofs.lemmas.Option.{slice_get_read, slice_get_within, get_or_from_slice_get}
+use Rattle.path_meaning.specs.Graphs.{GraphData}
+use Rattle.group_meaning.specs.Groups.{Group, IsGroup, id_of}
+use Rattle.group_meaning.proofs.AscendingLists.{same_ascending}
+use Rattle.group_meaning.proofs.MappedLists.{contains-map}
+use Rattle.group_meaning.proofs.UniqueGroups.{id_member, same_by_member}
+use Rattle.channel_groups.specs.declared.group.GroupId.{GroupId}
+use Rattle.channel_groups.specs.Grouping.{group_with, IsId}
+use Rattle.circuit_texts.specs.Choosing.{chosen}
+use Rattle.circuit_texts.proofs.PairedLists.{partner_first}
+use Rattle.circuit_texts.specs.declared.texts.BuildFault.{BuildFault}
+use Rattle.circuit_texts.specs.Sizes.{fault_in, IsFirstTooLarge, TellsTooLarge}
+use Rattle.machine_parts.specs.declared.part.HeldPart.{HeldPart}
+use Rattle.machine_parts.specs.Parts.{Stands, HasMember, IsStale}
+use Rattle.machine_laws.specs.Machines.{MachineData}
+use Rattle.machine_parts.specs.Marking.{AreOnce}
+use Rattle.machine_parts.specs.Running.{AreOwners}
+use Rattle.machine_laws.specs.Fitting.{IsPartOf, Covers}
+use Rattle.machine_laws.specs.Finishing.{IsSlotOf, HasCode, AreWaiting, first_node}
+use Rattle.machine_laws.proofs.KeptLemmas.{group_there}
+use Rattle.machine_parts.proofs.PartLemmas.{same_part}
+use Rattle.machine_laws.proofs.PartGroups.{one_group, member_of_part, some_members}
+use Rattle.machine_laws.proofs.FinishingTexts.{first_waiting}
+use Rattle.machine_laws.proofs.FinishingGroups.{found_by}
+use Rattle.machine_parts.proofs.NumberLists.{is_one_of, one_of-Contains, one_of-from}
+
+-- what is left by a test was there and passes, and what passes is left
+filter_has : {X : Type 0} (p : X → Bool) (xs : List X) (n : X) → Contains (filter p xs) n → Contains xs n × (p n ≡ true)
+filter_has p [] n there = absurd (omega (arith, there.1))
+filter_has p (x ∷ xs) n there = by (filter_has p xs n) (p x) refl there
+  where
+    by : (Contains (filter p xs) n → Contains xs n × (p n ≡ true)) → (b : Bool) → p x ≡ b → Contains (cond b (x ∷ filter p xs) (filter p xs)) n →
+        Contains (x ∷ xs) n × (p n ≡ true)
+    by later true is (zero, inside, here) = ((0, omega arith, here), ap p (sym here) ∙ is)
+    by later true is (suc i, inside, here) =
+        let (was, passes) = later (i, omega (arith, inside), here) in
+        (Contains-append_right (x ∷ []) xs n was, passes)
+    by later false is there =
+        let (was, passes) = later there in
+        (Contains-append_right (x ∷ []) xs n was, passes)
+
+pub filter_keeps : {X : Type 0} (p : X → Bool) (xs : List X) (n : X) → Contains xs n → p n ≡ true → Contains (filter p xs) n
+filter_keeps p [] n there passes = absurd (omega (arith, there.1))
+filter_keeps p (x ∷ xs) n there passes = by (λ behind. filter_keeps p xs n behind passes) (p x) refl there
+  where
+    by : (Contains xs n → Contains (filter p xs) n) → (b : Bool) → p x ≡ b → Contains (x ∷ xs) n → Contains (cond b (x ∷ filter p xs) (filter p xs)) n
+    by later true is (zero, inside, here) = (0, omega arith, here)
+    by later true is (suc i, inside, here) = Contains-append_right (x ∷ []) (filter p xs) n (later (i, omega (arith, inside), here))
+    by later false is (zero, inside, here) = absurd (true≢false (sym passes ∙ (ap p (sym here) ∙ is)))
+    by later false is (suc i, inside, here) = later (i, omega (arith, inside), here)
+
+-- a test of what is made of the items
+map_filter : {X : Type 0} (f : X → ℕ) (p : ℕ → Bool) (xs : List X) → map f (filter (λ x. p (f x)) xs) ≡ filter p (map f xs)
+map_filter f p [] = refl
+map_filter f p (x ∷ xs) = by (map_filter f p xs) (p (f x))
+  where
+    by : map f (filter (λ x. p (f x)) xs) ≡ filter p (map f xs) → (b : Bool) →
+        map f (cond b (x ∷ filter (λ y. p (f y)) xs) (filter (λ y. p (f y)) xs)) ≡ cond b (f x ∷ filter p (map f xs)) (filter p (map f xs))
+    by later true = ap (λ rest. f x ∷ rest) later
+    by later false = later
+
+-- each of some groups is found by its id
+pick-own : (groups some : List Group) → ((group : Group) → Contains some group → group_with groups (id_of group) ≡ Some group) →
+    filter_map (group_with groups) (map id_of some) ≡ some
+pick-own groups [] each = refl
+pick-own groups (group ∷ some) each =
+    let first : group_with groups (id_of group) ≡ Some group = each group (0, omega arith, refl) in
+    let later = pick-own groups some (λ other there. each other (Contains-append_right (group ∷ []) some other there)) in
+    rw first (ap (λ rest. group ∷ rest) later)
+
+-- the groups with these ids, by their nodes
+chosen-nodes : (groups : List Group) (ids : List GroupId) → chosen groups ids ≡ filter_map (group_with groups) (map (λ id. id.node) ids)
+chosen-nodes groups [] = refl
+chosen-nodes groups (id ∷ ids) = ap (cons_option (group_with groups id.node)) (chosen-nodes groups ids)
+
+-- numbers that are the owners of nodes
+some_back : (slots : List ℕ) (k : ℕ) → Contains (map Some slots) (Some k) → Contains slots k
+some_back [] k there = absurd (omega (arith, there.1))
+some_back (x ∷ slots) k (zero, inside, here) =
+    let same : x ≡ k = cc in
+    (0, omega arith, same)
+some_back (x ∷ slots) k (suc i, inside, here) = Contains-append_right (x ∷ []) slots k (some_back slots k (i, omega (arith, inside), here))
+
+-- the slot of each of some groups
+record HasSlot (g : GraphData) (parts : List HeldPart) (owners : List (Option ℕ)) (group : Group) : Type 0 where
+  pub k : ℕ
+  pub owner : slice_index_or owners (id_of group) None ≡ Some k
+  pub slot : IsSlotOf g parts group k
+
+zip_slots : (g : GraphData) (parts : List HeldPart) (owners : List (Option ℕ)) (some : List Group) (slots : List ℕ) →
+    ((group : Group) → Contains some group → HasSlot g parts owners group) →
+    map Some slots ≡ map (λ node. slice_index_or owners node None) (map id_of some) → AllZip (IsSlotOf g parts) some slots
+zip_slots g parts owners [] [] each are = tt
+zip_slots g parts owners [] (k ∷ slots) each are = absurd cc
+zip_slots g parts owners (group ∷ some) [] each are = absurd cc
+zip_slots g parts owners (group ∷ some) (k ∷ slots) each are =
+    let has = each group (0, omega arith, refl) in
+    let first : Some k ≡ slice_index_or owners (id_of group) None = cc in
+    let both : Some k ≡ Some has.k = first ∙ has.owner in
+    let same : has.k ≡ k = cc in
+    let rest : map Some slots ≡ map (λ node. slice_index_or owners node None) (map id_of some) = cc in (
+      subst (IsSlotOf g parts group) same has.slot,
+      zip_slots g parts owners some slots (λ other there. each other (Contains-append_right (group ∷ []) some other there)) rest,
+    )
+
+module _ (g : GraphData) (m : MachineData) (covers : Covers g m) (count : ℕ) (owners : List (Option ℕ)) (own : AreOwners m.parts count owners) where
+  abbrev all_groups : List Group
+  all_groups = covers.groups.groups
+
+  -- a stale part is the slot of a group, which is found by the part's first node
+  pub record Waits (k : ℕ) : Type 0 where
+    pub group : Group
+    pub there : Contains all_groups group
+    pub is_group : IsGroup g group
+    pub slot : IsSlotOf g m.parts group k
+    pub least : first_node m.parts k ≡ id_of group
+    pub owner : slice_index_or owners (id_of group) None ≡ Some k
+
+  first_is : (k : ℕ) (part : HeldPart) → Stands m.parts k part → (group : Group) → IsPartOf g group part → first_node m.parts k ≡ id_of group
+  first_is k part stands group is_part =
+      let some = is_part.is_group.some in
+      let within : 0 < part.members = omega (arith, is_part.count, some) in
+      ap (λ nodes. slice_index nodes 0)
+      (get_or-map (λ (one : HeldPart). one.map.items) m.parts k part [] stands.inside ∙ ap (λ (one : HeldPart). one.map.items) stands.here)
+      ∙ (sym (get_or-take part.members part.map.items 0 0 within) ∙ ap (λ nodes. slice_index nodes 0) is_part.members)
+
+  pub waits_at : (k : ℕ) → IsStale m.parts k → Waits k
+  waits_at k stale =
+      let (group, is_part) = covers.whole k stale.part stale.stands stale.some in
+      let (i, inside, at) = group_there g all_groups covers.are.are group is_part.is_group in
+      let (place, member) = member_of_part g group stale.part is_part (id_of group) (id_member g group is_part.is_group) in
+      let has : HasMember m.parts k (id_of group) = record { part = stale.part; stands = stale.stands; place = place; member = member } in
+      record {
+        group = group;
+        there = (i, inside, get_or_from_slice_get all_groups i group group at);
+        is_group = is_part.is_group;
+        slot = record { part = stale.part; stands = stale.stands; stale = stale.none; is_part = is_part };
+        least = first_is k stale.part stale.stands group is_part;
+        owner = own.owner (id_of group) k has;
+      }
+
+  -- a group is found by its id
+  pub own_id : (group : Group) → Contains all_groups group → group_with all_groups (id_of group) ≡ Some group
+  own_id group (k, inside, here) =
+      let is_group : IsGroup g group = subst (IsGroup g) here (covers.are.are.each k group inside) in
+      let at = found_by (λ other. eqb (id_of other) (id_of group)) all_groups k group inside here (eq-eqb (id_of group) (id_of group) refl) in
+      let other : IsGroup g at.x = subst (IsGroup g) at.here (covers.are.are.each at.k at.x at.inside) in
+      let same : id_of at.x ≡ id_of group = (Decides-eqb (id_of at.x) (id_of group)).0 at.passes in
+      let member : Contains at.x.members (id_of group) = subst (Contains at.x.members) same (id_member g at.x other) in
+      let one : at.x ≡ group = same_by_member g at.x group other is_group (id_of group) member (id_member g group is_group) in
+      at.is ∙ ap Some one
+
+  module _ (nodes : List ℕ) (ascending : IsStrictlyIncreasing nodes)
+      (all : (k : ℕ) → IsStale m.parts k → Contains nodes (first_node m.parts k))
+      (only : (node : ℕ) → Contains nodes node → (k : ℕ) × IsStale m.parts k × (first_node m.parts k ≡ node)) where
+    -- each of these nodes is the least one of a group whose part waits
+    pub waits_by : (node : ℕ) → Contains nodes node → (k : ℕ) × (waits : Waits k) × (id_of waits.group ≡ node)
+    waits_by node there =
+        let (k, stale, first) = only node there in
+        let waits = waits_at k stale in
+        (k, waits, sym waits.least ∙ first)
+
+    pub nodes_owned : All (λ node. slice_index_or owners node None ≢ None) nodes
+    nodes_owned i d inside none =
+        let node = get_or nodes i d in
+        let (k, waits, same) = waits_by node (i, inside, get_or_default nodes i node d inside) in
+        let both : Some k ≡ None = sym waits.owner ∙ (ap (λ n. slice_index_or owners n None) same ∙ none) in
+        absurd cc
+
+    pub nodes_are_ids : All (IsId all_groups) nodes
+    nodes_are_ids i d inside =
+        let node = get_or nodes i d in
+        let (k, waits, same) = waits_by node (i, inside, get_or_default nodes i node d inside) in
+        subst (IsId all_groups) same (ap is_some (own_id waits.group waits.there))
+
+    abbrev waits_now : Group → Bool
+    waits_now group = is_one_of nodes (id_of group)
+
+    abbrev pub waiting_groups : List Group
+    waiting_groups = filter waits_now all_groups
+
+    -- their least nodes are these
+    waiting_ids : map id_of waiting_groups ≡ nodes
+    waiting_ids =
+        map_filter id_of (is_one_of nodes) all_groups
+        ∙ same_ascending (filter (is_one_of nodes) (map id_of all_groups)) nodes
+        (IsStrictlyIncreasing-filter (is_one_of nodes) (map id_of all_groups) covers.are.are.ascending) ascending
+        (λ n there. one_of-Contains nodes n (filter_has (is_one_of nodes) (map id_of all_groups) n there).1)
+        (λ n there.
+        let (k, waits, same) = waits_by n there in
+        let (i, inside, here) = waits.there in
+        let is_id : Contains (map id_of all_groups) n = subst (Contains (map id_of all_groups)) same (contains-map id_of all_groups i waits.group inside here) in
+        filter_keeps (is_one_of nodes) (map id_of all_groups) n is_id (one_of-from nodes n there))
+
+    -- and each of them is one of the groups
+    waiting_there : (group : Group) → Contains waiting_groups group → Contains all_groups group × (waits_now group ≡ true)
+    waiting_there group there = filter_has waits_now all_groups group there
+
+    -- which has its slot
+    waiting_slot : (group : Group) → Contains waiting_groups group → HasSlot g m.parts owners group
+    waiting_slot group there =
+        let ((i, inside, here), passes) = waiting_there group there in
+        let (k, waits, same) = waits_by (id_of group) (one_of-Contains nodes (id_of group) passes) in
+        let is_group : IsGroup g group = subst (IsGroup g) here (covers.are.are.each i group inside) in
+        let member : Contains waits.group.members (id_of group) = subst (Contains waits.group.members) same (id_member g waits.group waits.is_group) in
+        let one : waits.group ≡ group = same_by_member g waits.group group waits.is_group is_group (id_of group) member (id_member g group is_group) in
+        record {
+          k = k;
+          owner = ap (λ other. slice_index_or owners (id_of other) None) (sym one) ∙ waits.owner;
+          slot = subst (λ other. IsSlotOf g m.parts other k) one waits.slot;
+        }
+
+    -- the groups with these ids are those that wait
+    pub chosen_waiting : (ids : List GroupId) → map (λ (id : GroupId). id.node) ids ≡ nodes → chosen all_groups ids ≡ waiting_groups
+    chosen_waiting ids are =
+        chosen-nodes all_groups ids
+        ∙ (ap (filter_map (group_with all_groups)) (are ∙ sym waiting_ids)
+        ∙ pick-own all_groups waiting_groups (λ group there. own_id group (waiting_there group there).0))
+
+    -- a group that doesn't wait has code
+    others_coded : (group : Group) → Contains all_groups group → waits_now group ≡ false → HasCode g m.parts group
+    others_coded group (i, inside, here) waits_not =
+        let at : slice_get all_groups i ≡ Some group = slice_get_read all_groups (length all_groups) i group refl inside (sym here) in
+        let has = covers.each i group at in
+        record {
+          k = has.k;
+          part = has.part;
+          stands = has.stands;
+          is_part = has.is_part;
+          coded = λ none.
+              let stale : IsStale m.parts has.k =
+              record { part = has.part; stands = has.stands; some = some_members has.is_part; none = none } in
+              let first = first_is has.k has.part has.stands group has.is_part in
+              let among = one_of-from nodes (id_of group) (subst (Contains nodes) first (all has.k stale)) in
+              true≢false (sym among ∙ waits_not);
+        }
+
+    module _ (slots : List ℕ) (slots_are : map Some slots ≡ map (λ node. slice_index_or owners node None) nodes) where
+      slots_zip : AllZip (IsSlotOf g m.parts) waiting_groups slots
+      slots_zip =
+          zip_slots g m.parts owners waiting_groups slots waiting_slot
+          (slots_are ∙ ap (map (λ node. slice_index_or owners node None)) (sym waiting_ids))
+
+      slots_all : (k : ℕ) → IsStale m.parts k → Contains slots k
+      slots_all k stale =
+          let waits = waits_at k stale in
+          let (i, inside, here) = all k stale in
+          let owner_is : slice_index_or owners (first_node m.parts k) None ≡ Some k = ap (λ n. slice_index_or owners n None) waits.least ∙ waits.owner in
+          some_back slots k
+          (subst (λ xs. Contains xs (Some k)) (sym slots_are)
+          (subst (Contains (map (λ node. slice_index_or owners node None) nodes)) owner_is
+          (contains-map (λ node. slice_index_or owners node None) nodes i (first_node m.parts k) inside here)))
+
+      slots_once : AreOnce slots
+      slots_once i j before inside same =
+          let k = slice_index slots i in
+          let i_inside : i < length slots = omega (arith, before, inside) in
+          let at_i : slice_get slots i ≡ Some k = slice_get_read slots (length slots) i k refl i_inside (sym (get_or_default slots i k 0 i_inside)) in
+          let at_j : slice_get slots j ≡ Some k = slice_get_read slots (length slots) j k refl inside (same ∙ sym (get_or_default slots j k 0 inside)) in
+          let (x, x_at, x_slot) = partner_first (IsSlotOf g m.parts) waiting_groups slots i k slots_zip at_i in
+          let (y, y_at, y_slot) = partner_first (IsSlotOf g m.parts) waiting_groups slots j k slots_zip at_j in
+          let one_part : x_slot.part ≡ y_slot.part = same_part m.parts k x_slot.part y_slot.part x_slot.stands y_slot.stands in
+          let one : x ≡ y = one_group g x y y_slot.part (subst (IsPartOf g x) one_part x_slot.is_part) y_slot.is_part in
+          let x_id : slice_index nodes i ≡ id_of x = node_at i x x_at in
+          let y_id : slice_index nodes j ≡ id_of y = node_at j y y_at in
+          let j_inside : j < length nodes = omega (arith, slice_get_within waiting_groups j y y_at, ap length waiting_ids, length-map waiting_groups id_of) in
+          let below : slice_index nodes i < slice_index nodes j = AllPairs-from_increasing nodes ascending i j 0 before j_inside in
+          omega (arith, below, x_id, y_id, ap id_of one)
+        where
+          node_at : (n : ℕ) (group : Group) → slice_get waiting_groups n ≡ Some group → slice_index nodes n ≡ id_of group
+          node_at n group at =
+              let within = slice_get_within waiting_groups n group at in
+              ap (λ xs. slice_index xs n) (sym waiting_ids)
+              ∙ (get_or-map id_of waiting_groups n group 0 within ∙ ap id_of (get_or_from_slice_get waiting_groups n group group at))
+
+      -- so these groups wait, with these slots
+      pub AreWaiting-found : AreWaiting g m.parts all_groups waiting_groups slots
+      AreWaiting-found = record {
+        waits = waits_now;
+        some_are = refl;
+        others = others_coded;
+        slots_are = slots_zip;
+        all = slots_all;
+        once = slots_once;
+      }
+
+-- a group that has code isn't too large
+pub coded_fit : (g : GraphData) (m : MachineData) → Covers g m → (group : Group) → HasCode g m.parts group → fault_in group ≡ None
+coded_fit g m covers group has = (covers.known has.k has.part has.stands has.coded group has.is_part).fits
+
+-- the first of the waiting groups that is too large is told
+pub TellsTooLarge-waiting : (g : GraphData) (m : MachineData) (covers : Covers g m) (some : List Group) (slots : List ℕ) →
+    AreWaiting g m.parts covers.groups.groups some slots → (fault : BuildFault) → IsFirstTooLarge some fault → TellsTooLarge g fault
+TellsTooLarge-waiting g m covers some slots waiting fault first = record {
+  groups = covers.groups.groups;
+  are = covers.are.are;
+  first =
+      first_waiting waiting.waits covers.groups.groups (λ group there not. coded_fit g m covers group (waiting.others group there not)) fault
+      (subst (λ groups. IsFirstTooLarge groups fault) waiting.some_are first);
+}

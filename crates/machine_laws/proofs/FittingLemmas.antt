@@ -1,0 +1,220 @@
+-- A step of a machine that fits a graph is the graph's step, and the machine fits the graph again: a part that isn't marked afterwards
+-- read no change, and its members took their steady states in this step or had them before, so they rest.
+use Rattle.std.proofs.Common.{◌≡◌, ℕ, ◌<◌, ◌≤◌, Bool, true, false, inl, inr, List, None, length, take, sym, ap, subst, ◌∙◌, arith}
+use Rattle.std.proofs.lemmas.Bool.{cases_lt}
+use Rattle.group_text.specs.Texts.{GroupTextData}
+use Rattle.ternary.specs.declared.tern.Tern.{Tern}
+use Rattle.ternary.specs.Tern.{join}
+use Rattle.path_meaning.specs.Switching.{state_at}
+use Rattle.path_meaning.specs.Graphs.{GraphData, IsWired, nodes}
+use Rattle.path_meaning.specs.Rails.{IsSound}
+use Rattle.path_meaning.specs.Step.{IsResponse, IsStep}
+use Rattle.path_meaning.proofs.ExistingSteps.{exists}
+use Rattle.path_meaning.proofs.UniqueSteps.{response_is_unique}
+use Rattle.group_meaning.specs.Groups.{Group}
+use Rattle.group_rest.specs.Rest.{Rests, Responded, ReadsNoChange}
+use Rattle.group_rest.proofs.RestingGroups.{unread_group_rests}
+use Rattle.oscillation_x.specs.Settling.{IsJoinStep}
+use Rattle.machine_parts.specs.declared.part.HeldPart.{HeldPart}
+use Rattle.machine_parts.specs.Parts.{Stands, HasMember}
+use Rattle.machine_laws.specs.Machines.{MachineData, Advances}
+use Rattle.machine_parts.specs.Marking.{IsMarked}
+use Rattle.machine_parts.specs.Stepping.{Moves, ReadsChange}
+use Rattle.machine_laws.specs.Fitting.{IsPartOf, FitsGraph}
+use Rattle.machine_laws.specs.Columns.{KeepsMarks, AdvancesInColumn, ColumnsStepApart, ColumnsJoinApart, MarkedMachinesFit}
+use Rattle.machine_laws.specs.Laws.{StepsAreUnitSteps, JoiningStepsAreJoinSteps}
+use Rattle.machine_parts.proofs.CaseLemmas.{same_or_not, something}
+use Rattle.machine_laws.proofs.PartGroups.{member_of_part}
+use Rattle.machine_laws.proofs.ResponseLemmas.{node_moves, input_stays, unmarked_stays, unmarked_response, member_is_storage}
+
+-- no members rest anywhere
+pub none_rest : (g : GraphData) (state : List Tern) (xs : List ℕ) (count : ℕ) → count ≤ 0 → Rests g state (take count xs)
+none_rest g state xs count none node there =
+    let is : count ≡ 0 = omega arith in
+    let (k, inside, here) = rw is at there in
+    absurd (omega (arith, inside))
+
+-- a machine with other states, marks, counts and texts of the last build fits the graph too, where its stale parts are marked and its
+-- unmarked parts rest
+pub fits_with : (g : GraphData) (m : MachineData) (fits : FitsGraph g m) (marks : List Bool) (state : List Tern) (last : List GroupTextData) (moved placed : ℕ) →
+    length state ≡ nodes g →
+    ((k : ℕ) (part : HeldPart) → Stands m.parts k part → 0 < part.members → part.code ≡ None → IsMarked marks k) →
+    ((k : ℕ) (part : HeldPart) → Stands m.parts k part → ¬ IsMarked marks k → Rests g state (take part.members part.map.items)) →
+    IsSound state → FitsGraph g (record m { marks = marks; state = state; last = last; moves = moved; placed = placed })
+fits_with g m fits marks state last moved placed counted waits rests sound = record {
+  covers = record {
+    groups = fits.covers.groups;
+    kept = fits.covers.kept;
+    are = fits.covers.are;
+    counted = counted;
+    each = fits.covers.each;
+    whole = fits.covers.whole;
+    apart = fits.covers.apart;
+    number = fits.covers.number;
+    known = fits.covers.known;
+    textless = fits.covers.textless;
+    uses_counted = fits.covers.uses_counted;
+    quiet = fits.covers.quiet;
+    waits = waits;
+    rests = rests;
+  };
+  coded = fits.coded;
+  railed = fits.railed;
+  sound = sound;
+  texts = fits.texts;
+}
+
+module _ (g : GraphData) (wired : IsWired g) (old : MachineData) (fits : FitsGraph g old) (new : List Tern) where
+  -- a plain step is the graph's step
+  plain_step : Moves false old.parts old.marks old.state new → IsStep g old.state new
+  plain_step moves = record {
+    count = moves.count ∙ fits.covers.counted;
+    each = λ node in_range.
+        let to = node_moves g wired old fits false new moves node in_range in
+        subst (IsResponse g old.state node) (sym to.moves) to.response;
+  }
+
+  -- a joining step is the graph's joining step
+  joining_step : Moves true old.parts old.marks old.state new → IsJoinStep g old.state new
+  joining_step moves =
+      let (response, step) = exists g wired old.state in
+      record {
+        response = response;
+        step = step;
+        joins = record {
+          left = moves.count;
+          right = moves.count ∙ (fits.covers.counted ∙ sym step.count);
+          each = λ node inside.
+              let in_range : node < nodes g = omega (arith, moves.count, fits.covers.counted) in
+              let to = node_moves g wired old fits true new moves node in_range in
+              let same = response_is_unique g old.state node to.value (state_at response node) to.response (step.each node in_range) in
+              to.moves ∙ ap (join (state_at old.state node)) same;
+        };
+      }
+
+  module _ (joining : Bool) (moves : Moves joining old.parts old.marks old.state new) (marks : List Bool)
+      (remarks : KeepsMarks joining old.parts old.marks old.state new marks) where
+    -- the members of a part that isn't marked afterwards took their steady states, in this step or before
+    responded : (k : ℕ) (part : HeldPart) → Stands old.parts k part → (¬ IsMarked marks k) → (group : Group) → IsPartOf g group part →
+        Responded g old.state new group.members
+    responded k part stands unmarked group is_part node member =
+        let (place, there) = member_of_part g group part is_part node member in
+        let has : HasMember old.parts k node = record { part = part; stands = stands; place = place; member = there } in
+        let in_range = (member_is_storage g wired old fits k node has).inside in
+        by_kind joining moves remarks has in_range
+      where
+        by_kind : (joining : Bool) → Moves joining old.parts old.marks old.state new → KeepsMarks joining old.parts old.marks old.state new marks →
+            HasMember old.parts k node → node < nodes g → IsResponse g old.state node (state_at new node)
+        by_kind false moves remarks has in_range = (plain_step moves).each node in_range
+        by_kind true moves remarks has in_range =
+            let before : ¬ IsMarked old.marks k = λ marked. unmarked (remarks.stays k marked) in
+            subst (IsResponse g old.state node) (sym (unmarked_stays g wired old fits true new moves k node has before))
+            (unmarked_response g wired old fits true new moves k node has before)
+
+    -- and it read no change
+    reads_no_change : (k : ℕ) (part : HeldPart) → Stands old.parts k part → 0 < part.members → (¬ IsMarked marks k) → (group : Group) →
+        IsPartOf g group part → ReadsNoChange g group old.state new
+    reads_no_change k part stands some unmarked group is_part node reads =
+        let (code, is) = something part.code (fits.coded k part stands some) in
+        let contained = ((is_part.coded code is).reads node).1 reads in
+        elim (same_or_not (state_at new node) (state_at old.state node)) [
+          | inl same ↦ same
+          | inr changed ↦
+              let change : ReadsChange old.parts old.state new k = record {
+                node = node;
+                reads = record { part = part; stands = stands; reads = contained };
+                changed = changed;
+              } in
+              absurd (unmarked (remarks.reads k change))
+        ]
+
+    -- so they rest
+    part_rests : (k : ℕ) (part : HeldPart) → Stands old.parts k part → (¬ IsMarked marks k) → Rests g new (take part.members part.map.items)
+    part_rests k part stands unmarked =
+        elim (cases_lt 0 part.members) [
+          | inl some ↦
+              let (group, is_part) = fits.covers.whole k part stands some in
+              let rests = unread_group_rests g group old.state new wired is_part.is_group (responded k part stands unmarked group is_part)
+              (reads_no_change k part stands some unmarked group is_part) in
+              subst (Rests g new) (sym is_part.members) rests
+          | inr none ↦ none_rest g new part.map.items part.members none
+        ]
+
+    -- the rails keep their states
+    stays_sound : IsSound new
+    stays_sound = record {
+      gnd = input_stays g wired old fits joining new moves _ fits.railed.gnd ∙ fits.sound.gnd;
+      vdd = input_stays g wired old fits joining new moves _ fits.railed.vdd ∙ fits.sound.vdd;
+    }
+
+    -- the machine with these states and marks fits the graph again
+    pub fits_again : (moved placed : ℕ) → FitsGraph g (record old { marks = marks; state = new; moves = moved; placed = placed })
+    fits_again moved placed =
+        fits_with g old fits marks new old.last moved placed (moves.count ∙ fits.covers.counted)
+        (λ k part stands some none. absurd (fits.coded k part stands some none)) part_rests stays_sound
+
+-- a machine in which all but states, marks and counts are the same
+pub same_machine : (old new : MachineData) → new.groups ≡ old.groups → new.parts ≡ old.parts → new.uses ≡ old.uses →
+    new.texts ≡ old.texts → new.last ≡ old.last → new.spare ≡ old.spare →
+    record old { marks = new.marks; state = new.state; moves = new.moves; placed = new.placed } ≡ new
+same_machine old new groups parts uses texts last spare = λ i. record {
+  groups = sym groups i;
+  parts = sym parts i;
+  uses = sym uses i;
+  marks = new.marks;
+  state = new.state;
+  texts = sym texts i;
+  last = sym last i;
+  moves = new.moves;
+  placed = new.placed;
+  spare = sym spare i;
+}
+
+-- a machine that advanced fits the graph again, also with more marks than the step sets
+FitsGraph-in_column : (g : GraphData) → IsWired g → (joining : Bool) (old new : MachineData) → FitsGraph g old → AdvancesInColumn joining old new →
+    FitsGraph g new
+FitsGraph-in_column g wired joining old new fits advances =
+    subst (FitsGraph g) (same_machine old new advances.groups advances.parts advances.uses advances.texts advances.last advances.spare)
+    (fits_again g wired old fits new.state joining advances.moves new.marks advances.marks new.moves new.placed)
+
+-- a step sets the marks that it needs
+in_column : (joining : Bool) (old new : MachineData) → Advances joining old new → AdvancesInColumn joining old new
+in_column joining old new advances = record {
+  moves = advances.moves;
+  marks = record { count = advances.marks.count; stays = advances.marks.stays; reads = advances.marks.reads };
+  groups = advances.groups;
+  parts = advances.parts;
+  uses = advances.uses;
+  texts = advances.texts;
+  last = advances.last;
+  spare = advances.spare;
+}
+
+-- a step is the unit step
+pub steps_are_unit_steps : StepsAreUnitSteps
+steps_are_unit_steps g old new wired fits advances = (
+  plain_step g wired old fits new.state advances.moves,
+  FitsGraph-in_column g wired false old new fits (in_column false old new advances),
+)
+
+-- a joining step is the joining step
+pub joining_steps_are_join_steps : JoiningStepsAreJoinSteps
+joining_steps_are_join_steps g old new wired fits advances = (
+  joining_step g wired old fits new.state advances.moves,
+  FitsGraph-in_column g wired true old new fits (in_column true old new advances),
+)
+
+-- the same of one column of a machine of columns
+pub columns_step_apart : ColumnsStepApart
+columns_step_apart g old new wired fits advances =
+    (plain_step g wired old fits new.state advances.moves, FitsGraph-in_column g wired false old new fits advances)
+
+pub columns_join_apart : ColumnsJoinApart
+columns_join_apart g old new wired fits advances =
+    (joining_step g wired old fits new.state advances.moves, FitsGraph-in_column g wired true old new fits advances)
+
+-- where all parts are marked none has to rest
+pub marked_machines_fit : MarkedMachinesFit
+marked_machines_fit g m marks state fits all counted sound =
+    fits_with g m fits marks state m.last m.moves m.placed counted (λ k part stands some none. all k stands.inside)
+    (λ k part stands unmarked. absurd (unmarked (all k stands.inside))) sound

@@ -1,0 +1,139 @@
+-- A machine covers or fits a graph after a node was placed: a part that isn't marked has the node neither as a member nor among what it
+-- reads, so its members stay and read no change.
+use Rattle.std.proofs.Common.{◌≡◌, ◌≢◌, ℕ, ◌<◌, inl, inr, length, take, sym, ap, subst, ◌∙◌, arith, Bool, List, Option, Some, None, refl}
+use Rattle.std.specs.Prelude.{Contains, slice_index_or, slice_set}
+use Rattle.std.proofs.lemmas.Bool.{cases_lt}
+use Rattle.std.proofs.lemmas.List.{get_or-set_other, length-set}
+use Rattle.ternary.specs.declared.tern.Tern.{Tern}
+use Rattle.ternary.specs.declared.tern.Tern.TheVariants.{Zero}
+use Rattle.path_meaning.specs.Switching.{state_at}
+use Rattle.path_meaning.specs.Graphs.{GraphData, IsWired}
+use Rattle.path_meaning.specs.Step.{IsResponse}
+use Rattle.group_meaning.specs.Groups.{Group}
+use Rattle.group_rest.specs.Rest.{Rests, Responded, ReadsNoChange}
+use Rattle.group_rest.proofs.RestingGroups.{unread_group_rests}
+use Rattle.machine_parts.specs.declared.part.HeldPart.{HeldPart}
+use Rattle.machine_parts.specs.Parts.{Stands, HasMember}
+use Rattle.machine_laws.specs.Machines.{MachineData, Places}
+use Rattle.machine_parts.specs.Marking.{IsMarked, MarksAll}
+use Rattle.machine_laws.specs.Fitting.{IsPartOf, Covers, FitsGraph}
+use Rattle.machine_laws.specs.Laws.{PlacingKeepsCover, PlacingKeepsFit}
+use Rattle.machine_parts.proofs.CaseLemmas.{something}
+use Rattle.machine_laws.proofs.PartGroups.{member_of_part}
+use Rattle.machine_laws.proofs.FittingLemmas.{none_rest, same_machine}
+use Rattle.smallvec.specs.SmallVec.{SmallVec}
+use Rattle.machine_parts.specs.Evaluating.{Rooms}
+use Rattle.machine_parts.specs.Running.{IsMachine}
+use Rattle.machine_parts.specs.Readers.{readers_of}
+
+module _ (g : GraphData) (wired : IsWired g) (node : ℕ) (value : Tern) (old new : MachineData) (covers : Covers g old) (places : Places node value old new) where
+  -- any other node stays
+  others_stay : (other : ℕ) → other ≢ node → state_at new.state other ≡ state_at old.state other
+  others_stay other differs = ap (λ state. state_at state other) places.state ∙ get_or-set_other old.state node other value Zero differs
+
+  module _ (k : ℕ) (part : HeldPart) (stands : Stands old.parts k part) (unmarked : ¬ IsMarked new.marks k) (some : 0 < part.members)
+      (group : Group) (is_part : IsPartOf g group part) where
+    -- the part wasn't marked before
+    before : ¬ IsMarked old.marks k
+    before marked = unmarked (places.stays k marked)
+
+    -- its members stayed at their steady states
+    members_responded : Responded g old.state new.state group.members
+    members_responded member contained =
+        let (place, there) = member_of_part g group part is_part member contained in
+        let has : HasMember old.parts k member = record { part = part; stands = stands; place = place; member = there } in
+        let differs : member ≢ node = λ same. unmarked (places.concerns k (inl (subst (HasMember old.parts k) same has))) in
+        let rests = covers.rests k part stands before member (subst (λ members. Contains members member) (sym is_part.members) contained) in
+        subst (IsResponse g old.state member) (sym (others_stay member differs)) rests
+
+    -- and it read no change
+    read_none : ReadsNoChange g group old.state new.state
+    read_none other reads =
+        let (code, is) = something part.code (λ none. before (covers.waits k part stands some none)) in
+        let contained = ((is_part.coded code is).reads other).1 reads in
+        let differs : other ≢ node = λ same.
+        unmarked (places.concerns k (inr (record { part = part; stands = stands; reads = subst (Contains part.reads.items) same contained }))) in
+        others_stay other differs
+
+  -- so they rest
+  part_rests : (k : ℕ) (part : HeldPart) → Stands old.parts k part → (¬ IsMarked new.marks k) → Rests g new.state (take part.members part.map.items)
+  part_rests k part stands unmarked =
+      elim (cases_lt 0 part.members) [
+        | inl some ↦
+            let (group, is_part) = covers.whole k part stands some in
+            let rests = unread_group_rests g group old.state new.state wired is_part.is_group
+            (members_responded k part stands unmarked some group is_part) (read_none k part stands unmarked some group is_part) in
+            subst (Rests g new.state) (sym is_part.members) rests
+        | inr none ↦ none_rest g new.state part.map.items part.members none
+      ]
+
+  covers_again : (moved placed : ℕ) → Covers g (record old { marks = new.marks; state = new.state; moves = moved; placed = placed })
+  covers_again moved placed = record {
+    groups = covers.groups;
+    kept = covers.kept;
+    are = covers.are;
+    counted = ap length places.state ∙ (length-set old.state node value ∙ covers.counted);
+    each = covers.each;
+    whole = covers.whole;
+    apart = covers.apart;
+    number = covers.number;
+    known = covers.known;
+    textless = covers.textless;
+    uses_counted = covers.uses_counted;
+    quiet = covers.quiet;
+    waits = λ k part stands some none. places.stays k (covers.waits k part stands some none);
+    rests = part_rests;
+  }
+
+-- a machine covers the graph again
+pub placing_keeps_cover : PlacingKeepsCover
+placing_keeps_cover g node value old new wired covers places =
+    subst (Covers g) (same_machine old new places.groups places.parts places.uses places.texts places.last places.spare)
+    (covers_again g wired node value old new covers places new.moves new.placed)
+
+-- and fits it
+pub placing_keeps_fit : PlacingKeepsFit
+placing_keeps_fit g node value old new wired no_rail fits places =
+    let gnd_stays = others_stay g wired node value old new fits.covers places 0 (λ same. absurd (omega (arith, no_rail, same))) in
+    let vdd_stays = others_stay g wired node value old new fits.covers places 1 (λ same. absurd (omega (arith, no_rail, same))) in
+    let again : FitsGraph g (record old { marks = new.marks; state = new.state; moves = new.moves; placed = new.placed }) = record {
+      covers = covers_again g wired node value old new fits.covers places new.moves new.placed;
+      coded = fits.coded;
+      railed = fits.railed;
+      sound = record { gnd = gnd_stays ∙ fits.sound.gnd; vdd = vdd_stays ∙ fits.sound.vdd };
+      texts = fits.texts;
+    } in
+    subst (FitsGraph g) (same_machine old new places.groups places.parts places.uses places.texts places.last places.spare) again
+
+-- a node is placed where its owner and its readers are marked
+pub Places-marked : (node : ℕ) (value : Tern) (old : MachineData) (waiting : List Bool) (lists : List (SmallVec ℕ)) (owners numbers : List (Option ℕ)) (held most : ℕ)
+    (room : Rooms) → IsMachine old.parts old.marks waiting (length old.state) lists owners numbers held most room → (owner : Option ℕ) →
+    owner ≡ slice_index_or owners node None → (mid new : List Bool) → MarksAll (λ k. owner ≡ Some k) old.marks mid → (read : List ℕ) →
+    read ≡ readers_of lists node → MarksAll (Contains read) mid new → (placed : ℕ) →
+    Places node value old (record old { marks = new; state = slice_set old.state node value; placed = placed })
+Places-marked node value old waiting lists owners numbers held most room machine owner owner_is mid new first read read_is second placed = record {
+  state = refl;
+  count = second.count ∙ first.count;
+  stays = λ k was. second.stays k (first.stays k was);
+  concerns = λ k concerned.
+      elim concerned [
+        | inl has ↦ second.stays k (first.set k (owner_is ∙ machine.own.owner node k has))
+        | inr reads ↦ second.set k (subst (λ xs. Contains xs k) (sym read_is) (machine.runs.readers node k reads))
+      ];
+  only = λ k marked.
+      elim (second.only k marked) [
+        | inl before ↦
+            elim (first.only k before) [
+              | inl was ↦ inl was
+              | inr is ↦ inr (inl (machine.own.member node k (sym owner_is ∙ is)))
+            ]
+        | inr there ↦ inr (inr (machine.runs.reads node k (subst (λ xs. Contains xs k) read_is there)))
+      ];
+  groups = refl;
+  parts = refl;
+  uses = refl;
+  texts = refl;
+  last = refl;
+  moves = refl;
+  spare = refl;
+}

@@ -1,0 +1,63 @@
+-- What an edit of the graph does to a machine, and what gives its stale parts their codes.
+-- After Bryant, Beatty, Brace, Cho and Sheffler, "COSMOS: A Compiled Simulator for MOS Circuits", 1987.
+use Rattle.std.specs.Prelude.{◌≡◌, ◌≢◌, ℕ, ◌-◌, ◌↔◌, Bool, true, false, List, ◌++◌, length, replicate, None}
+use Rattle.ternary.specs.declared.tern.Tern.{Tern}
+use Rattle.ternary.specs.declared.tern.Tern.TheVariants.{Unk}
+use Rattle.path_meaning.specs.Graphs.{GraphData, nodes}
+use Rattle.group_meaning.specs.Groups.{Group}
+use Rattle.channel_groups.specs.declared.change.Change.{Change}
+use Rattle.channel_groups.specs.Changes.{is_touched_now}
+use Rattle.machine_parts.specs.declared.part.HeldPart.{HeldPart}
+use Rattle.machine_parts.specs.Parts.{Stands}
+use Rattle.machine_laws.specs.Machines.{MachineData, groups_in}
+use Rattle.machine_parts.specs.Marking.{IsMarked}
+use Rattle.machine_laws.specs.Fitting.{IsPartOf, Covers, FitsGraph}
+use Rattle.machine_laws.specs.Beginnings.{HasLast}
+
+-- these states, and X for each node more
+abbrev pub with_new_nodes : List Tern → ℕ → List Tern
+with_new_nodes state count = state ++ replicate (count - length state) Unk
+
+-- the group is touched by the edit, by the groups that the machine had
+abbrev pub is_touched_in : GraphData → Change → MachineData → Group → Bool
+is_touched_in g change old group = is_touched_now g change (groups_in old.groups) group
+
+-- the graph was edited: the machine covers it, new nodes are X and all other nodes stay, each touched group is stale and marked, and the
+-- part of every other group stays, with its code and its mark
+pub record Edits (g : GraphData) (change : Change) (old new : MachineData) : Type 0 where
+  pub covers : Covers g new
+  pub state : new.state ≡ with_new_nodes old.state (nodes g)
+  pub stale : (k : ℕ) (part : HeldPart) (group : Group) → Stands new.parts k part → IsPartOf g group part →
+      is_touched_in g change old group ≡ true → part.code ≡ None
+  pub marked : (k : ℕ) (part : HeldPart) (group : Group) → Stands new.parts k part → IsPartOf g group part →
+      is_touched_in g change old group ≡ true → IsMarked new.marks k
+  pub stays : (k : ℕ) (part : HeldPart) (group : Group) → Stands new.parts k part → IsPartOf g group part →
+      is_touched_in g change old group ≡ false → Stands old.parts k part
+  pub marks : (k : ℕ) (part : HeldPart) (group : Group) → Stands new.parts k part → IsPartOf g group part →
+      is_touched_in g change old group ≡ false → IsMarked new.marks k ↔ IsMarked old.marks k
+  pub last : new.last ≡ old.last
+  pub moves : new.moves ≡ old.moves
+  pub placed : new.placed ≡ old.placed
+
+-- the stale parts got their codes: the machine fits the graph, whose groups' texts are those of the last build from now on, and states,
+-- marks, and the parts that had code stay
+pub record Finishes (g : GraphData) (old new : MachineData) : Type 0 where
+  pub fits : FitsGraph g new
+  pub last : HasLast g new.last
+  pub groups : new.groups ≡ old.groups
+  pub parts : (k : ℕ) (part : HeldPart) → Stands old.parts k part → part.code ≢ None → Stands new.parts k part
+  pub marks : new.marks ≡ old.marks
+  pub state : new.state ≡ old.state
+  pub moves : new.moves ≡ old.moves
+  pub placed : new.placed ≡ old.placed
+
+-- the stale parts got their codes, and the texts of the last build are still those from before
+pub record Rouses (g : GraphData) (old new : MachineData) : Type 0 where
+  pub fits : FitsGraph g new
+  pub last : new.last ≡ old.last
+  pub groups : new.groups ≡ old.groups
+  pub parts : (k : ℕ) (part : HeldPart) → Stands old.parts k part → part.code ≢ None → Stands new.parts k part
+  pub marks : new.marks ≡ old.marks
+  pub state : new.state ≡ old.state
+  pub moves : new.moves ≡ old.moves
+  pub placed : new.placed ≡ old.placed

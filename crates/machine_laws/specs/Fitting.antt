@@ -1,0 +1,79 @@
+-- Which graphs a machine covers, and which it fits.
+-- After Bryant, Beatty, Brace, Cho and Sheffler, "COSMOS: A Compiled Simulator for MOS Circuits", 1987.
+use Rattle.std.specs.Prelude.{◌≡◌, ◌≢◌, ℕ, ◌<◌, ◌↔◌, ◌⊎◌, List, [], length, map, take, count_by, Contains, IsTrue, Option, Some, None, slice_get, slice_index_or}
+use Rattle.std.specs.declared.rc.Rc.{Rc}
+use Rattle.std.proofs.Common.{Global}
+use Rattle.path_meaning.specs.Graphs.{GraphData, nodes}
+use Rattle.path_meaning.specs.Rails.{IsRailed, IsSound}
+use Rattle.group_meaning.specs.Groups.{Group, IsGroup, AreGroups}
+use Rattle.channel_groups.specs.Grouping.{GroupsData, AreOf}
+use Rattle.group_text.specs.Texts.{GroupTextData, text_of_group, local_nodes}
+use Rattle.group_text.specs.FirstTexts.{is_among, first_texts}
+use Rattle.group_rest.specs.Rest.{Reads, Rests}
+use Rattle.straight_code.specs.Code.{CodeData}
+use Rattle.group_analysis.specs.Meaning.{MeansText}
+use Rattle.circuit_texts.specs.Sizes.{fault_in}
+use Rattle.machine_parts.specs.declared.part.HeldPart.{HeldPart}
+use Rattle.machine_parts.specs.Parts.{Stands, AreApart, has_members}
+use Rattle.machine_laws.specs.Machines.{MachineData}
+use Rattle.machine_parts.specs.Marking.{IsMarked}
+
+-- the code means the group's text, the map has the text's nodes, and the part reads what the group reads
+pub record IsCoded (g : GraphData) (group : Group) (part : HeldPart) (code : CodeData) : Type 0 where
+  pub mapped : part.map.items ≡ local_nodes g group
+  pub means : MeansText (text_of_group g group) code
+  pub reads : (node : ℕ) → Contains part.reads.items node ↔ Reads g group node
+
+-- the part is that of the group: it has the group's members, and what code it has is the group's
+pub record IsPartOf (g : GraphData) (group : Group) (part : HeldPart) : Type 0 where
+  pub is_group : IsGroup g group
+  pub count : part.members ≡ length group.members
+  pub members : take part.members part.map.items ≡ group.members
+  pub coded : (code : Rc CodeData Global) → part.code ≡ Some code → IsCoded g group part code.value
+
+-- some part is that of the group
+pub record HasPart (g : GraphData) (parts : List HeldPart) (group : Group) : Type 0 where
+  pub k : ℕ
+  pub part : HeldPart
+  pub stands : Stands parts k part
+  pub is_part : IsPartOf g group part
+
+-- the text is the group's, which isn't too large
+pub record IsTextOf (g : GraphData) (group : Group) (text : Option GroupTextData) : Type 0 where
+  pub same : text ≡ Some (text_of_group g group)
+  pub fits : fault_in group ≡ None
+
+-- a machine covers a graph: its groups are those of the graph, each has a part, and each part with a member is that of a group; a
+-- part with code has its group's text, and one without members or code has none; one without code reads nothing, and is marked where it
+-- has a member, so is stale; and the members of a part that isn't marked rest
+pub record Covers (g : GraphData) (m : MachineData) : Type 0 where
+  pub groups : GroupsData
+  pub kept : m.groups ≡ Some groups
+  pub are : AreOf g groups
+  pub counted : length m.state ≡ nodes g
+  pub each : (i : ℕ) (group : Group) → slice_get groups.groups i ≡ Some group → HasPart g m.parts group
+  pub whole : (k : ℕ) (part : HeldPart) → Stands m.parts k part → 0 < part.members → (group : Group) × IsPartOf g group part
+  pub apart : AreApart m.parts
+  pub number : count_by has_members m.parts ≡ length groups.groups
+  pub known : (k : ℕ) (part : HeldPart) → Stands m.parts k part → part.code ≢ None → (group : Group) → IsPartOf g group part →
+      IsTextOf g group (slice_index_or m.uses k None)
+  pub textless : (k : ℕ) (part : HeldPart) → Stands m.parts k part → (part.members ≡ 0) ⊎ (part.code ≡ None) → slice_index_or m.uses k None ≡ None
+  pub uses_counted : length m.uses ≡ length m.parts
+  pub quiet : (k : ℕ) (part : HeldPart) → Stands m.parts k part → part.code ≡ None → part.reads.items ≡ []
+  pub waits : (k : ℕ) (part : HeldPart) → Stands m.parts k part → 0 < part.members → part.code ≡ None → IsMarked m.marks k
+  pub rests : (k : ℕ) (part : HeldPart) → Stands m.parts k part → ¬ IsMarked m.marks k →
+      Rests g m.state (take part.members part.map.items)
+
+-- a machine fits a graph: it covers it, no part is stale, the rails are held, and it counts the distinct texts
+pub record FitsGraph (g : GraphData) (m : MachineData) : Type 0 where
+  pub covers : Covers g m
+  pub coded : (k : ℕ) (part : HeldPart) → Stands m.parts k part → 0 < part.members → part.code ≢ None
+  pub railed : IsRailed g
+  pub sound : IsSound m.state
+  pub texts : (groups : List Group) → AreGroups g groups → m.texts ≡ length (first_texts (map (text_of_group g) groups))
+
+-- every text whose code a part has is among these
+abbrev pub IsKeptBy : GraphData → List GroupTextData → MachineData → Type 0
+IsKeptBy g kept m =
+    (k : ℕ) (part : HeldPart) → Stands m.parts k part → part.code ≢ None → (group : Group) → IsPartOf g group part →
+    IsTrue (is_among kept (text_of_group g group))

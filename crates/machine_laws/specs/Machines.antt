@@ -1,0 +1,57 @@
+-- A machine as contracts see it, and what a step and a placing make of it.
+-- After Bryant, Beatty, Brace, Cho and Sheffler, "COSMOS: A Compiled Simulator for MOS Circuits", 1987.
+use Rattle.std.specs.Prelude.{ℕ, Bool, List, [], Option, None, Some, ◌≡◌, ◌⊎◌, length, slice_set}
+use Rattle.ternary.specs.declared.tern.Tern.{Tern}
+use Rattle.group_meaning.specs.Groups.{Group}
+use Rattle.channel_groups.specs.Grouping.{GroupsData}
+use Rattle.group_text.specs.Texts.{GroupTextData}
+use Rattle.machine_parts.specs.declared.part.HeldPart.{HeldPart}
+use Rattle.machine_parts.specs.Marking.{IsMarked}
+use Rattle.machine_parts.specs.Stepping.{Moves, Remarks, Concerns}
+
+-- the groups that the machine has, if it was built for a graph; its parts, the text of each that has a group and code, and whether each
+-- is marked; the state of each node; the number of distinct texts; the texts of the groups at the last build, in order; how often a step
+-- changed the state, and how often a member was placed from outside; and for how many nodes more there is room
+pub record MachineData : Type 0 where
+  pub groups : Option GroupsData
+  pub parts : List HeldPart
+  pub uses : List (Option GroupTextData)
+  pub marks : List Bool
+  pub state : List Tern
+  pub texts : ℕ
+  pub last : List GroupTextData
+  pub moves : ℕ
+  pub placed : ℕ
+  pub spare : ℕ
+
+-- the groups that a machine has; one that wasn't built for a graph has none
+abbrev pub groups_in : Option GroupsData → List Group
+groups_in None = []
+groups_in (Some held) = held.groups
+
+-- a step, plain or joining: nodes move, marks follow, and all else stays but the count of moves
+pub record Advances (joining : Bool) (old new : MachineData) : Type 0 where
+  pub moves : Moves joining old.parts old.marks old.state new.state
+  pub marks : Remarks joining old.parts old.marks old.state new.state new.marks
+  pub groups : new.groups ≡ old.groups
+  pub parts : new.parts ≡ old.parts
+  pub uses : new.uses ≡ old.uses
+  pub texts : new.texts ≡ old.texts
+  pub last : new.last ≡ old.last
+  pub placed : new.placed ≡ old.placed
+  pub spare : new.spare ≡ old.spare
+
+-- a node is placed: it has the value, the parts that it concerns are marked, and all else stays but the count of placed members
+pub record Places (node : ℕ) (value : Tern) (old new : MachineData) : Type 0 where
+  pub state : new.state ≡ slice_set old.state node value
+  pub count : length new.marks ≡ length old.marks
+  pub stays : (k : ℕ) → IsMarked old.marks k → IsMarked new.marks k
+  pub concerns : (k : ℕ) → Concerns old.parts k node → IsMarked new.marks k
+  pub only : (k : ℕ) → IsMarked new.marks k → IsMarked old.marks k ⊎ Concerns old.parts k node
+  pub groups : new.groups ≡ old.groups
+  pub parts : new.parts ≡ old.parts
+  pub uses : new.uses ≡ old.uses
+  pub texts : new.texts ≡ old.texts
+  pub last : new.last ≡ old.last
+  pub moves : new.moves ≡ old.moves
+  pub spare : new.spare ≡ old.spare

@@ -1,0 +1,151 @@
+-- Parts that lose their group in an edit, and parts for new groups.
+use Rattle.std.specs.Prelude.{◌≡◌, ℕ, ◌+◌, ◌<◌, ◌≤◌, ◌⊎◌, ◌↔◌, List, [], ◌∷◌, ◌++◌, true, if◌then◌else◌, length, Contains, Option, None, Some, slice_set, slice_index_or}
+use Rattle.path_meaning.specs.Graphs.{GraphData}
+use Rattle.group_meaning.specs.Groups.{Group, AreGroups}
+use Rattle.machine_parts.specs.declared.part.HeldPart.{HeldPart}
+use Rattle.machine_parts.specs.Parts.{Stands, HasMember, has_members}
+use Rattle.machine_laws.specs.Machines.{MachineData}
+use Rattle.machine_parts.specs.Marking.{IsMarked}
+
+-- these nodes have no owner any more, and all other nodes keep theirs
+pub record Disowns (members : List ℕ) (old new : List (Option ℕ)) : Type 0 where
+  pub count : length new ≡ length old
+  pub gone : (node : ℕ) → Contains members node → slice_index_or new node None ≡ None
+  pub stays : (node : ℕ) → ¬ Contains members node → slice_index_or new node None ≡ slice_index_or old node None
+
+-- the part has no group: it has no members and no code, and reads nothing
+pub record IsVacant (part : HeldPart) : Type 0 where
+  pub code : part.code ≡ None
+  pub map : part.map.items ≡ []
+  pub members : part.members ≡ 0
+  pub reads : part.reads.items ≡ []
+
+-- the part is that of a group with these members, and is stale
+pub record IsStalePartOf (nodes : List ℕ) (part : HeldPart) : Type 0 where
+  pub code : part.code ≡ None
+  pub map : part.map.items ≡ nodes
+  pub members : part.members ≡ length nodes
+  pub reads : part.reads.items ≡ []
+
+-- there is a place for the text of each part; one without members or code has no text, and one without code reads nothing
+pub record IsTidy (m : MachineData) : Type 0 where
+  pub counted : length m.uses ≡ length m.parts
+  pub textless : (k : ℕ) (part : HeldPart) → Stands m.parts k part → (part.members ≡ 0) ⊎ (part.code ≡ None) → slice_index_or m.uses k None ≡ None
+  pub quiet : (k : ℕ) (part : HeldPart) → Stands m.parts k part → part.code ≡ None → part.reads.items ≡ []
+
+-- how many parts with members a part is
+abbrev pub one_of : HeldPart → ℕ
+one_of part = if has_members part then 1 else 0
+
+-- all but the parts, their texts and their marks stays
+pub record KeepsRest (old new : MachineData) : Type 0 where
+  pub groups : new.groups ≡ old.groups
+  pub state : new.state ≡ old.state
+  pub last : new.last ≡ old.last
+  pub moves : new.moves ≡ old.moves
+  pub placed : new.placed ≡ old.placed
+  pub spare : new.spare ≡ old.spare
+
+-- the part with this number loses its group, and all other parts stay
+pub record Vacates (k : ℕ) (old new : MachineData) : Type 0 where
+  pub part : HeldPart
+  pub none : IsVacant part
+  pub parts : new.parts ≡ slice_set old.parts k part
+  pub uses : new.uses ≡ slice_set old.uses k None
+  pub marks : new.marks ≡ old.marks
+  pub rest : KeepsRest old new
+
+-- a part for a group with these members comes behind the others, stale and marked
+pub record Seats (members : List ℕ) (old new : MachineData) : Type 0 where
+  pub part : HeldPart
+  pub is_new : IsStalePartOf members part
+  pub parts : new.parts ≡ old.parts ++ part ∷ []
+  pub uses : (k : ℕ) → slice_index_or new.uses k None ≡ slice_index_or old.uses k None
+  pub more_uses : length new.uses ≡ length old.uses + 1
+  pub marks : new.marks ≡ old.marks ++ true ∷ []
+  pub rest : KeepsRest old new
+
+-- no part has one of these nodes as a member any more: the parts that had one have no group, and all other parts stay
+pub record Clears (nodes : List ℕ) (old new : MachineData) : Type 0 where
+  pub was : (k : ℕ) (part : HeldPart) → Stands new.parts k part → 0 < part.members → Stands old.parts k part
+  pub uses : (k : ℕ) (part : HeldPart) → Stands new.parts k part → 0 < part.members → slice_index_or new.uses k None ≡ slice_index_or old.uses k None
+  pub stays : (k : ℕ) (part : HeldPart) → Stands old.parts k part → ((node : ℕ) → Contains nodes node → ¬ HasMember old.parts k node) → Stands new.parts k part
+  pub none : (k node : ℕ) → Contains nodes node → ¬ HasMember new.parts k node
+  pub tidy : IsTidy old → IsTidy new
+  pub count : length new.parts ≡ length old.parts
+  pub marks : new.marks ≡ old.marks
+  pub rest : KeepsRest old new
+
+-- a group has a stale part with these members, which is marked; a part that had one of them has no group, and all other parts stay
+pub record Renews (members : List ℕ) (old new : MachineData) : Type 0 where
+  pub was : (k : ℕ) (part : HeldPart) → Stands new.parts k part → 0 < part.members →
+      Stands old.parts k part ⊎ ((k ≡ length old.parts) × IsStalePartOf members part)
+  pub uses : (k : ℕ) (part : HeldPart) → Stands new.parts k part → k < length old.parts → 0 < part.members →
+      slice_index_or new.uses k None ≡ slice_index_or old.uses k None
+  pub marks : (k : ℕ) → k < length old.parts → IsMarked new.marks k ↔ IsMarked old.marks k
+  pub stays : (k : ℕ) (part : HeldPart) → Stands old.parts k part → ((node : ℕ) → Contains members node → ¬ HasMember old.parts k node) → Stands new.parts k part
+  pub k : ℕ
+  pub part : HeldPart
+  pub stands : Stands new.parts k part
+  pub is_new : IsStalePartOf members part
+  pub count : length old.parts ≤ length new.parts
+  pub tidy : IsTidy old → IsTidy new
+  pub rest : KeepsRest old new
+
+-- one of these nodes is a member of the group
+pub record HasAny (nodes : List ℕ) (group : Group) : Type 0 where
+  pub node : ℕ
+  pub among : Contains nodes node
+  pub member : Contains group.members node
+
+-- the node is a member of one of these groups that has one of the nodes
+pub record IsWithAny (groups : List Group) (nodes : List ℕ) (node : ℕ) : Type 0 where
+  pub group : Group
+  pub there : Contains groups group
+  pub has : HasAny nodes group
+  pub member : Contains group.members node
+
+-- these are the groups of some graph
+abbrev pub AreOfSome : List Group → Type 0
+AreOfSome groups = (g : GraphData) × AreGroups g groups
+
+-- the members of a group, if there is one
+abbrev pub members_in : Option Group → List ℕ
+members_in None = []
+members_in (Some group) = group.members
+
+-- some part is a stale part with these members
+pub record HasStale (members : List ℕ) (parts : List HeldPart) : Type 0 where
+  pub k : ℕ
+  pub part : HeldPart
+  pub stands : Stands parts k part
+  pub is_new : IsStalePartOf members part
+
+-- the part is a new stale part of one of the groups that have one of these nodes
+pub record IsNew (groups : List Group) (nodes : List ℕ) (part : HeldPart) : Type 0 where
+  pub group : Group
+  pub there : Contains groups group
+  pub has : HasAny nodes group
+  pub is_new : IsStalePartOf group.members part
+
+-- each of these groups that has one of these nodes has a new stale part; the parts that have no members of such groups stay, and no
+-- other part has members
+pub record RenewsAll (all : List Group) (nodes : List ℕ) (old new : MachineData) : Type 0 where
+  pub was : (k : ℕ) (part : HeldPart) → Stands new.parts k part → 0 < part.members →
+      Stands old.parts k part ⊎ ((length old.parts ≤ k) × IsNew all nodes part)
+  pub uses : (k : ℕ) (part : HeldPart) → Stands new.parts k part → k < length old.parts → 0 < part.members →
+      slice_index_or new.uses k None ≡ slice_index_or old.uses k None
+  pub marks : (k : ℕ) → k < length old.parts → IsMarked new.marks k ↔ IsMarked old.marks k
+  pub stays : (k : ℕ) (part : HeldPart) → Stands old.parts k part →
+      ((group : Group) (node : ℕ) → Contains all group → HasAny nodes group → Contains group.members node → ¬ HasMember old.parts k node) →
+      Stands new.parts k part
+  pub has : (group : Group) → Contains all group → HasAny nodes group → HasStale group.members new.parts
+  pub count : length old.parts ≤ length new.parts
+  pub tidy : IsTidy old → IsTidy new
+  pub rest : KeepsRest old new
+
+-- where a part has the node as a member, or no group has, nothing changes; else the node's group has a new stale part
+abbrev pub RenewsAt : List Group → ℕ → MachineData → MachineData → Type 0
+RenewsAt groups node old new =
+    ((new ≡ old) × (((k : ℕ) × HasMember old.parts k node) ⊎ ((group : Group) → Contains groups group → ¬ Contains group.members node)))
+    ⊎ (((k : ℕ) → ¬ HasMember old.parts k node) × ((group : Group) × Contains groups group × Contains group.members node × Renews group.members old new))

@@ -1,0 +1,9 @@
+pub mod CaseLemmas
+pub mod PartLemmas
+pub mod SetMarks
+pub mod MarkLemmas
+pub mod MachineLemmas
+pub mod MakingLemmas
+pub mod EditingLemmas
+pub mod OwnerLemmas
+pub mod NumberLists

@@ -1,0 +1,9 @@
+pub mod WaitingLemmas
+pub mod BatchLemmas
+pub mod CodesLemmas
+pub mod EvaluationLemmas
+pub mod TakingLemmas
+pub mod AdvanceLemmas
+pub mod ReadersLemmas
+pub mod DenseLemmas
+pub mod PuttingLemmas

@@ -1,0 +1,27 @@
+-- The last listed part is marked and doesn't wait, and the others stay listed.
+use Rattle.std.proofs.Common.{ℕ, List, arith, subst}
+use Rattle.std.specs.Prelude.{vec_capacity}
+use Rattle.std.proofs.lemmas.List.Elements.{Contains-push}
+use Rattle.machine_parts.specs.Marking.{IsAgenda}
+use Rattle.machine_parts.proofs.MarkLemmas.{IsAgenda-popped}
+use Rattle.machine_parts.proofs.SetMarks.{marked_inside}
+use Rattle.part_steps.proofs.agenda.Agenda.pop.Goals as goal
+
+pub index_mut-requires : goal.index_mut-requires
+index_mut-requires c =
+    let family : List ℕ → Type 0 = λ work. IsAgenda c.self.inside.marks.items c.self.inside.waits.items work c.self.inside.waiters.items c.self.inside.stale (vec_capacity c.self.inside.work) in
+    let agenda = subst family c.in_ok-k.ensures.items c.self.invariant in
+    let marked = agenda.marked c.in_ok-k.k (Contains-push _ c.in_ok-k.k) in
+    omega (arith, marked_inside c.self.inside.marks.items c.in_ok-k.k marked)
+
+pub invariant_of-self-2 : goal.invariant_of-self-2
+invariant_of-self-2 c =
+    let family : List ℕ → Type 0 = λ work. IsAgenda c.self.inside.marks.items c.self.inside.waits.items work c.self.inside.waiters.items c.self.inside.stale (vec_capacity c.self.inside.work) in
+    let agenda = subst family c.in_ok-k.ensures.items c.self.invariant in
+    rw c.pop.ensures.capacity (IsAgenda-popped c.self.inside.marks.items c.self.inside.waits.items _ c.self.inside.waiters.items c.self.inside.stale _ c.in_ok-k.k agenda)
+
+pub returns-clause-ready : goal.returns-clause-ready
+returns-clause-ready c =
+    let family : List ℕ → Type 0 = λ work. IsAgenda c.self.inside.marks.items c.self.inside.waits.items work c.self.inside.waiters.items c.self.inside.stale (vec_capacity c.self.inside.work) in
+    let agenda = subst family c.in_ok-k.ensures.items c.self.invariant in
+    rw (← c.self.view_is) (agenda.ready c.in_ok-k.k (Contains-push _ c.in_ok-k.k))

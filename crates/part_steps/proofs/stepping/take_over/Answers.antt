@@ -1,0 +1,53 @@
+-- One change more is taken over.
+use Rattle.std.proofs.Common.{◌<◌, get_or, ◌∙◌, arith}
+use Rattle.std.specs.Prelude.{length}
+use Rattle.std.proofs.lemmas.List.{get_or_default}
+use Rattle.std.proofs.lemmas.List.Elements.{Contains-get_or}
+use Rattle.ternary.specs.declared.tern.Tern.TheVariants.{Zero}
+use Rattle.part_words.specs.declared.change.Change.{Change}
+use Rattle.machine_parts.specs.Readers.{readers_of}
+use Rattle.machine_parts.proofs.MarkLemmas.{MarksAll-reached}
+use Rattle.part_steps.proofs.TakingLemmas.{IsTaken-more}
+use Rattle.part_steps.proofs.stepping.take_over.Goals as goal
+
+first : Change
+first = record { node = 0; value = Zero }
+
+pub bounds-state-change : goal.bounds-state-change
+unfolding first
+bounds-state-change c =
+    let inside = c.requires.inside _ (Contains-get_or c.args.changes.now c.loop-change.change-index first c.loop-change-test.true) in
+    omega (arith, inside, c.loop-change.auto.state)
+
+pub of-requires : goal.of-requires
+unfolding first
+of-requires c =
+    let inside = c.requires.inside _ (Contains-get_or c.args.changes.now c.loop-change.change-index first c.loop-change-test.true) in
+    omega (arith, inside, c.requires.readers)
+
+pub mark_all-requires : goal.mark_all-requires
+unfolding first
+mark_all-requires c = λ k there.
+    let change = get_or c.args.changes.now c.loop-change.change-index first in
+    let inside = c.requires.inside change (Contains-get_or c.args.changes.now c.loop-change.change-index first c.loop-change-test.true) in
+    let lists = c.of.ensures in
+    let part = c.requires.parts change.node k (rw lists at there) in
+    omega (arith, part, c.loop-change.invariant.marks.count)
+
+pub loop-change-preserved : goal.loop-change-preserved
+unfolding first
+loop-change-preserved c =
+    let changes = c.args.changes.now in
+    let i = c.loop-change.change-index in
+    let test = c.loop-change-test.true in
+    let change = get_or changes i first in
+    let is = get_or_default changes i first change test in
+    let inside = c.requires.inside change (Contains-get_or changes i first test) in
+    let here : change.node < length c.loop-change.state = omega (arith, inside, c.loop-change.auto.state) in
+    let lists = c.of.ensures in
+    record {
+      taken = IsTaken-more changes i change c.args.state.now c.loop-change.state c.requires.agreed test is here c.loop-change.invariant.taken;
+      marks = MarksAll-reached (λ (change : Change). readers_of c.args.readers.now change.node) changes i change c.of.result.now c.args.agenda.now.marks c.loop-change.agenda.marks
+          c.mark_all.new.agenda.marks test is lists c.loop-change.invariant.marks c.mark_all.ensures.marks;
+      waiting = c.mark_all.ensures.waiting ∙ c.loop-change.invariant.waiting;
+    }

@@ -1,0 +1,4 @@
+pub mod Dense
+pub mod Waiting
+pub mod Together
+pub mod Desks

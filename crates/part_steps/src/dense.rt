@@ -1,0 +1,216 @@
+//! What a step reads of the parts, in a dense form.
+ghost use Rattle.std.specs.Prelude.{◌≡◌, List, ◌<◌, ◌++◌, ◌∷◌, [], None, Some, length, slice_get, slice_set, vec_len, vec_capacity, All, IfOk, IfSome, OnOk};
+ghost use Rattle.straight_code.specs.Code.{CodeData};
+ghost use Rattle.machine_parts.specs.declared.part.HeldPart.{HeldPart};
+ghost use Rattle.machine_parts.specs.Putting.{Puts};
+ghost use Rattle.machine_parts.specs.Marking.{AreOnce};
+ghost use Rattle.part_steps.specs.Dense.{AreDense, AreSeatsOf, IsSeatOf, HasInputs, ArePlaces, Grows, IsCodeAt, IsMapAt, IsNumbered, IsPartNumbered};
+
+use crate::putting::put_in;
+use machine_parts::HeldPart;
+use std::alloc::{AllocError, Global};
+use std::rc::Rc;
+use straight_code::Code;
+use ternary::NoMemory;
+
+/// What a step reads of a part that has code: where its code stands among the codes, and where its map begins among
+/// the nodes.
+#[derive(Clone, Copy)]
+pub struct Seat {
+    pub code: u32,
+    pub at: u32,
+}
+
+/// What a step reads of all parts: their codes; the maps one behind the other; and the seat of each part that has code.
+/// Parts that a machine starts with share their code where their texts are equal, and each that got code later has
+/// its own.
+///
+/// The map of a part that lost its code stays where it is, and so does its code. Whoever holds a machine lets go of
+/// all of it where most of its parts are left over, so that there are no more than so many of these.
+#[derive(Drop)]
+pub struct DenseParts {
+    pub codes: Vec<Rc<Code>>,
+    pub nodes: Vec<u32>,
+    pub seats: Vec<Option<Seat>>,
+}
+
+impl DenseParts {
+    /// The seat of a part, whose map comes behind the others.
+    #[tactic(auto, using(crate::proofs::DenseLemmas::grows_same, crate::proofs::DenseLemmas::grows_then, crate::proofs::DenseLemmas::places_more))]
+    pub fn seat_shared(
+        &mut self,
+        part: &HeldPart,
+        number: Option<usize>,
+        places: &mut [Option<u32>],
+    ) -> Result<Option<Seat>, NoMemory>
+        requires inputs { HasInputs part.now }
+        requires inside { IfSome number (λ n. n < length places.old) }
+        ensures more { Grows self.old self.new }
+        ensures seat { (list : List CodeData) → IsPartNumbered list number part.now → ArePlaces list self.old.codes.items places.old
+            → IfOk result (IsSeatOf part.now self.new.codes.items self.new.nodes.items) }
+        ensures places { (list : List CodeData) → IsPartNumbered list number part.now → ArePlaces list self.old.codes.items places.old
+            → ArePlaces list self.new.codes.items places.new }
+    {
+        let Some(code) = &part.code else {
+            return Ok(None);
+        };
+        let place = self.place_of(number, code, places)?;
+        let at = self.add_map(&part.map)?;
+        Ok(Some(Seat { code: place, at }))
+    }
+
+    // Where a code stands: at the place of its text's number, if that has one, else behind the others, where it
+    // is put.
+    fn place_of(
+        &mut self,
+        number: Option<usize>,
+        code: &Rc<Code>,
+        places: &mut [Option<u32>],
+    ) -> Result<u32, NoMemory>
+        requires { IfSome number (λ n. n < length places.old) }
+        ensures more { Grows self.old self.new }
+        ensures place { (list : List CodeData) → IsNumbered list number code.now.value → ArePlaces list self.old.codes.items places.old
+            → IfOk result (λ place. IsCodeAt self.new.codes.items place code.now.value) }
+        ensures places { (list : List CodeData) → IsNumbered list number code.now.value → ArePlaces list self.old.codes.items places.old
+            → ArePlaces list self.new.codes.items places.new }
+    {
+        match number {
+            Some(number) => self.place_shared(number, code, places),
+            None => self.add_code(code),
+        }
+    }
+
+    // Where the code of the text with this number stands: it is put behind the others if it isn't there yet.
+    #[tactic(auto, using(crate::proofs::DenseLemmas::grows_same, crate::proofs::DenseLemmas::places_more, crate::proofs::DenseLemmas::place_known, crate::proofs::DenseLemmas::place_added))]
+    fn place_shared(
+        &mut self,
+        number: usize,
+        code: &Rc<Code>,
+        places: &mut [Option<u32>],
+    ) -> Result<u32, NoMemory>
+        requires { number < length places.old }
+        ensures more { Grows self.old self.new }
+        ensures place { (list : List CodeData) → slice_get list number ≡ Some code.now.value → ArePlaces list self.old.codes.items places.old
+            → IfOk result (λ place. IsCodeAt self.new.codes.items place code.now.value) }
+        ensures places { (list : List CodeData) → slice_get list number ≡ Some code.now.value → ArePlaces list self.old.codes.items places.old
+            → ArePlaces list self.new.codes.items places.new }
+    {
+        if let Some(place) = places[number] {
+            return Ok(place);
+        }
+        let place = self.add_code(code)?;
+        places[number] = Some(place);
+        Ok(place)
+    }
+
+    // Puts code behind the others, and answers its place.
+    #[tactic(auto, using(crate::proofs::DenseLemmas::grows_same, crate::proofs::DenseLemmas::grows_code, crate::proofs::DenseLemmas::code_last))]
+    fn add_code(&mut self, code: &Rc<Code>) -> Result<u32, NoMemory>
+        ensures more { Grows self.old self.new }
+        ensures there { IfOk result (λ place. IsCodeAt self.new.codes.items place code.now.value) }
+    {
+        let place = short(self.codes.len())?;
+        let shared = code.clone()?;
+        self.codes.push(shared).map_err(AllocError::from)?;
+        Ok(place)
+    }
+
+    // Puts a map behind the others, and answers where it begins.
+    #[tactic(auto, using(crate::proofs::DenseLemmas::grows_same, crate::proofs::DenseLemmas::grows_nodes, crate::proofs::DenseLemmas::map_last))]
+    fn add_map(&mut self, map: &[usize]) -> Result<u32, NoMemory>
+        ensures more { Grows self.old self.new }
+        ensures there { IfOk result (λ at. IsMapAt self.new.nodes.items at map.now) }
+    {
+        let at = short(self.nodes.len())?;
+        for node in map {
+            self.nodes.push(short(*node)?).map_err(AllocError::from)?;
+        }
+        Ok(at)
+    }
+
+    /// The part with this number loses its code.
+    pub fn clear(&mut self, k: usize)
+        requires { k < length self.old.seats.items }
+        ensures { (parts : List HeldPart) (part : HeldPart) → part.code ≡ None → AreDense parts self.old → AreDense (slice_set parts k part) self.new }
+    {
+        self.seats[k] = None;
+    }
+
+    /// Takes room for one seat more.
+    pub fn make_room(&mut self) -> Result<(), AllocError>
+        ensures same { (parts : List HeldPart) → AreDense parts self.old → AreDense parts self.new }
+        ensures room { OnOk result (vec_len self.new.seats < vec_capacity self.new.seats) }
+    {
+        self.seats.reserve(1)
+    }
+
+    /// Adds the seat of a part without code, for which there is room.
+    pub fn add_stale(&mut self)
+        requires { vec_len self.old.seats < vec_capacity self.old.seats }
+        ensures { (parts : List HeldPart) (part : HeldPart) → part.code ≡ None → AreDense parts self.old → AreDense (parts ++ part ∷ []) self.new }
+    {
+        self.seats.push_reserved(None);
+    }
+
+    /// The seats of these parts, whose codes and maps come behind the others. At want of memory none came.
+    #[tactic(auto, using(crate::proofs::DenseLemmas::dense_more, crate::proofs::DenseLemmas::dense_again))]
+    pub fn seats_for(
+        &mut self,
+        alloc: Global,
+        parts: &[HeldPart],
+    ) -> Result<Vec<Option<Seat>>, NoMemory>
+        requires inputs { All HasInputs parts.now }
+        ensures same { (others : List HeldPart) → AreDense others self.old → AreDense others self.new }
+        ensures seats { IfOk result (λ seats. AreSeatsOf parts.now self.new.codes.items self.new.nodes.items seats.items) }
+    {
+        let codes = self.codes.len();
+        let nodes = self.nodes.len();
+        match self.add_seats(alloc, parts) {
+            Ok(seats) => Ok(seats),
+            Err(refused) => {
+                self.codes.truncate(codes);
+                self.nodes.truncate(nodes);
+                Err(refused)
+            }
+        }
+    }
+
+    // The seats of these parts, whose codes and maps come behind the others.
+    #[tactic(auto, using(crate::proofs::DenseLemmas::grows_same, crate::proofs::DenseLemmas::no_seats))]
+    fn add_seats(
+        &mut self,
+        alloc: Global,
+        parts: &[HeldPart],
+    ) -> Result<Vec<Option<Seat>>, NoMemory>
+        requires { All HasInputs parts.now }
+        ensures more { Grows self.old self.new }
+        ensures seats { IfOk result (λ seats. AreSeatsOf parts.now self.new.codes.items self.new.nodes.items seats.items) }
+    {
+        let mut seats = Vec::with_capacity(alloc, parts.len())?;
+        for part in parts {
+            let seat = self.seat_shared(part, None, &mut [])?;
+            seats.push_reserved(seat);
+        }
+        Ok(seats)
+    }
+
+    /// Puts seats in these slots.
+    pub fn put_all(&mut self, slots: &[usize], seats: Vec<Option<Seat>>)
+        requires inside { All (λ k. k < length self.old.seats.items) slots.now }
+        requires counted { length seats.items ≡ length slots.now }
+        ensures { (fresh old new : List HeldPart) → AreOnce slots.now → AreSeatsOf fresh self.old.codes.items self.old.nodes.items seats.items
+            → Puts slots.now fresh old new → AreDense old self.old → AreDense new self.new }
+    {
+        put_in(slots, seats, &mut self.seats);
+    }
+}
+
+// A number as one of 32 bits. A larger one is want of memory.
+fn short(number: usize) -> Result<u32, NoMemory>
+    ensures { IfOk result (λ same. same ≡ number) }
+{
+    match u32::try_from(number) {
+        Ok(same) => Ok(same),
+        Err(_) => Err(NoMemory),
+    }
+}

@@ -1,0 +1,39 @@
+//! A step of a compiled machine's parts: the marked ones are evaluated, and then the changes are taken over.
+//!
+//! `advance` takes a step, plain or joining, over what it reads: `Agenda` has the marks and the list of the marked
+//! parts, `ReaderLists` the parts that read each node, `DenseParts` the codes and maps of the parts side by side, and
+//! `Desk` the room in which it works. The layer above uses that each member of a marked part gets what its part's
+//! code gives, that the parts are marked which read a node that changed, and that no step takes memory.
+//!
+//! ```text
+//! 64 inverters with one code, all marked: they wait together and are run as one, a bit of a word for each
+//! out of the first changes: the parts that read it are marked, and no other
+//! ```
+//!
+//! For the proofs of crates above: `DenseLemmas` (seats tell codes and maps), `TakingLemmas` (the changes of a step
+//! are taken over), `PuttingLemmas` (what is put in places of a list).
+//!
+//! After Bryant, Beatty, Brace, Cho and Sheffler, "COSMOS: A Compiled Simulator for MOS Circuits",
+//! 1987.
+#![tactic(auto)]
+
+mod agenda;
+mod batches;
+mod dense;
+mod evaluation;
+mod making;
+mod putting;
+mod readers;
+mod stepping;
+
+pub use agenda::{Agenda, mark_all, numbers_below};
+pub use batches::Batches;
+pub use dense::{DenseParts, Seat};
+pub use evaluation::Desk;
+pub use making::{
+    Needs, all_owners, count_held, desk_for, held_parts, needs_of, own, widen_for_codes,
+    widen_for_parts,
+};
+pub use putting::put_in;
+pub use readers::ReaderLists;
+pub use stepping::advance;

@@ -1,9 +1,0 @@
--- A part without code has no seat.
-use Rattle.unit_step.proofs.DenseLemmas.{AreSeatsOf-set, IsSeatOf-none}
-use Rattle.std.proofs.Common.{None}
-use Rattle.unit_step.proofs.dense.DenseParts.clear.Goals as goal
-
-pub returns : goal.returns
-returns c parts part none of =
-    let dense = c.args.self.now in
-    AreSeatsOf-set parts c.args.k part dense.codes.items dense.nodes.items dense.seats.items None of (IsSeatOf-none part dense.codes.items dense.nodes.items none)

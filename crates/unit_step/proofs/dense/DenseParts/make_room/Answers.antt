@@ -1,5 +1,0 @@
--- The seats are the same.
-use Rattle.unit_step.proofs.dense.DenseParts.make_room.Goals as goal
-
-pub returns-clause-same : goal.returns-clause-same
-returns-clause-same c parts of = rw c.reserve.ensures.items of

@@ -1,9 +1,0 @@
--- The laws of steps.
-use Rattle.unit_step.proofs.FittingLemmas.{steps_are_unit_steps, joining_steps_are_join_steps}
-use Rattle.unit_step.proofs.laws.steps_are_unit_steps.Goals as goal
-
-pub returns-clause-plain : goal.returns-clause-plain
-returns-clause-plain c = steps_are_unit_steps
-
-pub returns-clause-joining : goal.returns-clause-joining
-returns-clause-joining c = joining_steps_are_join_steps

@@ -1,6 +1,0 @@
--- The parts so far own their members.
-use Rattle.unit_step.specs.Making.{AreOwned}
-use Rattle.unit_step.proofs.making.all_owners.Given as goal
-
-abbrev pub invariant-loop-k : goal.invariant-loop-k
-invariant-loop-k l = AreOwned l.parts l.nodes l.k l.owners.items

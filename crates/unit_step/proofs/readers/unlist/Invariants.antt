@@ -1,7 +1,0 @@
--- The part is taken off the lists of the nodes so far.
-use Rattle.std.proofs.Common.{take}
-use Rattle.unit_step.specs.Readers.{Unlists}
-use Rattle.unit_step.proofs.readers.unlist.Given as goal
-
-abbrev pub invariant-loop-read : goal.invariant-loop-read
-invariant-loop-read l = Unlists l.k (take l.read l.nodes) l.fn.lists l.lists
