@@ -20,12 +20,20 @@ impl<'a> NamedFiles<'a> {
     }
 
     /// The word that names the file that was asked for last: the first word says what to do, and the
-    /// files are asked for in the order of the others.
+    /// files are asked for in the order of the others, where under `batch` the number of columns stands
+    /// behind the first file.
     pub(crate) fn name_in<'w>(&self, words: &'w [String]) -> Option<&'w str> {
         if self.asked == 0 {
             return None;
         }
-        words.get(self.asked).map(|word| word.as_str())
+        let is_batch = match words.first() {
+            Some(word) => word.as_str() == "batch",
+            None => false,
+        };
+        let passed = if is_batch && self.asked > 1 { 1 } else { 0 };
+        words
+            .get(self.asked.saturating_add(passed))
+            .map(|word| word.as_str())
     }
 
     /// The reason for the last fault, where there was one.
