@@ -86,4 +86,5 @@ def main():
         sys.stdout.buffer.write(b"n " + b" ".join(itertools.islice(names, 3)) + b"\n")
 
 
-main()
+if __name__ == "__main__":
+    main()
