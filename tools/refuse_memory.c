@@ -1,5 +1,5 @@
 /* refuse_memory: a library that a program is started with (LD_PRELOAD) so that one allocation is refused.
-   REFUSE=N refuses the Nth call of malloc, calloc, realloc, aligned_alloc or posix_memalign; where REFUSE is 0
+   REFUSE=N refuses the Nth call of malloc, realloc, aligned_alloc or posix_memalign; where REFUSE is 0
    none is refused. At the end the number of calls is written to the file that REFUSE_COUNT names. */
 #define _GNU_SOURCE
 #include <dlfcn.h>
