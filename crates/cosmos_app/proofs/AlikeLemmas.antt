@@ -9,12 +9,12 @@ use Rattle.group_text.specs.Texts.{GroupTextData}
 use Rattle.script_lang.specs.Forms.{IsFormed}
 use Rattle.script_lang.specs.declared.command.Command.{Command}
 use Rattle.script_lang.specs.declared.command.Command.TheVariants.{Input, Store, Set, Charge, Watch, Limit, Step, Phase, Clock, Cycle, Expect, Add, Del, Strength, Kind, Wire, Report, Keep}
-use Rattle.cosmos_session.specs.Bounds.{IsBounded, IsReadable}
-use Rattle.cosmos_session.specs.Sessions.{SessionData, places_of}
-use Rattle.cosmos_session.specs.Lines.{Line, Wave}
-use Rattle.cosmos_session.specs.Effects.{Effect, AreBeats, is_state, unmet_lines, places_in, wave_by}
-use Rattle.cosmos_session.specs.Outcomes.{Performs}
-use Rattle.cosmos_session.proofs.BoundLemmas.{performs-readable}
+use Rattle.session_meaning.specs.Bounds.{IsBounded, IsReadable}
+use Rattle.session_meaning.specs.Sessions.{SessionData, places_of}
+use Rattle.session_meaning.specs.Lines.{Line, Wave}
+use Rattle.session_meaning.specs.Effects.{Effect, AreBeats, is_state, unmet_lines, places_in, wave_by}
+use Rattle.session_meaning.specs.Outcomes.{Performs}
+use Rattle.session_meaning.proofs.BoundLemmas.{performs-readable}
 use Rattle.cosmos_app.specs.Countings.{IsWave, IsOther, AreAlike}
 
 -- ---- waveform lines

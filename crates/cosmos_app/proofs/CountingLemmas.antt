@@ -13,9 +13,9 @@ use Rattle.wave_print.specs.declared.lines.Summary.{Summary}
 use Rattle.wave_print.specs.Lines.{summary_line_of}
 use Rattle.script_lang.proofs.ReadingLemmas.{reading-formed}
 use Rattle.fault_sim.specs.Masks.{masked_reading}
-use Rattle.cosmos_session.specs.Bounds.{IsBounded}
-use Rattle.cosmos_session.specs.Sessions.{SessionData, HeldSession}
-use Rattle.cosmos_session.specs.Lines.{Line, text_of}
+use Rattle.session_meaning.specs.Bounds.{IsBounded}
+use Rattle.session_meaning.specs.Sessions.{SessionData, HeldSession}
+use Rattle.session_meaning.specs.Lines.{Line, text_of}
 use Rattle.run_ends.specs.declared.status.Status.TheVariants.{Done, ScriptRefused}
 use Rattle.run_ends.specs.declared.stop.Stop.{Stop}
 use Rattle.run_ends.specs.declared.stop.Stop.TheVariants.{Read, Write, Memory}

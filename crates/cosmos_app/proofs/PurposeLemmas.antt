@@ -4,7 +4,7 @@ use Rattle.line_words.specs.Files.{front_of, lines_in, cut_line}
 use Rattle.line_words.proofs.FileLemmas.{cut_line-front_of, lines_in-front_of}
 use Rattle.netlist.specs.Circuits.{CircuitData}
 use Rattle.group_text.specs.Texts.{GroupTextData}
-use Rattle.cosmos_session.specs.Sessions.{SessionData, start_of}
+use Rattle.session_meaning.specs.Sessions.{SessionData, start_of}
 use Rattle.lane_session.specs.LaneSessions.{LaneSessionData, session_in, IsStart}
 use Rattle.lane_run.specs.Batches.{IsBatchAnswer}
 use Rattle.lane_run.proofs.RunLemmas.{together-same}

@@ -26,8 +26,8 @@ use Rattle.linear_code.proofs.TextLemmas.{IsFrom, IsFrom-decimal}
 use Rattle.wave_print.specs.Lines.{mark_of}
 use Rattle.wave_print.specs.Lines as print
 use Rattle.wave_print.specs.declared.lines.Summary.{Summary}
-use Rattle.cosmos_session.specs.Effects.{is_state}
-use Rattle.cosmos_session.specs.Lines.{Line, Wave, Unmet, Reported, text_of}
+use Rattle.session_meaning.specs.Effects.{is_state}
+use Rattle.session_meaning.specs.Lines.{Line, Wave, Unmet, Reported, text_of}
 use Rattle.cosmos_app.specs.Summaries.{summary_of, total, waves_of, steps_of, marks_of, mark_count, values_of}
 use Rattle.cosmos_app.specs.Countings.{IsWave, IsOther, AreAlike, has_digit, has_mark, less_mark, number_in, with_words, with_line, with_lines}
 

@@ -22,7 +22,7 @@ use Rattle.circuit_texts.specs.Sizes.{AllFit}
 use Rattle.group_report.specs.Report.{IsReport}
 use Rattle.net_gen.specs.declared.families.GenPart.{GenPart}
 use Rattle.net_gen.specs.declared.families.GenPart.TheVariants as part
-use Rattle.cosmos_session.specs.Sessions.{start_of}
+use Rattle.session_meaning.specs.Sessions.{start_of}
 use Rattle.run_ends.specs.declared.status.Status.{Status}
 use Rattle.run_ends.specs.declared.status.Status.TheVariants as status
 use Rattle.cosmos_app.specs.Codes.{net_code}

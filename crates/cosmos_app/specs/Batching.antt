@@ -4,7 +4,7 @@ use Rattle.std.specs.Option.{option_and_then}
 use Rattle.line_words.specs.Decimals.{decimal_of}
 use Rattle.line_words.specs.Files.{lines_in, cut_line}
 use Rattle.netlist.specs.Circuits.{CircuitData}
-use Rattle.cosmos_session.specs.Sessions.{start_of}
+use Rattle.session_meaning.specs.Sessions.{start_of}
 use Rattle.run_ends.specs.Answers.{Answer}
 use Rattle.lane_run.specs.Batches.{IsBatchAnswer}
 use Rattle.cosmos_app.specs.declared.lanes.Lanes as code_lanes

@@ -6,7 +6,7 @@ use Rattle.channel_groups.specs.Grouping.{GroupsData}
 use Rattle.netlist.specs.Names.{node_of}
 use Rattle.wave_print.specs.declared.faults.FaultPlace.TheVariants.{Script}
 use Rattle.circuit_texts.specs.Sizes.{TellsTooLarge}
-use Rattle.cosmos_session.specs.Sessions.{SessionData}
+use Rattle.session_meaning.specs.Sessions.{SessionData}
 use Rattle.script_meaning.specs.declared.halt.Halt.{Halt}
 use Rattle.script_meaning.specs.declared.halt.Halt.TheVariants.{End, Refused, TooLarge}
 use Rattle.run_ends.specs.declared.status.Status.TheVariants.{ScriptRefused}

@@ -11,7 +11,7 @@ use Rattle.why_path.specs.Reasons.{Explains}
 use Rattle.why_path.specs.Lines.{IsReasonLine, no_reason_line_of}
 use Rattle.wave_print.specs.declared.faults.FaultPlace.TheVariants.{Node}
 use Rattle.wave_print.specs.declared.faults.FaultCode.TheVariants.{E1UnknownNode}
-use Rattle.cosmos_session.specs.Sessions.{SessionData, start_of}
+use Rattle.session_meaning.specs.Sessions.{SessionData, start_of}
 use Rattle.run_ends.specs.declared.status.Status.{Status}
 use Rattle.run_ends.specs.declared.status.Status.TheVariants.{Done, Usage, ScriptRefused}
 use Rattle.run_ends.specs.Causes.{plain_cause, cause_line}

@@ -5,9 +5,9 @@ use Rattle.ternary.specs.declared.tern.Tern.{Tern}
 use Rattle.ternary.specs.declared.tern.Tern.TheVariants.{Zero, One, Unk}
 use Rattle.wave_print.specs.declared.lines.Summary.{Summary}
 use Rattle.wave_print.specs.Lines.{summary_line_of}
-use Rattle.cosmos_session.specs.Sessions.{SessionData}
-use Rattle.cosmos_session.specs.Effects.{is_state}
-use Rattle.cosmos_session.specs.Lines.{Line, Wave, Unmet, Reported}
+use Rattle.session_meaning.specs.Sessions.{SessionData}
+use Rattle.session_meaning.specs.Effects.{is_state}
+use Rattle.session_meaning.specs.Lines.{Line, Wave, Unmet, Reported}
 use Rattle.run_ends.specs.declared.status.Status.{Status}
 use Rattle.run_ends.specs.declared.status.Status.TheVariants.{Done}
 use Rattle.run_ends.specs.Answers.{Answer}

@@ -6,8 +6,8 @@ ghost use Rattle.line_words.specs.Files as file;
 ghost use Rattle.line_words.specs.Lines.{lines_of};
 ghost use Rattle.line_words.specs.Words.{words_of};
 ghost use Rattle.std.specs.List.{enumerate_from};
-ghost use Rattle.cosmos_session.specs.Lines.{Line, text_of};
-ghost use Rattle.cosmos_session.specs.Bounds.{IsBounded};
+ghost use Rattle.session_meaning.specs.Lines.{Line, text_of};
+ghost use Rattle.session_meaning.specs.Bounds.{IsBounded};
 ghost use Rattle.cosmos_app.specs.Summaries.{summary_of};
 ghost use Rattle.cosmos_app.specs.Countings as spec;
 

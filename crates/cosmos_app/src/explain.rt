@@ -7,7 +7,7 @@ ghost use Rattle.line_words.specs.Files as file;
 ghost use Rattle.netlist.specs.Circuits.{IsCircuit};
 ghost use Rattle.netlist.specs.Names.{node_of};
 ghost use Rattle.why_path.specs.Reasons.{Explains};
-ghost use Rattle.cosmos_session.specs.Sessions.{IsReady};
+ghost use Rattle.session_meaning.specs.Sessions.{IsReady};
 ghost use Rattle.script_meaning.specs.Runs.{plain_reading};
 ghost use Rattle.script_meaning.specs.Halts.{HaltsAt};
 ghost use Rattle.run_ends.specs.Ends.{IsTold, IsToldBy};

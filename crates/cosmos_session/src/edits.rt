@@ -3,23 +3,16 @@
 ghost use Rattle.std.specs.Prelude.{◌≡◌, OnOk, OnErr};
 ghost use Rattle.netlist.specs.Edits.{answer_of, with_place};
 ghost use Rattle.script_lang.specs.declared.command.Command.TheVariants as asked;
-ghost use Rattle.cosmos_session.specs.Machines.{EditsMachine};
-ghost use Rattle.cosmos_session.specs.Outcomes.{Quietly};
-ghost use Rattle.cosmos_session.specs.Switches.{place_after, edit_fault, command_of};
+ghost use Rattle.session_meaning.specs.Machines.{EditsMachine};
+ghost use Rattle.session_meaning.specs.Outcomes.{Quietly};
+ghost use Rattle.session_meaning.specs.Switches.{place_after, edit_fault, command_of};
 
-use crate::fault::ApplyFault;
 use crate::regrouping::{change_at, change_of};
 use crate::session::Session;
 use netlist::{Circuit, EditFault, usual_strength};
 use path_meaning::SwitchKind;
 use script_lang::Name;
-
-// An edit of a transistor that leaves its terminals: it is removed, or gets a strength or a kind.
-pub(crate) enum SwitchEdit {
-    Removal,
-    Strength(u64),
-    Kind(SwitchKind),
-}
+use session_meaning::{ApplyFault, SwitchEdit};
 
 impl Session {
     /// `add`: adds a transistor; each node that its names make is X.

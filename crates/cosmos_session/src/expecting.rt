@@ -4,17 +4,17 @@ ghost use Rattle.std.specs.Prelude.{◌≡◌, ◌++◌, List, [], ◌∷◌, is
 ghost use Rattle.group_text.specs.Texts.{GroupTextData};
 ghost use Rattle.netlist.specs.Names.{node_of};
 ghost use Rattle.script_lang.specs.declared.command.Command.TheVariants as asked;
-ghost use Rattle.cosmos_session.specs.Effects as effect;
-ghost use Rattle.cosmos_session.specs.Lines.{text_of};
-ghost use Rattle.cosmos_session.specs.Sinks.{faults_applied};
-ghost use Rattle.cosmos_session.specs.Outcomes.{Obeys};
+ghost use Rattle.session_meaning.specs.Effects as effect;
+ghost use Rattle.session_meaning.specs.Lines.{text_of};
+ghost use Rattle.session_meaning.specs.Sinks.{faults_applied};
+ghost use Rattle.session_meaning.specs.Outcomes.{Obeys};
 
-use crate::fault::ApplyFault;
 use crate::refusals;
 use crate::session::Session;
 use crate::waves::send_text;
 use port_edge::Sink;
 use script_lang::{AssignList, Name};
+use session_meaning::ApplyFault;
 use ternary::{NoMemory, Tern};
 use wave_print::{EXPECT_LINE_ROOM, LineBuf, expect_line};
 

@@ -9,8 +9,8 @@ ghost use Rattle.oscillation_x.specs.Settling.{Settles};
 ghost use Rattle.machine_parts.specs.Marking.{IsMarked};
 ghost use Rattle.machine_laws.specs.Machines.{Advances};
 ghost use Rattle.machine_laws.specs.Fitting.{FitsGraph};
-ghost use Rattle.cosmos_session.specs.Machines.{without_room};
-ghost use Rattle.cosmos_session.specs.Stages.{PutsNode, TakesStep, TakesPhase};
+ghost use Rattle.session_meaning.specs.Machines.{without_room};
+ghost use Rattle.session_meaning.specs.Stages.{PutsNode, TakesStep, TakesPhase};
 
 use oscillation_x::{MOST_LIMIT, Settled, Stepper, settle};
 use path_meaning::Graph;

@@ -1,10 +1,10 @@
 //! Building the machine before the commands that need it.
 
-ghost use Rattle.cosmos_session.specs.Stages.{Readies};
+ghost use Rattle.session_meaning.specs.Stages.{Readies};
 
-use crate::fault::ApplyFault;
 use crate::session::Session;
 use analysis_cache::Analyst;
+use session_meaning::ApplyFault;
 
 impl Session {
     /// Gets the session a machine that fits its circuit: the parts that edits made stale get their codes, or

@@ -8,20 +8,19 @@ ghost use Rattle.netlist.specs.Edits.{node_named, with_input};
 ghost use Rattle.script_lang.specs.declared.command.Command.TheVariants as asked;
 ghost use Rattle.path_meaning.specs.declared.TheConstants.{RAILS};
 ghost use Rattle.script_lang.specs.Forms.{AreBeats, IsTimes};
-ghost use Rattle.cosmos_session.specs.Refusals as refusal;
-ghost use Rattle.cosmos_session.specs.Effects as effect;
-ghost use Rattle.cosmos_session.specs.Machines.{EditsMachine, IsMachineAfter, PlacesIn, placed_of};
-ghost use Rattle.cosmos_session.specs.Stages.{PutsIn, AssignsIn};
-ghost use Rattle.cosmos_session.specs.Outcomes.{Quietly};
+ghost use Rattle.session_meaning.specs.Refusals as refusal;
+ghost use Rattle.session_meaning.specs.Effects as effect;
+ghost use Rattle.session_meaning.specs.Machines.{EditsMachine, IsMachineAfter, PlacesIn, placed_of};
+ghost use Rattle.session_meaning.specs.Stages.{PutsIn, AssignsIn};
+ghost use Rattle.session_meaning.specs.Outcomes.{Quietly};
 
-use crate::clock::Clock;
-use crate::fault::{ApplyFault, Refusal};
+use crate::refusals;
 use crate::regrouping::change_of_level;
 use crate::session::Session;
 use crate::stage::Stage;
-use crate::{MOST_WATCHED, refusals};
 use netlist::{Circuit, RAILS};
 use script_lang::{AssignList, ClockList, Name, NameList, StateList};
+use session_meaning::{ApplyFault, Clock, MOST_WATCHED, Refusal};
 use std::alloc::Global;
 use strength_order::INPUT_LEVEL;
 use ternary::{NoMemory, Tern};
@@ -84,7 +83,7 @@ impl Session {
     }
 
     /// `set`: gives the named input nodes their states, from left to right.
-    #[tactic(auto, using(crate::proofs::RefusalLemmas::set_known, crate::proofs::StateLemmas::set_past))]
+    #[tactic(auto, using(session_meaning::proofs::RefusalLemmas::set_known, session_meaning::proofs::StateLemmas::set_past))]
     pub(crate) fn set(&mut self, list: &AssignList) -> Result<(), ApplyFault>
         ensures quiet { Quietly self.old (asked.Set list.now) self.new result }
         ensures machine { OnOk result (IsMachineAfter self.old (asked.Set list.now) self.new) }

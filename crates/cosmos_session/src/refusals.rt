@@ -3,13 +3,12 @@
 ghost use Rattle.std.specs.Prelude.{◌≡◌, ◌<◌, ◌==◌, length, All, if◌then◌else◌};
 ghost use Rattle.path_meaning.specs.Graphs.{nodes};
 ghost use Rattle.netlist.specs.Names.{node_of};
-ghost use Rattle.cosmos_session.specs.Refusals as spec;
-ghost use Rattle.cosmos_session.specs.declared.fault.Refusal.TheVariants.{ClockLength};
+ghost use Rattle.session_meaning.specs.Refusals as spec;
+ghost use Rattle.session_meaning.specs.declared.fault.Refusal.TheVariants.{ClockLength};
 
-use crate::clock::Clock;
-use crate::fault::Refusal;
 use netlist::{Circuit, RAILS};
 use script_lang::{Name, StateList};
+use session_meaning::{Clock, Refusal};
 use strength_order::INPUT_LEVEL;
 use ternary::Tern;
 

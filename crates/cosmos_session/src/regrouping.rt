@@ -7,8 +7,9 @@ ghost use Rattle.machine_laws.specs.Fitting.{Covers};
 ghost use Rattle.group_analysis.specs.Using.{used_texts};
 ghost use Rattle.analysis_cache.specs.Keeping.{texts_of};
 ghost use Rattle.machine_laws.specs.Editing.{with_new_nodes, Edits};
-ghost use Rattle.cosmos_session.specs.Machines.{AreAmong, kept_in, last_in};
-ghost use Rattle.cosmos_session.specs.Stages.{state_held, machine_held, spare_held, before_place, before_level, EditsFrom};
+ghost use Rattle.session_meaning.specs.Machines.{AreAmong, kept_in, last_in};
+ghost use Rattle.session_meaning.specs.Stages.{before_place, before_level, EditsFrom};
+ghost use Rattle.cosmos_session.specs.Held.{state_held, machine_held, spare_held};
 
 use crate::stage::Held;
 use analysis_cache::Kept;
@@ -62,7 +63,7 @@ pub(crate) fn change_of_level(graph: &Graph, node: usize) -> Change
 /// half of the machine's parts, and more than 16, were left by groups that are gone, so that a script of very many
 /// edits holds no more than its circuit asks for. A machine that is let go leaves the texts of its last build in
 /// front of what is kept.
-#[tactic(auto, using(crate::proofs::LastLemmas::leaves_last, crate::proofs::LastLemmas::kept_alone, crate::proofs::LastLemmas::none_missing))]
+#[tactic(auto, using(session_meaning::proofs::LastLemmas::leaves_last, session_meaning::proofs::LastLemmas::kept_alone, session_meaning::proofs::LastLemmas::none_missing))]
 pub(crate) fn regrouped(held: Held, graph: &Graph, change: &Change, kept: &mut Kept) -> Held
     requires covers { IfSome (machine_held held) (Covers (undo graph.now change.now)) }
     requires wired { IsWired (undo graph.now change.now) }

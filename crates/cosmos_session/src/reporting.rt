@@ -4,16 +4,16 @@ ghost use Rattle.std.specs.Prelude.{◌≡◌, ◌≤◌, List, OnOk};
 ghost use Rattle.group_text.specs.Texts.{GroupTextData};
 ghost use Rattle.circuit_texts.specs.Building.{HasTexts};
 ghost use Rattle.script_lang.specs.declared.command.Command.TheVariants as asked;
-ghost use Rattle.cosmos_session.specs.Machines.{BuildsMachine, IsBuilt};
-ghost use Rattle.cosmos_session.specs.Stages.{IsReportPut};
-ghost use Rattle.cosmos_session.specs.Sinks.{faults_applied};
-ghost use Rattle.cosmos_session.specs.Outcomes.{Obeys};
+ghost use Rattle.session_meaning.specs.Machines.{BuildsMachine, IsBuilt};
+ghost use Rattle.session_meaning.specs.Stages.{IsReportPut};
+ghost use Rattle.session_meaning.specs.Sinks.{faults_applied};
+ghost use Rattle.session_meaning.specs.Outcomes.{Obeys};
 
-use crate::fault::ApplyFault;
 use crate::session::Session;
 use crate::waves::send_text;
 use analysis_cache::Analyst;
 use port_edge::Sink;
+use session_meaning::ApplyFault;
 use wave_print::{LineBuf, REPORT_LINE_ROOM, report_line};
 
 impl Session {

@@ -2,20 +2,18 @@
 
 ghost use Rattle.std.specs.Prelude.{◌≡◌, not, None, option_map, IfOk, IfErr, IfSome, OnOk};
 ghost use Rattle.script_lang.specs.Forms.{IsFormed};
-ghost use Rattle.cosmos_session.specs.Sessions.{start_of, HeldSession};
-ghost use Rattle.cosmos_session.specs.Preparing.{NamesNode};
-ghost use Rattle.cosmos_session.specs.Machines.{IsMachineOf, IsHeldSession, IsMachineAfter, without_room};
-ghost use Rattle.cosmos_session.specs.Sinks.{faults_applied};
-ghost use Rattle.cosmos_session.specs.Outcomes.{Obeys};
+ghost use Rattle.session_meaning.specs.Sessions.{start_of, HeldSession};
+ghost use Rattle.session_meaning.specs.Preparing.{NamesNode};
+ghost use Rattle.session_meaning.specs.Machines.{IsMachineOf, IsHeldSession, IsMachineAfter, without_room};
+ghost use Rattle.session_meaning.specs.Sinks.{faults_applied};
+ghost use Rattle.session_meaning.specs.Outcomes.{Obeys};
 
-use crate::FIRST_LIMIT;
-use crate::clock::Clock;
-use crate::fault::ApplyFault;
 use crate::stage::Stage;
 use analysis_cache::{Analyst, Kept};
 use netlist::Circuit;
 use port_edge::Sink;
 use script_lang::Command;
+use session_meaning::{ApplyFault, Clock, FIRST_LIMIT};
 use std::alloc::Global;
 use std::marker::Model;
 use ternary::{NoMemory, Tern};
@@ -44,8 +42,8 @@ pub struct Session {
 
 impl Model for Session {
     ghost use Rattle.analysis_cache.specs.Keeping.{texts_of};
-    ghost use Rattle.cosmos_session.specs.Sessions.{HeldSession};
-    ghost use Rattle.cosmos_session.specs.Machines.{IsHeldSession, AreAmong, kept_in, last_in};
+    ghost use Rattle.session_meaning.specs.Sessions.{HeldSession};
+    ghost use Rattle.session_meaning.specs.Machines.{IsHeldSession, AreAmong, kept_in, last_in};
 
     ghost Value = { HeldSession };
 

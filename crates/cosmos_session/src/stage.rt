@@ -12,8 +12,8 @@ ghost use Rattle.unit_step.specs.declared.editing.TheConstants.{NEW_NODES};
 ghost use Rattle.machine_parts.specs.Parts.{has_members};
 ghost use Rattle.machine_laws.specs.Fitting.{Covers};
 ghost use Rattle.machine_laws.specs.Editing.{with_new_nodes};
-ghost use Rattle.cosmos_session.specs.Machines.{Serves, FitsIn, AreAmong, kept_in, last_in, without_room};
-ghost use Rattle.cosmos_session.specs.Stages.{PutsIn, MovesBy, TakesStep, TakesPhase, EditsFrom, BuiltFrom};
+ghost use Rattle.session_meaning.specs.Machines.{Serves, FitsIn, AreAmong, kept_in, last_in, without_room};
+ghost use Rattle.session_meaning.specs.Stages.{PutsIn, MovesBy, TakesStep, TakesPhase, EditsFrom, BuiltFrom};
 
 use crate::moving::{place, settle_to_rest, take_step};
 use crate::regrouping::regrouped;
@@ -42,7 +42,8 @@ pub(crate) struct Stage {
 }
 
 impl Model for Stage {
-    ghost use Rattle.cosmos_session.specs.Stages.{StageData, state_held, machine_held, spare_held};
+    ghost use Rattle.session_meaning.specs.Stages.{StageData};
+    ghost use Rattle.cosmos_session.specs.Held.{state_held, machine_held, spare_held};
 
     ghost Value = { StageData };
 
@@ -124,7 +125,7 @@ impl Stage {
     }
 
     /// Moves the texts of the machine's last build, where there is a machine, to the front of what is kept.
-    #[tactic(auto, using(crate::proofs::LastLemmas::kept_alone))]
+    #[tactic(auto, using(session_meaning::proofs::LastLemmas::kept_alone))]
     pub(crate) fn use_last(&self, kept: &mut Kept)
         requires { AreAmong (last_in self.now.machine) (texts_of kept.old) }
         ensures kept { texts_of kept.new ≡ kept_in self.now.machine (texts_of kept.old) }
@@ -142,7 +143,7 @@ impl Stage {
     /// Texts that aren't kept are analysed first, each once, and kept; the answer is how many these are. What is
     /// kept, with the texts of this build in front, is what a build leaves. The refusals are those of a build;
     /// after them the state and the machine are as before.
-    #[tactic(auto, using(crate::proofs::RoomLemmas::built_finished, crate::proofs::RoomLemmas::built_anew, crate::proofs::LastLemmas::builds_anew, crate::proofs::LastLemmas::last_kept, crate::proofs::LastLemmas::cut_off_alone))]
+    #[tactic(auto, using(session_meaning::proofs::RoomLemmas::built_finished, session_meaning::proofs::RoomLemmas::built_anew, session_meaning::proofs::LastLemmas::builds_anew, session_meaning::proofs::LastLemmas::last_kept, session_meaning::proofs::LastLemmas::cut_off_alone))]
     pub(crate) fn build<A: Analyst>(
         &mut self,
         alloc: Global,
@@ -191,7 +192,7 @@ impl Stage {
     }
 
     /// Has the machine, which fits the graph, take a unit step.
-    #[tactic(auto, using(crate::proofs::RoomLemmas::fits_inside))]
+    #[tactic(auto, using(session_meaning::proofs::RoomLemmas::fits_inside))]
     pub(crate) fn step(&mut self, graph: &Graph)
         requires { FitsIn graph.now self.old.machine }
         ensures { MovesBy (TakesStep graph.now) self.old self.new }
@@ -202,7 +203,7 @@ impl Stage {
     }
 
     /// Has the machine, which fits the graph, settle.
-    #[tactic(auto, using(crate::proofs::RoomLemmas::fits_inside))]
+    #[tactic(auto, using(session_meaning::proofs::RoomLemmas::fits_inside))]
     pub(crate) fn settle(&mut self, graph: &Graph, limit: u64) -> Settled
         requires fits { FitsIn graph.now self.old.machine }
         requires low { 1 ≤ limit }

@@ -7,15 +7,13 @@ ghost use Rattle.path_meaning.specs.Switching.{state_at};
 ghost use Rattle.path_meaning.specs.declared.TheConstants.{RAILS};
 ghost use Rattle.script_lang.specs.declared.command.Command.TheVariants as asked;
 ghost use Rattle.script_lang.specs.Forms.{IsTimes};
-ghost use Rattle.cosmos_session.specs.Sessions.{places_of, IsReady};
-ghost use Rattle.cosmos_session.specs.Effects as effect;
-ghost use Rattle.cosmos_session.specs.Machines.{IsBuilt, StepsMachine, SettlesMachine};
-ghost use Rattle.cosmos_session.specs.Stages.{IsStepSent, IsUnitStepDone, IsSettled, PhaseMoves, BeatsMove, BeatsMoveOn, PutsIn, TicksIn, StaysPut, SameSetup};
-ghost use Rattle.cosmos_session.specs.Sinks.{IsSinkFault, faults_applied, refusals_sent};
-ghost use Rattle.cosmos_session.specs.Outcomes.{Obeys, TakesBeats, IsPhaseSent, Sent};
+ghost use Rattle.session_meaning.specs.Sessions.{places_of, IsReady};
+ghost use Rattle.session_meaning.specs.Effects as effect;
+ghost use Rattle.session_meaning.specs.Machines.{IsBuilt, StepsMachine, SettlesMachine};
+ghost use Rattle.session_meaning.specs.Stages.{IsStepSent, IsUnitStepDone, IsSettled, PhaseMoves, BeatsMove, BeatsMoveOn, PutsIn, TicksIn, StaysPut, SameSetup};
+ghost use Rattle.session_meaning.specs.Sinks.{IsSinkFault, faults_applied, refusals_sent};
+ghost use Rattle.session_meaning.specs.Outcomes.{Obeys, TakesBeats, IsPhaseSent, Sent};
 
-use crate::clock::{Clock, places_of};
-use crate::fault::ApplyFault;
 use crate::refusals;
 use crate::session::Session;
 use crate::stage::Stage;
@@ -24,6 +22,7 @@ use analysis_cache::Analyst;
 use oscillation_x::Settled;
 use path_meaning::{Graph, graphs_are_wired};
 use port_edge::Sink;
+use session_meaning::{ApplyFault, Clock, places_of};
 use strength_order::INPUT_LEVEL;
 
 impl Session {
@@ -44,7 +43,7 @@ impl Session {
     }
 
     /// `phase`: unit steps until nothing changes, past the limit joining ones, and a waveform line.
-    #[tactic(auto, using(crate::proofs::OutcomeLemmas::on_ok, crate::proofs::MoveLemmas::phase_readied))]
+    #[tactic(auto, using(session_meaning::proofs::OutcomeLemmas::on_ok, session_meaning::proofs::MoveLemmas::phase_readied))]
     pub(crate) fn phase<A: Analyst, S: Sink>(
         &mut self,
         analyst: &mut A,

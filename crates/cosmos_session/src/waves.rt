@@ -5,11 +5,10 @@ ghost use Rattle.std.specs.Io.KnownBytes.{append_known};
 ghost use Rattle.port_edge.specs.Sending.{WritesPart};
 ghost use Rattle.path_meaning.specs.Switching.{state_at};
 ghost use Rattle.wave_print.specs.Lines.{wave_line_of};
-ghost use Rattle.cosmos_session.specs.Sinks.{IsSinkFault, faults_applied, refusals_sent};
+ghost use Rattle.session_meaning.specs.Sinks.{IsSinkFault, faults_applied, refusals_sent};
 
-use crate::MOST_WATCHED;
-use crate::fault::ApplyFault;
 use port_edge::{Sink, send};
+use session_meaning::{ApplyFault, MOST_WATCHED};
 use std::alloc::Global;
 use std::marker::Model;
 use ternary::{NoMemory, Tern};

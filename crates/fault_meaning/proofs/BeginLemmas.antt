@@ -15,17 +15,17 @@ use Rattle.netlist.specs.declared.fault.EditFault.TheVariants as edit
 use Rattle.group_text.specs.Texts.{GroupTextData}
 use Rattle.script_lang.specs.declared.command.Command.{Command}
 use Rattle.script_lang.specs.declared.command.Command.TheVariants.{Input, Set, Del, Kind}
-use Rattle.cosmos_session.specs.declared.fault.ApplyFault.{ApplyFault}
-use Rattle.cosmos_session.specs.declared.fault.ApplyFault.TheVariants as apply
-use Rattle.cosmos_session.specs.declared.fault.Refusal.TheVariants as refusal
-use Rattle.cosmos_session.specs.Sessions.{SessionData, HeldSession, IsReady}
-use Rattle.cosmos_session.specs.Refusals.{refusal_of, or_else, rail_refusal, set_refusal, edit_refusal, is_input}
-use Rattle.cosmos_session.specs.Effects.{assigned}
-use Rattle.cosmos_session.specs.Preparing.{BuildsIf}
-use Rattle.cosmos_session.specs.Sinks.{faults_with, faults_applied}
-use Rattle.cosmos_session.specs.Lines.{text_of}
-use Rattle.cosmos_session.specs.Outcomes.{Does, Accepts, Obeys}
-use Rattle.cosmos_session.proofs.EffectLemmas.{ready-start, ready-does}
+use Rattle.session_meaning.specs.declared.fault.ApplyFault.{ApplyFault}
+use Rattle.session_meaning.specs.declared.fault.ApplyFault.TheVariants as apply
+use Rattle.session_meaning.specs.declared.fault.Refusal.TheVariants as refusal
+use Rattle.session_meaning.specs.Sessions.{SessionData, HeldSession, IsReady}
+use Rattle.session_meaning.specs.Refusals.{refusal_of, or_else, rail_refusal, set_refusal, edit_refusal, is_input}
+use Rattle.session_meaning.specs.Effects.{assigned}
+use Rattle.session_meaning.specs.Preparing.{BuildsIf}
+use Rattle.session_meaning.specs.Sinks.{faults_with, faults_applied}
+use Rattle.session_meaning.specs.Lines.{text_of}
+use Rattle.session_meaning.specs.Outcomes.{Does, Accepts, Obeys}
+use Rattle.session_meaning.proofs.EffectLemmas.{ready-start, ready-does}
 use Rattle.fault_sim.specs.declared.fault.Fault.{Fault}
 use Rattle.fault_sim.specs.declared.fault.Fault.TheVariants.{Open, Closed, Stuck}
 use Rattle.fault_sim.specs.Changes.{commands_of}

@@ -18,11 +18,11 @@ use Rattle.script_lang.specs.declared.command.Command.{Command}
 use Rattle.script_lang.specs.declared.command.Command.TheVariants.{Input, Store, Set, Charge, Watch, Limit, Step, Phase, Clock, Cycle, Expect, Add, Del, Strength, Kind, Wire, Report, Keep}
 use Rattle.script_lang.specs.declared.command.ScriptFault.{ScriptFault}
 use Rattle.script_lang.specs.Commands.{reading_of}
-use Rattle.cosmos_session.specs.Sessions.{SessionData, HeldSession, places_of}
-use Rattle.cosmos_session.specs.Preparing.{IsBuild, BuildsIf, builds}
-use Rattle.cosmos_session.specs.Lines.{Line}
-use Rattle.cosmos_session.specs.Effects.{Effect, AreBeats, places_in}
-use Rattle.cosmos_session.specs.Outcomes.{Performs}
+use Rattle.session_meaning.specs.Sessions.{SessionData, HeldSession, places_of}
+use Rattle.session_meaning.specs.Preparing.{IsBuild, BuildsIf, builds}
+use Rattle.session_meaning.specs.Lines.{Line}
+use Rattle.session_meaning.specs.Effects.{Effect, AreBeats, places_in}
+use Rattle.session_meaning.specs.Outcomes.{Performs}
 use Rattle.script_meaning.specs.Runs.{Outcome, Runs, ends, passes, obeys, refuses}
 use Rattle.script_meaning.specs.declared.turn.Turn.TheVariants.{Accepted}
 use Rattle.script_meaning.specs.Turns.{TakesTurn}

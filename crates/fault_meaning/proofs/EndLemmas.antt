@@ -12,9 +12,9 @@ use Rattle.line_words.specs.Lines.{lines_of}
 use Rattle.netlist.specs.Circuits.{called}
 use Rattle.group_text.specs.Texts.{GroupTextData}
 use Rattle.circuit_texts.specs.declared.texts.BuildFault.{BuildFault}
-use Rattle.cosmos_session.specs.Sessions.{SessionData, HeldSession}
-use Rattle.cosmos_session.specs.Lines.{Line, text_of}
-use Rattle.cosmos_session.specs.Bounds.{IsBounded, IsReadable}
+use Rattle.session_meaning.specs.Sessions.{SessionData, HeldSession}
+use Rattle.session_meaning.specs.Lines.{Line, text_of}
+use Rattle.session_meaning.specs.Bounds.{IsBounded, IsReadable}
 use Rattle.script_meaning.specs.declared.turn.Turn.{Turn}
 use Rattle.script_meaning.specs.declared.turn.Turn.TheVariants.{Accepted, Refused, TooLarge}
 use Rattle.run_ends.specs.Causes.{plain_cause}

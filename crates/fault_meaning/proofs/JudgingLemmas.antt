@@ -9,7 +9,7 @@ use Rattle.port_edge.specs.Sending.{WritesPart}
 use Rattle.port_edge.proofs.SendingLemmas.{append_known-nil, append_known-append, sends_part, part_whole, part_longer}
 use Rattle.netlist.specs.Circuits.{CircuitData, IsCircuit}
 use Rattle.circuit_texts.specs.declared.texts.BuildFault.{BuildFault}
-use Rattle.cosmos_session.specs.Sessions.{SessionData}
+use Rattle.session_meaning.specs.Sessions.{SessionData}
 use Rattle.wave_print.specs.Verdicts.{faults_line_of}
 use Rattle.wave_print.specs.declared.faults.FaultPlace.TheVariants.{Script}
 use Rattle.group_text.specs.Texts.{GroupTextData}

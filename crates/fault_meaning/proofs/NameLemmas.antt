@@ -11,11 +11,11 @@ use Rattle.netlist.specs.Edits.{node_named}
 use Rattle.group_text.specs.Texts.{GroupTextData}
 use Rattle.script_lang.specs.declared.command.Command.{Command}
 use Rattle.script_lang.specs.declared.command.Command.TheVariants.{Input, Store, Set, Charge, Watch, Limit, Step, Phase, Clock, Cycle, Expect, Add, Del, Strength, Kind, Wire, Report, Keep}
-use Rattle.cosmos_session.specs.Sessions.{SessionData, places_of}
-use Rattle.cosmos_session.specs.Preparing.{BuildsIf, builds}
-use Rattle.cosmos_session.specs.Lines.{Line, Wave, Unmet, Reported}
-use Rattle.cosmos_session.specs.Effects.{Effect, IsPhase, AreBeats, with_beat, places_in, wave_by, is_state, unmet_line, unmet_lines}
-use Rattle.cosmos_session.specs.Outcomes.{Performs}
+use Rattle.session_meaning.specs.Sessions.{SessionData, places_of}
+use Rattle.session_meaning.specs.Preparing.{BuildsIf, builds}
+use Rattle.session_meaning.specs.Lines.{Line, Wave, Unmet, Reported}
+use Rattle.session_meaning.specs.Effects.{Effect, IsPhase, AreBeats, with_beat, places_in, wave_by, is_state, unmet_line, unmet_lines}
+use Rattle.session_meaning.specs.Outcomes.{Performs}
 use Rattle.script_meaning.specs.Runs.{Reading, Outcome, Runs, ends, passes, obeys, refuses}
 use Rattle.fault_sim.specs.declared.fault.Fault.{Fault}
 use Rattle.fault_sim.specs.declared.trace.Trace.{Trace}

@@ -22,11 +22,11 @@ use Rattle.script_lang.specs.declared.command.Command.{Command}
 use Rattle.script_lang.specs.declared.command.Command.TheVariants.{Input, Store, Set, Charge, Watch, Limit, Step, Phase, Clock, Cycle, Expect, Add, Del, Strength, Kind, Wire, Report, Keep}
 use Rattle.script_lang.specs.declared.command.ScriptFault.{ScriptFault}
 use Rattle.script_lang.specs.Commands.{reading_of}
-use Rattle.cosmos_session.specs.Sessions.{SessionData, places_of}
-use Rattle.cosmos_session.specs.Preparing.{BuildsIf, builds}
-use Rattle.cosmos_session.specs.Lines.{Line}
-use Rattle.cosmos_session.specs.Effects.{Effect, IsPhase, AreBeats, with_beat, places_in}
-use Rattle.cosmos_session.specs.Outcomes.{Performs}
+use Rattle.session_meaning.specs.Sessions.{SessionData, places_of}
+use Rattle.session_meaning.specs.Preparing.{BuildsIf, builds}
+use Rattle.session_meaning.specs.Lines.{Line}
+use Rattle.session_meaning.specs.Effects.{Effect, IsPhase, AreBeats, with_beat, places_in}
+use Rattle.session_meaning.specs.Outcomes.{Performs}
 use Rattle.run_ends.specs.Answers.{Answer}
 use Rattle.script_meaning.specs.Runs.{Outcome, Runs, ends, passes, obeys, refuses}
 use Rattle.fault_sim.specs.declared.fault.Fault.{Fault}

@@ -8,7 +8,7 @@ use Rattle.ternary.specs.declared.tern.Tern.{Tern}
 use Rattle.line_words.specs.Files.{front_of, lines_in}
 use Rattle.line_words.specs.Lines.{lines_of}
 use Rattle.group_text.specs.Texts.{GroupTextData}
-use Rattle.cosmos_session.specs.Sessions.{SessionData, HeldSession}
+use Rattle.session_meaning.specs.Sessions.{SessionData, HeldSession}
 use Rattle.script_meaning.specs.declared.turn.Turn.TheVariants.{Accepted}
 use Rattle.script_meaning.specs.Turns.{TakesTurn}
 use Rattle.fault_sim.specs.Masks.{masked_reading}

@@ -8,10 +8,10 @@ use Rattle.line_words.specs.Files.{cut_line, lines_in}
 use Rattle.line_words.specs.Lines.{lines_of}
 use Rattle.netlist.specs.Circuits.{CircuitData, IsCircuit, called}
 use Rattle.group_text.specs.Texts.{GroupTextData}
-use Rattle.cosmos_session.specs.Sessions.{SessionData}
-use Rattle.cosmos_session.specs.Lines.{text_of}
-use Rattle.cosmos_session.specs.Bounds.{IsBounded, IsReadable}
-use Rattle.cosmos_session.proofs.BoundLemmas.{bounded-performs, performs-readable}
+use Rattle.session_meaning.specs.Sessions.{SessionData}
+use Rattle.session_meaning.specs.Lines.{text_of}
+use Rattle.session_meaning.specs.Bounds.{IsBounded, IsReadable}
+use Rattle.session_meaning.proofs.BoundLemmas.{bounded-performs, performs-readable}
 use Rattle.fault_sim.specs.declared.fault.Fault.{Fault}
 use Rattle.fault_sim.specs.declared.trace.Trace.{Trace}
 use Rattle.fault_sim.specs.Faults.{IsFault}

@@ -22,8 +22,8 @@ use Rattle.line_words.proofs.LineLemmas.{lines_of-ended}
 use Rattle.wave_print.specs.Lines.{mark_of, values_of}
 use Rattle.wave_print.specs.Waves.{IsWave}
 use Rattle.wave_print.proofs.WaveLemmas.{HasNoSpace, HasNoSpace-steps, IsCutWave-of, cut_alone}
-use Rattle.cosmos_session.specs.Lines.{Line, Wave, Unmet, Reported, line_text, text_of}
-use Rattle.cosmos_session.specs.Bounds.{IsReadable}
+use Rattle.session_meaning.specs.Lines.{Line, Wave, Unmet, Reported, line_text, text_of}
+use Rattle.session_meaning.specs.Bounds.{IsReadable}
 use Rattle.fault_sim.specs.Rows.{AreRows}
 use Rattle.fault_sim.specs.Rows.AreRows.{no_line, shows, passes}
 use Rattle.fault_meaning.specs.Rows.{row_of}

@@ -1,7 +1,7 @@
 -- The rows of lines: what their waveform lines show.
 use Rattle.std.specs.Prelude.{List, Option, Some, None}
 use Rattle.ternary.specs.declared.tern.Tern.{Tern}
-use Rattle.cosmos_session.specs.Lines.{Line, Wave, Unmet, Reported}
+use Rattle.session_meaning.specs.Lines.{Line, Wave, Unmet, Reported}
 
 -- the states that a line shows, where it is a waveform line
 abbrev pub row_of : Line → Option (List Tern)

@@ -6,12 +6,12 @@ use Rattle.group_text.specs.Texts.{GroupTextData}
 use Rattle.circuit_texts.specs.declared.texts.BuildFault.{BuildFault}
 use Rattle.circuit_texts.specs.Sizes.{TellsTooLarge}
 use Rattle.script_lang.specs.declared.command.Command.{Command}
-use Rattle.cosmos_session.specs.Sessions.{SessionData, HeldSession}
-use Rattle.cosmos_session.specs.Refusals.{refusal_of}
-use Rattle.cosmos_session.specs.Preparing.{builds}
-use Rattle.cosmos_session.specs.Lines.{Line}
-use Rattle.cosmos_session.specs.Effects.{Effect}
-use Rattle.cosmos_session.specs.Outcomes.{Does}
+use Rattle.session_meaning.specs.Sessions.{SessionData, HeldSession}
+use Rattle.session_meaning.specs.Refusals.{refusal_of}
+use Rattle.session_meaning.specs.Preparing.{builds}
+use Rattle.session_meaning.specs.Lines.{Line}
+use Rattle.session_meaning.specs.Effects.{Effect}
+use Rattle.session_meaning.specs.Outcomes.{Does}
 use Rattle.script_meaning.specs.declared.halt.Halt.{Halt}
 use Rattle.script_meaning.specs.declared.halt.Halt.TheVariants.{End, Refused, TooLarge}
 use Rattle.run_ends.specs.Causes.{Cause, plain_cause, size_cause}

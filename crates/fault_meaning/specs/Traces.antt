@@ -6,8 +6,8 @@ use Rattle.line_words.specs.Files.{cut_line, lines_in}
 use Rattle.netlist.specs.Circuits.{CircuitData, called}
 use Rattle.group_text.specs.Texts.{GroupTextData}
 use Rattle.script_lang.specs.declared.command.Command.{Command}
-use Rattle.cosmos_session.specs.Sessions.{SessionData, start_of}
-use Rattle.cosmos_session.specs.Outcomes.{Does}
+use Rattle.session_meaning.specs.Sessions.{SessionData, start_of}
+use Rattle.session_meaning.specs.Outcomes.{Does}
 use Rattle.script_meaning.specs.Runs.{Outcome, Runs}
 use Rattle.fault_sim.specs.declared.fault.Fault.{Fault}
 use Rattle.fault_sim.specs.declared.trace.Trace.{Trace}

@@ -2,7 +2,7 @@
 
 ghost use Rattle.std.specs.Prelude.{◌≡◌, Some, IfOk, IfSome, IsTrue};
 ghost use Rattle.netlist.specs.Circuits.{HasVisibleNames};
-ghost use Rattle.cosmos_session.specs.Bounds.{IsBounded};
+ghost use Rattle.session_meaning.specs.Bounds.{IsBounded};
 ghost use Rattle.fault_sim.specs.Benches.{JudgesBy};
 ghost use Rattle.fault_sim.specs.Faults.{IsFault};
 ghost use Rattle.fault_meaning.specs.Early as spec;

@@ -5,7 +5,7 @@ ghost use Rattle.std.specs.Io.KnownBytes.{append_known};
 ghost use Rattle.port_edge.specs.Sending.{WritesPart};
 ghost use Rattle.netlist.specs.Circuits.{HasVisibleNames, IsCircuit};
 ghost use Rattle.wave_print.specs.Verdicts.{faults_line_of};
-ghost use Rattle.cosmos_session.specs.Sessions.{start_of};
+ghost use Rattle.session_meaning.specs.Sessions.{start_of};
 ghost use Rattle.fault_sim.specs.Faults.{IsFault};
 ghost use Rattle.run_ends.specs.Ends.{IsToldBy};
 ghost use Rattle.run_ends.specs.Stops.{faults_written, IsRefusedOnce};

@@ -3,9 +3,9 @@
 ghost use Rattle.std.specs.Prelude.{◌≡◌, [], None, map, All, IfOk, IfSome, OnOk};
 ghost use Rattle.netlist.specs.Circuits.{HasVisibleNames, called};
 ghost use Rattle.script_lang.specs.Forms.{IsFormed};
-ghost use Rattle.cosmos_session.specs.Bounds.{IsBounded};
-ghost use Rattle.cosmos_session.specs.Outcomes.{Does};
-ghost use Rattle.cosmos_session.specs.Refusals.{refusal_of};
+ghost use Rattle.session_meaning.specs.Bounds.{IsBounded};
+ghost use Rattle.session_meaning.specs.Outcomes.{Does};
+ghost use Rattle.session_meaning.specs.Refusals.{refusal_of};
 ghost use Rattle.fault_sim.specs.Changes.{commands_in};
 ghost use Rattle.fault_sim.specs.Faults.{IsFault};
 ghost use Rattle.fault_meaning.specs.Traces.{AreDone, commands_under};

@@ -10,11 +10,11 @@ use Rattle.netlist.specs.Edits.{node_named, with_store, with_transistor, without
 use Rattle.lane_script.specs.declared.command.LaneCommand.{LaneCommand}
 use Rattle.lane_script.specs.declared.command.LaneCommand.TheVariants.{Input, Store, Set, Charge, Watch, Limit, Step, Phase, Clock, Cycle, Add, Del, Strength, Kind, Wire}
 use Rattle.lane_script.specs.Commands.{in_column}
-use Rattle.cosmos_session.specs.Sessions.{SessionData, places_of}
-use Rattle.cosmos_session.specs.Refusals.{refusal_of, strength_for}
-use Rattle.cosmos_session.specs.Preparing.{with_present, BuildsIf}
-use Rattle.cosmos_session.specs.Lines.{Line}
-use Rattle.cosmos_session.specs.Effects.{Effect, AreBeats, one_more, places_in, with_inputs, clock_of}
+use Rattle.session_meaning.specs.Sessions.{SessionData, places_of}
+use Rattle.session_meaning.specs.Refusals.{refusal_of, strength_for}
+use Rattle.session_meaning.specs.Preparing.{with_present, BuildsIf}
+use Rattle.session_meaning.specs.Lines.{Line}
+use Rattle.session_meaning.specs.Effects.{Effect, AreBeats, one_more, places_in, with_inputs, clock_of}
 use Rattle.lane_session.proofs.RefusalLemmas.{refused_alike}
 use Rattle.lane_session.proofs.BeatLemmas.{length-beats}
 

@@ -9,14 +9,14 @@ use Rattle.circuit_texts.specs.Building.{HasTexts}
 use Rattle.lane_script.specs.declared.command.LaneCommand.{LaneCommand}
 use Rattle.lane_script.specs.Commands.{in_column}
 use Rattle.lane_script.specs.Forms.{IsFormed}
-use Rattle.cosmos_session.specs.declared.fault.Refusal.{Refusal}
-use Rattle.cosmos_session.specs.Sessions.{SessionData, IsReady, places_of}
-use Rattle.cosmos_session.specs.Refusals.{refusal_of}
-use Rattle.cosmos_session.specs.Preparing.{builds, IsBuild, BuildsIf}
-use Rattle.cosmos_session.specs.Lines.{Line}
-use Rattle.cosmos_session.specs.Outcomes.{Performs}
-use Rattle.cosmos_session.proofs.EffectLemmas as effects
-use Rattle.cosmos_session.proofs.SizeLemmas.{texts_or_size}
+use Rattle.session_meaning.specs.declared.fault.Refusal.{Refusal}
+use Rattle.session_meaning.specs.Sessions.{SessionData, IsReady, places_of}
+use Rattle.session_meaning.specs.Refusals.{refusal_of}
+use Rattle.session_meaning.specs.Preparing.{builds, IsBuild, BuildsIf}
+use Rattle.session_meaning.specs.Lines.{Line}
+use Rattle.session_meaning.specs.Outcomes.{Performs}
+use Rattle.session_meaning.proofs.EffectLemmas as effects
+use Rattle.session_meaning.proofs.SizeLemmas.{texts_or_size}
 use Rattle.run_ends.proofs.SizeLemmas.{not_both}
 use Rattle.script_meaning.proofs.LowerLemmas.{command_ends, ready-performs}
 use Rattle.lane_session.specs.Outcomes.{Tells, PerformsTogether}

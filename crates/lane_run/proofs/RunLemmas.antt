@@ -12,7 +12,7 @@ use Rattle.circuit_texts.specs.declared.texts.BuildFault.{BuildFault}
 use Rattle.circuit_texts.specs.Sizes.{TellsTooLarge}
 use Rattle.lane_script.specs.declared.command.LaneCommand.{LaneCommand}
 use Rattle.lane_script.specs.Commands.{in_column}
-use Rattle.cosmos_session.specs.Sessions.{SessionData, IsReady}
+use Rattle.session_meaning.specs.Sessions.{SessionData, IsReady}
 use Rattle.wave_print.specs.declared.faults.FaultCode.{FaultCode}
 use Rattle.wave_print.specs.declared.faults.FaultCode.TheVariants.{S11TooLong}
 use Rattle.lane_session.specs.LaneSessions.{LaneSessionData, session_in, IsLaneSession}

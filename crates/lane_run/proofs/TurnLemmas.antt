@@ -8,9 +8,9 @@ use Rattle.lane_script.specs.declared.command.LaneCommand.{LaneCommand}
 use Rattle.lane_script.specs.Columns.{column_reading_of}
 use Rattle.lane_script.specs.Commands.{in_column}
 use Rattle.lane_script.specs.Forms.{IsFormed}
-use Rattle.cosmos_session.specs.declared.fault.ApplyFault.{ApplyFault}
-use Rattle.cosmos_session.specs.declared.fault.ApplyFault.TheVariants.{Refused, GroupNodes, GroupSwitches, WriteFault, NoMemory}
-use Rattle.cosmos_session.specs.Sessions.{SessionData}
+use Rattle.session_meaning.specs.declared.fault.ApplyFault.{ApplyFault}
+use Rattle.session_meaning.specs.declared.fault.ApplyFault.TheVariants.{Refused, GroupNodes, GroupSwitches, WriteFault, NoMemory}
+use Rattle.session_meaning.specs.Sessions.{SessionData}
 use Rattle.wave_print.specs.declared.faults.FaultCode.{FaultCode}
 use Rattle.lane_session.specs.LaneSessions.{LaneSessionData, session_in}
 use Rattle.lane_session.specs.Outcomes.{KeepsTogether, ObeysTogether}

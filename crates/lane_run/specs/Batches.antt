@@ -2,7 +2,7 @@
 use Rattle.std.specs.Prelude.{◌≡◌, ℕ, ◌<◌, List, ◌++◌, Option, None, Some}
 use Rattle.group_text.specs.Texts.{GroupTextData}
 use Rattle.lane_script.specs.Columns.{column_reading_of}
-use Rattle.cosmos_session.specs.Sessions.{SessionData}
+use Rattle.session_meaning.specs.Sessions.{SessionData}
 use Rattle.run_ends.specs.declared.status.Status.{Status}
 use Rattle.run_ends.specs.declared.status.Status.TheVariants.{Done, ScriptRefused}
 use Rattle.script_meaning.specs.Runs.{Reading, RefusedLine, Outcome, Runs, refusal_text}

@@ -9,7 +9,7 @@ use Rattle.circuit_texts.specs.Sizes.{TellsTooLarge}
 use Rattle.lane_script.specs.declared.command.LaneCommand.{LaneCommand}
 use Rattle.lane_script.specs.Commands.{in_column}
 use Rattle.lane_script.specs.Forms.{IsFormed}
-use Rattle.cosmos_session.specs.Sessions.{SessionData}
+use Rattle.session_meaning.specs.Sessions.{SessionData}
 use Rattle.lane_session.specs.LaneSessions.{LaneSessionData, session_in}
 use Rattle.lane_session.specs.Outcomes.{AcceptsTogether, KeepsTogether, RefusesSizeTogether, BeginsTogether}
 use Rattle.script_meaning.specs.declared.halt.Halt.{Halt}

@@ -7,13 +7,13 @@ use Rattle.std.specs.Io.KnownBytes.{append_known}
 use Rattle.std.specs.List.{range_with_len}
 use Rattle.port_edge.specs.Sending.{WritesPart}
 use Rattle.port_edge.proofs.SendingLemmas.{append_known-nil, append_known-append, sends_part}
-use Rattle.cosmos_session.specs.declared.fault.ApplyFault.{ApplyFault}
-use Rattle.cosmos_session.specs.Sessions.{SessionData, IsReady, places_of}
-use Rattle.cosmos_session.specs.Lines.{Line}
-use Rattle.cosmos_session.specs.Effects.{AreBeats, places_in}
-use Rattle.cosmos_session.specs.Outcomes.{FrontDone}
-use Rattle.cosmos_session.proofs.BeatLemmas.{beats-append, cycles-next, cycles-split, CyclesSplit, no_cycle, places-next, places-split}
-use Rattle.cosmos_session.proofs.EffectLemmas.{beats-ready, beats_exist}
+use Rattle.session_meaning.specs.declared.fault.ApplyFault.{ApplyFault}
+use Rattle.session_meaning.specs.Sessions.{SessionData, IsReady, places_of}
+use Rattle.session_meaning.specs.Lines.{Line}
+use Rattle.session_meaning.specs.Effects.{AreBeats, places_in}
+use Rattle.session_meaning.specs.Outcomes.{FrontDone}
+use Rattle.session_meaning.proofs.BeatLemmas.{beats-append, cycles-next, cycles-split, CyclesSplit, no_cycle, places-next, places-split}
+use Rattle.session_meaning.proofs.EffectLemmas.{beats-ready, beats_exist}
 use Rattle.oscillation_x.specs.declared.settling.Settled.{Settled}
 use Rattle.lane_session.specs.LaneSessions.{LaneSessionData, session_in}
 use Rattle.lane_session.specs.Rows.{Interleaves, row_text}

@@ -6,11 +6,11 @@ use Rattle.path_meaning.specs.Graphs.{GraphData, nodes}
 use Rattle.group_text.specs.Texts.{GroupTextData}
 use Rattle.lane_script.specs.declared.command.LaneCommand.{LaneCommand}
 use Rattle.lane_script.specs.Commands.{in_column}
-use Rattle.cosmos_session.specs.Sessions.{SessionData, ClockData, IsSession, IsReady}
-use Rattle.cosmos_session.specs.Refusals.{refusal_of}
-use Rattle.cosmos_session.specs.Effects.{Effect}
-use Rattle.cosmos_session.proofs.ClockLemmas.{IsSession-beside}
-use Rattle.cosmos_session.proofs.EffectLemmas.{ready-does}
+use Rattle.session_meaning.specs.Sessions.{SessionData, ClockData, IsSession, IsReady}
+use Rattle.session_meaning.specs.Refusals.{refusal_of}
+use Rattle.session_meaning.specs.Effects.{Effect}
+use Rattle.session_meaning.proofs.ClockLemmas.{IsSession-beside}
+use Rattle.session_meaning.proofs.EffectLemmas.{ready-does}
 use Rattle.lane_session.specs.LaneSessions.{LaneSessionData, session_in, IsLaneSession}
 use Rattle.lane_session.specs.Stages.{StageData, states_in, SameStates, IsSoundState, AreSound, with_columns, AreInside, QuietlyTogether}
 use Rattle.lane_session.proofs.ColumnLemmas.{within_high, within_low}

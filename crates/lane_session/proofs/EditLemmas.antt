@@ -12,9 +12,9 @@ use Rattle.netlist.specs.Edits.{node_named, with_node, with_new_node, with_nodes
 use Rattle.lane_script.specs.declared.command.LaneCommand.{LaneCommand}
 use Rattle.lane_script.specs.declared.command.LaneCommand.TheVariants.{Input, Store, Set, Charge, Watch, Limit, Step, Phase, Clock, Cycle, Add, Del, Strength, Kind, Wire}
 use Rattle.lane_script.specs.Commands.{in_column}
-use Rattle.cosmos_session.specs.Sessions.{SessionData}
-use Rattle.cosmos_session.specs.Effects.{Effect}
-use Rattle.cosmos_session.proofs.EffectLemmas.{nodes-with_inputs}
+use Rattle.session_meaning.specs.Sessions.{SessionData}
+use Rattle.session_meaning.specs.Effects.{Effect}
+use Rattle.session_meaning.proofs.EffectLemmas.{nodes-with_inputs}
 use Rattle.lane_session.specs.Stages.{is_edit}
 
 -- a name makes one node at most

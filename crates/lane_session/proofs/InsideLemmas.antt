@@ -25,13 +25,13 @@ use Rattle.script_lang.specs.declared.command.Command.{Command}
 use Rattle.lane_script.specs.declared.command.LaneCommand.{LaneCommand}
 use Rattle.lane_script.specs.declared.command.LaneCommand.TheVariants.{Set, Charge}
 use Rattle.lane_script.specs.Commands.{in_column, value_in}
-use Rattle.cosmos_session.specs.declared.fault.ApplyFault.{ApplyFault}
-use Rattle.cosmos_session.specs.declared.fault.ApplyFault.TheVariants.{Refused, GroupNodes, GroupSwitches, WriteFault, NoMemory}
-use Rattle.cosmos_session.specs.Sessions.{SessionData, ClockData, IsSession}
-use Rattle.cosmos_session.specs.Refusals.{refusal_of}
-use Rattle.cosmos_session.specs.Preparing.{fault_of_build}
-use Rattle.cosmos_session.specs.Effects.{Effect, assigned, states_with, one_more}
-use Rattle.cosmos_session.proofs.StateLemmas.{length-states_with, length-settles, sound-states_with, sound-step, sound-settles}
+use Rattle.session_meaning.specs.declared.fault.ApplyFault.{ApplyFault}
+use Rattle.session_meaning.specs.declared.fault.ApplyFault.TheVariants.{Refused, GroupNodes, GroupSwitches, WriteFault, NoMemory}
+use Rattle.session_meaning.specs.Sessions.{SessionData, ClockData, IsSession}
+use Rattle.session_meaning.specs.Refusals.{refusal_of}
+use Rattle.session_meaning.specs.Preparing.{fault_of_build}
+use Rattle.session_meaning.specs.Effects.{Effect, assigned, states_with, one_more}
+use Rattle.session_meaning.proofs.StateLemmas.{length-states_with, length-settles, sound-states_with, sound-step, sound-settles}
 use Rattle.lane_session.specs.LaneSessions.{session_in, Stands}
 use Rattle.lane_session.specs.Stages.{HeldLanes, StageData, states_in, SameStates, IsSoundState, StandFirst, Serves, FitsIn, MovesTogether, KeepsFit, ReadiedTogether, ReadiesTogether, TooLargeTogether, StepTaken, AreSettled, BeatPut, with_columns, one_column, AreInside, Shares, QuietlyTogether, is_edit}
 use Rattle.lane_session.proofs.EditLemmas.{edit_does}

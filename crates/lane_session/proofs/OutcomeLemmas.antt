@@ -15,17 +15,17 @@ use Rattle.lane_script.specs.declared.command.LaneCommand.{LaneCommand}
 use Rattle.lane_script.specs.declared.command.LaneCommand.TheVariants.{Step, Phase, Cycle}
 use Rattle.lane_script.specs.Commands.{in_column}
 use Rattle.oscillation_x.specs.declared.settling.Settled.{Settled}
-use Rattle.cosmos_session.specs.declared.fault.Refusal.{Refusal}
-use Rattle.cosmos_session.specs.declared.fault.ApplyFault.{ApplyFault}
-use Rattle.cosmos_session.specs.declared.fault.ApplyFault.TheVariants.{Refused, GroupNodes, GroupSwitches, WriteFault, NoMemory}
-use Rattle.cosmos_session.specs.Sessions.{SessionData, places_of}
-use Rattle.cosmos_session.specs.Refusals.{refusal_of}
-use Rattle.cosmos_session.specs.Preparing.{builds, BuildsIf, Prepares, NamesNode}
-use Rattle.cosmos_session.specs.Lines.{Line, text_of}
-use Rattle.cosmos_session.specs.Effects.{Effect, IsUnitStep, places_in, wave_by}
-use Rattle.cosmos_session.specs.Sinks.{IsSinkFault, faults_applied, refusals_sent}
-use Rattle.cosmos_session.specs.Outcomes.{DoesPart}
-use Rattle.cosmos_session.proofs.OutcomeLemmas.{refusal_of-built}
+use Rattle.session_meaning.specs.declared.fault.Refusal.{Refusal}
+use Rattle.session_meaning.specs.declared.fault.ApplyFault.{ApplyFault}
+use Rattle.session_meaning.specs.declared.fault.ApplyFault.TheVariants.{Refused, GroupNodes, GroupSwitches, WriteFault, NoMemory}
+use Rattle.session_meaning.specs.Sessions.{SessionData, places_of}
+use Rattle.session_meaning.specs.Refusals.{refusal_of}
+use Rattle.session_meaning.specs.Preparing.{builds, BuildsIf, Prepares, NamesNode}
+use Rattle.session_meaning.specs.Lines.{Line, text_of}
+use Rattle.session_meaning.specs.Effects.{Effect, IsUnitStep, places_in, wave_by}
+use Rattle.session_meaning.specs.Sinks.{IsSinkFault, faults_applied, refusals_sent}
+use Rattle.session_meaning.specs.Outcomes.{DoesPart}
+use Rattle.session_meaning.proofs.OutcomeLemmas.{refusal_of-built}
 use Rattle.circuit_texts.proofs.SizeLemmas.{told_node}
 use Rattle.lane_session.specs.LaneSessions.{LaneSessionData, session_in, Stands}
 use Rattle.lane_session.specs.Rows.{Interleaves, row_text}

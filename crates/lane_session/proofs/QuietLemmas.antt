@@ -13,18 +13,18 @@ use Rattle.lane_script.specs.declared.command.LaneCommand.{LaneCommand}
 use Rattle.lane_script.specs.declared.command.LaneCommand.TheVariants.{Set, Charge, Watch, Limit, Step, Phase, Clock, Cycle}
 use Rattle.lane_script.specs.Commands.{in_column, value_in}
 use Rattle.lane_script.specs.Forms.{IsFormed, AreLaneValues, IsLaneValue}
-use Rattle.cosmos_session.specs.declared.fault.ApplyFault.{ApplyFault}
-use Rattle.cosmos_session.specs.declared.fault.ApplyFault.TheVariants.{Refused, GroupNodes, GroupSwitches, WriteFault, NoMemory}
-use Rattle.cosmos_session.specs.Sessions.{SessionData, HeldSession, ClockData, IsSession, start_of}
-use Rattle.cosmos_session.specs.Refusals.{refusal_of}
-use Rattle.cosmos_session.specs.Preparing.{builds, BuildsIf}
-use Rattle.cosmos_session.specs.Lines.{Line}
-use Rattle.cosmos_session.specs.Effects.{Effect, clock_of}
-use Rattle.cosmos_session.specs.Sinks.{faults_applied}
-use Rattle.cosmos_session.specs.Outcomes.{Obeys}
-use Rattle.cosmos_session.proofs.EffectLemmas.{ready-start}
-use Rattle.cosmos_session.proofs.RefusalLemmas.{set_known, charged_known}
-use Rattle.cosmos_session.proofs.StateLemmas.{set_past, charged_past}
+use Rattle.session_meaning.specs.declared.fault.ApplyFault.{ApplyFault}
+use Rattle.session_meaning.specs.declared.fault.ApplyFault.TheVariants.{Refused, GroupNodes, GroupSwitches, WriteFault, NoMemory}
+use Rattle.session_meaning.specs.Sessions.{SessionData, HeldSession, ClockData, IsSession, start_of}
+use Rattle.session_meaning.specs.Refusals.{refusal_of}
+use Rattle.session_meaning.specs.Preparing.{builds, BuildsIf}
+use Rattle.session_meaning.specs.Lines.{Line}
+use Rattle.session_meaning.specs.Effects.{Effect, clock_of}
+use Rattle.session_meaning.specs.Sinks.{faults_applied}
+use Rattle.session_meaning.specs.Outcomes.{Obeys}
+use Rattle.session_meaning.proofs.EffectLemmas.{ready-start}
+use Rattle.session_meaning.proofs.RefusalLemmas.{set_known, charged_known}
+use Rattle.session_meaning.proofs.StateLemmas.{set_past, charged_past}
 use Rattle.lane_session.specs.LaneSessions.{LaneSessionData, session_in}
 use Rattle.lane_session.specs.Stages.{HeldLanes, StageData, states_in, AreSound, IsSoundState, Serves, AreInside, NamesFree, Shares, QuietlyTogether, one_column, with_columns, is_edit}
 use Rattle.lane_session.proofs.SharedLemmas.{effect-watch, effect-limit, effect-clock}

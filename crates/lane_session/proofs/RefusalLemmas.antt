@@ -5,10 +5,10 @@ use Rattle.netlist.specs.Names.{node_of}
 use Rattle.lane_script.specs.declared.command.LaneCommand.{LaneCommand}
 use Rattle.lane_script.specs.declared.command.LaneCommand.TheVariants.{Input, Set, Charge}
 use Rattle.lane_script.specs.Commands.{in_column, value_in}
-use Rattle.cosmos_session.specs.declared.fault.Refusal.{Refusal}
-use Rattle.cosmos_session.specs.Sessions.{SessionData}
-use Rattle.cosmos_session.specs.Refusals.{first_refusal, or_else, refusal_of, set_refusal, charge_refusal}
-use Rattle.cosmos_session.specs.Preparing.{builds}
+use Rattle.session_meaning.specs.declared.fault.Refusal.{Refusal}
+use Rattle.session_meaning.specs.Sessions.{SessionData}
+use Rattle.session_meaning.specs.Refusals.{first_refusal, or_else, refusal_of, set_refusal, charge_refusal}
+use Rattle.session_meaning.specs.Preparing.{builds}
 use Rattle.group_text.specs.Texts.{GroupTextData}
 use Rattle.lane_session.specs.LaneSessions.{session_in}
 use Rattle.lane_session.specs.Laws.{ColumnsRefuseAlike}

@@ -13,12 +13,12 @@ use Rattle.group_text.specs.Texts.{GroupTextData}
 use Rattle.lane_script.specs.declared.command.LaneCommand.{LaneCommand}
 use Rattle.lane_script.specs.declared.command.LaneCommand.TheVariants.{Input, Store, Set, Charge, Watch, Limit, Clock, Add, Del, Strength, Kind, Wire}
 use Rattle.lane_script.specs.Commands.{in_column, value_in}
-use Rattle.cosmos_session.specs.Sessions.{SessionData}
-use Rattle.cosmos_session.specs.Refusals.{refusal_of}
-use Rattle.cosmos_session.specs.Effects.{Effect, assigned, with_inputs}
-use Rattle.cosmos_session.specs.Outcomes.{Does}
-use Rattle.cosmos_session.proofs.EffectLemmas.{nodes-with_inputs}
-use Rattle.cosmos_session.proofs.EditLemmas.{same_states}
+use Rattle.session_meaning.specs.Sessions.{SessionData}
+use Rattle.session_meaning.specs.Refusals.{refusal_of}
+use Rattle.session_meaning.specs.Effects.{Effect, assigned, with_inputs}
+use Rattle.session_meaning.specs.Outcomes.{Does}
+use Rattle.session_meaning.proofs.EffectLemmas.{nodes-with_inputs}
+use Rattle.session_meaning.proofs.EditLemmas.{same_states}
 use Rattle.machine_laws.specs.Editing.{with_new_nodes}
 use Rattle.lane_session.specs.Stages.{one_column, is_edit}
 use Rattle.lane_session.proofs.RefusalLemmas.{refused_alike}

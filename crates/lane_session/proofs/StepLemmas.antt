@@ -10,10 +10,10 @@ use Rattle.oscillation_x.specs.declared.settling.Settled.{Settled}
 use Rattle.group_text.specs.Texts.{GroupTextData}
 use Rattle.group_analysis.specs.Using.{used_texts}
 use Rattle.batch_lanes.specs.Settling.{none_yet}
-use Rattle.cosmos_session.specs.Sessions.{SessionData, IsReady}
-use Rattle.cosmos_session.specs.Preparing.{IsBuild}
-use Rattle.cosmos_session.specs.Effects.{IsUnitStep, IsPhase, AreBeats, with_beat, one_more, wave_by}
-use Rattle.cosmos_session.proofs.BeatLemmas.{one_beat}
+use Rattle.session_meaning.specs.Sessions.{SessionData, IsReady}
+use Rattle.session_meaning.specs.Preparing.{IsBuild}
+use Rattle.session_meaning.specs.Effects.{IsUnitStep, IsPhase, AreBeats, with_beat, one_more, wave_by}
+use Rattle.session_meaning.proofs.BeatLemmas.{one_beat}
 use Rattle.lane_session.specs.LaneSessions.{LaneSessionData, states_of, session_in, Stands}
 use Rattle.lane_session.specs.Stages.{HeldLanes, ReadiedTogether, StepTaken, AreSettled, BeatPut, RowData, IsRoomFor, SharesAll, count_in, wave_in}
 

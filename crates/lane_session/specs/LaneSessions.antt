@@ -5,7 +5,7 @@ use Rattle.ternary.specs.Counts.{raised}
 use Rattle.group_text.specs.Texts.{GroupTextData}
 use Rattle.lane_machine.specs.Columns.{column}
 use Rattle.netlist.specs.Circuits.{CircuitData}
-use Rattle.cosmos_session.specs.Sessions.{SessionData, ClockData, IsSession, start_of}
+use Rattle.session_meaning.specs.Sessions.{SessionData, ClockData, IsSession, start_of}
 
 -- how many columns there are, what all of them share, and the states of each: the circuit, both rails of each node's states, bit i for column
 -- i, the nodes that are watched, the clocks, the limit of a phase, how many waveform lines each column has, and the texts of groups whose

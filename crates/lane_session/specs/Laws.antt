@@ -2,7 +2,7 @@
 use Rattle.std.specs.Prelude.{◌≡◌, ℕ}
 use Rattle.lane_script.specs.declared.command.LaneCommand.{LaneCommand}
 use Rattle.lane_script.specs.Commands.{in_column}
-use Rattle.cosmos_session.specs.Refusals.{refusal_of}
+use Rattle.session_meaning.specs.Refusals.{refusal_of}
 use Rattle.lane_session.specs.LaneSessions.{LaneSessionData, session_in}
 
 -- whether a command is refused, and why, doesn't depend on the column

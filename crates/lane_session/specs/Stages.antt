@@ -29,14 +29,14 @@ use Rattle.script_lang.specs.declared.command.Command.{Command}
 use Rattle.lane_script.specs.declared.command.LaneCommand.{LaneCommand}
 use Rattle.lane_script.specs.Commands.{in_column}
 use Rattle.port_edge.specs.Sending.{WritesPart}
-use Rattle.cosmos_session.specs.declared.fault.ApplyFault.{ApplyFault}
-use Rattle.cosmos_session.specs.declared.fault.ApplyFault.TheVariants.{Refused, GroupNodes, GroupSwitches, WriteFault, NoMemory}
-use Rattle.cosmos_session.specs.Sessions.{SessionData, ClockData}
-use Rattle.cosmos_session.specs.Refusals.{refusal_of}
-use Rattle.cosmos_session.specs.Lines.{Line, Wave}
-use Rattle.cosmos_session.specs.Machines.{edits}
-use Rattle.cosmos_session.specs.Effects.{Effect, AreBeats, one_more, states_with, wave_by}
-use Rattle.cosmos_session.specs.Outcomes.{FrontDone}
+use Rattle.session_meaning.specs.declared.fault.ApplyFault.{ApplyFault}
+use Rattle.session_meaning.specs.declared.fault.ApplyFault.TheVariants.{Refused, GroupNodes, GroupSwitches, WriteFault, NoMemory}
+use Rattle.session_meaning.specs.Sessions.{SessionData, ClockData}
+use Rattle.session_meaning.specs.Refusals.{refusal_of}
+use Rattle.session_meaning.specs.Lines.{Line, Wave}
+use Rattle.session_meaning.specs.Machines.{edits}
+use Rattle.session_meaning.specs.Effects.{Effect, AreBeats, one_more, states_with, wave_by}
+use Rattle.session_meaning.specs.Outcomes.{FrontDone}
 use Rattle.lane_session.specs.declared.rows.TheConstants.{LANE_LINE_ROOM}
 use Rattle.lane_session.specs.declared.words.Words.{Words}
 use Rattle.lane_session.specs.declared.stage.Rails.{Rails}

@@ -3,7 +3,7 @@
 //!
 //! The main type is [`LaneSession`], and the main call is [`LaneSession::apply`]. The layer above uses its contract:
 //! each column is the session of a plain script, and an accepted command performs in each column what the column is
-//! given of it, `Performs` of `cosmos_session`; row by row the columns' lines are written; the texts that are analysed
+//! given of it, `Performs` of `session_meaning`; row by row the columns' lines are written; the texts that are analysed
 //! are those of any one column. A refused command has the refusal that it has in each column, and leaves each as it is.
 //!
 //! All columns step together: unit steps are those of a [`lane_machine::LaneMachine`], which runs the code of a group

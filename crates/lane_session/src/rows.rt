@@ -4,9 +4,9 @@ ghost use Rattle.std.specs.Prelude.{◌≡◌, ℕ, ◌<◌, ◌≤◌, ◌+◌,
 ghost use Rattle.path_meaning.specs.Switching.{state_at};
 ghost use Rattle.oscillation_x.specs.declared.settling.Settled.{Settled};
 ghost use Rattle.lane_machine.specs.Columns.{column};
-ghost use Rattle.cosmos_session.specs.declared.TheConstants.{MOST_WATCHED};
-ghost use Rattle.cosmos_session.specs.Sinks.{IsSinkFault, faults_applied, refusals_sent};
-ghost use Rattle.cosmos_session.specs.Lines.{Wave};
+ghost use Rattle.session_meaning.specs.declared.TheConstants.{MOST_WATCHED};
+ghost use Rattle.session_meaning.specs.Sinks.{IsSinkFault, faults_applied, refusals_sent};
+ghost use Rattle.session_meaning.specs.Lines.{Wave};
 ghost use Rattle.lane_session.specs.Rows.{row_text, lane_line};
 ghost use Rattle.lane_session.specs.Stages.{IsRoomFor, SentText, wave_of};
 

@@ -2,8 +2,8 @@
 
 ghost use Rattle.std.specs.Prelude.{◌≡◌, ◌≤◌, IfOk, IfErr};
 ghost use Rattle.lane_script.specs.Forms.{IsFormed};
-ghost use Rattle.cosmos_session.specs.Preparing.{NamesNode};
-ghost use Rattle.cosmos_session.specs.Sinks.{faults_applied};
+ghost use Rattle.session_meaning.specs.Preparing.{NamesNode};
+ghost use Rattle.session_meaning.specs.Sinks.{faults_applied};
 ghost use Rattle.lane_session.specs.LaneSessions.{IsLaneSession, IsStart};
 ghost use Rattle.lane_session.specs.Outcomes.{ObeysTogether};
 

@@ -6,9 +6,9 @@ ghost use Rattle.script_lang.specs.Forms as form;
 ghost use Rattle.lane_script.specs.declared.command.LaneCommand.TheVariants as asked;
 ghost use Rattle.lane_script.specs.Commands.{in_column, value_in};
 ghost use Rattle.lane_script.specs.Forms.{IsFormed};
-ghost use Rattle.cosmos_session.specs.Sessions.{IsSession};
-ghost use Rattle.cosmos_session.specs.Preparing.{builds};
-ghost use Rattle.cosmos_session.specs.Effects.{assigned, clock_of};
+ghost use Rattle.session_meaning.specs.Sessions.{IsSession};
+ghost use Rattle.session_meaning.specs.Preparing.{builds};
+ghost use Rattle.session_meaning.specs.Effects.{assigned, clock_of};
 ghost use Rattle.lane_session.specs.Stages.{AreSound, KeepsFit, NamesFree, Shares, QuietlyTogether, is_edit, states_in};
 
 use crate::given::first_given;

@@ -2,9 +2,9 @@
 use Rattle.std.proofs.Common.{◌≡◌, ℕ, inl, inr, true, List, [], ◌∷◌, ◌++◌, Option, refl, sym, ap, subst, ◌∙◌, append_assoc, append-nil, true≢false}
 use Rattle.std.specs.Prelude.{◌⊎◌}
 use Rattle.group_text.specs.Texts.{GroupTextData}
-use Rattle.cosmos_session.specs.Sessions.{SessionData}
-use Rattle.cosmos_session.specs.Preparing.{builds}
-use Rattle.cosmos_session.specs.Lines.{Line}
+use Rattle.session_meaning.specs.Sessions.{SessionData}
+use Rattle.session_meaning.specs.Preparing.{builds}
+use Rattle.session_meaning.specs.Lines.{Line}
 use Rattle.run_ends.specs.Causes.{Cause}
 use Rattle.script_meaning.specs.Runs.{Reading, Outcome, Runs, IsRefused, at_end, refused_at, after_command}
 use Rattle.script_meaning.specs.Runs.Runs.{ends, passes, obeys, refuses}

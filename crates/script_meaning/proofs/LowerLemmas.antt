@@ -4,11 +4,11 @@ use Rattle.netlist.specs.Circuits.{CircuitData, IsCircuit}
 use Rattle.script_lang.specs.declared.command.Command.{Command}
 use Rattle.script_lang.specs.Forms.{IsFormed}
 use Rattle.group_text.specs.Texts.{GroupTextData}
-use Rattle.cosmos_session.specs.Sessions.{SessionData, IsReady, start_of}
-use Rattle.cosmos_session.specs.Lines.{Line, text_of}
-use Rattle.cosmos_session.specs.Outcomes.{Performs}
-use Rattle.cosmos_session.proofs.EffectLemmas as effects
-use Rattle.cosmos_session.proofs.LineLemmas as lines
+use Rattle.session_meaning.specs.Sessions.{SessionData, IsReady, start_of}
+use Rattle.session_meaning.specs.Lines.{Line, text_of}
+use Rattle.session_meaning.specs.Outcomes.{Performs}
+use Rattle.session_meaning.proofs.EffectLemmas as effects
+use Rattle.session_meaning.proofs.LineLemmas as lines
 
 -- how a formed command ends: it is refused, or a group is too large for it, or it is performed
 pub command_ends : (session : SessionData) (command : Command) → IsReady session → IsFormed command → effects.Ends session command

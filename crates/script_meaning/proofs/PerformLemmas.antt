@@ -4,10 +4,10 @@ use Rattle.group_text.specs.Texts.{GroupTextData}
 use Rattle.circuit_texts.specs.declared.texts.BuildFault.{BuildFault}
 use Rattle.circuit_texts.specs.Sizes.{TellsTooLarge}
 use Rattle.script_lang.specs.declared.command.Command.{Command}
-use Rattle.cosmos_session.specs.Sessions.{SessionData}
-use Rattle.cosmos_session.specs.Refusals.{refusal_of}
-use Rattle.cosmos_session.specs.Preparing.{builds, with_present, IsBuild, BuildsIf}
-use Rattle.cosmos_session.specs.Outcomes.{Performs}
+use Rattle.session_meaning.specs.Sessions.{SessionData}
+use Rattle.session_meaning.specs.Refusals.{refusal_of}
+use Rattle.session_meaning.specs.Preparing.{builds, with_present, IsBuild, BuildsIf}
+use Rattle.session_meaning.specs.Outcomes.{Performs}
 use Rattle.run_ends.proofs.SizeLemmas.{not_both}
 
 -- what is kept and counted is read by no refusal

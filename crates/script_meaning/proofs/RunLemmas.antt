@@ -12,9 +12,9 @@ use Rattle.circuit_texts.specs.Sizes.{TellsTooLarge}
 use Rattle.script_lang.specs.declared.command.Command.{Command}
 use Rattle.script_lang.specs.declared.command.ScriptFault.{ScriptFault}
 use Rattle.script_lang.specs.declared.command.ScriptFault.TheVariants as script
-use Rattle.cosmos_session.specs.Sessions.{SessionData, HeldSession, IsReady}
-use Rattle.cosmos_session.specs.Lines.{Line, text_of}
-use Rattle.cosmos_session.specs.Outcomes.{Keeps}
+use Rattle.session_meaning.specs.Sessions.{SessionData, HeldSession, IsReady}
+use Rattle.session_meaning.specs.Lines.{Line, text_of}
+use Rattle.session_meaning.specs.Outcomes.{Keeps}
 use Rattle.wave_print.specs.declared.faults.FaultCode.{FaultCode}
 use Rattle.wave_print.specs.declared.faults.FaultCode.TheVariants.{S11TooLong}
 use Rattle.run_ends.specs.declared.stop.Stop.{Stop}
@@ -25,7 +25,7 @@ use Rattle.script_meaning.specs.Codes.{script_code, refusal_code}
 use Rattle.script_meaning.specs.Runs.{Reading, RefusedLine, Outcome, Runs, ends, passes, obeys, refuses, IsIdle, Asks, IsRefused, too_long, unread, refused, too_large, at_end, refused_at, after_command}
 use Rattle.script_meaning.specs.Turns.{Follows, TakesTurn}
 use Rattle.script_meaning.specs.Halts.{HasObeyed, HasOutgrown, BreaksOff}
-use Rattle.cosmos_session.proofs.EffectLemmas.{refused as refused_so, too_large as large_so, performed as performed_so}
+use Rattle.session_meaning.proofs.EffectLemmas.{refused as refused_so, too_large as large_so, performed as performed_so}
 use Rattle.script_meaning.proofs.LowerLemmas.{command_ends, ready-performs, text_of-append}
 use Rattle.script_meaning.proofs.ReadingLemmas.{IsSound}
 use Rattle.run_ends.proofs.SizeLemmas.{size_caused}

@@ -6,10 +6,10 @@ use Rattle.script_lang.specs.declared.command.Command.{Command}
 use Rattle.script_lang.specs.declared.command.ScriptFault.{ScriptFault}
 use Rattle.script_lang.specs.declared.command.ScriptFault.TheVariants as script
 use Rattle.group_text.specs.Texts.{GroupTextData}
-use Rattle.cosmos_session.specs.declared.fault.ApplyFault.{ApplyFault}
-use Rattle.cosmos_session.specs.declared.fault.ApplyFault.TheVariants.{Refused, GroupNodes, GroupSwitches, WriteFault, NoMemory}
-use Rattle.cosmos_session.specs.Sessions.{SessionData, HeldSession}
-use Rattle.cosmos_session.specs.Outcomes.{Obeys}
+use Rattle.session_meaning.specs.declared.fault.ApplyFault.{ApplyFault}
+use Rattle.session_meaning.specs.declared.fault.ApplyFault.TheVariants.{Refused, GroupNodes, GroupSwitches, WriteFault, NoMemory}
+use Rattle.session_meaning.specs.Sessions.{SessionData, HeldSession}
+use Rattle.session_meaning.specs.Outcomes.{Obeys}
 use Rattle.wave_print.specs.declared.faults.FaultCode.{FaultCode}
 use Rattle.run_ends.specs.Causes.{plain_cause}
 use Rattle.script_meaning.specs.Codes.{script_code}

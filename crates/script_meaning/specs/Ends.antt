@@ -6,7 +6,7 @@ use Rattle.run_ends.specs.declared.stop.End as end
 use Rattle.run_ends.specs.declared.stop.Stop.{Stop}
 use Rattle.run_ends.specs.Answers.{IsStopped}
 use Rattle.run_ends.specs.Ends.{status_of}
-use Rattle.cosmos_session.specs.Sessions.{SessionData}
+use Rattle.session_meaning.specs.Sessions.{SessionData}
 use Rattle.script_meaning.specs.Runs.{Reading, Outcome, Runs, answer_told, IsScriptAnswer}
 
 -- a script has run: to these data, with this end, and what came of it was written and analysed

@@ -2,9 +2,9 @@
 use Rattle.std.specs.Prelude.{◌≡◌, ◌⊎◌, ◌↔◌, ℕ, List, [], ◌∷◌, ◌++◌, Option}
 use Rattle.group_text.specs.Texts.{GroupTextData}
 use Rattle.script_lang.specs.declared.command.Command.{Command}
-use Rattle.cosmos_session.specs.Sessions.{SessionData}
-use Rattle.cosmos_session.specs.Lines.{Line}
-use Rattle.cosmos_session.specs.Outcomes.{Performs}
+use Rattle.session_meaning.specs.Sessions.{SessionData}
+use Rattle.session_meaning.specs.Lines.{Line}
+use Rattle.session_meaning.specs.Outcomes.{Performs}
 use Rattle.run_ends.specs.Causes.{Cause}
 use Rattle.script_meaning.specs.Runs.{Reading, Outcome, Runs, IsIdle, Asks, IsRefused, at_end, refused_at, after_command}
 

@@ -9,12 +9,12 @@ use Rattle.circuit_texts.specs.Sizes.{TellsTooLarge}
 use Rattle.script_lang.specs.declared.command.Command.{Command}
 use Rattle.script_lang.specs.declared.command.ScriptFault.{ScriptFault}
 use Rattle.script_lang.specs.Commands.{reading_of}
-use Rattle.cosmos_session.specs.declared.fault.Refusal.{Refusal}
-use Rattle.cosmos_session.specs.Sessions.{SessionData}
-use Rattle.cosmos_session.specs.Refusals.{refusal_of}
-use Rattle.cosmos_session.specs.Preparing.{builds}
-use Rattle.cosmos_session.specs.Lines.{Line, text_of}
-use Rattle.cosmos_session.specs.Outcomes.{Performs}
+use Rattle.session_meaning.specs.declared.fault.Refusal.{Refusal}
+use Rattle.session_meaning.specs.Sessions.{SessionData}
+use Rattle.session_meaning.specs.Refusals.{refusal_of}
+use Rattle.session_meaning.specs.Preparing.{builds}
+use Rattle.session_meaning.specs.Lines.{Line, text_of}
+use Rattle.session_meaning.specs.Outcomes.{Performs}
 use Rattle.wave_print.specs.declared.faults.FaultPlace.TheVariants.{Script}
 use Rattle.wave_print.specs.declared.faults.FaultCode.{FaultCode}
 use Rattle.wave_print.specs.declared.faults.FaultCode.TheVariants.{S11TooLong}

@@ -4,14 +4,14 @@ use Rattle.group_text.specs.Texts.{GroupTextData}
 use Rattle.circuit_texts.specs.declared.texts.BuildFault.{BuildFault}
 use Rattle.circuit_texts.specs.declared.texts.BuildFault.TheVariants as build
 use Rattle.script_lang.specs.declared.command.Command.{Command}
-use Rattle.cosmos_session.specs.Sessions.{HeldSession}
-use Rattle.cosmos_session.specs.Outcomes.{Accepts, Begins, Keeps, RefusesSize}
+use Rattle.session_meaning.specs.Sessions.{HeldSession}
+use Rattle.session_meaning.specs.Outcomes.{Accepts, Begins, Keeps, RefusesSize}
 use Rattle.run_ends.specs.declared.stop.Stop.{Stop}
 use Rattle.run_ends.specs.declared.stop.Stop.TheVariants as stop
 use Rattle.script_meaning.specs.declared.turn.Turn.{Turn}
 use Rattle.script_meaning.specs.declared.turn.Turn.TheVariants.{Accepted, Refused, TooLarge}
-use Rattle.cosmos_session.specs.declared.fault.ApplyFault.{ApplyFault}
-use Rattle.cosmos_session.specs.declared.fault.ApplyFault.TheVariants as apply
+use Rattle.session_meaning.specs.declared.fault.ApplyFault.{ApplyFault}
+use Rattle.session_meaning.specs.declared.fault.ApplyFault.TheVariants as apply
 use Rattle.run_ends.specs.Causes.{plain_cause}
 use Rattle.script_meaning.specs.Codes.{refusal_code}
 use Rattle.script_meaning.specs.Runs.{Reading, IsIdle, Asks, IsRefused}

@@ -3,8 +3,8 @@
 ghost use Rattle.std.specs.Prelude.{◌≡◌, ◌≢◌, ℕ, None, IfErr};
 ghost use Rattle.line_words.specs.Files as file;
 ghost use Rattle.fault_sim.specs.Masks.{masked_reading};
-ghost use Rattle.cosmos_session.specs.Sessions.{IsReady};
-ghost use Rattle.cosmos_session.specs.Sinks.{faults_applied};
+ghost use Rattle.session_meaning.specs.Sessions.{IsReady};
+ghost use Rattle.session_meaning.specs.Sinks.{faults_applied};
 ghost use Rattle.script_meaning.specs.Runs.{plain_reading, status_told};
 ghost use Rattle.script_meaning.specs.Turns.{TakesTurn, turn_after};
 ghost use Rattle.script_meaning.specs.Halts.{TellsHalt};

@@ -2,7 +2,7 @@
 use Rattle.std.proofs.Common.{None, refl, ap, subst}
 use Rattle.std.proofs.lemmas.Result.{err_from_is_err_and}
 use Rattle.line_words.specs.Files as file
-use Rattle.cosmos_session.specs.Sessions.{HeldSession, SessionData}
+use Rattle.session_meaning.specs.Sessions.{HeldSession, SessionData}
 use Rattle.script_meaning.specs.Runs.{plain_reading}
 use Rattle.script_meaning.specs.Halts.{HaltsAt}
 use Rattle.script_meaning.proofs.LowerLemmas.{ready-start}

@@ -1,7 +1,7 @@
 -- Where all lines were obeyed the node is explained, and else the refusal that cut them short is told.
 use Rattle.std.proofs.Common.{◌≢◌, ℕ, List, Option, Result, refl, subst, sym}
 use Rattle.netlist.specs.Circuits.{CircuitData}
-use Rattle.cosmos_session.specs.Sessions.{SessionData}
+use Rattle.session_meaning.specs.Sessions.{SessionData}
 use Rattle.script_meaning.specs.declared.halt.Halt.{Halt}
 use Rattle.script_meaning.specs.declared.halt.Halt.TheVariants.{End, Refused, TooLarge}
 use Rattle.run_ends.specs.declared.stop.End as end

@@ -2,7 +2,7 @@
 use Rattle.std.proofs.Common.{List, ℕ, count_by, is_some, sym, subst, ◌∙◌, refl}
 use Rattle.path_meaning.specs.Graphs.{nodes}
 use Rattle.net_gen.specs.declared.families.GenPart.TheVariants.{Script}
-use Rattle.cosmos_session.specs.Sessions.{HeldSession}
+use Rattle.session_meaning.specs.Sessions.{HeldSession}
 use Rattle.wave_print.specs.declared.lines.Summary.{Summary}
 use Rattle.line_words.specs.Files as file
 use Rattle.cosmos_app.specs.Countings.{IsBlank}

@@ -1,6 +1,6 @@
 -- The session starts in the circuit.
 use Rattle.std.proofs.Common.{ap}
-use Rattle.cosmos_session.specs.Sessions.{HeldSession}
+use Rattle.session_meaning.specs.Sessions.{HeldSession}
 use Rattle.script_meaning.proofs.LowerLemmas.{ready-start}
 use Rattle.cosmos_app.proofs.PurposeLemmas.{told_lines}
 use Rattle.cosmos_app.proofs.top.simulate.Goals as goal

@@ -1,4 +1,4 @@
-use Rattle.cosmos_session.proofs.RoomLemmas.{puts_told}
+use Rattle.session_meaning.proofs.RoomLemmas.{puts_told}
 use Rattle.cosmos_session.proofs.moving.place.Goals as goal
 
 pub returns-clause-puts : goal.returns-clause-puts

@@ -1,4 +1,4 @@
-use Rattle.cosmos_session.proofs.RestLemmas.{steady_stays, steady_moves, steady_rests}
+use Rattle.session_meaning.proofs.RestLemmas.{steady_stays, steady_moves, steady_rests}
 use Rattle.cosmos_session.proofs.moving.rest_uncounted.Goals as goal
 
 pub returns-clause-state : goal.returns-clause-state

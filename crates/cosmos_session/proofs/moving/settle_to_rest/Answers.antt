@@ -1,4 +1,4 @@
-use Rattle.cosmos_session.proofs.RestLemmas.{settled_rests}
+use Rattle.session_meaning.proofs.RestLemmas.{settled_rests}
 use Rattle.cosmos_session.proofs.moving.settle_to_rest.Goals as goal
 
 pub rest_uncounted-requires-clause-steady : goal.rest_uncounted-requires-clause-steady

@@ -4,9 +4,9 @@ use Rattle.std.proofs.lemmas.List.{length-set}
 use Rattle.ternary.specs.declared.tern.Tern.{Tern}
 use Rattle.group_meaning.proofs.MappedLists.{contains-map}
 use Rattle.netlist.specs.Edits.{node_named}
-use Rattle.cosmos_session.specs.Stages.{PutsIn}
-use Rattle.cosmos_session.proofs.StateLemmas.{assigned-more}
-use Rattle.cosmos_session.proofs.MachineLemmas.{assigns_in-none, assigns_in-more}
+use Rattle.session_meaning.specs.Stages.{PutsIn}
+use Rattle.session_meaning.proofs.StateLemmas.{assigned-more}
+use Rattle.session_meaning.proofs.MachineLemmas.{assigns_in-none, assigns_in-more}
 use Rattle.cosmos_session.proofs.quiet.assign.Goals as goal
 
 pub loop-name-init : goal.loop-name-init

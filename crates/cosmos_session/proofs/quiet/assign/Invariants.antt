@@ -1,8 +1,8 @@
 -- The names before this one are done.
 use Rattle.std.proofs.Common.{◌≡◌, length, drop, map}
 use Rattle.path_meaning.specs.Graphs.{nodes}
-use Rattle.cosmos_session.specs.Effects.{assigned}
-use Rattle.cosmos_session.specs.Stages.{AssignsIn}
+use Rattle.session_meaning.specs.Effects.{assigned}
+use Rattle.session_meaning.specs.Stages.{AssignsIn}
 use Rattle.cosmos_session.proofs.quiet.assign.Given as goal
 
 abbrev pub invariant-loop-name : goal.invariant-loop-name

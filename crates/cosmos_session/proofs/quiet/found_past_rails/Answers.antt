@@ -1,5 +1,5 @@
 use Rattle.std.proofs.Common.{sym, ◌∙◌}
-use Rattle.cosmos_session.proofs.EditLemmas.{past_edited}
+use Rattle.session_meaning.proofs.EditLemmas.{past_edited}
 use Rattle.cosmos_session.proofs.quiet.found_past_rails.Goals as goal
 
 pub returns-clause-past : goal.returns-clause-past

@@ -1,7 +1,7 @@
 use Rattle.std.proofs.Common.{◌≡◌, ◌<◌, ◌≤◌, All, ◌+◌, ◌-◌, ◌++◌, map, drop, length, vec_len, vec_capacity}
 use Rattle.path_meaning.specs.Graphs.{nodes}
-use Rattle.cosmos_session.specs.Sessions.{ClockData}
-use Rattle.cosmos_session.specs.Effects.{clock_of}
+use Rattle.session_meaning.specs.Sessions.{ClockData}
+use Rattle.session_meaning.specs.Effects.{clock_of}
 use Rattle.cosmos_session.proofs.quiet.named_clocks.Given as goal
 
 abbrev pub invariant-loop-name : goal.invariant-loop-name

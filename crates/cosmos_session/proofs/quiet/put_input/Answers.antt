@@ -1,4 +1,4 @@
-use Rattle.cosmos_session.proofs.EditLemmas.{input_made}
+use Rattle.session_meaning.proofs.EditLemmas.{input_made}
 use Rattle.cosmos_session.proofs.quiet.put_input.Goals as goal
 
 pub returns : goal.returns

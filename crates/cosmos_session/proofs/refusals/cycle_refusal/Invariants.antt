@@ -1,5 +1,5 @@
 use Rattle.std.proofs.Common.{◌≡◌, drop}
-use Rattle.cosmos_session.specs.Refusals.{first_refusal, clock_refusal}
+use Rattle.session_meaning.specs.Refusals.{first_refusal, clock_refusal}
 use Rattle.cosmos_session.proofs.refusals.cycle_refusal.Given as goal
 
 abbrev pub invariant-loop-clock : goal.invariant-loop-clock

@@ -1,7 +1,7 @@
 use Rattle.std.proofs.Common.{◌≡◌, ℕ, List, drop}
 use Rattle.ternary.specs.declared.tern.Tern.{Tern}
 use Rattle.netlist.specs.Names.{node_of}
-use Rattle.cosmos_session.specs.Refusals.{first_refusal, known_refusal}
+use Rattle.session_meaning.specs.Refusals.{first_refusal, known_refusal}
 use Rattle.cosmos_session.proofs.refusals.expect_refusal.Given as goal
 
 abbrev pub invariant-loop-name : goal.invariant-loop-name

@@ -1,8 +1,8 @@
 use Rattle.std.proofs.Common.{◌≡◌, ℕ, List, length, drop, Some, None, if◌then◌else◌}
 use Rattle.std.specs.Prelude.{◌==◌}
 use Rattle.ternary.specs.declared.tern.Tern.{Tern}
-use Rattle.cosmos_session.specs.declared.fault.Refusal.TheVariants.{ClockLength}
-use Rattle.cosmos_session.specs.Refusals.{first_refusal}
+use Rattle.session_meaning.specs.declared.fault.Refusal.TheVariants.{ClockLength}
+use Rattle.session_meaning.specs.Refusals.{first_refusal}
 use Rattle.cosmos_session.proofs.refusals.other_length_refusal.Given as goal
 
 abbrev pub invariant-loop-states : goal.invariant-loop-states

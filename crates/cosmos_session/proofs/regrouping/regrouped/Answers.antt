@@ -1,10 +1,10 @@
 -- An edit leaves the texts of the last build, and so does one that lacks memory.
 use Rattle.std.proofs.Common.{◌≡◌, ap, ◌∙◌, sym}
 use Rattle.analysis_cache.specs.Keeping.{texts_of}
-use Rattle.cosmos_session.specs.Machines.{last_in}
+use Rattle.session_meaning.specs.Machines.{last_in}
 use Rattle.cosmos_session.specs.declared.stage.Held.{Held}
-use Rattle.cosmos_session.specs.Stages.{machine_held}
-use Rattle.cosmos_session.proofs.LastLemmas.{same_among}
+use Rattle.cosmos_session.specs.Held.{machine_held}
+use Rattle.session_meaning.proofs.LastLemmas.{same_among}
 use Rattle.cosmos_session.proofs.regrouping.regrouped.Goals as goal
 
 pub let_go-requires-clause-last : goal.let_go-requires-clause-last

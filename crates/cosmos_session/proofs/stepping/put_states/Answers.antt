@@ -1,8 +1,8 @@
 use Rattle.std.proofs.Common.{◌<◌, length, refl, ap, ◌∙◌, arith}
 use Rattle.std.proofs.lemmas.List.{length-set}
 use Rattle.path_meaning.specs.Switching.{state_at}
-use Rattle.cosmos_session.proofs.StateLemmas.{states_with-more}
-use Rattle.cosmos_session.proofs.MachineLemmas.{ticks_in-none, ticks_in-more}
+use Rattle.session_meaning.proofs.StateLemmas.{states_with-more}
+use Rattle.session_meaning.proofs.MachineLemmas.{ticks_in-none, ticks_in-more}
 use Rattle.cosmos_session.proofs.stepping.put_states.Goals as goal
 
 pub loop-clock-init : goal.loop-clock-init

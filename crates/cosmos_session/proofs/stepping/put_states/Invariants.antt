@@ -1,7 +1,7 @@
 -- The clocks before this one are put.
 use Rattle.std.proofs.Common.{◌≡◌, drop, length}
-use Rattle.cosmos_session.specs.Effects.{states_with}
-use Rattle.cosmos_session.specs.Stages.{TicksIn}
+use Rattle.session_meaning.specs.Effects.{states_with}
+use Rattle.session_meaning.specs.Stages.{TicksIn}
 use Rattle.cosmos_session.proofs.stepping.put_states.Given as goal
 
 abbrev pub invariant-loop-clock : goal.invariant-loop-clock

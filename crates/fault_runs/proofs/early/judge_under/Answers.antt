@@ -2,7 +2,7 @@
 use Rattle.std.proofs.Common.{ℕ, List, Option, Some, IfOk, subst}
 use Rattle.ternary.specs.declared.tern.Tern.{Tern}
 use Rattle.group_text.specs.Texts.{GroupTextData}
-use Rattle.cosmos_session.specs.Sessions.{SessionData}
+use Rattle.session_meaning.specs.Sessions.{SessionData}
 use Rattle.fault_meaning.specs.Traces.{AreDone, commands_under, stuck_under}
 use Rattle.fault_meaning.specs.Early.{JudgesLines}
 use Rattle.fault_meaning.proofs.BenchLemmas.{judges_under}

@@ -1,7 +1,7 @@
 -- The good run starts with nothing kept; what is told of the faults beside it, or of the line at which it ended, is the answer.
 use Rattle.std.proofs.Common.{◌∙◌, sym, ap, subst}
 use Rattle.netlist.specs.Circuits.{CircuitData}
-use Rattle.cosmos_session.specs.Sessions.{SessionData, start_of}
+use Rattle.session_meaning.specs.Sessions.{SessionData, start_of}
 use Rattle.script_meaning.specs.Halts.{IsCutShort}
 use Rattle.fault_meaning.proofs.JudgingLemmas.{told_verdicts, told_cut_short, cut_short}
 use Rattle.fault_runs.proofs.judging.judge_from.Goals as goal

@@ -1,6 +1,6 @@
 -- The commands of a fault are quiet, and at the start none of them is refused.
 use Rattle.std.proofs.Common.{All, Option, IfSome, sym, subst}
-use Rattle.cosmos_session.specs.Sessions.{SessionData}
+use Rattle.session_meaning.specs.Sessions.{SessionData}
 use Rattle.fault_sim.specs.declared.fault.Fault.{Fault}
 use Rattle.fault_sim.specs.Changes.{commands_of}
 use Rattle.fault_sim.specs.Faults.{IsFault}

@@ -4,7 +4,7 @@ use Rattle.ternary.specs.declared.tern.Tern.{Tern}
 use Rattle.line_words.specs.Files as file
 use Rattle.port_edge.specs.HonestPorts.{HonestSinkData}
 use Rattle.group_text.specs.Texts.{GroupTextData}
-use Rattle.cosmos_session.specs.Sessions.{SessionData}
+use Rattle.session_meaning.specs.Sessions.{SessionData}
 use Rattle.fault_sim.specs.Masks.{masked_reading}
 use Rattle.script_meaning.specs.Halts.{HaltsAt}
 use Rattle.fault_meaning.specs.Traces.{AreDone, commands_under, stuck_under}

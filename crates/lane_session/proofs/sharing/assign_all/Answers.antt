@@ -8,7 +8,7 @@ use Rattle.netlist.specs.Names.{node_of}
 use Rattle.netlist.specs.Circuits.{CircuitData}
 use Rattle.netlist.specs.Edits.{node_named}
 use Rattle.lane_script.specs.Commands as script
-use Rattle.cosmos_session.specs.Effects.{assigned}
+use Rattle.session_meaning.specs.Effects.{assigned}
 use Rattle.lane_session.specs.Stages.{HasValue, states_in}
 use Rattle.lane_session.proofs.ColumnLemmas.{HasStates-value, placed_value}
 use Rattle.lane_session.proofs.FitLemmas.{keeps_fit}

@@ -2,7 +2,7 @@
 use Rattle.std.proofs.Common.{ℕ, ◌≡◌, ◌<◌, length, drop, map}
 use Rattle.path_meaning.specs.Graphs.{nodes}
 use Rattle.lane_script.specs.Commands.{value_in}
-use Rattle.cosmos_session.specs.Effects.{assigned}
+use Rattle.session_meaning.specs.Effects.{assigned}
 use Rattle.lane_session.specs.Stages.{KeepsFit, states_in}
 use Rattle.lane_session.proofs.sharing.assign_all.Given as goal
 

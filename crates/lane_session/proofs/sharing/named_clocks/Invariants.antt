@@ -1,5 +1,5 @@
 use Rattle.std.proofs.Common.{◌≡◌, ◌≤◌, ◌+◌, ◌-◌, ◌++◌, map, drop, length, vec_len, vec_capacity}
-use Rattle.cosmos_session.specs.Effects.{clock_of}
+use Rattle.session_meaning.specs.Effects.{clock_of}
 use Rattle.lane_session.proofs.sharing.named_clocks.Given as goal
 
 abbrev pub invariant-loop-name : goal.invariant-loop-name

@@ -4,8 +4,8 @@ use Rattle.std.proofs.lemmas.List.{length-set, get_or_read}
 use Rattle.ternary.specs.declared.tern.Tern.TheVariants.{Zero}
 use Rattle.path_meaning.specs.Graphs.{nodes}
 use Rattle.path_meaning.specs.Switching.{state_at}
-use Rattle.cosmos_session.specs.Sessions.{ClockData}
-use Rattle.cosmos_session.proofs.StateLemmas.{states_with-more}
+use Rattle.session_meaning.specs.Sessions.{ClockData}
+use Rattle.session_meaning.proofs.StateLemmas.{states_with-more}
 use Rattle.lane_session.specs.Stages.{states_in}
 use Rattle.lane_session.proofs.ColumnLemmas.{HasStates-value, placed_value}
 use Rattle.lane_session.proofs.FitLemmas.{keeps_fit}

@@ -1,7 +1,7 @@
 -- The clocks before this one are put, in each column.
 use Rattle.std.proofs.Common.{ℕ, ◌≡◌, ◌<◌, length, drop}
 use Rattle.path_meaning.specs.Graphs.{nodes}
-use Rattle.cosmos_session.specs.Effects.{states_with}
+use Rattle.session_meaning.specs.Effects.{states_with}
 use Rattle.lane_session.specs.Stages.{KeepsFit, states_in}
 use Rattle.lane_session.proofs.stepping.put_states.Given as goal
 

@@ -3,11 +3,11 @@ use Rattle.netlist.specs.Edits.{add_fault}
 use Rattle.analysis_cache.specs.Keeping.{texts_of}
 use Rattle.path_meaning.specs.Graphs.{GraphData}
 use Rattle.script_lang.specs.declared.command.Command.TheVariants.{Add}
-use Rattle.cosmos_session.specs.declared.fault.Refusal.{Refusal}
-use Rattle.cosmos_session.specs.Refusals.{making_refusal, strength_for}
+use Rattle.session_meaning.specs.declared.fault.Refusal.{Refusal}
+use Rattle.session_meaning.specs.Refusals.{making_refusal, strength_for}
 use Rattle.cosmos_session.specs.contracts.session.Session.{the_view}
-use Rattle.cosmos_session.proofs.UndoLemmas.{Undoes, undoes-transistor}
-use Rattle.cosmos_session.proofs.EditLemmas.{covers-before, held-told, does-told, added_does, making_quietly, quietly_as, halted, same-halted}
+use Rattle.session_meaning.proofs.UndoLemmas.{Undoes, undoes-transistor}
+use Rattle.session_meaning.proofs.EditLemmas.{covers-before, held-told, does-told, added_does, making_quietly, quietly_as, halted, same-halted}
 use Rattle.cosmos_session.proofs.session.Session.add.Goals.{In-Ok}
 use Rattle.cosmos_session.proofs.session.Session.add.Goals as goal
 

@@ -1,4 +1,4 @@
-use Rattle.cosmos_session.proofs.OutcomeLemmas.{names_node}
+use Rattle.session_meaning.proofs.OutcomeLemmas.{names_node}
 use Rattle.cosmos_session.proofs.session.Session.apply.Goals as goal
 
 pub returns-clause-named : goal.returns-clause-named

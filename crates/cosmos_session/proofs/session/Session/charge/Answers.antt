@@ -1,6 +1,6 @@
 use Rattle.std.proofs.Common.{refl, sym}
-use Rattle.cosmos_session.proofs.RefusalLemmas.{charged_known}
-use Rattle.cosmos_session.proofs.StateLemmas.{charged_past}
+use Rattle.session_meaning.proofs.RefusalLemmas.{charged_known}
+use Rattle.session_meaning.proofs.StateLemmas.{charged_past}
 use Rattle.cosmos_session.proofs.session.Session.charge.Goals as goal
 
 pub returns-in-Some-clause-quiet : goal.returns-in-Some-clause-quiet

@@ -1,10 +1,10 @@
 -- A cycle that isn't refused has clocks, whose nodes are input nodes; a build changes neither.
 use Rattle.std.proofs.Common.{◌≡◌, None, sym, subst}
-use Rattle.cosmos_session.specs.Sessions.{HeldSession}
-use Rattle.cosmos_session.specs.Refusals.{cycle_refusal}
-use Rattle.cosmos_session.proofs.OutcomeLemmas.{cycle_obeys, on_ok-map}
-use Rattle.cosmos_session.proofs.MachineLemmas.{cycle_inputs}
-use Rattle.cosmos_session.proofs.MoveLemmas.{cycle-readied}
+use Rattle.session_meaning.specs.Sessions.{HeldSession}
+use Rattle.session_meaning.specs.Refusals.{cycle_refusal}
+use Rattle.session_meaning.proofs.OutcomeLemmas.{cycle_obeys, on_ok-map}
+use Rattle.session_meaning.proofs.MachineLemmas.{cycle_inputs}
+use Rattle.session_meaning.proofs.MoveLemmas.{cycle-readied}
 use Rattle.cosmos_session.proofs.session.Session.cycle.Goals as goal
 
 pub run_cycles-requires-clause-inputs : goal.run_cycles-requires-clause-inputs

@@ -1,9 +1,9 @@
 use Rattle.std.proofs.Common.{refl}
 use Rattle.analysis_cache.specs.Keeping.{texts_of}
-use Rattle.cosmos_session.specs.Switches.{command_of, edit_fault}
+use Rattle.session_meaning.specs.Switches.{command_of, edit_fault}
 use Rattle.cosmos_session.specs.contracts.session.Session.{the_view}
-use Rattle.cosmos_session.proofs.UndoLemmas.{Undoes, undoes-place}
-use Rattle.cosmos_session.proofs.EditLemmas.{covers-before, held-told, does-told, switched_does, refusal_of-switch, refused_quietly, the_fault, quietly_as, halted, same-halted}
+use Rattle.session_meaning.proofs.UndoLemmas.{Undoes, undoes-place}
+use Rattle.session_meaning.proofs.EditLemmas.{covers-before, held-told, does-told, switched_does, refusal_of-switch, refused_quietly, the_fault, quietly_as, halted, same-halted}
 use Rattle.cosmos_session.proofs.session.Session.edit_switch.Goals.{In-Ok}
 use Rattle.cosmos_session.proofs.session.Session.edit_switch.Goals as goal
 

@@ -1,11 +1,11 @@
 use Rattle.std.proofs.Common.{◌≡◌, Bool, ◌||◌, refl, sym, ap, rules, None}
 use Rattle.script_lang.specs.declared.command.Command.TheVariants as asked
-use Rattle.cosmos_session.specs.Refusals.{refusal_of}
-use Rattle.cosmos_session.specs.Lines.{text_of}
-use Rattle.cosmos_session.specs.Effects.{unmet_lines}
+use Rattle.session_meaning.specs.Refusals.{refusal_of}
+use Rattle.session_meaning.specs.Lines.{text_of}
+use Rattle.session_meaning.specs.Effects.{unmet_lines}
 use Rattle.cosmos_session.specs.contracts.session.Session.{the_view}
-use Rattle.cosmos_session.proofs.RefusalLemmas.{expected_known}
-use Rattle.cosmos_session.proofs.OutcomeLemmas.{sent_text, still_obeys}
+use Rattle.session_meaning.proofs.RefusalLemmas.{expected_known}
+use Rattle.session_meaning.proofs.OutcomeLemmas.{sent_text, still_obeys}
 use Rattle.cosmos_session.proofs.session.Session.expect.Goals as goal
 
 pub returns-in-Some-clause-obeys : goal.returns-in-Some-clause-obeys

@@ -1,5 +1,5 @@
 use Rattle.std.proofs.Common.{refl, sym}
-use Rattle.cosmos_session.proofs.RefusalLemmas.{none_of_all}
+use Rattle.session_meaning.proofs.RefusalLemmas.{none_of_all}
 use Rattle.cosmos_session.proofs.session.Session.input.Goals as goal
 
 pub returns-in-Some-clause-quiet : goal.returns-in-Some-clause-quiet

@@ -1,8 +1,8 @@
 use Rattle.std.proofs.Common.{refl}
 use Rattle.analysis_cache.specs.Keeping.{texts_of}
 use Rattle.cosmos_session.specs.contracts.session.Session.{the_view}
-use Rattle.cosmos_session.proofs.UndoLemmas.{Undoes, undoes-level}
-use Rattle.cosmos_session.proofs.EditLemmas.{covers-before, held-told}
+use Rattle.session_meaning.proofs.UndoLemmas.{Undoes, undoes-level}
+use Rattle.session_meaning.proofs.EditLemmas.{covers-before, held-told}
 use Rattle.cosmos_session.proofs.session.Session.make_input.Goals.{After-put_input}
 use Rattle.cosmos_session.proofs.session.Session.make_input.Goals as goal
 

@@ -1,7 +1,7 @@
 -- The names before this one are input nodes' names.
 use Rattle.std.proofs.Common.{◌≡◌, drop}
-use Rattle.cosmos_session.specs.Effects.{with_inputs}
-use Rattle.cosmos_session.specs.Machines.{EditsMachine}
+use Rattle.session_meaning.specs.Effects.{with_inputs}
+use Rattle.session_meaning.specs.Machines.{EditsMachine}
 use Rattle.cosmos_session.proofs.session.Session.make_inputs.Given as goal
 
 abbrev pub invariant-loop-name : goal.invariant-loop-name

@@ -1,6 +1,6 @@
 use Rattle.std.proofs.Common.{refl}
 use Rattle.script_lang.specs.declared.command.Command.TheVariants as asked
-use Rattle.cosmos_session.proofs.OutcomeLemmas.{ready_obeys}
+use Rattle.session_meaning.proofs.OutcomeLemmas.{ready_obeys}
 use Rattle.cosmos_session.proofs.session.Session.phase.Goals as goal
 
 pub returns-clause-obeys : goal.returns-clause-obeys

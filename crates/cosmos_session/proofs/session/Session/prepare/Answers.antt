@@ -2,10 +2,10 @@ use Rattle.std.proofs.Common.{◌≡◌, refl, arith}
 use Rattle.ternary.specs.Counts.{raised}
 use Rattle.analysis_cache.specs.Keeping.{texts_of}
 use Rattle.circuit_texts.specs.Building.{Builds}
-use Rattle.cosmos_session.specs.Machines.{kept_in}
-use Rattle.cosmos_session.specs.Stages.{BuiltFrom}
+use Rattle.session_meaning.specs.Machines.{kept_in}
+use Rattle.session_meaning.specs.Stages.{BuiltFrom}
 use Rattle.cosmos_session.specs.contracts.session.Session.{the_view}
-use Rattle.cosmos_session.proofs.BuildLemmas.{held-built, held-refused, last-refused, readied-built, serves-table, texts-grown}
+use Rattle.session_meaning.proofs.BuildLemmas.{held-built, held-refused, last-refused, readied-built, serves-table, texts-grown}
 use Rattle.cosmos_session.proofs.session.Session.prepare.Goals as goal
 
 pub build-requires-clause-serves : goal.build-requires-clause-serves

@@ -4,11 +4,11 @@ use Rattle.path_meaning.specs.declared.TheConstants.{RAILS}
 use Rattle.netlist.specs.Names.{node_of}
 use Rattle.netlist.specs.Edits.{node_named}
 use Rattle.analysis_cache.specs.Keeping.{texts_of}
-use Rattle.cosmos_session.specs.Sessions.{HeldSession}
-use Rattle.cosmos_session.specs.Effects.{assigned}
+use Rattle.session_meaning.specs.Sessions.{HeldSession}
+use Rattle.session_meaning.specs.Effects.{assigned}
 use Rattle.cosmos_session.specs.contracts.session.Session.{the_view}
-use Rattle.cosmos_session.proofs.StayingLemmas.{staying, held-staying, last-assigned}
-use Rattle.cosmos_session.proofs.MachineLemmas.{placed_on, held-assigned, places-assigned, unplaced-assigned, covers-serves}
+use Rattle.session_meaning.proofs.StayingLemmas.{staying, held-staying, last-assigned}
+use Rattle.session_meaning.proofs.MachineLemmas.{placed_on, held-assigned, places-assigned, unplaced-assigned, covers-serves}
 use Rattle.cosmos_session.proofs.session.Session.put_assigned.Goals as goal
 
 pub assign-requires-clause-known : goal.assign-requires-clause-known

@@ -4,14 +4,14 @@ use Rattle.ternary.specs.declared.tern.Tern.{Tern}
 use Rattle.strength_order.specs.declared.TheConstants.{INPUT_LEVEL}
 use Rattle.path_meaning.specs.Graphs.{level_of}
 use Rattle.analysis_cache.specs.Keeping.{texts_of}
-use Rattle.cosmos_session.specs.Sessions.{HeldSession}
-use Rattle.cosmos_session.specs.Effects.{states_with, with_beat}
-use Rattle.cosmos_session.specs.Machines.{IsBuilt}
-use Rattle.cosmos_session.specs.Stages.{TicksIn}
+use Rattle.session_meaning.specs.Sessions.{HeldSession}
+use Rattle.session_meaning.specs.Effects.{states_with, with_beat}
+use Rattle.session_meaning.specs.Machines.{IsBuilt}
+use Rattle.session_meaning.specs.Stages.{TicksIn}
 use Rattle.cosmos_session.specs.contracts.session.Session.{the_view}
-use Rattle.cosmos_session.proofs.StayingLemmas.{staying, held-staying, last-ticked}
-use Rattle.cosmos_session.proofs.MachineLemmas.{placed_on}
-use Rattle.cosmos_session.proofs.TickLemmas.{fits-ticked, stays-ticked, held-ticked}
+use Rattle.session_meaning.proofs.StayingLemmas.{staying, held-staying, last-ticked}
+use Rattle.session_meaning.proofs.MachineLemmas.{placed_on}
+use Rattle.session_meaning.proofs.TickLemmas.{fits-ticked, stays-ticked, held-ticked}
 use Rattle.cosmos_session.proofs.session.Session.put_clocks.Goals as goal
 
 -- the clocks' nodes are input nodes

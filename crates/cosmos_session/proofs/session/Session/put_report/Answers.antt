@@ -2,11 +2,11 @@ use Rattle.std.proofs.Common.{◌∷◌, [], ◌++◌, List, ℕ, sym, ap, subst
 use Rattle.group_text.specs.Texts.{GroupTextData}
 use Rattle.circuit_texts.specs.Building.{HasTexts}
 use Rattle.wave_print.specs.Lines.{report_line_of}
-use Rattle.cosmos_session.specs.Sessions.{HeldSession}
-use Rattle.cosmos_session.specs.Lines.{Reported}
-use Rattle.cosmos_session.specs.Machines.{FitsIn, IsBuilt}
+use Rattle.session_meaning.specs.Sessions.{HeldSession}
+use Rattle.session_meaning.specs.Lines.{Reported}
+use Rattle.session_meaning.specs.Machines.{FitsIn, IsBuilt}
 use Rattle.cosmos_session.specs.contracts.session.Session.{the_view}
-use Rattle.cosmos_session.proofs.ReportLemmas.{reported}
+use Rattle.session_meaning.proofs.ReportLemmas.{reported}
 use Rattle.cosmos_session.proofs.session.Session.put_report.Goals as goal
 
 pub returns-clause-reported : goal.returns-clause-reported

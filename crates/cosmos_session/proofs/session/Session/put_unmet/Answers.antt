@@ -1,5 +1,5 @@
 use Rattle.std.proofs.Common.{arith}
-use Rattle.cosmos_session.proofs.LineLemmas.{unmet_text-next, unmet_any-next}
+use Rattle.session_meaning.proofs.LineLemmas.{unmet_text-next, unmet_any-next}
 use Rattle.cosmos_session.proofs.session.Session.put_unmet.Goals as goal
 
 pub put_if_unmet-requires : goal.put_if_unmet-requires

@@ -1,6 +1,6 @@
 use Rattle.std.proofs.Common.{◌≡◌, ◌++◌, ◌||◌, drop}
-use Rattle.cosmos_session.specs.Lines.{text_of}
-use Rattle.cosmos_session.specs.Effects.{unmet_lines, has_lines}
+use Rattle.session_meaning.specs.Lines.{text_of}
+use Rattle.session_meaning.specs.Effects.{unmet_lines, has_lines}
 use Rattle.cosmos_session.proofs.session.Session.put_unmet.Given as goal
 
 abbrev pub invariant-loop-name : goal.invariant-loop-name

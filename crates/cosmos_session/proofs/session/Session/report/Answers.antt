@@ -2,9 +2,9 @@ use Rattle.std.proofs.Common.{◌≡◌, List, refl, sym, subst, rules}
 use Rattle.group_text.specs.Texts.{GroupTextData}
 use Rattle.circuit_texts.specs.Building.{HasTexts}
 use Rattle.script_lang.specs.declared.command.Command.TheVariants as asked
-use Rattle.cosmos_session.specs.Sessions.{SessionData}
-use Rattle.cosmos_session.specs.Lines.{text_of}
-use Rattle.cosmos_session.proofs.OutcomeLemmas.{ready_obeys, sent_text}
+use Rattle.session_meaning.specs.Sessions.{SessionData}
+use Rattle.session_meaning.specs.Lines.{text_of}
+use Rattle.session_meaning.proofs.OutcomeLemmas.{ready_obeys, sent_text}
 use Rattle.cosmos_session.proofs.session.Session.report.Goals as goal
 
 pub put_report-requires-clause-texts : goal.put_report-requires-clause-texts

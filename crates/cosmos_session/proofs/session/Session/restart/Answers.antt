@@ -4,11 +4,11 @@ use Rattle.group_text.specs.Texts.{GroupTextData}
 use Rattle.netlist.specs.Circuits.{CircuitData}
 use Rattle.machine_laws.specs.Machines.{MachineData}
 use Rattle.analysis_cache.specs.Keeping.{KeptData, texts_of}
-use Rattle.cosmos_session.specs.Sessions.{HeldSession, IsSession, start_of}
-use Rattle.cosmos_session.specs.Machines.{AreAmong, IsHeldSession, IsMachineOf, kept_in, last_in}
+use Rattle.session_meaning.specs.Sessions.{HeldSession, IsSession, start_of}
+use Rattle.session_meaning.specs.Machines.{AreAmong, IsHeldSession, IsMachineOf, kept_in, last_in}
 use Rattle.cosmos_session.specs.contracts.session.Session.{the_view}
-use Rattle.cosmos_session.proofs.LastLemmas.{kept_alone, none_missing}
-use Rattle.cosmos_session.proofs.BuildLemmas.{core-kept}
+use Rattle.session_meaning.proofs.LastLemmas.{kept_alone, none_missing}
+use Rattle.session_meaning.proofs.BuildLemmas.{core-kept}
 use Rattle.cosmos_session.proofs.session.Session.restart.Goals as goal
 
 -- the session with this bound, where the table has these texts

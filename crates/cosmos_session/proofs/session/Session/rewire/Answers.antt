@@ -3,8 +3,8 @@ use Rattle.netlist.specs.Edits.{wire_fault}
 use Rattle.analysis_cache.specs.Keeping.{texts_of}
 use Rattle.script_lang.specs.declared.command.Command.TheVariants.{Wire}
 use Rattle.cosmos_session.specs.contracts.session.Session.{the_view}
-use Rattle.cosmos_session.proofs.UndoLemmas.{Undoes, undoes-wires}
-use Rattle.cosmos_session.proofs.EditLemmas.{covers-before, held-told, does-told, rewired_does, lacking_quietly, quietly_as, halted, same-halted}
+use Rattle.session_meaning.proofs.UndoLemmas.{Undoes, undoes-wires}
+use Rattle.session_meaning.proofs.EditLemmas.{covers-before, held-told, does-told, rewired_does, lacking_quietly, quietly_as, halted, same-halted}
 use Rattle.cosmos_session.proofs.session.Session.rewire.Goals.{In-Ok}
 use Rattle.cosmos_session.proofs.session.Session.rewire.Goals as goal
 

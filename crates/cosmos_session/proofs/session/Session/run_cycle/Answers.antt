@@ -2,10 +2,10 @@
 use Rattle.std.proofs.Common.{length, ap, subst, ◌∙◌, refl, arith}
 use Rattle.std.specs.List.{range_with_len}
 use Rattle.std.proofs.lemmas.Result.{err_from_is_err_and}
-use Rattle.cosmos_session.specs.Sessions.{SessionData, HeldSession, IsReady, places_of}
-use Rattle.cosmos_session.specs.Effects.{with_beat}
-use Rattle.cosmos_session.proofs.BeatLemmas.{beat_done, beat_stopped, places-next, places-split}
-use Rattle.cosmos_session.proofs.MoveLemmas.{beats_on-more, setup-put, setup-phase}
+use Rattle.session_meaning.specs.Sessions.{SessionData, HeldSession, IsReady, places_of}
+use Rattle.session_meaning.specs.Effects.{with_beat}
+use Rattle.session_meaning.proofs.BeatLemmas.{beat_done, beat_stopped, places-next, places-split}
+use Rattle.session_meaning.proofs.MoveLemmas.{beats_on-more, setup-put, setup-phase}
 use Rattle.cosmos_session.proofs.session.Session.run_cycle.Goals as goal
 
 pub put_clocks-requires-clause-place : goal.put_clocks-requires-clause-place

@@ -1,10 +1,10 @@
 -- The places before this one are done, with their lines sent, by the machine that is there.
 use Rattle.std.proofs.Common.{◌≡◌}
 use Rattle.std.specs.List.{range_with_len}
-use Rattle.cosmos_session.specs.Sessions.{places_of}
-use Rattle.cosmos_session.specs.Machines.{IsBuilt}
-use Rattle.cosmos_session.specs.Stages.{BeatsMoveOn, SameSetup}
-use Rattle.cosmos_session.proofs.BeatLemmas.{BeatsDone}
+use Rattle.session_meaning.specs.Sessions.{places_of}
+use Rattle.session_meaning.specs.Machines.{IsBuilt}
+use Rattle.session_meaning.specs.Stages.{BeatsMoveOn, SameSetup}
+use Rattle.session_meaning.proofs.BeatLemmas.{BeatsDone}
 use Rattle.cosmos_session.proofs.session.Session.run_cycle.Given as goal
 
 abbrev pub invariant-loop-place : goal.invariant-loop-place

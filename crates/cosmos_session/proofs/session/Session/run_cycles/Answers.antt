@@ -1,10 +1,10 @@
 -- A fault in a cycle leaves a part of the text of all cycles.
 use Rattle.std.proofs.Common.{ℕ, List, length, refl, sym, ap, subst, ◌∙◌, arith}
 use Rattle.std.proofs.lemmas.Result.{err_from_is_err_and}
-use Rattle.cosmos_session.specs.Sessions.{places_of}
-use Rattle.cosmos_session.specs.Stages.{BeatsMove}
-use Rattle.cosmos_session.proofs.BeatLemmas.{beats_done-none, no_cycle, cycle_done, cycle_stopped}
-use Rattle.cosmos_session.proofs.MoveLemmas.{beats_move-none, cycle_moves, setup-same, setup-more}
+use Rattle.session_meaning.specs.Sessions.{places_of}
+use Rattle.session_meaning.specs.Stages.{BeatsMove}
+use Rattle.session_meaning.proofs.BeatLemmas.{beats_done-none, no_cycle, cycle_done, cycle_stopped}
+use Rattle.session_meaning.proofs.MoveLemmas.{beats_move-none, cycle_moves, setup-same, setup-more}
 use Rattle.cosmos_session.proofs.session.Session.run_cycles.Goals as goal
 
 pub loop-cycle-init : goal.loop-cycle-init

@@ -1,10 +1,10 @@
 -- The cycles before this one are run, with their lines sent, by the machine that is there.
 use Rattle.std.proofs.Common.{◌≡◌}
-use Rattle.cosmos_session.specs.Sessions.{places_of}
-use Rattle.cosmos_session.specs.Effects.{places_in}
-use Rattle.cosmos_session.specs.Machines.{IsBuilt}
-use Rattle.cosmos_session.specs.Stages.{BeatsMove, SameSetup}
-use Rattle.cosmos_session.proofs.BeatLemmas.{BeatsDone}
+use Rattle.session_meaning.specs.Sessions.{places_of}
+use Rattle.session_meaning.specs.Effects.{places_in}
+use Rattle.session_meaning.specs.Machines.{IsBuilt}
+use Rattle.session_meaning.specs.Stages.{BeatsMove, SameSetup}
+use Rattle.session_meaning.proofs.BeatLemmas.{BeatsDone}
 use Rattle.cosmos_session.proofs.session.Session.run_cycles.Given as goal
 
 abbrev pub invariant-loop-cycle : goal.invariant-loop-cycle

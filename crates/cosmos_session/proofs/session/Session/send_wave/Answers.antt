@@ -1,7 +1,7 @@
 use Rattle.std.proofs.Common.{refl}
-use Rattle.cosmos_session.specs.Effects.{wave_by}
+use Rattle.session_meaning.specs.Effects.{wave_by}
 use Rattle.cosmos_session.specs.contracts.session.Session.{the_view}
-use Rattle.cosmos_session.proofs.OutcomeLemmas.{sent_line}
+use Rattle.session_meaning.proofs.OutcomeLemmas.{sent_line}
 use Rattle.cosmos_session.proofs.session.Session.send_wave.Goals as goal
 
 pub returns-clause-sent : goal.returns-clause-sent

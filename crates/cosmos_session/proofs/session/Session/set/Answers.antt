@@ -1,5 +1,5 @@
 use Rattle.std.proofs.Common.{refl, sym}
-use Rattle.cosmos_session.proofs.MachineLemmas.{set_inputs}
+use Rattle.session_meaning.proofs.MachineLemmas.{set_inputs}
 use Rattle.cosmos_session.proofs.session.Session.set.Goals as goal
 
 pub returns-in-Some-clause-quiet : goal.returns-in-Some-clause-quiet

@@ -1,7 +1,7 @@
 use Rattle.std.proofs.Common.{refl, sym}
 use Rattle.cosmos_session.specs.contracts.session.Session.{the_view}
-use Rattle.cosmos_session.proofs.RefusalLemmas.{or_else-none, set_known}
-use Rattle.cosmos_session.proofs.ClockLemmas.{IsSession-clocks}
+use Rattle.session_meaning.proofs.RefusalLemmas.{or_else-none, set_known}
+use Rattle.session_meaning.proofs.ClockLemmas.{IsSession-clocks}
 use Rattle.cosmos_session.proofs.session.Session.set_clocks.Goals as goal
 
 pub returns-in-Some-clause-quiet : goal.returns-in-Some-clause-quiet

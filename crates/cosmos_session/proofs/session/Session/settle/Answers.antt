@@ -1,12 +1,12 @@
 use Rattle.std.proofs.Common.{ℕ, Bool, refl, sym, subst, rules}
 use Rattle.analysis_cache.specs.Keeping.{texts_of}
 use Rattle.machine_laws.specs.Machines.{MachineData}
-use Rattle.cosmos_session.specs.Sessions.{HeldSession}
-use Rattle.cosmos_session.specs.Machines.{IsBuilt}
-use Rattle.cosmos_session.specs.Stages.{MovesBy, TakesPhase, IsSettled}
+use Rattle.session_meaning.specs.Sessions.{HeldSession}
+use Rattle.session_meaning.specs.Machines.{IsBuilt}
+use Rattle.session_meaning.specs.Stages.{MovesBy, TakesPhase, IsSettled}
 use Rattle.cosmos_session.specs.contracts.session.Session.{the_view}
-use Rattle.cosmos_session.proofs.StayingLemmas.{staying, held-staying, last-moved}
-use Rattle.cosmos_session.proofs.MachineLemmas.{moved_on, held-settled, machine-settled}
+use Rattle.session_meaning.proofs.StayingLemmas.{staying, held-staying, last-moved}
+use Rattle.session_meaning.proofs.MachineLemmas.{moved_on, held-settled, machine-settled}
 use Rattle.cosmos_session.proofs.session.Session.settle.Goals as goal
 
 -- what leads from a machine to one that settled

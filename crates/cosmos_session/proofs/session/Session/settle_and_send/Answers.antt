@@ -1,5 +1,5 @@
-use Rattle.cosmos_session.specs.Effects.{one_more}
-use Rattle.cosmos_session.proofs.MoveLemmas.{phase-moves, setup-stated}
+use Rattle.session_meaning.specs.Effects.{one_more}
+use Rattle.session_meaning.proofs.MoveLemmas.{phase-moves, setup-stated}
 use Rattle.cosmos_session.proofs.session.Session.settle_and_send.Goals as goal
 
 pub returns-clause-moves : goal.returns-clause-moves

@@ -1,7 +1,7 @@
 use Rattle.std.proofs.Common.{refl}
 use Rattle.script_lang.specs.declared.command.Command.TheVariants as asked
-use Rattle.cosmos_session.proofs.OutcomeLemmas.{ready_obeys, on_ok}
-use Rattle.cosmos_session.proofs.MoveLemmas.{step-readied}
+use Rattle.session_meaning.proofs.OutcomeLemmas.{ready_obeys, on_ok}
+use Rattle.session_meaning.proofs.MoveLemmas.{step-readied}
 use Rattle.cosmos_session.proofs.session.Session.step.Goals as goal
 
 pub returns-clause-obeys : goal.returns-clause-obeys

@@ -1,10 +1,10 @@
 use Rattle.std.proofs.Common.{refl, sym, subst, rules}
 use Rattle.analysis_cache.specs.Keeping.{texts_of}
-use Rattle.cosmos_session.specs.Machines.{IsBuilt, StepsMachine}
-use Rattle.cosmos_session.specs.Stages.{MovesBy, TakesStep}
+use Rattle.session_meaning.specs.Machines.{IsBuilt, StepsMachine}
+use Rattle.session_meaning.specs.Stages.{MovesBy, TakesStep}
 use Rattle.cosmos_session.specs.contracts.session.Session.{the_view}
-use Rattle.cosmos_session.proofs.StayingLemmas.{staying, held-staying, last-moved}
-use Rattle.cosmos_session.proofs.MachineLemmas.{moved_on, held-stepped, machine-stepped}
+use Rattle.session_meaning.proofs.StayingLemmas.{staying, held-staying, last-moved}
+use Rattle.session_meaning.proofs.MachineLemmas.{moved_on, held-stepped, machine-stepped}
 use Rattle.cosmos_session.proofs.session.Session.take_step.Goals as goal
 
 pub invariant_of-self : goal.invariant_of-self

@@ -1,5 +1,5 @@
 use Rattle.std.proofs.Common.{refl, sym}
-use Rattle.cosmos_session.proofs.RefusalLemmas.{names_known}
+use Rattle.session_meaning.proofs.RefusalLemmas.{names_known}
 use Rattle.cosmos_session.proofs.session.Session.watch.Goals as goal
 
 pub returns-in-Some-clause-quiet : goal.returns-in-Some-clause-quiet

@@ -1,9 +1,10 @@
 use Rattle.std.proofs.Common.{◌≡◌, ap, ◌∙◌}
 use Rattle.analysis_cache.specs.Keeping.{texts_of}
-use Rattle.cosmos_session.specs.Machines.{last_in}
+use Rattle.session_meaning.specs.Machines.{last_in}
 use Rattle.cosmos_session.specs.declared.stage.Held.{Held}
-use Rattle.cosmos_session.specs.Stages.{StageData, machine_held}
-use Rattle.cosmos_session.proofs.LastLemmas.{same_among}
+use Rattle.session_meaning.specs.Stages.{StageData}
+use Rattle.cosmos_session.specs.Held.{machine_held}
+use Rattle.session_meaning.proofs.LastLemmas.{same_among}
 use Rattle.cosmos_session.proofs.stage.Stage.edit.Goals as goal
 
 pub regrouped-requires-clause-last : goal.regrouped-requires-clause-last

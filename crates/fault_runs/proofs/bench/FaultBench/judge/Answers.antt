@@ -1,6 +1,6 @@
 -- The session stands at the start with what the last one keeps, so the verdict on a run in it is one on a run of the bench.
 use Rattle.std.proofs.Common.{Some, refl, ap, ◌∙◌}
-use Rattle.cosmos_session.specs.Sessions.{HeldSession}
+use Rattle.session_meaning.specs.Sessions.{HeldSession}
 use Rattle.fault_meaning.specs.Runnings.{BenchData}
 use Rattle.fault_meaning.proofs.BenchLemmas.{bench_judges}
 use Rattle.fault_runs.proofs.bench.FaultBench.judge.Goals as goal

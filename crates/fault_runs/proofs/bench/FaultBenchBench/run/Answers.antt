@@ -1,6 +1,6 @@
 -- The session stands at the start with what the last one keeps, so what it comes to has a trace of the bench.
 use Rattle.std.proofs.Common.{refl, ap, ◌∙◌}
-use Rattle.cosmos_session.specs.Sessions.{HeldSession}
+use Rattle.session_meaning.specs.Sessions.{HeldSession}
 use Rattle.fault_meaning.specs.Runnings.{BenchData}
 use Rattle.fault_meaning.proofs.RunLemmas.{traced}
 use Rattle.fault_meaning.proofs.BenchLemmas.{bench_traced}

@@ -3,10 +3,10 @@ use Rattle.std.proofs.Common.{◌≡◌, ℕ, ◌<◌, None, Some, refl, sym, su
 use Rattle.std.proofs.lemmas.Result.{err_from_is_err_and}
 use Rattle.analysis_cache.specs.Keeping.{texts_of}
 use Rattle.lane_script.specs.declared.command.LaneCommand.TheVariants as asked
-use Rattle.cosmos_session.specs.Sessions.{IsReady, places_of}
-use Rattle.cosmos_session.specs.Refusals.{cycle_refusal}
-use Rattle.cosmos_session.specs.Effects.{places_in}
-use Rattle.cosmos_session.proofs.MachineLemmas.{cycle_inputs}
+use Rattle.session_meaning.specs.Sessions.{IsReady, places_of}
+use Rattle.session_meaning.specs.Refusals.{cycle_refusal}
+use Rattle.session_meaning.specs.Effects.{places_in}
+use Rattle.session_meaning.proofs.MachineLemmas.{cycle_inputs}
 use Rattle.lane_session.specs.LaneSessions.{session_in}
 use Rattle.lane_session.specs.Stages.{HeldLanes, TakesBeatsTogether}
 use Rattle.lane_session.proofs.ColumnStates.{column_ready}

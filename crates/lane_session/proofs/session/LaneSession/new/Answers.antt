@@ -1,7 +1,7 @@
 -- Each column is the start of a plain session.
 use Rattle.std.proofs.Common.{ap}
 use Rattle.analysis_cache.specs.Keeping.{KeptData, texts_of}
-use Rattle.cosmos_session.specs.Sessions.{HeldSession}
+use Rattle.session_meaning.specs.Sessions.{HeldSession}
 use Rattle.lane_session.proofs.QuietLemmas.{start_inside, start_columns}
 use Rattle.lane_session.proofs.session.LaneSession.new.Goals as goal
 

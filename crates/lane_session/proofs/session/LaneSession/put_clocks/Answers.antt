@@ -1,8 +1,8 @@
 -- The clocks' nodes are nodes past the rails, and each place of a cycle is within their states.
 use Rattle.std.proofs.Common.{◌<◌, sym, subst}
 use Rattle.analysis_cache.specs.Keeping.{texts_of}
-use Rattle.cosmos_session.specs.Sessions.{places_of}
-use Rattle.cosmos_session.proofs.BeatLemmas.{places_within}
+use Rattle.session_meaning.specs.Sessions.{places_of}
+use Rattle.session_meaning.proofs.BeatLemmas.{places_within}
 use Rattle.lane_session.specs.Stages.{HeldLanes, FitsIn, IsBuilt}
 use Rattle.lane_session.specs.contracts.session.LaneSession.{the_view}
 use Rattle.lane_session.proofs.InsideLemmas.{put_inside, beat_put, fits_still}

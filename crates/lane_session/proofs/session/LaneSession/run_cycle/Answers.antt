@@ -2,7 +2,7 @@
 use Rattle.std.proofs.Common.{◌≡◌, ℕ, ap, subst, sym, ◌∙◌, refl, rules, arith}
 use Rattle.std.specs.List.{range_with_len}
 use Rattle.std.proofs.lemmas.Result.{err_from_is_err_and}
-use Rattle.cosmos_session.specs.Sessions.{places_of}
+use Rattle.session_meaning.specs.Sessions.{places_of}
 use Rattle.lane_session.specs.LaneSessions.{LaneSessionData, session_in}
 use Rattle.lane_session.specs.Stages.{BeatsDoneInAll}
 use Rattle.lane_session.proofs.StepLemmas.{shares-none, shares-put, shares-settled, lanes_shared, inputs_shared, room_shared}

@@ -1,7 +1,7 @@
 -- The places before this one are done in each column, with their rows sent.
 use Rattle.std.proofs.Common.{◌≡◌}
 use Rattle.std.specs.List.{range_with_len}
-use Rattle.cosmos_session.specs.Sessions.{places_of}
+use Rattle.session_meaning.specs.Sessions.{places_of}
 use Rattle.lane_session.specs.Stages.{IsBuilt, BeatsDoneInAll, SharesAll}
 use Rattle.lane_session.proofs.session.LaneSession.run_cycle.Given as goal
 

@@ -1,8 +1,8 @@
 -- A fault in a cycle leaves a part of the rows of all cycles.
 use Rattle.std.proofs.Common.{◌≡◌, ℕ, subst, sym, ◌∙◌, refl, arith}
 use Rattle.std.proofs.lemmas.Result.{err_from_is_err_and}
-use Rattle.cosmos_session.specs.Sessions.{places_of}
-use Rattle.cosmos_session.specs.Effects.{places_in}
+use Rattle.session_meaning.specs.Sessions.{places_of}
+use Rattle.session_meaning.specs.Effects.{places_in}
 use Rattle.lane_session.specs.LaneSessions.{session_in}
 use Rattle.lane_session.specs.Stages.{BeatsDoneInAll}
 use Rattle.lane_session.proofs.StepLemmas.{shares-none, shares-more, lanes_shared, inputs_shared, room_shared}

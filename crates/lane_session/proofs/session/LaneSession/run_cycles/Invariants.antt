@@ -1,7 +1,7 @@
 -- The cycles before this one are run in each column, with their rows sent.
 use Rattle.std.proofs.Common.{◌≡◌}
-use Rattle.cosmos_session.specs.Sessions.{places_of}
-use Rattle.cosmos_session.specs.Effects.{places_in}
+use Rattle.session_meaning.specs.Sessions.{places_of}
+use Rattle.session_meaning.specs.Effects.{places_in}
 use Rattle.lane_session.specs.Stages.{IsBuilt, BeatsDoneInAll, SharesAll}
 use Rattle.lane_session.proofs.session.LaneSession.run_cycles.Given as goal
 

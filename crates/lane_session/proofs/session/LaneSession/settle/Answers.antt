@@ -1,7 +1,7 @@
 use Rattle.std.proofs.Common.{◌≡◌, length, sym, subst, rules, arith}
 use Rattle.analysis_cache.specs.Keeping.{texts_of}
 use Rattle.batch_lanes.specs.Settling.{none_yet}
-use Rattle.cosmos_session.specs.Effects.{one_more}
+use Rattle.session_meaning.specs.Effects.{one_more}
 use Rattle.lane_session.specs.Stages.{HeldLanes, FitsIn, IsBuilt}
 use Rattle.lane_session.proofs.InsideLemmas.{settled_inside, are_settled}
 use Rattle.lane_session.proofs.session.LaneSession.settle.Goals as goal

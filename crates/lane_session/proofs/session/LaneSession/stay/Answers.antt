@@ -1,7 +1,7 @@
 -- A command that takes a step builds.
 use Rattle.std.proofs.Common.{◌≡◌, true, rules}
 use Rattle.lane_script.specs.Commands.{in_column}
-use Rattle.cosmos_session.specs.Preparing.{builds}
+use Rattle.session_meaning.specs.Preparing.{builds}
 use Rattle.lane_session.proofs.session.LaneSession.stay.Goals as goal
 
 pub unreachable-requires : goal.unreachable-requires

@@ -1,6 +1,6 @@
 use Rattle.std.proofs.Common.{◌≡◌, sym, subst, rules}
 use Rattle.analysis_cache.specs.Keeping.{texts_of}
-use Rattle.cosmos_session.specs.Effects.{one_more}
+use Rattle.session_meaning.specs.Effects.{one_more}
 use Rattle.lane_session.specs.Stages.{FitsIn, IsBuilt}
 use Rattle.lane_session.proofs.InsideLemmas.{stepped_inside, step_taken}
 use Rattle.lane_session.proofs.session.LaneSession.take_step.Goals as goal

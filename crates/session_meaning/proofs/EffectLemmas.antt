@@ -1,0 +1,311 @@
+-- Each command is refused or has an effect, and an effect keeps the data ready: the circuit well formed, and one state for each node.
+-- The plan: edits give nodes other than the rails a level, which keeps the circuit well formed; states are set and keep their number; steps,
+-- phases and cycles have an outcome because every state of a graph has a step and settles.
+use Rattle.std.proofs.Common.{◌≡◌, ℕ, ◌-◌, ◌≤◌, ◌++◌, ◌||◌, List, [], ◌∷◌, length, map, nat_lt, Option, None, Some, Bool, true, false, refl, sym, ◌∙◌, inl, inr, arith}
+use Rattle.std.specs.Prelude.{if◌then◌else◌, ◌⊎◌}
+use Rattle.std.proofs.lemmas.List.{length-set, length-replicate}
+use Rattle.std.proofs.lemmas.List.Elements.{All-nil}
+use Rattle.std.proofs.lemmas.Bool.Decides.{nat_tests}
+use Rattle.ternary.specs.declared.tern.Tern.TheVariants.{Unk}
+use Rattle.strength_order.specs.declared.TheConstants.{INPUT_LEVEL}
+use Rattle.strength_order.specs.Levels.{IsLevel, level_of_size}
+use Rattle.path_meaning.specs.Graphs.{nodes}
+use Rattle.path_meaning.proofs.ExistingSteps.{exists}
+use Rattle.oscillation_x.proofs.SettlingExists.{every_state}
+use Rattle.path_meaning.specs.declared.TheConstants.{RAILS}
+use Rattle.netlist.specs.Names.{node_of}
+use Rattle.netlist.specs.Circuits.{CircuitData, IsCircuit}
+use Rattle.netlist.proofs.KeptLemmas.{IsLevel-input, IsLevel-size, IsCircuit-with_level}
+use Rattle.netlist.proofs.KeptLemmas.{IsCircuit-with_transistor}
+use Rattle.netlist.proofs.EditLemmas.{nodes-with_transistor, nodes-with_wires, IsCircuit-without_switch, IsCircuit-with_strength, IsCircuit-with_kind, IsCircuit-with_wires}
+use Rattle.netlist.specs.Edits.{with_input, with_store, node_named, is_size, with_transistor, without_switch, with_strength, with_kind, with_wires}
+use Rattle.group_text.specs.Texts.{GroupTextData}
+use Rattle.group_text.specs.FirstTexts.{first_texts}
+use Rattle.circuit_texts.specs.declared.texts.BuildFault.{BuildFault}
+use Rattle.circuit_texts.specs.Sizes.{TellsTooLarge}
+use Rattle.circuit_texts.specs.Building.{HasTexts}
+use Rattle.group_text.specs.FirstTexts.{new_texts}
+use Rattle.script_lang.specs.declared.command.Command.{Command}
+use Rattle.script_lang.specs.declared.command.Command.TheVariants.{Input, Store, Set, Charge, Watch, Limit, Step, Phase, Clock, Cycle, Expect, Add, Del, Strength, Kind, Wire, Report, Keep}
+use Rattle.script_lang.specs.Forms.{IsFormed}
+use Rattle.session_meaning.specs.declared.fault.Refusal.{Refusal}
+use Rattle.session_meaning.specs.declared.fault.Refusal.TheVariants.{Rail, BadSize}
+use Rattle.session_meaning.specs.Sessions.{SessionData, ClockData, IsReady, start_of, places_of}
+use Rattle.session_meaning.specs.Refusals.{refusal_of, first_refusal, rail_refusal, store_refusal, length_refusal, strength_for}
+use Rattle.session_meaning.specs.Preparing.{builds, with_present, IsBuild, BuildsIf}
+use Rattle.session_meaning.specs.Lines.{Line, Reported, text_of}
+use Rattle.session_meaning.specs.Effects.{Effect, IsPhase, AreBeats, with_inputs, assigned, clock_of, with_beat, moved_to, wave_by, unmet_lines, has_lines, places_in, with_circuit}
+use Rattle.session_meaning.specs.Outcomes.{Does, Performs}
+use Rattle.session_meaning.proofs.RefusalLemmas.{first_refusal-none, or_else-none}
+use Rattle.session_meaning.proofs.StateLemmas.{length-assigned, length-states_with, length-settles, set_past, charged_past, clocks_past, sound-assigned, sound-states_with, sound-step, sound-settles}
+use Rattle.session_meaning.proofs.OutcomeLemmas.{does_effect, refusal_of-built, built_performs, still_performs}
+use Rattle.session_meaning.proofs.SizeLemmas.{texts_or_size}
+use Rattle.session_meaning.proofs.EditLemmas.{IsReady-grown, unrefused_add, unrefused_strength}
+
+-- ---- edits
+
+-- a node whose edit isn't refused is in use and no rail
+no_rail_edit : (found : Option ℕ) → rail_refusal found ≡ None → (node : ℕ) × (found ≡ Some node) × (RAILS ≤ node)
+no_rail_edit None none = absurd (cc)
+no_rail_edit (Some node) none = (node, refl, grind (arith, nat_tests))
+
+-- `input` makes no new node, and gives no new name
+pub nodes-with_inputs : (names : List (List ℕ)) (c : CircuitData) → nodes (with_inputs c names).graph ≡ nodes c.graph
+nodes-with_inputs [] c = refl
+nodes-with_inputs (name ∷ names) c =
+    nodes-with_inputs names (with_input c (node_named c name)) ∙ length-set c.graph.levels (node_named c name) INPUT_LEVEL
+
+-- a circuit stays well formed by an `input` that isn't refused
+IsCircuit-with_inputs : (names : List (List ℕ)) (c : CircuitData) → first_refusal (λ name. rail_refusal (node_of c.names name)) names ≡ None →
+    IsCircuit c → IsCircuit (with_inputs c names)
+IsCircuit-with_inputs [] c none is = is
+IsCircuit-with_inputs (name ∷ names) c none is =
+    let both = first_refusal-none (λ name. rail_refusal (node_of c.names name)) name names none in
+    let found = no_rail_edit (node_of c.names name) both.0 in
+    IsCircuit-with_inputs names (with_input c (node_named c name)) both.1
+    (IsCircuit-with_level c (node_named c name) INPUT_LEVEL (rw found.1 found.2) IsLevel-input is)
+
+-- a node whose new size isn't refused is in use, is no rail, and gets a level
+no_rail_store : (c : CircuitData) (size : ℕ) (found : Option ℕ) → store_refusal c size found ≡ None →
+    (node : ℕ) × (found ≡ Some node) × (RAILS ≤ node) × IsLevel (level_of_size size)
+no_rail_store c size None none = absurd (cc)
+no_rail_store c size (Some node) none = by (nat_lt node RAILS) (is_size c.profile size) refl refl none
+  where
+    by : (rail fits : Bool) → nat_lt node RAILS ≡ rail → is_size c.profile size ≡ fits →
+        (if rail then Some Rail else (if fits then None else Some BadSize)) ≡ None →
+        (node' : ℕ) × (Some node ≡ Some node') × (RAILS ≤ node') × IsLevel (level_of_size size)
+    by true fits is_rail is_fits none = absurd (cc)
+    by false false is_rail is_fits none = absurd (cc)
+    by false true is_rail is_fits none = (node, refl, grind (arith, nat_tests), IsLevel-size c.profile size is_fits)
+
+-- ---- phases and cycles
+
+-- a phase keeps the data ready
+pub phase-ready : (session new : SessionData) (lines : List Line) → IsPhase session new lines → IsReady session → IsReady new
+phase-ready session new lines phase ready = rw phase.moved (record {
+  netlist = ready.netlist;
+  states = length-settles session.circuit.graph session.state session.limit phase.next phase.steps phase.joined ready.states phase.settles;
+  sound = sound-settles session.circuit ready.netlist session.state session.limit phase.next phase.steps phase.joined ready.states phase.settles ready.sound;
+  free = ready.free;
+})
+
+-- so do clocks' states at a place
+pub with_beat-ready : (session : SessionData) (place : ℕ) → IsReady session → IsReady (with_beat session place)
+with_beat-ready session place ready = record {
+  netlist = ready.netlist;
+  states = length-states_with session.clocks place session.state ∙ ready.states;
+  sound = sound-states_with session.clocks place session.state ready.free ready.sound;
+  free = ready.free;
+}
+
+-- every state has a phase
+pub phase_exists : (session : SessionData) → IsReady session → (new : SessionData) × (lines : List Line) × IsPhase session new lines
+phase_exists session ready =
+    let found = every_state session.circuit.graph ready.netlist.wired session.state ready.states session.limit in
+    let new : SessionData = moved_to session found.0 in (
+      new,
+      wave_by new found.1 found.2 ∷ [],
+      record { next = found.0; steps = found.1; joined = found.2; settles = found.3; moved = refl; wrote = refl },
+    )
+
+-- phases at places keep the data ready
+pub beats-ready : (places : List ℕ) (session new : SessionData) (lines : List Line) → AreBeats session places new lines → IsReady session → IsReady new
+beats-ready [] session new lines (same, none) ready = rw same ready
+beats-ready (place ∷ places) session new lines (mid, front, back, phase, beats, whole) ready =
+    beats-ready places mid new back beats (phase-ready (with_beat session place) mid front phase (with_beat-ready session place ready))
+
+-- there are phases at all places
+pub beats_exist : (places : List ℕ) (session : SessionData) → IsReady session →
+    (new : SessionData) × (lines : List Line) × AreBeats session places new lines
+beats_exist [] session ready = (session, [], (refl, refl))
+beats_exist (place ∷ places) session ready =
+    let beat = with_beat-ready session place ready in
+    let found = phase_exists (with_beat session place) beat in
+    let others = beats_exist places found.0 (phase-ready (with_beat session place) found.0 found.1 found.2 beat) in
+    (others.0, found.1 ++ others.1, (found.0, found.1, others.1, found.2, others.2, refl))
+
+-- ---- all commands
+
+-- every command has an effect where it isn't refused, and the circuit has texts where it was built
+effect_exists : (session : SessionData) → IsReady session → (command : Command) →
+    (builds command ≡ true → (texts : List GroupTextData) × HasTexts session.circuit.graph texts) →
+    (new : SessionData) × (lines : List Line) × Effect session command new lines
+effect_exists session ready (Input names) has = (record session { circuit = with_inputs session.circuit names }, [], (refl, refl))
+effect_exists session ready (Store name size) has =
+    (record session { circuit = with_store session.circuit (node_named session.circuit name) size }, [], (refl, refl))
+effect_exists session ready (Set list) has = (record session { state = assigned session.circuit session.state list }, [], (refl, refl))
+effect_exists session ready (Charge list) has = (record session { state = assigned session.circuit session.state list }, [], (refl, refl))
+effect_exists session ready (Watch names) has =
+    (record session { watched = session.watched ++ map (node_named session.circuit) names }, [], (refl, refl))
+effect_exists session ready (Limit number) has = (record session { limit = number }, [], (refl, refl))
+effect_exists session ready Step has =
+    let found = exists session.circuit.graph ready.netlist.wired session.state in
+    let new : SessionData = moved_to session found.0 in
+    (new, wave_by new 1 false ∷ [], record { next = found.0; step = found.1; moved = refl; wrote = refl })
+effect_exists session ready Phase has = phase_exists session ready
+effect_exists session ready (Clock list) has = (record session { clocks = map (clock_of session.circuit) list }, [], (refl, refl))
+effect_exists session ready (Cycle times) has = beats_exist (places_in (places_of session.clocks) times) session ready
+effect_exists session ready (Expect list) has =
+    (record session { missed = session.missed || has_lines (unmet_lines session list) }, unmet_lines session list, (refl, refl))
+effect_exists session ready (Add kind gate source drain strength) has =
+    (with_circuit session (with_transistor session.circuit kind (strength_for kind strength) gate source drain), [], (refl, refl))
+effect_exists session ready (Del number) has = (record session { circuit = without_switch session.circuit number }, [], (refl, refl))
+effect_exists session ready (Strength number strength) has =
+    (record session { circuit = with_strength session.circuit number strength }, [], (refl, refl))
+effect_exists session ready (Kind number kind) has = (record session { circuit = with_kind session.circuit number kind }, [], (refl, refl))
+effect_exists session ready (Wire number gate source drain) has =
+    (with_circuit session (with_wires session.circuit number gate source drain), [], (refl, refl))
+effect_exists session ready Report has =
+    let found = has refl in (
+      record session { fresh = 0 },
+      Reported (length found.0) (length (first_texts found.0)) session.fresh ∷ [],
+      record { texts = found.0; has = found.1; moved = refl; wrote = refl },
+    )
+effect_exists session ready (Keep number) has = (record session { bound = Some number }, [], (refl, refl))
+
+-- a build keeps the data ready
+pub ready-build : (old mid : SessionData) (texts : List GroupTextData) → IsBuild old mid texts → IsReady old → IsReady mid
+ready-build old mid texts build ready =
+    rw build.used (record { netlist = ready.netlist; states = ready.states; sound = ready.sound; free = ready.free })
+
+-- how a formed command ends: it is refused by the data, or for the size of a group, or it is done
+pub data Ends (session : SessionData) (command : Command) : Type 0 where
+  refused : (refusal : Refusal) → refusal_of session command ≡ Some refusal → Ends session command
+  too_large : (fault : BuildFault) → refusal_of session command ≡ None → builds command ≡ true → TellsTooLarge session.circuit.graph fault →
+      Ends session command
+  performed : (new : SessionData) (text : List ℕ) (texts : List GroupTextData) → Performs session command new text texts → Ends session command
+
+-- a command that builds nothing is done where it isn't refused
+still_ends : (session : SessionData) (command : Command) → IsReady session → builds command ≡ false → refusal_of session command ≡ None →
+    Ends session command
+still_ends session command ready still allowed =
+    let outcome = effect_exists session ready command (λ building. absurd (cc)) in
+    performed outcome.0 (text_of outcome.1) []
+    (still_performs session outcome.0 command (text_of outcome.1) still (does_effect session outcome.0 command outcome.1 allowed outcome.2))
+
+-- one that builds is done where moreover the circuit's groups have texts
+built_ends : (session : SessionData) (command : Command) (texts : List GroupTextData) → IsReady session → builds command ≡ true →
+    refusal_of session command ≡ None → HasTexts session.circuit.graph texts → Ends session command
+built_ends session command texts ready building allowed has =
+    let fresh : List GroupTextData = new_texts session.kept texts in
+    let mid : SessionData = with_present session texts in
+    let build : IsBuild session mid fresh = record { present = texts; has = has; news = refl; used = refl } in
+    let outcome = effect_exists mid (ready-build session mid fresh build ready) command (λ builds. (texts, has)) in
+    performed outcome.0 (text_of outcome.1) fresh
+    (built_performs session mid outcome.0 command (text_of outcome.1) fresh building build
+    (does_effect mid outcome.0 command outcome.1 (refusal_of-built session mid command fresh build ∙ allowed) outcome.2))
+
+-- each formed command ends
+pub ends : (session : SessionData) (command : Command) → IsReady session → IsFormed command → Ends session command
+ends session command ready formed = by (refusal_of session command) (builds command) refl refl (texts_or_size session.circuit.graph ready.netlist.wired)
+  where
+    by : (found : Option Refusal) (building : Bool) → refusal_of session command ≡ found → builds command ≡ building →
+        ((texts : List GroupTextData) × HasTexts session.circuit.graph texts) ⊎ ((fault : BuildFault) × TellsTooLarge session.circuit.graph fault) →
+        Ends session command
+    by (Some refusal) building is does size = refused refusal is
+    by None false is does size = still_ends session command ready does is
+    by None true is does (inl has) = built_ends session command has.0 ready does is has.1
+    by None true is does (inr large) = too_large large.0 is does large.1
+
+-- an effect keeps the data ready
+ready-effect : (old new : SessionData) (command : Command) (lines : List Line) → refusal_of old command ≡ None → Effect old command new lines →
+    IsReady old → IsReady new
+ready-effect old new (Input names) lines allowed effect ready = rw (effect.0) (record {
+  netlist = IsCircuit-with_inputs names old.circuit allowed ready.netlist;
+  states = ready.states ∙ sym (nodes-with_inputs names old.circuit);
+  sound = ready.sound;
+  free = ready.free;
+})
+ready-effect old new (Store name size) lines allowed effect ready =
+    let node = node_named old.circuit name in
+    let found = no_rail_store old.circuit size (node_of old.circuit.names name) allowed in
+    rw (effect.0) (record {
+      netlist = IsCircuit-with_level old.circuit node (level_of_size size) (rw found.1 found.2) found.3 ready.netlist;
+      states = ready.states ∙ sym (length-set old.circuit.graph.levels node (level_of_size size));
+      sound = ready.sound;
+      free = ready.free;
+    })
+ready-effect old new (Set list) lines allowed effect ready = rw (effect.0) (record {
+  netlist = ready.netlist;
+  states = length-assigned old.circuit list old.state ∙ ready.states;
+  sound = sound-assigned old.circuit list old.state (set_past old.circuit list allowed) ready.sound;
+  free = ready.free;
+})
+ready-effect old new (Charge list) lines allowed effect ready = rw (effect.0) (record {
+  netlist = ready.netlist;
+  states = length-assigned old.circuit list old.state ∙ ready.states;
+  sound = sound-assigned old.circuit list old.state (charged_past old.circuit list allowed) ready.sound;
+  free = ready.free;
+})
+ready-effect old new (Watch names) lines allowed effect ready = rw (effect.0) (record { netlist = ready.netlist; states = ready.states; sound = ready.sound; free = ready.free })
+ready-effect old new (Limit number) lines allowed effect ready = rw (effect.0) (record { netlist = ready.netlist; states = ready.states; sound = ready.sound; free = ready.free })
+ready-effect old new Step lines allowed effect ready = rw effect.moved (record {
+  netlist = ready.netlist;
+  states = effect.step.count;
+  sound = sound-step old.circuit ready.netlist old.state effect.next effect.step ready.sound;
+  free = ready.free;
+})
+ready-effect old new Phase lines allowed effect ready = phase-ready old new lines effect ready
+ready-effect old new (Clock list) lines allowed effect ready = rw (effect.0) (record {
+  netlist = ready.netlist;
+  states = ready.states;
+  sound = ready.sound;
+  free = clocks_past old.circuit list (set_past old.circuit list (or_else-none (length_refusal list) _ allowed).1);
+})
+ready-effect old new (Cycle times) lines allowed effect ready =
+    beats-ready (places_in (places_of old.clocks) times) old new lines effect ready
+ready-effect old new (Expect list) lines allowed effect ready = rw (effect.0) (record { netlist = ready.netlist; states = ready.states; sound = ready.sound; free = ready.free })
+ready-effect old new (Add kind gate source drain strength) lines allowed effect ready =
+    let used = strength_for kind strength in
+    let none = unrefused_add old.circuit used gate source drain allowed in
+    rw (effect.0) (IsReady-grown old (with_transistor old.circuit kind used gate source drain)
+    (IsCircuit-with_transistor old.circuit kind used gate source drain ready.netlist none)
+    (nodes-with_transistor old.circuit kind used gate source drain) ready)
+ready-effect old new (Del number) lines allowed effect ready = rw (effect.0) (record {
+  netlist = IsCircuit-without_switch old.circuit number ready.netlist;
+  states = ready.states;
+  sound = ready.sound;
+  free = ready.free;
+})
+ready-effect old new (Strength number strength) lines allowed effect ready = rw (effect.0) (record {
+  netlist = IsCircuit-with_strength old.circuit number strength (unrefused_strength old.circuit number strength allowed) ready.netlist;
+  states = ready.states;
+  sound = ready.sound;
+  free = ready.free;
+})
+ready-effect old new (Kind number kind) lines allowed effect ready = rw (effect.0) (record {
+  netlist = IsCircuit-with_kind old.circuit number kind ready.netlist;
+  states = ready.states;
+  sound = ready.sound;
+  free = ready.free;
+})
+ready-effect old new (Wire number gate source drain) lines allowed effect ready =
+    rw (effect.0) (IsReady-grown old (with_wires old.circuit number gate source drain)
+    (IsCircuit-with_wires old.circuit number gate source drain ready.netlist) (nodes-with_wires old.circuit number gate source drain) ready)
+ready-effect old new Report lines allowed effect ready =
+    rw effect.moved (record { netlist = ready.netlist; states = ready.states; sound = ready.sound; free = ready.free })
+ready-effect old new (Keep number) lines allowed effect ready = rw (effect.0) (record { netlist = ready.netlist; states = ready.states; sound = ready.sound; free = ready.free })
+
+-- what a command does keeps the data ready
+pub ready-does : (session new : SessionData) (command : Command) (text : List ℕ) → IsReady session → Does session command new text → IsReady new
+ready-does session new command text ready does = ready-effect session new command does.lines does.allowed does.effect ready
+
+-- what stands before an effect keeps the data ready
+ready-prepared : (does : Bool) (old mid : SessionData) (texts : List GroupTextData) → BuildsIf does old mid texts → IsReady old → IsReady mid
+ready-prepared true old mid texts build ready = ready-build old mid texts build ready
+ready-prepared false old mid texts still ready = rw (still.0) ready
+
+-- and so does all that is done for a command
+pub ready-performs : (session new : SessionData) (command : Command) (text : List ℕ) (texts : List GroupTextData) → IsReady session →
+    Performs session command new text texts → IsReady new
+ready-performs session new command text texts ready performs =
+    ready-does performs.mid new command text (ready-prepared (builds command) session performs.mid texts performs.prepares ready) performs.does
+
+-- a session starts ready
+pub ready-start : (circuit : CircuitData) → IsCircuit circuit → IsReady (start_of circuit)
+ready-start circuit is = record {
+  netlist = is;
+  states = omega (arith, length-replicate (nodes circuit.graph - RAILS) Unk, is.railed);
+  sound = record { gnd = refl; vdd = refl };
+  free = All-nil (λ (clock : ClockData). RAILS ≤ clock.node);
+}

@@ -1,0 +1,49 @@
+-- Each command that is no edit says of the machine that is there that it is there still.
+use Rattle.std.proofs.Common.{◌≡◌, ℕ, List, true, Option, None, Some, is_some, refl, sym, ◌∙◌}
+use Rattle.machine_laws.specs.Machines.{MachineData}
+use Rattle.netlist.specs.Circuits.{CircuitData}
+use Rattle.script_lang.specs.declared.command.Command.{Command}
+use Rattle.script_lang.specs.declared.command.Command.TheVariants.{Input, Store, Set, Charge, Watch, Limit, Step, Phase, Clock, Cycle, Expect, Add, Del, Strength, Kind, Wire, Report, Keep}
+use Rattle.session_meaning.specs.Sessions.{HeldSession}
+use Rattle.session_meaning.specs.Machines.{PlacesIn, IsMachineAfter, edits}
+use Rattle.session_meaning.proofs.laws.only_edits_lose_the_machine.Goals as goal
+
+-- none is there, and one is
+none_there : (found : Option MachineData) (machine : MachineData) → found ≡ Some machine → found ≡ None → ⊥
+none_there found machine there none =
+    let same : Some machine ≡ None = sym there ∙ none in
+    absurd (cc)
+
+-- one was there, and it stays
+lost : (old new : Option MachineData) → new ≡ old → is_some old ≡ true → new ≡ None → ⊥
+lost None new same some none = absurd (cc)
+lost (Some machine) new same some none = none_there new machine same none
+
+-- one was there, and nodes were placed in it
+placed_lost : (c : CircuitData) (names : List (List ℕ)) (old new : Option MachineData) → PlacesIn c names old new → is_some old ≡ true → new ≡ None → ⊥
+placed_lost c names None new places some none = absurd (cc)
+placed_lost c names (Some machine) new places some none = none_there new places.machine places.there none
+
+by_command : (old new : HeldSession) (command : Command) → IsMachineAfter old command new → is_some old.machine ≡ true → new.machine ≡ None →
+    edits command ≡ true
+by_command old new (Input names) after some none = refl
+by_command old new (Store name size) after some none = refl
+by_command old new (Set list) after some none = absurd (placed_lost old.core.circuit _ old.machine new.machine after.0 some none)
+by_command old new (Charge list) after some none = absurd (placed_lost old.core.circuit _ old.machine new.machine after some none)
+by_command old new (Watch names) after some none = absurd (lost old.machine new.machine after some none)
+by_command old new (Limit number) after some none = absurd (lost old.machine new.machine after some none)
+by_command old new Step after some none = absurd (none_there new.machine after.machine after.there none)
+by_command old new Phase after some none = absurd (none_there new.machine after.moves.machine after.moves.there none)
+by_command old new (Clock list) after some none = absurd (lost old.machine new.machine after some none)
+by_command old new (Cycle times) after some none = absurd (none_there new.machine after.moves.machine after.moves.there none)
+by_command old new (Expect list) after some none = absurd (lost old.machine new.machine after some none)
+by_command old new (Add kind gate source drain strength) after some none = refl
+by_command old new (Del number) after some none = refl
+by_command old new (Strength number strength) after some none = refl
+by_command old new (Kind number kind) after some none = refl
+by_command old new (Wire number gate source drain) after some none = refl
+by_command old new Report after some none = absurd (none_there new.machine after.machine after.there none)
+by_command old new (Keep number) after some none = absurd (lost old.machine new.machine after some none)
+
+pub returns : goal.returns
+returns c = by_command

@@ -1,0 +1,145 @@
+-- The effect of each command that isn't refused: the new data, and the lines that are written.
+-- A unit step gives every node its steady state by unblocked paths, all at once; a phase settles by such steps.
+-- After Bryant, "A Switch-Level Model and Simulator for MOS Digital Systems", 1984; the commands are this project's own.
+use Rattle.std.specs.Prelude.{◌≡◌, ℕ, Bool, true, false, ◌||◌, ◌+◌, ◌*◌, ◌-◌, ◌%◌, ◌^◌, min, List, [], ◌∷◌, ◌++◌, length, replicate, map, filter_map, slice_set, Option, Some, None, if◌then◌else◌}
+use Rattle.std.specs.List.{range_with_len}
+use Rattle.ternary.specs.declared.tern.Tern.{Tern}
+use Rattle.ternary.specs.declared.tern.Tern.TheVariants.{Zero, One, Unk}
+use Rattle.path_meaning.specs.Switching.{state_at}
+use Rattle.path_meaning.specs.Step.{IsStep}
+use Rattle.oscillation_x.specs.Settling.{Settles}
+use Rattle.netlist.specs.Circuits.{CircuitData}
+use Rattle.netlist.specs.Edits.{node_named, with_input, with_store, with_transistor, without_switch, with_strength, with_kind, with_wires}
+use Rattle.path_meaning.specs.Graphs.{nodes}
+use Rattle.group_text.specs.FirstTexts.{first_texts}
+use Rattle.group_text.specs.Texts.{GroupTextData}
+use Rattle.circuit_texts.specs.Building.{HasTexts}
+use Rattle.script_lang.specs.declared.command.Command.{Command}
+use Rattle.script_lang.specs.declared.command.Command.TheVariants.{Input, Store, Set, Charge, Watch, Limit, Step, Phase, Clock, Cycle, Expect, Add, Del, Strength, Kind, Wire, Report, Keep}
+use Rattle.session_meaning.specs.Sessions.{SessionData, ClockData, places_of}
+use Rattle.session_meaning.specs.Refusals.{strength_for}
+use Rattle.session_meaning.specs.Lines.{Line, Wave, Unmet, Reported}
+
+-- the circuit with the named nodes as input nodes
+abbrev pub with_inputs : CircuitData → List (List ℕ) → CircuitData
+with_inputs c [] = c
+with_inputs c (name ∷ names) = with_inputs (with_input c (node_named c name)) names
+
+-- the state with the named nodes in their states, from left to right
+abbrev pub assigned : CircuitData → List Tern → List (List ℕ × Tern) → List Tern
+assigned c state [] = state
+assigned c state (item ∷ items) = assigned c (slice_set state (node_named c item.0) item.1) items
+
+-- the clock of a name and its letters
+abbrev pub clock_of : CircuitData → (List ℕ × List Tern) → ClockData
+clock_of c item = record { node = node_named c item.0; states = item.1 }
+
+-- a count that has reached the last value of its type stays there
+abbrev pub one_more : ℕ → ℕ
+one_more count = min (count + 1) (2 ^ 64 - 1)
+
+-- the data after unit steps to this state, with one more waveform line
+abbrev pub moved_to : SessionData → List Tern → SessionData
+moved_to session next = record session { state = next; count = one_more session.count }
+
+-- the waveform line by the data after a step or a phase: the number of steps, and the mark
+abbrev pub wave_by : SessionData → ℕ → Bool → Line
+wave_by session k mark = Wave session.count k mark (map (state_at session.state) session.watched)
+
+-- one unit step: k is 1, and there is no mark
+pub record IsUnitStep (old new : SessionData) (lines : List Line) : Type 0 where
+  pub next : List Tern
+  pub step : IsStep old.circuit.graph old.state next
+  pub moved : new ≡ moved_to old next
+  pub wrote : lines ≡ wave_by new 1 false ∷ []
+
+-- one phase: the state settles under the limit; k is the number of steps that changed something, and the mark says whether a joining
+-- step did
+pub record IsPhase (old new : SessionData) (lines : List Line) : Type 0 where
+  pub next : List Tern
+  pub steps : ℕ
+  pub joined : Bool
+  pub settles : Settles old.circuit.graph old.state old.limit next steps joined
+  pub moved : new ≡ moved_to old next
+  pub wrote : lines ≡ wave_by new steps joined ∷ []
+
+-- the states with each clock's node in its state at a place, from left to right
+abbrev pub states_with : List ClockData → ℕ → List Tern → List Tern
+states_with [] place state = state
+states_with (clock ∷ clocks) place state =
+    states_with clocks place (slice_set state clock.node (state_at clock.states place))
+
+-- the data with each clock's node in its state at a place
+abbrev pub with_beat : SessionData → ℕ → SessionData
+with_beat session place = record session { state = states_with session.clocks place session.state }
+
+-- for each of these places of the clocks in order: their nodes are set, and a phase is done
+abbrev pub AreBeats : SessionData → List ℕ → SessionData → List Line → Type 0
+AreBeats old [] new lines = (new ≡ old) × (lines ≡ [])
+AreBeats old (place ∷ places) new lines =
+    (mid : SessionData) × (front : List Line) × (back : List Line) ×
+    IsPhase (with_beat old place) mid front × AreBeats mid places new back × (lines ≡ front ++ back)
+
+-- the places of so many cycles of clocks with so many places each: all of them in order, again and again
+abbrev pub places_in : ℕ → ℕ → List ℕ
+places_in count times = map (λ i. i % count) (range_with_len 0 (times * count))
+
+-- both states are the same
+abbrev pub is_state : Tern → Tern → Bool
+is_state Zero Zero = true
+is_state One One = true
+is_state Unk Unk = true
+is_state left right = false
+
+-- the line of an assignment whose node isn't in the wanted state
+abbrev pub unmet_line : SessionData → (List ℕ × Tern) → Option Line
+unmet_line session item =
+    let got = state_at session.state (node_named session.circuit item.0) in
+    if is_state got item.1 then None else Some (Unmet item.0 item.1 got session.count)
+
+-- the lines of the assignments that aren't met, from left to right
+abbrev pub unmet_lines : SessionData → List (List ℕ × Tern) → List Line
+unmet_lines session list = filter_map (unmet_line session) list
+
+-- there is a line
+abbrev pub has_lines : List Line → Bool
+has_lines [] = false
+has_lines (line ∷ lines) = true
+
+-- the data with this circuit in place of theirs: each node that is new is X
+abbrev pub with_circuit : SessionData → CircuitData → SessionData
+with_circuit old c = record old { circuit = c; state = old.state ++ replicate (nodes c.graph - length old.state) Unk }
+
+-- a report: how many groups there are, how many distinct texts they have, and how many texts were analysed since the last report
+pub record IsReported (old new : SessionData) (lines : List Line) : Type 0 where
+  pub texts : List GroupTextData
+  pub has : HasTexts old.circuit.graph texts
+  pub moved : new ≡ record old { fresh = 0 }
+  pub wrote : lines ≡ Reported (length texts) (length (first_texts texts)) old.fresh ∷ []
+
+-- the effect of a command: from the data before it, the data after it and its lines
+abbrev pub Effect : SessionData → Command → SessionData → List Line → Type 0
+Effect old (Input names) new lines = (new ≡ record old { circuit = with_inputs old.circuit names }) × (lines ≡ [])
+Effect old (Store name size) new lines =
+    (new ≡ record old { circuit = with_store old.circuit (node_named old.circuit name) size }) × (lines ≡ [])
+Effect old (Set list) new lines = (new ≡ record old { state = assigned old.circuit old.state list }) × (lines ≡ [])
+Effect old (Charge list) new lines = (new ≡ record old { state = assigned old.circuit old.state list }) × (lines ≡ [])
+Effect old (Watch names) new lines =
+    (new ≡ record old { watched = old.watched ++ map (node_named old.circuit) names }) × (lines ≡ [])
+Effect old (Limit number) new lines = (new ≡ record old { limit = number }) × (lines ≡ [])
+Effect old Step new lines = IsUnitStep old new lines
+Effect old Phase new lines = IsPhase old new lines
+Effect old (Clock list) new lines = (new ≡ record old { clocks = map (clock_of old.circuit) list }) × (lines ≡ [])
+Effect old (Cycle times) new lines = AreBeats old (places_in (places_of old.clocks) times) new lines
+Effect old (Expect list) new lines =
+    (new ≡ record old { missed = old.missed || has_lines (unmet_lines old list) }) × (lines ≡ unmet_lines old list)
+Effect old (Add kind gate source drain strength) new lines =
+    (new ≡ with_circuit old (with_transistor old.circuit kind (strength_for kind strength) gate source drain)) × (lines ≡ [])
+Effect old (Del number) new lines = (new ≡ record old { circuit = without_switch old.circuit number }) × (lines ≡ [])
+Effect old (Strength number strength) new lines =
+    (new ≡ record old { circuit = with_strength old.circuit number strength }) × (lines ≡ [])
+Effect old (Kind number kind) new lines = (new ≡ record old { circuit = with_kind old.circuit number kind }) × (lines ≡ [])
+Effect old (Wire number gate source drain) new lines =
+    (new ≡ with_circuit old (with_wires old.circuit number gate source drain)) × (lines ≡ [])
+Effect old Report new lines = IsReported old new lines
+Effect old (Keep number) new lines = (new ≡ record old { bound = Some number }) × (lines ≡ [])

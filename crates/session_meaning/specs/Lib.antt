@@ -1,0 +1,11 @@
+pub mod Sessions
+pub mod Refusals
+pub mod Preparing
+pub mod Lines
+pub mod Effects
+pub mod Sinks
+pub mod Switches
+pub mod Machines
+pub mod Outcomes
+pub mod Stages
+pub mod Bounds

@@ -1,0 +1,195 @@
+-- The machine of a session: what it is at any moment, and what a command does to it.
+-- After Bryant, Beatty, Brace, Cho and Sheffler, "COSMOS: A Compiled Simulator for MOS Circuits", 1987.
+use Rattle.std.specs.Prelude.{◌≡◌, ◌≢◌, ℕ, ◌+◌, ◌<◌, ◌⊎◌, Bool, true, false, List, [], ◌∷◌, ◌++◌, map, All, Contains, IsTrue, Option, None, Some, IfSome, is_some}
+use Rattle.ternary.specs.declared.tern.Tern.{Tern}
+use Rattle.ternary.specs.Counts.{raised}
+use Rattle.path_meaning.specs.Graphs.{GraphData}
+use Rattle.group_text.specs.Texts.{GroupTextData}
+use Rattle.group_text.specs.FirstTexts.{is_among}
+use Rattle.group_analysis.specs.Using.{used_texts}
+use Rattle.machine_parts.specs.declared.part.HeldPart.{HeldPart}
+use Rattle.machine_laws.specs.Machines.{MachineData}
+use Rattle.machine_parts.specs.Marking.{IsMarked}
+use Rattle.machine_parts.specs.Stepping.{Concerns, ReadsChange}
+use Rattle.machine_laws.specs.Fitting.{Covers, FitsGraph, IsKeptBy}
+use Rattle.netlist.specs.Circuits.{CircuitData}
+use Rattle.netlist.specs.Edits.{node_named}
+use Rattle.script_lang.specs.declared.command.Command.{Command}
+use Rattle.script_lang.specs.declared.command.Command.TheVariants.{Input, Store, Set, Charge, Watch, Limit, Step, Phase, Clock, Cycle, Expect, Add, Del, Strength, Kind, Wire, Report, Keep}
+use Rattle.session_meaning.specs.Sessions.{SessionData, HeldSession, IsSession}
+use Rattle.session_meaning.specs.Lines.{Line, Wave, Unmet, Reported}
+use Rattle.session_meaning.specs.Effects.{Effect}
+
+-- a machine as contracts of a session see it: how much room it has for new nodes isn't told
+abbrev pub without_room : MachineData → MachineData
+without_room machine = record machine { spare = 0 }
+
+-- the texts that the groups had at the last build, in order; where there is no machine, none
+abbrev pub last_in : Option MachineData → List GroupTextData
+last_in None = []
+last_in (Some machine) = machine.last
+
+-- what is kept, as a table has it, with the texts of the last build in front
+abbrev pub kept_in : Option MachineData → List GroupTextData → List GroupTextData
+kept_in machine kept = used_texts (last_in machine) kept
+
+-- all of these texts are among those
+abbrev pub AreAmong : List GroupTextData → List GroupTextData → Type 0
+AreAmong texts kept = All (λ text. IsTrue (is_among kept text)) texts
+
+-- the machine serves these: it covers the graph, its state is this, and each text whose code a part has is kept
+pub record Serves (g : GraphData) (states : List Tern) (kept : List GroupTextData) (machine : MachineData) : Type 0 where
+  pub covers : Covers g machine
+  pub same : machine.state ≡ states
+  pub known : IsKeptBy g kept machine
+
+-- the machine is that of the data: it serves their circuit, their state and what they keep
+abbrev pub IsMachineOf : SessionData → MachineData → Type 0
+IsMachineOf session machine = Serves session.circuit.graph session.state session.kept machine
+
+-- the data are those of a session, and what machine there is is theirs
+pub record IsHeldSession (session : HeldSession) : Type 0 where
+  pub core : IsSession session.core
+  pub machine : IfSome session.machine (IsMachineOf session.core)
+
+-- there is a machine, and it fits the graph
+pub record FitsIn (g : GraphData) (found : Option MachineData) : Type 0 where
+  pub machine : MachineData
+  pub there : found ≡ Some machine
+  pub fits : FitsGraph g machine
+
+-- the session has a machine, which fits its circuit
+abbrev pub IsBuilt : HeldSession → Type 0
+IsBuilt session = FitsIn session.core.circuit.graph session.machine
+
+-- how often the machine moved; where there is none, never
+abbrev pub moves_of : Option MachineData → ℕ
+moves_of None = 0
+moves_of (Some machine) = machine.moves
+
+-- how often one of its members was placed; where there is none, never
+abbrev pub placed_of : Option MachineData → ℕ
+placed_of None = 0
+placed_of (Some machine) = machine.placed
+
+-- how many steps changed something, by the waveform lines
+abbrev pub steps_in : List Line → ℕ
+steps_in [] = 0
+steps_in (Wave n k mark values ∷ lines) = k + steps_in lines
+steps_in (Unmet name want got n ∷ lines) = steps_in lines
+steps_in (Reported groups texts new ∷ lines) = steps_in lines
+
+-- the last line has no mark, and fewer steps than the limit
+pub record EndsAtRest (limit : ℕ) (lines : List Line) : Type 0 where
+  pub front : List Line
+  pub n : ℕ
+  pub k : ℕ
+  pub values : List Tern
+  pub last : lines ≡ front ++ Wave n k false values ∷ []
+  pub few : k < limit
+
+-- a step was done by the machine, which fits the circuit: it moved once where something changed, and those parts alone are marked that
+-- read a node which did
+pub record StepsMachine (old new : HeldSession) : Type 0 where
+  pub machine : MachineData
+  pub there : new.machine ≡ Some machine
+  pub fits : FitsGraph new.core.circuit.graph machine
+  pub moved : new.core.state ≢ old.core.state → machine.moves ≡ raised (moves_of old.machine) 1
+  pub rested : new.core.state ≡ old.core.state → machine.moves ≡ moves_of old.machine
+  pub placed : machine.placed ≡ placed_of old.machine
+  pub marks : (k : ℕ) → IsMarked machine.marks k → ReadsChange machine.parts old.core.state new.core.state k
+
+-- phases with these lines were done by a machine: it made each step of them that changed something, no member was placed, and where
+-- the last of them came to rest no part is marked
+pub record MovesMachine (limit : ℕ) (old new : Option MachineData) (lines : List Line) : Type 0 where
+  pub machine : MachineData
+  pub there : new ≡ Some machine
+  pub moves : machine.moves ≡ raised (moves_of old) (steps_in lines)
+  pub placed : machine.placed ≡ placed_of old
+  pub rests : EndsAtRest limit lines → (k : ℕ) → ¬ IsMarked machine.marks k
+
+-- the phases of a command were done by the machine, which fits the circuit, from the data after its build
+pub record SettlesMachine (old : HeldSession) (command : Command) (new : HeldSession) : Type 0 where
+  pub mid : SessionData
+  pub same : mid ≡ record old.core { kept = mid.kept; fresh = mid.fresh }
+  pub lines : List Line
+  pub effect : Effect mid command new.core lines
+  pub built : IsBuilt new
+  pub moves : MovesMachine old.core.limit old.machine new.machine lines
+
+-- the part with this number has a named node as a member or reads one
+pub record ConcernsNamed (c : CircuitData) (names : List (List ℕ)) (parts : List HeldPart) (k : ℕ) : Type 0 where
+  pub name : List ℕ
+  pub named : Contains names name
+  pub concerns : Concerns parts k (node_named c name)
+
+-- named nodes were placed in the machine: it didn't move, and those parts alone are marked more that the nodes concern
+pub record PlacesNamed (c : CircuitData) (names : List (List ℕ)) (old : MachineData) (new : Option MachineData) : Type 0 where
+  pub machine : MachineData
+  pub there : new ≡ Some machine
+  pub parts : machine.parts ≡ old.parts
+  pub moves : machine.moves ≡ old.moves
+  pub marks : (k : ℕ) → IsMarked machine.marks k → IsMarked old.marks k ⊎ ConcernsNamed c names old.parts k
+
+-- named nodes were placed in the machine, if there is one
+abbrev pub PlacesIn : CircuitData → List (List ℕ) → Option MachineData → Option MachineData → Type 0
+PlacesIn c names None new = new ≡ None
+PlacesIn c names (Some machine) new = PlacesNamed c names machine new
+
+-- there is a machine, which fits the circuit, and neither moved nor had a member placed
+pub record BuildsMachine (old new : HeldSession) : Type 0 where
+  pub machine : MachineData
+  pub there : new.machine ≡ Some machine
+  pub fits : FitsGraph new.core.circuit.graph machine
+  pub moves : machine.moves ≡ moves_of old.machine
+  pub placed : machine.placed ≡ placed_of old.machine
+
+-- the machine was there before, and neither moved since nor had a member placed
+pub record Survives (old : Option MachineData) (machine : MachineData) : Type 0 where
+  pub before : MachineData
+  pub was : old ≡ Some before
+  pub moves : machine.moves ≡ before.moves
+  pub placed : machine.placed ≡ before.placed
+
+-- the circuit was edited: where there is a machine, it was there before
+abbrev pub EditsMachine : HeldSession → HeldSession → Type 0
+EditsMachine old new = IfSome new.machine (Survives old.machine)
+
+-- what an accepted command does to the machine
+abbrev pub IsMachineAfter : HeldSession → Command → HeldSession → Type 0
+IsMachineAfter old (Input names) new = EditsMachine old new
+IsMachineAfter old (Store name size) new = EditsMachine old new
+IsMachineAfter old (Set list) new =
+    PlacesIn old.core.circuit (map (λ item. item.0) list) old.machine new.machine × (placed_of new.machine ≡ placed_of old.machine)
+IsMachineAfter old (Charge list) new = PlacesIn old.core.circuit (map (λ item. item.0) list) old.machine new.machine
+IsMachineAfter old (Watch names) new = new.machine ≡ old.machine
+IsMachineAfter old (Limit number) new = new.machine ≡ old.machine
+IsMachineAfter old Step new = StepsMachine old new
+IsMachineAfter old Phase new = SettlesMachine old Phase new
+IsMachineAfter old (Clock list) new = new.machine ≡ old.machine
+IsMachineAfter old (Cycle times) new = SettlesMachine old (Cycle times) new
+IsMachineAfter old (Expect list) new = new.machine ≡ old.machine
+IsMachineAfter old (Add kind gate source drain strength) new = EditsMachine old new
+IsMachineAfter old (Del number) new = EditsMachine old new
+IsMachineAfter old (Strength number strength) new = EditsMachine old new
+IsMachineAfter old (Kind number kind) new = EditsMachine old new
+IsMachineAfter old (Wire number gate source drain) new = EditsMachine old new
+IsMachineAfter old Report new = BuildsMachine old new
+IsMachineAfter old (Keep number) new = new.machine ≡ old.machine
+
+-- the command edits the circuit
+abbrev pub edits : Command → Bool
+edits (Input names) = true
+edits (Store name size) = true
+edits (Add kind gate source drain strength) = true
+edits (Del number) = true
+edits (Strength number strength) = true
+edits (Kind number kind) = true
+edits (Wire number gate source drain) = true
+edits other = false
+
+-- where an accepted command found a machine and leaves none, it edited the circuit
+abbrev pub OnlyEditsLoseMachines : Type 0
+OnlyEditsLoseMachines =
+    (old new : HeldSession) (command : Command) → IsMachineAfter old command new → is_some old.machine ≡ true → new.machine ≡ None →
+    edits command ≡ true

@@ -1,0 +1,135 @@
+-- When a command is refused: the first of these causes, in the order in which they stand for its command.
+use Rattle.std.specs.Prelude.{ℕ, Bool, ◌+◌, ◌==◌, List, [], ◌∷◌, length, nat_lt, unwrap_or, Option, Some, None, if◌then◌else◌}
+use Rattle.strength_order.specs.declared.TheConstants.{INPUT_LEVEL}
+use Rattle.ternary.specs.declared.tern.Tern.{Tern}
+use Rattle.path_meaning.specs.Graphs.{level_of}
+use Rattle.path_meaning.specs.declared.TheConstants.{RAILS}
+use Rattle.netlist.specs.Names.{node_of}
+use Rattle.netlist.specs.Circuits.{CircuitData}
+use Rattle.path_meaning.specs.declared.switching.SwitchKind.{SwitchKind}
+use Rattle.netlist.specs.Edits.{is_size, usual_strength, add_fault, number_fault, strength_fault, wire_fault}
+use Rattle.netlist.specs.Faults.{MakingFault}
+use Rattle.netlist.specs.declared.fault.EditFault.{EditFault}
+use Rattle.netlist.specs.declared.fault.EditFault.TheVariants as edit
+use Rattle.script_lang.specs.declared.command.Command.{Command}
+use Rattle.script_lang.specs.declared.command.Command.TheVariants.{Input, Store, Set, Charge, Watch, Limit, Step, Phase, Clock, Cycle, Expect, Add, Del, Strength, Kind, Wire, Report, Keep}
+use Rattle.session_meaning.specs.declared.TheConstants.{MOST_WATCHED}
+use Rattle.session_meaning.specs.declared.fault.Refusal.{Refusal}
+use Rattle.session_meaning.specs.declared.fault.Refusal.TheVariants.{UnknownNode, NoSuchSwitch, Rail, BadStrength, BadSize, TooManyNodes, TooManySwitches, NotInput, NotStore, ClockLength, NoClock, TooManyWatched}
+use Rattle.session_meaning.specs.Sessions.{SessionData, ClockData}
+
+-- one refusal, or else another
+abbrev pub or_else : Option Refusal → Option Refusal → Option Refusal
+or_else (Some refusal) other = Some refusal
+or_else None other = other
+
+-- the first refusal that there is among those of these items
+abbrev pub first_refusal : {X : Type 0} → (X → Option Refusal) → List X → Option Refusal
+first_refusal f [] = None
+first_refusal f (item ∷ items) = or_else (f item) (first_refusal f items)
+
+-- the node is an input node
+abbrev pub is_input : CircuitData → ℕ → Bool
+is_input c node = level_of c.graph node == INPUT_LEVEL
+
+-- the name isn't in use
+abbrev pub known_refusal : Option ℕ → Option Refusal
+known_refusal None = Some UnknownNode
+known_refusal (Some node) = None
+
+-- the name isn't in use, or is a rail's
+abbrev pub rail_refusal : Option ℕ → Option Refusal
+rail_refusal None = Some UnknownNode
+rail_refusal (Some node) = if nat_lt node RAILS then Some Rail else None
+
+-- the name isn't in use, is a rail's, or the profile doesn't accept the size
+abbrev pub store_refusal : CircuitData → ℕ → Option ℕ → Option Refusal
+store_refusal c size None = Some UnknownNode
+store_refusal c size (Some node) =
+    if nat_lt node RAILS then Some Rail else (if is_size c.profile size then None else Some BadSize)
+
+-- the name isn't in use, is a rail's, or is a storage node's
+abbrev pub set_refusal : CircuitData → Option ℕ → Option Refusal
+set_refusal c None = Some UnknownNode
+set_refusal c (Some node) =
+    if nat_lt node RAILS then Some Rail else (if is_input c node then None else Some NotInput)
+
+-- the name isn't in use, is a rail's, or is an input node's
+abbrev pub charge_refusal : CircuitData → Option ℕ → Option Refusal
+charge_refusal c None = Some UnknownNode
+charge_refusal c (Some node) =
+    if nat_lt node RAILS then Some Rail else (if is_input c node then Some NotStore else None)
+
+-- the watch list would be too long
+abbrev pub watch_refusal : ℕ → Option Refusal
+watch_refusal count = if nat_lt MOST_WATCHED count then Some TooManyWatched else None
+
+-- two clocks have different numbers of letters: some clock has another number than the first
+abbrev pub length_refusal : List (List ℕ × List Tern) → Option Refusal
+length_refusal [] = None
+length_refusal (first ∷ others) =
+    first_refusal (λ other. if length other.1 == length first.1 then None else Some ClockLength) others
+
+-- a clock's node is no input node any more
+abbrev pub clock_refusal : CircuitData → ClockData → Option Refusal
+clock_refusal c clock = if is_input c clock.node then None else Some NotInput
+
+-- there are no clocks, or some clock's node is no input node any more
+abbrev pub cycle_refusal : CircuitData → List ClockData → Option Refusal
+cycle_refusal c [] = Some NoClock
+cycle_refusal c (clock ∷ clocks) = first_refusal (clock_refusal c) (clock ∷ clocks)
+
+-- the strength that a transistor is added with: the one that is given, else that of its kind
+abbrev pub strength_for : SwitchKind → Option ℕ → ℕ
+strength_for kind strength = unwrap_or strength (usual_strength kind)
+
+-- the refusal of an edit that makes names or a transistor; such an edit gives no node a second name
+abbrev pub making_refusal : Option MakingFault → Option Refusal
+making_refusal None = None
+making_refusal (Some MakingFault.BadStrength) = Some BadStrength
+making_refusal (Some MakingFault.AliasTaken) = None
+making_refusal (Some MakingFault.TooManyNodes) = Some TooManyNodes
+making_refusal (Some MakingFault.TooManySwitches) = Some TooManySwitches
+
+-- the refusal of an edit of a transistor that is there; such an edit gives no node a second name, and its want of memory is no refusal
+abbrev pub edit_refusal : Option EditFault → Option Refusal
+edit_refusal None = None
+edit_refusal (Some edit.NoSuchSwitch) = Some NoSuchSwitch
+edit_refusal (Some edit.Rail) = Some Rail
+edit_refusal (Some edit.BadStrength) = Some BadStrength
+edit_refusal (Some edit.BadSize) = Some BadSize
+edit_refusal (Some edit.AliasTaken) = None
+edit_refusal (Some edit.TooManyNodes) = Some TooManyNodes
+edit_refusal (Some edit.TooManySwitches) = Some TooManySwitches
+edit_refusal (Some edit.NoMemory) = None
+
+-- the refusal of a command, by the data before it
+abbrev pub refusal_of : SessionData → Command → Option Refusal
+refusal_of session (Input names) =
+    first_refusal (λ name. rail_refusal (node_of session.circuit.names name)) names
+refusal_of session (Store name size) =
+    store_refusal session.circuit size (node_of session.circuit.names name)
+refusal_of session (Set list) =
+    first_refusal (λ item. set_refusal session.circuit (node_of session.circuit.names item.0)) list
+refusal_of session (Charge list) =
+    first_refusal (λ item. charge_refusal session.circuit (node_of session.circuit.names item.0)) list
+refusal_of session (Watch names) =
+    or_else (first_refusal (λ name. known_refusal (node_of session.circuit.names name)) names)
+    (watch_refusal (length session.watched + length names))
+refusal_of session (Limit number) = None
+refusal_of session Step = None
+refusal_of session Phase = None
+refusal_of session (Clock list) =
+    or_else (length_refusal list)
+    (first_refusal (λ item. set_refusal session.circuit (node_of session.circuit.names item.0)) list)
+refusal_of session (Cycle number) = cycle_refusal session.circuit session.clocks
+refusal_of session (Expect list) =
+    first_refusal (λ item. known_refusal (node_of session.circuit.names item.0)) list
+refusal_of session (Add kind gate source drain strength) =
+    making_refusal (add_fault session.circuit (strength_for kind strength) gate source drain)
+refusal_of session (Del number) = edit_refusal (number_fault session.circuit number)
+refusal_of session (Strength number strength) = edit_refusal (strength_fault session.circuit number strength)
+refusal_of session (Kind number kind) = edit_refusal (number_fault session.circuit number)
+refusal_of session (Wire number gate source drain) = edit_refusal (wire_fault session.circuit number gate source drain)
+refusal_of session Report = None
+refusal_of session (Keep number) = None

@@ -1,0 +1,41 @@
+//! What the commands of a test script mean to a simulation session: its data, their lines, refusals and
+//! effects, and what becomes of the machine that moves its state. There is no session here, and no machine.
+//!
+//! The main types are `Refusal` and `ApplyFault`: why a command is refused, or was not done. The crates above
+//! use the definitions in `specs/`. `SessionData` are a session's data, and `HeldSession` has the machine too,
+//! where there is one. `refusal_of` is the first refusal of a command; `Effect` is what one that isn't refused
+//! does, and the lines that it writes; `Obeys` is what a call comes to, to the data, to the bytes that are
+//! written and to the texts that are analysed. `IsMachineAfter` is what each command does to the machine, and
+//! the law `only_edits_lose_the_machine` says that no others end without the one that was there.
+//!
+//! ```text
+//! `set a=1` at a node that is no input node has the refusal NotInput; at an input node its effect is a state
+//! with 1 there, and no line
+//! ```
+//!
+//! For the proofs of crates above: `EffectLemmas`, how each formed command ends, and that what is
+//! done keeps the data ready; `BoundLemmas`, that the lines of a formed command can be read again.
+//! They cite `BeatLemmas`, `ClockLemmas`, `EditLemmas`, `LineLemmas`, `MachineLemmas`,
+//! `OutcomeLemmas`, `RefusalLemmas`, `SizeLemmas` and `StateLemmas` too, whose heads say what they
+//! are of. `cosmos_session` cites the others: `BuildLemmas`, `LastLemmas`, `MoveLemmas`, `ReportLemmas`,
+//! `RestLemmas`, `RoomLemmas`, `StayingLemmas`, `TickLemmas` and `UndoLemmas`.
+//!
+//! After Bryant, "A Switch-Level Model and Simulator for MOS Digital Systems", 1984, and Bryant, Beatty,
+//! Brace, Cho and Sheffler, "COSMOS: A Compiled Simulator for MOS Circuits", 1987.
+#![tactic(auto)]
+
+mod clock;
+mod fault;
+mod laws;
+mod switches;
+
+pub use clock::{Clock, places_of};
+pub use fault::{ApplyFault, Refusal};
+pub use laws::only_edits_lose_the_machine;
+pub use switches::SwitchEdit;
+
+/// The most entries of the watch list.
+pub const MOST_WATCHED: usize = 256;
+
+/// The limit of a phase before any command sets it.
+pub const FIRST_LIMIT: u64 = 100;

@@ -1,0 +1,13 @@
+//! Edits of a transistor that leave its terminals.
+
+use path_meaning::SwitchKind;
+
+/// An edit of a transistor that leaves its terminals.
+pub enum SwitchEdit {
+    /// It is removed.
+    Removal,
+    /// It gets this strength.
+    Strength(u64),
+    /// It gets this kind.
+    Kind(SwitchKind),
+}
