@@ -6,15 +6,17 @@ use Rattle.group_text.specs.Texts.{GroupTextData}
 use Rattle.run_ends.specs.declared.stop.Stop.{Stop}
 use Rattle.run_ends.specs.declared.stop.End as end
 use Rattle.run_ends.specs.Ends.{IsToldBy}
-use Rattle.cosmos_app.specs.declared.request.Alone.{Alone}
-use Rattle.cosmos_app.specs.declared.request.Alone.TheVariants.{Generate, SumUp, Unclear}
-use Rattle.cosmos_app.specs.declared.request.Question as code_question
-use Rattle.cosmos_app.specs.declared.request.Report.{Report}
-use Rattle.cosmos_app.specs.declared.request.Report.TheVariants.{Check, Groups, Compile}
-use Rattle.cosmos_app.specs.Requests.{Request, alone_seen, question_seen, report_seen}
+use Rattle.command_line.specs.declared.request.Alone.{Alone}
+use Rattle.command_line.specs.declared.request.Alone.TheVariants.{Generate, SumUp, Unclear}
+use Rattle.command_line.specs.declared.request.Question as code_question
+use Rattle.command_line.specs.declared.request.Report.{Report}
+use Rattle.command_line.specs.declared.request.Report.TheVariants.{Check, Groups, Compile}
+use Rattle.command_line.specs.Requests.{Request, alone_seen, question_seen, report_seen}
 use Rattle.cosmos_app.specs.Answers.{IsAnswerIn, IsAnswerTo}
-use Rattle.cosmos_app.specs.Starts.{Started, ScriptStarts, RequestStarts}
-use Rattle.cosmos_app.specs.Wholes.{scripts_of, files_of, ReadsWhole}
+use Rattle.circuit_files.specs.Starts.{Started}
+use Rattle.cosmos_app.specs.Starts.{ScriptStarts, RequestStarts}
+use Rattle.cosmos_app.specs.Wholes.{scripts_of, files_of}
+use Rattle.circuit_files.specs.Wholes.{ReadsWhole}
 
 -- ---- a question
 

@@ -1,12 +1,10 @@
 -- A simulation over a deck: what is told of the text that was read is told of the deck, and which files were started and read.
-use Rattle.std.proofs.Common.{◌≡◌, ℕ, inr, List, [], ◌∷◌, Option, None, Some, IfSome, Result, Ok, Err, sym, ap, subst, ◌∙◌}
-use Rattle.line_words.specs.Files.{front_of}
+use Rattle.std.proofs.Common.{◌≡◌, ℕ, inr, List, [], ◌∷◌, Option, None, Some, IfSome, Result, Ok, Err, sym, ap, subst}
 use Rattle.netlist.specs.Circuits.{CircuitData}
 use Rattle.spice_cards.specs.declared.fault.DeckFault.{DeckFault}
 use Rattle.spice_cards.specs.declared.fault.DeckFault.TheVariants.{At}
 use Rattle.spice_cards.specs.declared.fault.DeckWhat.{DeckWhat}
 use Rattle.spice_read.specs.Making.{circuit_of}
-use Rattle.spice_read.proofs.ReaderLemmas.{circuit_of-front_of}
 use Rattle.port_edge.specs.Ports.{with_name}
 use Rattle.port_edge.specs.Taken.{Taken}
 use Rattle.group_text.specs.Texts.{GroupTextData}
@@ -15,22 +13,17 @@ use Rattle.run_ends.specs.declared.stop.End as end
 use Rattle.run_ends.specs.Answers.{Answer}
 use Rattle.run_ends.specs.Ends.{IsTold, IsToldBy}
 use Rattle.run_ends.proofs.EndLemmas.{told_by_none}
-use Rattle.cosmos_app.specs.declared.reading.DeckRefusal.{DeckRefusal}
-use Rattle.cosmos_app.specs.Decks.{deck_meant}
-use Rattle.cosmos_app.specs.Answers.{IsDeckRefusal, IsDeckSimulation}
-use Rattle.cosmos_app.specs.Starts.{Started, StartsAtMost, DeckStarts, IsAccepted}
-use Rattle.cosmos_app.specs.Wholes.{needed_over, ReadsWhole}
-use Rattle.cosmos_app.proofs.WholeLemmas.{whole_both}
+use Rattle.circuit_files.specs.declared.reading.DeckRefusal.{DeckRefusal}
+use Rattle.circuit_files.specs.Decks.{deck_meant}
+use Rattle.circuit_reports.specs.Answers.{IsDeckRefusal}
+use Rattle.cosmos_app.specs.Answers.{IsDeckSimulation}
+use Rattle.circuit_files.specs.Starts.{Started, StartsAtMost}
+use Rattle.cosmos_app.specs.Starts.{DeckStarts, IsAccepted}
+use Rattle.cosmos_app.specs.Wholes.{needed_over}
+use Rattle.circuit_files.specs.Wholes.{ReadsWhole}
+use Rattle.circuit_files.proofs.WholeLemmas.{whole_both}
 
--- what was read of a deck has the deck's meaning
-pub means_deck : (known : Option (List ℕ → List ℕ)) (deck text seen : List ℕ) (meaning : Result CircuitData DeckRefusal) →
-    IfSome known (λ holds. text ≡ front_of (holds deck)) → seen ≡ text → circuit_of seen ≡ deck_meant meaning →
-    IfSome known (λ holds. circuit_of (holds deck) ≡ deck_meant meaning)
-means_deck None deck text seen meaning front same means = tt
-means_deck (Some holds) deck text seen meaning front same means =
-    sym (circuit_of-front_of (holds deck)) ∙ ap circuit_of (sym (same ∙ front)) ∙ means
-
--- and that which it is found to be
+-- a deck has the meaning that it is found to have
 pub deck_means_as : (known : Option (List ℕ → List ℕ)) (deck : List ℕ) (meaning what : Result CircuitData DeckRefusal) → meaning ≡ what →
     IfSome known (λ holds. circuit_of (holds deck) ≡ deck_meant meaning) → IfSome known (λ holds. circuit_of (holds deck) ≡ deck_meant what)
 deck_means_as known deck meaning what is means =

@@ -10,10 +10,11 @@ use Rattle.run_ends.specs.declared.stop.End as end
 use Rattle.run_ends.specs.Ends.{IsToldBy}
 use Rattle.fault_meaning.specs.Judging.{AreJudgedFaults}
 use Rattle.fault_meaning.proofs.FrontLemmas.{are_judged-front}
-use Rattle.cosmos_app.specs.Starts.{Started, StartsAtMost, StartsInOrder}
-use Rattle.cosmos_app.specs.Wholes.{ReadsWhole}
+use Rattle.circuit_files.specs.Starts.{Started, StartsAtMost}
+use Rattle.cosmos_app.specs.Starts.{StartsInOrder}
+use Rattle.circuit_files.specs.Wholes.{ReadsWhole}
 use Rattle.run_ends.proofs.EndLemmas.{told_by_as}
-use Rattle.cosmos_app.proofs.WholeLemmas.{whole_file, whole_both}
+use Rattle.circuit_files.proofs.WholeLemmas.{whole_file, whole_both}
 
 -- what was told of the texts that were read
 pub told_judged : (known later : Option (List ℕ → List ℕ)) (script list : List ℕ) (circuit : CircuitData) (text seen faults listed : List ℕ)

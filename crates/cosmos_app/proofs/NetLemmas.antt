@@ -1,6 +1,5 @@
 -- What is told of the text that was read of a netlist is told of the file.
-use Rattle.std.proofs.Common.{◌≡◌, ℕ, List, Option, None, Some, IfSome, Result, Err, sym, ap, subst, ◌∙◌}
-use Rattle.line_words.specs.Files.{front_of}
+use Rattle.std.proofs.Common.{◌≡◌, ℕ, List, Option, None, Some, IfSome, Result, Err, sym, ap, subst}
 use Rattle.netlist.specs.Circuits.{CircuitData}
 use Rattle.sim_read.specs.declared.fault.NetRefusal.{NetRefusal}
 use Rattle.sim_read.specs.Meaning.{netlist_of}
@@ -8,24 +7,13 @@ use Rattle.group_text.specs.Texts.{GroupTextData}
 use Rattle.run_ends.specs.declared.stop.Stop.{Stop}
 use Rattle.run_ends.specs.declared.stop.End as end
 use Rattle.run_ends.specs.Answers.{Answer}
-use Rattle.cosmos_app.specs.Requests.{Question}
-use Rattle.cosmos_app.specs.Answers.{IsOver, IsNetRefusal, IsAnswerIn}
+use Rattle.command_line.specs.Requests.{Question}
+use Rattle.circuit_reports.specs.Answers.{IsOver, IsNetRefusal}
+use Rattle.cosmos_app.specs.Answers.{IsAnswerIn}
 use Rattle.run_ends.specs.Ends.{IsTold, IsToldBy}
-use Rattle.cosmos_app.proofs.LowerLemmas.{netlist_of-front_of}
 use Rattle.run_ends.proofs.EndLemmas.{told_by_none}
 
--- a netlist means what its front that was read means
-pub netlist_of-read : (net text seen : List ℕ) → text ≡ front_of net → seen ≡ text → netlist_of net ≡ netlist_of seen
-netlist_of-read net text seen front same = sym (netlist_of-front_of net) ∙ ap netlist_of (sym (same ∙ front))
-
--- what was read of a netlist has the netlist's meaning
-pub means_netlist : (known : Option (List ℕ → List ℕ)) (net text seen : List ℕ) (meaning : Result CircuitData NetRefusal) →
-    IfSome known (λ holds. text ≡ front_of (holds net)) → seen ≡ text → netlist_of seen ≡ meaning →
-    IfSome known (λ holds. netlist_of (holds net) ≡ meaning)
-means_netlist None net text seen meaning front same means = tt
-means_netlist (Some holds) net text seen meaning front same means = netlist_of-read (holds net) text seen front same ∙ means
-
--- and that which it is found to be
+-- a netlist has the meaning that it is found to have
 pub means_as : (known : Option (List ℕ → List ℕ)) (net : List ℕ) (meaning what : Result CircuitData NetRefusal) → meaning ≡ what →
     IfSome known (λ holds. netlist_of (holds net) ≡ meaning) → IfSome known (λ holds. netlist_of (holds net) ≡ what)
 means_as known net meaning what is means =

@@ -14,13 +14,15 @@ use Rattle.run_ends.specs.Answers.{Answer}
 use Rattle.script_meaning.specs.Runs.{Runs, plain_reading, answer_told, IsScriptAnswer}
 use Rattle.run_ends.specs.Ends.{IsToldBy}
 use Rattle.script_meaning.specs.Ends.{TellsRun}
-use Rattle.cosmos_app.specs.declared.request.Purpose.{Purpose}
-use Rattle.cosmos_app.specs.declared.request.Purpose.TheVariants.{Lines, Columns, Reasons}
-use Rattle.cosmos_app.specs.Requests.{run_seen}
-use Rattle.cosmos_app.specs.Batching.{IsBatch, lanes_seen}
+use Rattle.command_line.specs.declared.request.Purpose.{Purpose}
+use Rattle.command_line.specs.declared.request.Purpose.TheVariants.{Lines, Columns, Reasons}
+use Rattle.command_line.specs.Requests.{run_seen}
+use Rattle.cosmos_app.specs.Batching.{IsBatch}
+use Rattle.command_line.specs.Columns.{lanes_seen}
 use Rattle.cosmos_app.specs.Answers.{IsSimulation, IsAnswerIn}
 use Rattle.cosmos_app.specs.Purposes.{IsRunFor}
-use Rattle.cosmos_app.specs.Starts.{Started, StartsAtMost, ScriptStarts}
+use Rattle.circuit_files.specs.Starts.{Started, StartsAtMost}
+use Rattle.cosmos_app.specs.Starts.{ScriptStarts}
 use Rattle.cosmos_app.specs.Wholes.{scripts_of}
 use Rattle.run_ends.proofs.EndLemmas.{told_by_as}
 

@@ -4,8 +4,9 @@ use Rattle.port_edge.specs.Ports.{with_name}
 use Rattle.netlist.specs.Circuits.{CircuitData}
 use Rattle.sim_read.specs.declared.fault.NetRefusal.{NetRefusal}
 use Rattle.sim_read.specs.Meaning.{netlist_of}
-use Rattle.cosmos_app.specs.Requests.{Question}
-use Rattle.cosmos_app.specs.Starts.{Started, ScriptStarts, QuestionStarts, IsAccepted}
+use Rattle.command_line.specs.Requests.{Question}
+use Rattle.circuit_files.specs.Starts.{Started}
+use Rattle.cosmos_app.specs.Starts.{ScriptStarts, QuestionStarts, IsAccepted}
 
 -- a netlist that means a circuit has no refusal
 accepted : (known : Option (List ℕ → List ℕ)) (net : List ℕ) (circuit : CircuitData) →

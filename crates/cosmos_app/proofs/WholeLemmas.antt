@@ -1,50 +1,26 @@
 -- How much of its files a run has read, joined from what each call says of it.
-use Rattle.std.proofs.Common.{◌≡◌, ℕ, List, [], ◌∷◌, ◌++◌, length, map, Option, None, Some, IfSome, IfOk, Result, Ok, Err, refl, sym, ap, subst, ◌∙◌, append_assoc}
-use Rattle.std.proofs.lemmas.List.{map-append}
-use Rattle.line_words.specs.Files.{front_of}
+use Rattle.std.proofs.Common.{◌≡◌, ℕ, List, [], ◌∷◌, Option, None, Some, IfSome, IfOk, Result, Ok, Err, sym, subst}
 use Rattle.netlist.specs.Circuits.{CircuitData}
 use Rattle.sim_read.specs.declared.fault.NetRefusal.{NetRefusal}
 use Rattle.sim_read.specs.Meaning.{netlist_of}
-use Rattle.port_edge.specs.Taken.{Taken, with_files}
+use Rattle.port_edge.specs.Taken.{Taken}
 use Rattle.run_ends.specs.declared.stop.End as end
 use Rattle.run_ends.specs.declared.stop.End.TheVariants as ended
 use Rattle.run_ends.specs.declared.stop.Stop.{Stop}
 use Rattle.run_ends.specs.declared.stop.Stop.TheVariants.{Read, Write, Memory}
 use Rattle.run_ends.specs.declared.status.Status.{Status}
-use Rattle.cosmos_app.specs.Requests.{Question, Request}
+use Rattle.command_line.specs.Requests.{Question, Request}
 use Rattle.run_ends.specs.Ends.{status_after}
-use Rattle.cosmos_app.specs.Wholes.{scripts_of, needed, files_of, ReadsWhole, ReadsAll}
+use Rattle.cosmos_app.specs.Wholes.{scripts_of, needed, files_of, ReadsAll}
+use Rattle.circuit_files.specs.Wholes.{ReadsWhole}
+use Rattle.circuit_files.proofs.WholeLemmas.{whole_none, whole_both}
 
--- a file whose front was read was read whole
-pub whole_file : (known : Option (List ℕ → List ℕ)) (name text : List ℕ) (old new : Taken) →
-    IfSome known (λ holds. text ≡ front_of (holds name)) → new ≡ with_files old (length text ∷ []) →
-    IfSome known (λ holds. ReadsWhole old new holds (name ∷ []))
-whole_file None name text old new front taken = tt
-whole_file (Some holds) name text old new front taken = taken ∙ ap (λ (bytes : List ℕ). with_files old (length bytes ∷ [])) front
-
--- where no file is needed none is read
-pub whole_none : (taken : Taken) → taken ≡ with_files taken []
-whole_none None = refl
-whole_none (Some counts) = refl
-
+-- what needs no file reads none
 pub whole_unasked : (known : Option (List ℕ → List ℕ)) (request : Request) (taken : Taken) →
     ((holds : List ℕ → List ℕ) → files_of request holds ≡ []) → IfSome known (λ holds. ReadsWhole taken taken holds (files_of request holds))
 whole_unasked None request taken asks = tt
 whole_unasked (Some holds) request taken asks =
     subst (ReadsWhole taken taken holds) (sym (asks holds)) (whole_none taken)
-
--- files taken one after another
-with_files-twice : (taken : Taken) (first second : List ℕ) → with_files (with_files taken first) second ≡ with_files taken (second ++ first)
-with_files-twice None first second = refl
-with_files-twice (Some counts) first second = ap Some (sym (append_assoc second first counts))
-
--- files read one after another
-pub whole_both : (old mid new : Taken) (holds : List ℕ → List ℕ) (first second : List (List ℕ)) →
-    ReadsWhole old mid holds first → ReadsWhole mid new holds second → ReadsWhole old new holds (second ++ first)
-whole_both old mid new holds first second before after =
-    let size : List ℕ → ℕ = λ name. length (front_of (holds name)) in
-    after ∙ ap (λ (taken : Taken). with_files taken (map size second)) before ∙ with_files-twice old (map size first) (map size second)
-    ∙ ap (with_files old) (sym (map-append size second first))
 
 -- after the netlist, what the question needs beside it
 pub whole_beside : (known later : Option (List ℕ → List ℕ)) (net : List ℕ) (question : Question) (circuit : CircuitData) (old mid new : Taken) →

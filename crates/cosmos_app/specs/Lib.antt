@@ -1,16 +1,6 @@
-pub mod Codes
-pub mod Samples
 pub mod Batching
-pub mod Requests
-pub mod Summaries
-pub mod Countings
-pub mod Reasoned
-pub mod Explaining
 pub mod Answers
 pub mod Purposes
-pub mod Feeding
-pub mod Decks
 pub mod Starts
 pub mod Counts
 pub mod Wholes
-pub mod Sendings

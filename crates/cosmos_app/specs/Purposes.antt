@@ -2,10 +2,11 @@
 use Rattle.std.specs.Prelude.{ℕ, List}
 use Rattle.netlist.specs.Circuits.{CircuitData}
 use Rattle.run_ends.specs.Answers.{Answer}
-use Rattle.cosmos_app.specs.declared.request.Purpose.{Purpose}
-use Rattle.cosmos_app.specs.declared.request.Purpose.TheVariants.{Lines, Columns, Reasons}
-use Rattle.cosmos_app.specs.Batching.{IsBatch, lanes_seen}
-use Rattle.cosmos_app.specs.Reasoned.{IsReasoned}
+use Rattle.command_line.specs.declared.request.Purpose.{Purpose}
+use Rattle.command_line.specs.declared.request.Purpose.TheVariants.{Lines, Columns, Reasons}
+use Rattle.cosmos_app.specs.Batching.{IsBatch}
+use Rattle.command_line.specs.Columns.{lanes_seen}
+use Rattle.script_reports.specs.Reasoned.{IsReasoned}
 use Rattle.cosmos_app.specs.Answers.{IsSimulation}
 
 -- the answer of a script that is run for this purpose, from the start in a circuit

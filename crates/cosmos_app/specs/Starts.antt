@@ -1,28 +1,15 @@
 -- Which files a run starts, and in which order.
 use Rattle.std.specs.Prelude.{◌≡◌, ℕ, ⊤, ◌⊎◌, List, Option, IfSome, Result, Ok, Err}
 use Rattle.port_edge.specs.Ports.{with_name}
-use Rattle.run_ends.specs.declared.stop.Stop.{Stop}
 use Rattle.netlist.specs.Circuits.{CircuitData}
 use Rattle.sim_read.specs.Meaning.{netlist_of}
 use Rattle.spice_read.specs.Making.{circuit_of}
-use Rattle.cosmos_app.specs.Requests.{Question, Simulate, Batch, Explain, Judge, Request, About, Generate, SumUp, OverDeck, Unclear}
-
--- the started names, where they are told
-abbrev pub Started : Type 0
-Started = Option (List (List ℕ))
-
--- nothing was started, or the file of this name
-abbrev pub StartsAtMost : Started → Started → List ℕ → Type 0
-StartsAtMost old new name = (new ≡ old) ⊎ (new ≡ with_name old name)
+use Rattle.command_line.specs.Requests.{Question, Simulate, Batch, Explain, Judge, Request, About, Generate, SumUp, OverDeck, Unclear}
+use Rattle.circuit_files.specs.Starts.{Started, StartsAtMost}
 
 -- nothing was started, or the file of the first name, or that and then the file of the second
 abbrev pub StartsInOrder : Started → Started → List ℕ → List ℕ → Type 0
 StartsInOrder old new first second = StartsAtMost old new first ⊎ (new ≡ with_name (with_name old first) second)
-
--- the file of this name was started; where the run stopped, perhaps not
-abbrev pub StartsFile : {T : Type 0} → Started → Started → List ℕ → Result T Stop → Type 0
-StartsFile old new name (Ok _) = new ≡ with_name old name
-StartsFile old new name (Err stop) = StartsAtMost old new name
 
 -- what a question starts beside the netlist: one that runs a script starts nothing or the script; one about faults nothing, or its
 -- script, or both its script and its list

@@ -1,15 +1,15 @@
 -- How much of its files a run reads before it answers: each one to its end, or to the first byte too many.
-use Rattle.std.specs.Prelude.{◌≡◌, ℕ, List, [], ◌∷◌, ◌++◌, length, map, Result, Ok, Err}
-use Rattle.line_words.specs.Files.{front_of}
+use Rattle.std.specs.Prelude.{ℕ, List, [], ◌∷◌, ◌++◌, Result, Ok, Err}
 use Rattle.netlist.specs.Circuits.{CircuitData}
 use Rattle.sim_read.specs.declared.fault.NetRefusal.{NetRefusal}
 use Rattle.sim_read.specs.Meaning.{netlist_of}
 use Rattle.spice_cards.specs.declared.fault.DeckFault.{DeckFault}
 use Rattle.spice_read.specs.Making.{circuit_of}
-use Rattle.port_edge.specs.Taken.{Taken, with_files}
+use Rattle.port_edge.specs.Taken.{Taken}
 use Rattle.run_ends.specs.declared.status.Status.{Status}
 use Rattle.run_ends.specs.declared.status.Status.TheVariants.{ReadFault, WriteFault, NoMemory}
-use Rattle.cosmos_app.specs.Requests.{Question, Simulate, Batch, Explain, Judge, Request, About, Generate, SumUp, OverDeck, Unclear}
+use Rattle.command_line.specs.Requests.{Question, Simulate, Batch, Explain, Judge, Request, About, Generate, SumUp, OverDeck, Unclear}
+use Rattle.circuit_files.specs.Wholes.{ReadsWhole}
 
 -- the files that a question needs beside the netlist, the last one first
 abbrev pub scripts_of : Question → List (List ℕ)
@@ -36,10 +36,6 @@ files_of (Generate part sample) holds = []
 files_of (SumUp sample) holds = []
 files_of (OverDeck deck script) holds = needed_over deck script (circuit_of (holds deck))
 files_of Unclear holds = []
-
--- each of these files was started, and read to its end or to the first byte too many
-abbrev pub ReadsWhole : Taken → Taken → (List ℕ → List ℕ) → List (List ℕ) → Type 0
-ReadsWhole old new holds names = new ≡ with_files old (map (λ name. length (front_of (holds name))) names)
 
 -- where the run isn't stopped by a fault or want of memory, each file that its request needs was read whole
 abbrev pub ReadsAll : Taken → Taken → (List ℕ → List ℕ) → Request → Status → Type 0

@@ -1,35 +1,19 @@
 //! What `batch` writes: the run of a script in columns.
 
 ghost use Rattle.std.specs.Prelude.{◌≡◌, ◌≢◌, IfErr};
-ghost use Rattle.std.specs.Option.{option_map};
 ghost use Rattle.netlist.specs.Circuits.{IsCircuit};
 ghost use Rattle.run_ends.specs.Stops.{faults_written, IsRefusedOnce};
 ghost use Rattle.run_ends.specs.Ends.{IsToldBy};
 ghost use Rattle.cosmos_app.specs.Batching as spec;
 
-use crate::lanes::Lanes;
+use command_line::Lanes;
 use group_analysis::Analyst;
 use lane_run::run_batch;
 use lane_session::LaneSession;
-use line_words::decimal;
 use netlist::Circuit;
 use port_edge::Sink;
 use run_ends::{End, Stop};
 use std::alloc::Global;
-
-/// The number of columns that a word writes, from 1 to 64.
-pub(crate) fn lanes_of(word: &str) -> Option<Lanes>
-    ensures { option_map spec.lanes_seen result ≡ spec.lanes_of word.now }
-{
-    let count = decimal(word.as_bytes())?;
-    if 1 <= count && count <= 64 {
-        Some(Lanes {
-            count: count as u32,
-        })
-    } else {
-        None
-    }
-}
 
 /// Runs the lines of a script from the start in the circuit, in so many columns.
 pub(crate) fn run_columns<S: Sink, A: Analyst>(

@@ -7,9 +7,9 @@ ghost use Rattle.run_ends.specs.Stops.{faults_read, faults_written, IsRefusedOnc
 ghost use Rattle.run_ends.specs.Ends.{IsToldBy, IsUntouched};
 ghost use Rattle.fault_meaning.specs.Judging.{AreJudgedFaults};
 ghost use Rattle.cosmos_app.specs.Starts.{StartsInOrder};
-ghost use Rattle.cosmos_app.specs.Wholes.{ReadsWhole};
+ghost use Rattle.circuit_files.specs.Wholes.{ReadsWhole};
 
-use crate::reading::read_file;
+use circuit_files::read_file;
 use fault_runs::judge_faults;
 use group_analysis::Analyst;
 use line_words::MOST_FILE_BYTES;

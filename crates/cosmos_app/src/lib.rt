@@ -25,19 +25,8 @@
 #![tactic(auto)]
 
 mod batch;
-mod codes;
-mod compile;
-mod counting;
-mod explain;
 mod faults;
-mod generated;
-mod lanes;
-mod reading;
-mod refusal;
 mod reports;
-mod request;
-mod sample;
-mod summary;
 mod top;
 
 pub use run_ends::Status;

@@ -17,7 +17,8 @@ use Rattle.circuit_listing.specs.Faithful.{IsFaithful}
 use Rattle.run_ends.specs.declared.status.Status.{Status}
 use Rattle.run_ends.specs.declared.status.Status.TheVariants as status
 use Rattle.run_ends.specs.Answers.{IsAnalysed, IsWritten}
-use Rattle.cosmos_app.specs.Answers.{IsAnswer, IsAnswered, IsCompiled}
+use Rattle.cosmos_app.specs.Answers.{IsAnswer, IsAnswered}
+use Rattle.circuit_reports.specs.Answers.{IsCompiled}
 use Rattle.cosmos_rows.specs.Written.{AskForListing}
 
 -- the text of a faithful listing of the circuit was written

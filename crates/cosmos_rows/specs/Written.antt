@@ -6,7 +6,7 @@ use Rattle.path_meaning.specs.Rails.{IsSound}
 use Rattle.netlist.specs.Circuits.{CircuitData}
 use Rattle.sim_read.specs.Meaning.{netlist_of}
 use Rattle.circuit_texts.specs.Sizes.{AllFit}
-use Rattle.cosmos_app.specs.Requests.{About, Compile, request_of}
+use Rattle.command_line.specs.Requests.{About, Compile, request_of}
 
 -- the words ask for the listing of this circuit, and none of its groups is too large
 pub record AskForListing (words : List (List ℕ)) (holds : List ℕ → List ℕ) (circuit : CircuitData) : Type 0 where

@@ -14,7 +14,7 @@
 
 ghost use Rattle.std.specs.Prelude.{◌≡◌, ◌≢◌, Some};
 ghost use Rattle.port_edge.specs.HonestPorts.{held};
-ghost use Rattle.cosmos_app.specs.Requests.{names_of};
+ghost use Rattle.command_line.specs.Requests.{names_of};
 ghost use Rattle.cosmos_app.specs.Answers.{IsAnswered};
 
 use cosmos_app::{Status, run};

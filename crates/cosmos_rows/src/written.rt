@@ -6,7 +6,7 @@ ghost use Rattle.path_meaning.specs.Step.{IsStep};
 ghost use Rattle.netlist.specs.Circuits.{CircuitData};
 ghost use Rattle.linear_code.specs.Listing.{ListingData, IsListing, IsListingStep};
 ghost use Rattle.linear_code.specs.ListingText.{listing_text};
-ghost use Rattle.cosmos_app.specs.Requests.{names_of};
+ghost use Rattle.command_line.specs.Requests.{names_of};
 ghost use Rattle.cosmos_rows.specs.Written.{AskForListing, IsStateOf};
 
 use crate::run_in_memory;

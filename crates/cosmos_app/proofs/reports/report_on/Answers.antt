@@ -7,9 +7,10 @@ use Rattle.run_ends.specs.declared.stop.Stop.{Stop}
 use Rattle.run_ends.specs.Answers.{Answer}
 use Rattle.run_ends.specs.Ends.{IsTold, IsToldBy}
 use Rattle.run_ends.proofs.EndLemmas.{told_by_none}
-use Rattle.cosmos_app.specs.declared.request.Report.{Report}
-use Rattle.cosmos_app.specs.Requests.{report_seen}
-use Rattle.cosmos_app.specs.Answers.{IsAnswerIn, IsCheck, IsGroups}
+use Rattle.command_line.specs.declared.request.Report.{Report}
+use Rattle.command_line.specs.Requests.{report_seen}
+use Rattle.cosmos_app.specs.Answers.{IsAnswerIn}
+use Rattle.circuit_reports.specs.Answers.{IsCheck, IsGroups}
 use Rattle.cosmos_app.proofs.reports.report_on.Goals as goal
 
 told_for : {report other : Report} → report ≡ other → (holds : List ℕ → List ℕ) (circuit : CircuitData) (old new : Option (List ℕ))

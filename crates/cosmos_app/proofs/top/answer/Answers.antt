@@ -4,7 +4,7 @@ use Rattle.port_edge.proofs.ResultLemmas.{at_known, at_ok}
 use Rattle.port_edge.proofs.TakenLemmas.{files_none}
 use Rattle.line_words.specs.declared.files.TheConstants.{MOST_FILE_BYTES}
 use Rattle.run_ends.proofs.EndLemmas.{read_none, untouched_none}
-use Rattle.cosmos_app.specs.Requests.{About, OverDeck, alone_seen, names_of, question_seen, request_of, request_seen}
+use Rattle.command_line.specs.Requests.{About, OverDeck, alone_seen, names_of, question_seen, request_of, request_seen}
 use Rattle.cosmos_app.proofs.AskedLemmas.{told_request, starts_request, whole_request, starts_alone, files_alone}
 use Rattle.cosmos_app.proofs.WholeLemmas.{whole_unasked}
 use Rattle.cosmos_app.proofs.top.answer.Goals as goal

@@ -4,8 +4,8 @@ use Rattle.port_edge.proofs.ResultLemmas.{at_ok}
 use Rattle.port_edge.proofs.TakenLemmas.{files_both}
 use Rattle.run_ends.specs.Stops.{faults_read}
 use Rattle.run_ends.proofs.EndLemmas.{read_none, untouched_none}
-use Rattle.cosmos_app.specs.Requests.{question_seen}
-use Rattle.cosmos_app.proofs.FeedingLemmas.{at_each}
+use Rattle.command_line.specs.Requests.{question_seen}
+use Rattle.circuit_files.proofs.FeedingLemmas.{at_each}
 use Rattle.cosmos_app.proofs.NetLemmas.{means_as, told_over, told_refusal}
 use Rattle.cosmos_app.proofs.StartLemmas.{starts_beside}
 use Rattle.cosmos_app.proofs.WholeLemmas.{whole_beside, whole_refused}

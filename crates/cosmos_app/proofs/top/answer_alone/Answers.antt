@@ -3,10 +3,11 @@ use Rattle.std.proofs.Common.{sym, ap, subst}
 use Rattle.run_ends.specs.Answers.{Answer}
 use Rattle.run_ends.specs.Ends.{IsToldBy}
 use Rattle.run_ends.proofs.EndLemmas.{told_by_none}
-use Rattle.cosmos_app.specs.declared.request.Alone.{Alone}
-use Rattle.cosmos_app.specs.Requests.{alone_seen}
-use Rattle.cosmos_app.specs.Samples.{sample_seen}
-use Rattle.cosmos_app.specs.Answers.{IsAnswerTo, IsGenerated, IsUsage}
+use Rattle.command_line.specs.declared.request.Alone.{Alone}
+use Rattle.command_line.specs.Requests.{alone_seen}
+use Rattle.command_line.specs.Samples.{sample_seen}
+use Rattle.cosmos_app.specs.Answers.{IsAnswerTo}
+use Rattle.circuit_reports.specs.Answers.{IsGenerated, IsUsage}
 use Rattle.cosmos_app.proofs.top.answer_alone.Goals as goal
 
 pub returns-in-Generate-clause-told : goal.returns-in-Generate-clause-told

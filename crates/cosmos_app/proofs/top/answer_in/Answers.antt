@@ -6,7 +6,7 @@ use Rattle.line_words.specs.declared.files.TheConstants.{MOST_FILE_BYTES}
 use Rattle.run_ends.proofs.EndLemmas.{read_none, untouched_none}
 use Rattle.cosmos_app.proofs.AskedLemmas.{told_question, starts_question, whole_question, starts_reported, scripts_reported}
 use Rattle.cosmos_app.proofs.PurposeLemmas.{told_asked, starts_asked, scripts_asked}
-use Rattle.cosmos_app.proofs.WholeLemmas.{whole_none}
+use Rattle.circuit_files.proofs.WholeLemmas.{whole_none}
 use Rattle.cosmos_app.proofs.top.answer_in.Goals as goal
 
 pub returns-in-Run-clause-told : goal.returns-in-Run-clause-told

@@ -1,6 +1,6 @@
 -- The status is the end's, and so are the counts and what was read.
 use Rattle.std.proofs.Common.{sym, ap, ◌∙◌}
-use Rattle.cosmos_app.specs.Requests.{names_of, request_of}
+use Rattle.command_line.specs.Requests.{names_of, request_of}
 use Rattle.cosmos_app.specs.Counts.{files_count, sink_count}
 use Rattle.cosmos_app.proofs.EndLemmas.{answered_known}
 use Rattle.run_ends.proofs.EndLemmas.{untouched_seen, read_cause}

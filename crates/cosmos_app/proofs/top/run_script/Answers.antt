@@ -3,7 +3,7 @@ use Rattle.std.proofs.Common.{◌∙◌}
 use Rattle.port_edge.proofs.ResultLemmas.{at_ok}
 use Rattle.run_ends.proofs.EndLemmas.{read_none, untouched_none}
 use Rattle.cosmos_app.proofs.PurposeLemmas.{told_run_for}
-use Rattle.cosmos_app.proofs.WholeLemmas.{whole_file}
+use Rattle.circuit_files.proofs.WholeLemmas.{whole_file}
 use Rattle.cosmos_app.proofs.top.run_script.Goals as goal
 
 pub returns-clause-told : goal.returns-clause-told

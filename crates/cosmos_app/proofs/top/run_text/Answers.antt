@@ -5,7 +5,7 @@ use Rattle.group_text.specs.Texts.{GroupTextData}
 use Rattle.run_ends.specs.declared.stop.End as end
 use Rattle.run_ends.specs.declared.stop.Stop.{Stop}
 use Rattle.run_ends.specs.Ends.{IsToldBy}
-use Rattle.cosmos_app.specs.declared.request.Purpose.{Purpose}
+use Rattle.command_line.specs.declared.request.Purpose.{Purpose}
 use Rattle.cosmos_app.specs.Purposes.{IsRunFor}
 use Rattle.cosmos_app.proofs.top.run_text.Goals as goal
 

@@ -4,7 +4,7 @@ use Rattle.port_edge.proofs.ResultLemmas.{at_ok}
 use Rattle.port_edge.proofs.TakenLemmas.{files_both}
 use Rattle.spice_cards.specs.declared.fault.DeckFault.TheVariants.{At}
 use Rattle.cosmos_app.proofs.DeckLemmas.{deck_means_as, told_deck, told_deck_refusal, starts_script, whole_script, whole_refused_deck}
-use Rattle.cosmos_app.proofs.FeedingLemmas.{at_each}
+use Rattle.circuit_files.proofs.FeedingLemmas.{at_each}
 use Rattle.cosmos_app.proofs.top.simulate_deck.Goals as goal
 
 pub returns-in-Ok-clause-told : goal.returns-in-Ok-clause-told

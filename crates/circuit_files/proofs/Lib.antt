@@ -1,0 +1,4 @@
+pub mod LowerLemmas
+pub mod WholeLemmas
+pub mod MeaningLemmas
+pub mod FeedingLemmas

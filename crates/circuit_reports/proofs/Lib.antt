@@ -1,0 +1,3 @@
+mod GroupsLemmas
+mod ListLemmas
+mod PieceLemmas

@@ -1,0 +1,58 @@
+//! The lines of refusals.
+
+ghost use Rattle.std.specs.Prelude.{◌≡◌, ◌≢◌, IfErr};
+ghost use Rattle.circuit_reports.specs.Answers.{IsDeckRefusal, IsNetRefusal, IsUsage};
+ghost use Rattle.run_ends.specs.Ends.{IsTold};
+ghost use Rattle.run_ends.specs.Stops.{faults_written, IsRefusedOnce};
+
+use crate::codes::net_code;
+use port_edge::{Sink, send};
+use run_ends::{End, Stop, refuse};
+use sim_read::NetRefusal;
+use spice_cards::{DeckWhat, deck_line};
+use std::alloc::Global;
+use wave_print::FaultPlace;
+
+/// Writes the line of a netlist's refusal.
+pub fn refuse_net<S: Sink>(alloc: Global, refusal: NetRefusal, out: &mut S) -> Result<End, Stop>
+    ensures told { IsTold (IsNetRefusal refusal) (S.written out.old) (S.written out.new) result }
+    ensures no_read { IfErr result (λ stop. stop ≢ Stop.Read) }
+    ensures write { S.faults out.new ≡ faults_written (S.faults out.old) result }
+    ensures refused { IsRefusedOnce (S.refusals out.old) (S.refusals out.new) result }
+{
+    let place = FaultPlace::Net(refusal.line);
+    let code = net_code(refusal.what);
+    refuse(alloc, place, code, End::NetRefused, out)
+}
+
+/// Writes the line of a deck's refusal, by the number of the refused line and why it is refused.
+pub fn refuse_deck<S: Sink>(
+    alloc: Global,
+    line: u64,
+    what: DeckWhat,
+    out: &mut S,
+) -> Result<End, Stop>
+    ensures told { IsTold (IsDeckRefusal line what) (S.written out.old) (S.written out.new) result }
+    ensures no_read { IfErr result (λ stop. stop ≢ Stop.Read) }
+    ensures write { S.faults out.new ≡ faults_written (S.faults out.old) result }
+    ensures refused { IsRefusedOnce (S.refusals out.old) (S.refusals out.new) result }
+{
+    let text = deck_line(alloc, line, what)?;
+    match send(out, &text) {
+        Ok(()) => Ok(End::NetRefused),
+        Err(fault) => Err(Stop::of_write(fault)),
+    }
+}
+
+/// Writes the usage line.
+pub fn refuse_words<S: Sink>(out: &mut S) -> Result<End, Stop>
+    ensures told { IsTold IsUsage (S.written out.old) (S.written out.new) result }
+    ensures no_read { IfErr result (λ stop. stop ≢ Stop.Read) }
+    ensures write { S.faults out.new ≡ faults_written (S.faults out.old) result }
+    ensures refused { IsRefusedOnce (S.refusals out.old) (S.refusals out.new) result }
+{
+    match send(out, b"bad command line\n") {
+        Ok(()) => Ok(End::Usage),
+        Err(fault) => Err(Stop::of_write(fault)),
+    }
+}

@@ -1,0 +1,22 @@
+//! The word that tells how many columns a run has.
+
+ghost use Rattle.std.specs.Prelude.{◌≡◌};
+ghost use Rattle.std.specs.Option.{option_map};
+ghost use Rattle.command_line.specs.Columns as spec;
+
+use crate::lanes::Lanes;
+use line_words::decimal;
+
+/// The number of columns that a word writes, from 1 to 64; none where it writes no such number.
+pub fn lanes_of(word: &str) -> Option<Lanes>
+    ensures { option_map spec.lanes_seen result ≡ spec.lanes_of word.now }
+{
+    let count = decimal(word.as_bytes())?;
+    if 1 <= count && count <= 64 {
+        Some(Lanes {
+            count: count as u32,
+        })
+    } else {
+        None
+    }
+}

@@ -1,0 +1,22 @@
+//! What the words of a command line ask for.
+//!
+//! The main call is `request_of`: it answers a `Request`, which is a question about a netlist, the run of a
+//! script over a deck, or what needs no file. The layer above rests on its contract, which is the function
+//! `request_of` of `specs/Requests`, and answers each case.
+//!
+//! ```text
+//! request_of(["check", "inverter.sim"])                 is About { net: "inverter.sim", question: Report(Check) }
+//! request_of(["gen", "net", "inverters", "1", "2"])     is Alone(Generate { part: Net, sample })
+//! request_of(["batch", "inverter.sim", "65", "a.cmd"])  is Alone(Unclear)
+//! ```
+#![tactic(auto)]
+
+mod columns;
+mod lanes;
+mod request;
+mod sample;
+
+pub use columns::lanes_of;
+pub use lanes::Lanes;
+pub use request::{Alone, Purpose, Question, Report, Request, request_of};
+pub use sample::Sample;

@@ -1,0 +1,4 @@
+mod WaveLemmas
+mod AlikeLemmas
+mod CountingLemmas
+mod ReasonedLemmas

@@ -1,0 +1,133 @@
+-- What was told of a node at the end of a script, or of the refusal that ended it, is told of the answer to `why`.
+use Rattle.std.proofs.Common.{◌≡◌, ◌≢◌, ℕ, inl, inr, List, Option, None, Some, Result, Ok, Err, IfOk, IfErr, refl, sym, ap, subst, arith}
+use Rattle.line_words.specs.Files.{lines_in, cut_line}
+use Rattle.netlist.specs.Circuits.{CircuitData}
+use Rattle.netlist.specs.Names.{node_of}
+use Rattle.group_text.specs.Texts.{GroupTextData}
+use Rattle.circuit_texts.specs.declared.texts.BuildFault.{BuildFault}
+use Rattle.wave_print.specs.declared.faults.FaultPlace.TheVariants.{Script}
+use Rattle.session_meaning.specs.Sessions.{SessionData, start_of}
+use Rattle.run_ends.specs.declared.status.Status.TheVariants.{Done, Usage, ScriptRefused}
+use Rattle.script_meaning.specs.declared.halt.Halt.{Halt}
+use Rattle.script_meaning.specs.declared.halt.Halt.TheVariants.{End, Refused, TooLarge}
+use Rattle.run_ends.specs.declared.stop.End as end
+use Rattle.run_ends.specs.declared.stop.Stop.{Stop}
+use Rattle.run_ends.specs.declared.stop.Stop.TheVariants.{Read, Write, Memory}
+use Rattle.run_ends.specs.Causes.{Cause, plain_cause}
+use Rattle.script_meaning.specs.Runs.{Reading, RefusedLine, plain_reading}
+use Rattle.run_ends.specs.Answers.{Answer, plain_answer, IsRefusalFor, IsTooLarge}
+use Rattle.script_meaning.specs.Halts.{HasObeyed, HasOutgrown, HaltsAt, TellsHalt}
+use Rattle.run_ends.specs.Stops.{faults_written}
+use Rattle.run_ends.specs.Ends.{IsTold, IsToldBy}
+use Rattle.run_ends.proofs.EndLemmas.{told_as}
+use Rattle.script_reports.specs.Reasoned.{unknown_node_line, ExplainsNode, IsExplained, IsExplainedAt, IsReasoned}
+use Rattle.script_reports.specs.Explaining.{TellsSize, IsHaltExplained}
+
+module _ (script name : List ℕ) (circuit : CircuitData) (new : SessionData) (old last : Option (List ℕ)) (asked told : List GroupTextData) where
+  -- the lines were obeyed to here
+  abbrev Obeyed : Option RefusedLine → Type 0
+  Obeyed stopped = HasObeyed plain_reading (cut_line script) (start_of circuit) (lines_in script) new None None asked told stopped
+
+  -- a status and a text that explain the node where the script ended, with the texts that were analysed, are a right answer
+  reasoned : (stopped : Option RefusedLine) (obeyed : Obeyed stopped) (answer : Answer) → IsExplainedAt name new stopped answer.status answer.text →
+      IsReasoned script name circuit (record { status = answer.status; text = answer.text; texts = obeyed.outcome.texts })
+  reasoned stopped obeyed answer explained = record {
+    outcome = obeyed.outcome;
+    runs = obeyed.runs;
+    explained = subst (λ (session : SessionData). IsExplainedAt name session obeyed.outcome.refused answer.status answer.text) (sym obeyed.reached)
+        (subst (λ (line : Option RefusedLine). IsExplainedAt name new line answer.status answer.text) (sym obeyed.stopped) explained);
+    texts = refl;
+  }
+
+  told_at : (stopped : Option RefusedLine) (result : Result end.End Stop) → Obeyed stopped →
+      IsTold (λ (answer : Answer). IsExplainedAt name new stopped answer.status answer.text) old last result →
+      IsToldBy (IsReasoned script name circuit) old last asked told result
+  told_at stopped (Ok ending) obeyed written = record {
+    answer = record { status = written.answer.status; text = written.answer.text; texts = obeyed.outcome.texts };
+    right = (reasoned stopped obeyed written.answer written.right, obeyed.analysed);
+    ended = written.ended;
+    grew = written.grew;
+  }
+  told_at stopped (Err stop) obeyed (inl same) = inl same
+  told_at stopped (Err stop) obeyed (inr begun) = inr (record {
+    answer = record { status = begun.answer.status; text = begun.answer.text; texts = obeyed.outcome.texts };
+    right = reasoned stopped obeyed begun.answer begun.right;
+    part = begun.part;
+  })
+
+  -- of the node that is explained
+  pub told_node : (result : Result end.End Stop) → Obeyed None →
+      IsTold (λ (answer : Answer). IsExplained new (node_of new.circuit.names name) answer.status answer.text) old last result →
+      IsToldBy (IsReasoned script name circuit) old last asked told result
+  told_node result obeyed written = told_at None result obeyed written
+
+  -- of a refused line
+  pub told_line : (number : ℕ) (cause : Cause) (result : Result end.End Stop) → Obeyed (Some (record { line = number; cause = cause })) →
+      IsTold (IsRefusalFor (Script number) cause ScriptRefused) old last result → IsToldBy (IsReasoned script name circuit) old last asked told result
+  told_line number cause result obeyed written =
+      told_at (Some (record { line = number; cause = cause })) result obeyed
+      (told_as (IsRefusalFor (Script number) cause ScriptRefused)
+      (λ (answer : Answer). IsExplainedAt name new (Some (record { line = number; cause = cause })) answer.status answer.text) old last result
+      (λ answer is. (ap (λ (told : Answer). told.status) is, ap (λ (told : Answer). told.text) is)) written)
+
+  -- and of a line for which the circuit is too large
+  pub told_size : (number : ℕ) (fault : BuildFault) (result : Result end.End Stop) →
+      HasOutgrown plain_reading (cut_line script) (start_of circuit) (lines_in script) new None None asked told number fault →
+      IsTold (IsTooLarge new.circuit (Script number) ScriptRefused) old last result → IsToldBy (IsReasoned script name circuit) old last asked told result
+  told_size number fault (Ok ending) outgrown written =
+      let large = written.right in
+      told_line number large.cause (Ok ending) (outgrown.halted large.fault large.cause large.first large.named)
+      (record { answer = written.answer; right = large.told; ended = written.ended; grew = written.grew })
+  told_size number fault (Err stop) outgrown (inl same) = inl same
+  told_size number fault (Err stop) outgrown (inr begun) =
+      let large = begun.right in
+      told_line number large.cause (Err stop) (outgrown.halted large.fault large.cause large.first large.named)
+      (inr (record { answer = begun.answer; right = large.told; part = begun.part }))
+
+  -- of an answer about where the lines ended
+  pub told_halt : (halt : Halt) (result : Result end.End Stop) → HaltsAt plain_reading (cut_line script) (start_of circuit) (lines_in script) new None None asked told halt →
+      IsTold (IsHaltExplained name new halt) old last result → IsToldBy (IsReasoned script name circuit) old last asked told result
+  told_halt End result halts written = told_node result halts written
+  told_halt (Refused number code) result halts written = told_line number (plain_cause code) result halts written
+  told_halt (TooLarge number fault) result halts written = told_size number fault result halts written
+
+-- lines that end since a group is too large tell the first such group
+pub halted_size : (script : List ℕ) (circuit : CircuitData) (new : SessionData) (asked told : List GroupTextData) (halt : Halt) →
+    HaltsAt plain_reading (cut_line script) (start_of circuit) (lines_in script) new None None asked told halt → TellsSize new.circuit.graph halt
+halted_size script circuit new asked told End halts = tt
+halted_size script circuit new asked told (Refused number code) halts = tt
+halted_size script circuit new asked told (TooLarge number fault) halts = halts.first
+
+-- lines whose text is dropped end as they do
+pub dropped : (reading : Reading) → reading ≡ plain_reading → (cut : Option ℕ) (start : SessionData) (lines : List (ℕ × List ℕ)) (new : SessionData) (asked told : List GroupTextData) (result : Result Halt Stop) →
+    TellsHalt reading cut start lines new None None asked told result →
+    IfOk result (λ halt. HaltsAt plain_reading cut start lines new None None asked told halt)
+dropped reading plain cut start lines new asked told (Ok halt) tells =
+    subst (λ (reading : Reading). HaltsAt reading cut start lines new None None asked told halt) plain tells
+dropped reading plain cut start lines new asked told (Err stop) tells = tt
+
+-- over a sink that never fails a run stops by want of memory alone
+pub dropped_stop : {T : Type 0} (result : Result T Stop) → IfErr result (λ stop. stop ≢ Read) → 0 ≡ faults_written 0 result → IfErr result (λ stop. stop ≡ Memory)
+dropped_stop (Ok value) other none = tt
+dropped_stop (Err Read) other none = absurd (other refl)
+dropped_stop (Err Write) other none = absurd (omega (arith, none))
+dropped_stop (Err Memory) other none = refl
+
+-- a name that isn't in use is refused
+pub told_unknown : (new : SessionData) (name : List ℕ) (old last : Option (List ℕ)) (result : Result end.End Stop) → node_of new.circuit.names name ≡ None →
+    IsTold (λ (answer : Answer). answer ≡ plain_answer Usage unknown_node_line) old last result →
+    IsTold (λ (answer : Answer). IsExplained new (node_of new.circuit.names name) answer.status answer.text) old last result
+told_unknown new name old last result none written =
+    told_as (λ (answer : Answer). answer ≡ plain_answer Usage unknown_node_line)
+    (λ (answer : Answer). IsExplained new (node_of new.circuit.names name) answer.status answer.text) old last result
+    (λ answer is. subst (λ (node : Option ℕ). IsExplained new node answer.status answer.text) (sym none)
+    (ap (λ (told : Answer). told.status) is, ap (λ (told : Answer). told.text) is)) written
+
+-- and a node is explained
+pub told_known : (new : SessionData) (name : List ℕ) (node : ℕ) (old last : Option (List ℕ)) (result : Result end.End Stop) → node_of new.circuit.names name ≡ Some node →
+    IsTold (λ (answer : Answer). (answer.status ≡ Done) × ExplainsNode new.circuit new.state node answer.text) old last result →
+    IsTold (λ (answer : Answer). IsExplained new (node_of new.circuit.names name) answer.status answer.text) old last result
+told_known new name node old last result found written =
+    told_as (λ (answer : Answer). (answer.status ≡ Done) × ExplainsNode new.circuit new.state node answer.text)
+    (λ (answer : Answer). IsExplained new (node_of new.circuit.names name) answer.status answer.text) old last result
+    (λ answer is. subst (λ (node : Option ℕ). IsExplained new node answer.status answer.text) (sym found) is) written

@@ -1,0 +1,40 @@
+-- What was told of where the lines ended is told of the answer.
+use Rattle.std.proofs.Common.{None, refl, ap, subst}
+use Rattle.std.proofs.lemmas.Result.{err_from_is_err_and}
+use Rattle.line_words.specs.Files as file
+use Rattle.session_meaning.specs.Sessions.{HeldSession, SessionData}
+use Rattle.script_meaning.specs.Runs.{plain_reading}
+use Rattle.script_meaning.specs.Halts.{HaltsAt}
+use Rattle.script_meaning.proofs.LowerLemmas.{ready-start}
+use Rattle.script_reports.proofs.ReasonedLemmas.{told_halt, halted_size}
+use Rattle.script_reports.proofs.reasons.explain.Goals as goal
+
+pub run_unwritten-requires : goal.run_unwritten-requires
+run_unwritten-requires g c = rw c.in_ok-session.ensures (ready-start c.args.circuit c.requires)
+
+pub explain_at-requires : goal.explain_at-requires
+explain_at-requires g c =
+    let new = c.run_unwritten.new.session.core in
+    let asked = g.A.Analyst.analysed c.args.analyst.now in
+    let told = g.A.Analyst.analysed c.run_unwritten.new.analyst in
+    let halt = c.in_ok-halt.halt in
+    halted_size c.args.text.now c.args.circuit new asked told halt
+    (subst (λ (start : SessionData). HaltsAt plain_reading (file.cut_line c.args.text.now) start (file.lines_in c.args.text.now) new None None asked told halt)
+    (ap (λ (session : HeldSession). session.core) c.in_ok-session.ensures) c.in_ok-halt.ensures.halts)
+
+pub returns-clause-told : goal.returns-clause-told
+returns-clause-told g c =
+    let new = c.run_unwritten.new.session.core in
+    let asked = g.A.Analyst.analysed c.args.analyst.now in
+    let told = g.A.Analyst.analysed c.run_unwritten.new.analyst in
+    let halt = c.in_ok-halt.halt in
+    told_halt c.args.text.now c.args.name.now c.args.circuit new (g.S.Sink.written c.args.out.now) (g.S.Sink.written c.explain_at.new.out) asked told halt
+    c.explain_at.result
+    (subst (λ (start : SessionData). HaltsAt plain_reading (file.cut_line c.args.text.now) start (file.lines_in c.args.text.now) new None None asked told halt)
+    (ap (λ (session : HeldSession). session.core) c.in_ok-session.ensures) c.in_ok-halt.ensures.halts)
+    c.explain_at.ensures.told
+
+pub returns-in_err-halt-clause-write : goal.returns-in_err-halt-clause-write
+returns-in_err-halt-clause-write g c =
+    let p = err_from_is_err_and c.from_residual-in_err-halt.result c.from_residual-in_err-halt.ensures.1 in
+    rw (p.1, p.2, c.in_err-halt.ensures.memory) refl

@@ -1,0 +1,30 @@
+-- Inside the program: explaining a node where the lines of a script ended, or telling the refusal that ended them.
+use Rattle.std.specs.Prelude.{◌≡◌, ℕ, List}
+use Rattle.path_meaning.specs.Graphs.{GraphData, nodes}
+use Rattle.group_meaning.specs.Groups.{AreGroups}
+use Rattle.channel_groups.specs.Grouping.{GroupsData}
+use Rattle.netlist.specs.Names.{node_of}
+use Rattle.wave_print.specs.declared.faults.FaultPlace.TheVariants.{Script}
+use Rattle.circuit_texts.specs.Sizes.{TellsTooLarge}
+use Rattle.session_meaning.specs.Sessions.{SessionData}
+use Rattle.script_meaning.specs.declared.halt.Halt.{Halt}
+use Rattle.script_meaning.specs.declared.halt.Halt.TheVariants.{End, Refused, TooLarge}
+use Rattle.run_ends.specs.declared.status.Status.TheVariants.{ScriptRefused}
+use Rattle.run_ends.specs.Answers.{Answer, IsRefusal, IsTooLarge}
+use Rattle.script_reports.specs.Reasoned.{IsExplained}
+
+-- these are the groups of the graph, with its count of nodes
+abbrev pub AreGroupsOf : GraphData → GroupsData → Type 0
+AreGroupsOf graph groups = AreGroups graph groups.groups × (groups.nodes ≡ nodes graph)
+
+-- where the lines ended since a group of the circuit is too large, the first such group is told
+abbrev pub TellsSize : GraphData → Halt → Type 0
+TellsSize graph End = Unit {0}
+TellsSize graph (Refused number code) = Unit {0}
+TellsSize graph (TooLarge number fault) = TellsTooLarge graph fault
+
+-- the answer explains the node of this name in these data, if all lines were obeyed; else it is the line of the refusal that ended them
+abbrev pub IsHaltExplained : List ℕ → SessionData → Halt → Answer → Type 0
+IsHaltExplained name end End = λ answer. IsExplained end (node_of end.circuit.names name) answer.status answer.text
+IsHaltExplained name end (Refused number code) = IsRefusal (Script number) code ScriptRefused
+IsHaltExplained name end (TooLarge number fault) = IsTooLarge end.circuit (Script number) ScriptRefused

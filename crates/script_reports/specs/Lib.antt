@@ -1,0 +1,5 @@
+pub mod Summaries
+pub mod Countings
+pub mod Reasoned
+pub mod Explaining
+pub mod Answers

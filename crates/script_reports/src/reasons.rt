@@ -1,0 +1,221 @@
+//! What `why` writes: the reasons of a node at the end of a script.
+
+ghost use Rattle.std.specs.Prelude.{◌≡◌, ◌≢◌, ◌<◌, None, IfOk, IfErr, IfSome};
+ghost use Rattle.path_meaning.specs.Graphs.{nodes};
+ghost use Rattle.path_meaning.specs.Spread.{rail_of};
+ghost use Rattle.line_words.specs.Files as file;
+ghost use Rattle.netlist.specs.Circuits.{IsCircuit};
+ghost use Rattle.netlist.specs.Names.{node_of};
+ghost use Rattle.why_path.specs.Reasons.{Explains};
+ghost use Rattle.session_meaning.specs.Sessions.{IsReady};
+ghost use Rattle.script_meaning.specs.Runs.{plain_reading};
+ghost use Rattle.script_meaning.specs.Halts.{HaltsAt};
+ghost use Rattle.run_ends.specs.Ends.{IsTold, IsToldBy};
+ghost use Rattle.run_ends.specs.Stops.{faults_written, IsRefusedOnce};
+ghost use Rattle.run_ends.specs.declared.status.Status.TheVariants as status;
+ghost use Rattle.script_reports.specs.Reasoned.{ExplainsRail, ExplainsNode, IsExplained, IsReasoned};
+ghost use Rattle.script_reports.specs.Explaining.{AreGroupsOf, TellsSize, IsHaltExplained};
+
+use channel_groups::Groups;
+use cosmos_session::Session;
+use group_analysis::Analyst;
+use netlist::Circuit;
+use path_meaning::Walk;
+use port_edge::{DropSink, Sink, send};
+use run_ends::{End, Stop, refuse};
+use script_meaning::Halt;
+use script_run::{obey_lines, refuse_halt};
+use std::alloc::Global;
+use ternary::NoMemory;
+use wave_print::{FaultCode, FaultPlace};
+use why_path::{group_reason, reason_line};
+
+/// Runs the lines of a script from the start in a circuit, none of which is written, and explains the node
+/// of this name in the circuit and the state at their end; or writes the line of the refusal that ended them.
+pub fn explain<S: Sink, A: Analyst>(
+    alloc: Global,
+    circuit: Circuit,
+    text: &[u8],
+    name: &str,
+    out: &mut S,
+    analyst: &mut A,
+) -> Result<End, Stop>
+    requires { IsCircuit circuit }
+    ensures told { IsToldBy (IsReasoned text.now name.now circuit)
+        (S.written out.old) (S.written out.new) (A.analysed analyst.old) (A.analysed analyst.new) result }
+    ensures no_read { IfErr result (λ stop. stop ≢ Stop.Read) }
+    ensures write { S.faults out.new ≡ faults_written (S.faults out.old) result }
+    ensures refused { IsRefusedOnce (S.refusals out.old) (S.refusals out.new) result }
+{
+    let mut session = Session::new(alloc, circuit)?;
+    let halt = run_unwritten(alloc, &mut session, text, analyst)?;
+    explain_at(alloc, &session, halt, name, out)
+}
+
+// Runs the lines of a script, whose text is dropped.
+fn run_unwritten<A: Analyst>(
+    alloc: Global,
+    session: &mut Session,
+    text: &[u8],
+    analyst: &mut A,
+) -> Result<Halt, Stop>
+    requires { IsReady session.old.core }
+    ensures halts { IfOk result (HaltsAt plain_reading
+        (file.cut_line text.now) session.old.core (file.lines_in text.now) session.new.core
+        None None (A.analysed analyst.old) (A.analysed analyst.new)) }
+    ensures memory { IfErr result (λ stop. stop ≡ Stop.Memory) }
+{
+    let mut unwritten = DropSink::new();
+    obey_lines(alloc, session, text, None, &mut unwritten, analyst)
+}
+
+// Explains the node of this name where the lines of a script ended, or writes the line of the refusal that
+// ended them.
+fn explain_at<S: Sink>(
+    alloc: Global,
+    session: &Session,
+    halt: Halt,
+    name: &str,
+    out: &mut S,
+) -> Result<End, Stop>
+    requires { TellsSize session.now.core.circuit.graph halt }
+    ensures told { IsTold (IsHaltExplained name.now session.now.core halt)
+        (S.written out.old) (S.written out.new) result }
+    ensures no_read { IfErr result (λ stop. stop ≢ Stop.Read) }
+    ensures write { S.faults out.new ≡ faults_written (S.faults out.old) result }
+    ensures refused { IsRefusedOnce (S.refusals out.old) (S.refusals out.new) result }
+{
+    match halt {
+        Halt::End => explain_name(alloc, session, name, out),
+        _ => refuse_halt(alloc, session.circuit(), halt, out),
+    }
+}
+
+// Explains the node of this name; one that isn't in use is refused.
+fn explain_name<S: Sink>(
+    alloc: Global,
+    session: &Session,
+    name: &str,
+    out: &mut S,
+) -> Result<End, Stop>
+    ensures told { IsTold (λ answer. IsExplained session.now.core (node_of session.now.core.circuit.names name.now) answer.status answer.text)
+        (S.written out.old) (S.written out.new) result }
+    ensures no_read { IfErr result (λ stop. stop ≢ Stop.Read) }
+    ensures write { S.faults out.new ≡ faults_written (S.faults out.old) result }
+    ensures refused { IsRefusedOnce (S.refusals out.old) (S.refusals out.new) result }
+{
+    match session.circuit().find(name.as_bytes()) {
+        Some(node) => write_reasons(alloc, session, node, out),
+        None => {
+            let code = FaultCode::E1UnknownNode;
+            refuse(alloc, FaultPlace::Node, code, End::Usage, out)
+        }
+    }
+}
+
+// Writes the two lines that explain a node.
+fn write_reasons<S: Sink>(
+    alloc: Global,
+    session: &Session,
+    node: usize,
+    out: &mut S,
+) -> Result<End, Stop>
+    requires { node < nodes session.now.core.circuit.graph }
+    ensures told { IsTold (λ answer. (answer.status ≡ status.Done)
+        × ExplainsNode session.now.core.circuit session.now.core.state node answer.text)
+        (S.written out.old) (S.written out.new) result }
+    ensures no_read { IfErr result (λ stop. stop ≢ Stop.Read) }
+    ensures write { S.faults out.new ≡ faults_written (S.faults out.old) result }
+    ensures refused { IsRefusedOnce (S.refusals out.old) (S.refusals out.new) result }
+{
+    let text = reasons_text(alloc, session, node)?;
+    match send(out, &text) {
+        Ok(()) => Ok(End::Done),
+        Err(fault) => Err(Stop::of_write(fault)),
+    }
+}
+
+// The two lines that explain a node, by the groups that the session's machine has; where there is no machine,
+// they are found.
+fn reasons_text(alloc: Global, session: &Session, node: usize) -> Result<Vec<u8>, NoMemory>
+    requires { node < nodes session.now.core.circuit.graph }
+    ensures { IfOk result (λ text. ExplainsNode session.now.core.circuit session.now.core.state node text.items) }
+{
+    match kept_groups(session) {
+        Some(groups) => reasons_among(alloc, session, groups, node),
+        None => {
+            let groups = groups_at(alloc, session)?;
+            reasons_among(alloc, session, &groups, node)
+        }
+    }
+}
+
+// The groups of the present circuit, where the session has a machine.
+fn kept_groups(session: &Session) -> Option<&Groups>
+    ensures { IfSome result (λ groups. AreGroupsOf session.now.core.circuit.graph groups.now) }
+{
+    session.machine()?.grouping()
+}
+
+// The groups of the present circuit.
+fn groups_at(alloc: Global, session: &Session) -> Result<Groups, NoMemory>
+    ensures { IfOk result (λ groups. AreGroupsOf session.now.core.circuit.graph groups) }
+{
+    let graph = session.circuit().graph();
+    Groups::of(alloc, graph)
+}
+
+// The two lines that explain a node: first why it may be 1, then why it may be 0.
+fn reasons_among(
+    alloc: Global,
+    session: &Session,
+    groups: &Groups,
+    node: usize,
+) -> Result<Vec<u8>, NoMemory>
+    requires node { node < nodes session.now.core.circuit.graph }
+    requires groups { AreGroupsOf session.now.core.circuit.graph groups.now }
+    ensures { IfOk result (λ text. ExplainsNode session.now.core.circuit session.now.core.state node text.items) }
+{
+    let mut text = rail_line(alloc, session, groups, node, true)?;
+    let zero = rail_line(alloc, session, groups, node, false)?;
+    text.extend_from_slice(&zero)?;
+    Ok(text)
+}
+
+// The line that explains a rail of a node.
+fn rail_line(
+    alloc: Global,
+    session: &Session,
+    groups: &Groups,
+    node: usize,
+    one: bool,
+) -> Result<Vec<u8>, NoMemory>
+    requires node { node < nodes session.now.core.circuit.graph }
+    requires groups { AreGroupsOf session.now.core.circuit.graph groups.now }
+    ensures { IfOk result (λ line. ExplainsRail session.now.core.circuit session.now.core.state node one line.items) }
+{
+    let walk = walk_to(alloc, session, groups, node, one)?;
+    reason_line(
+        alloc,
+        session.circuit(),
+        session.state(),
+        one,
+        walk.as_ref(),
+    )
+}
+
+// A best reason for a rail of a node, if there is one.
+fn walk_to(
+    alloc: Global,
+    session: &Session,
+    groups: &Groups,
+    node: usize,
+    one: bool,
+) -> Result<Option<Walk>, NoMemory>
+    requires node { node < nodes session.now.core.circuit.graph }
+    requires groups { AreGroupsOf session.now.core.circuit.graph groups.now }
+    ensures { IfOk result (Explains (rail_of one) session.now.core.circuit.graph session.now.core.state node) }
+{
+    let graph = session.circuit().graph();
+    group_reason(alloc, graph, session.state(), groups, node, one)
+}
