@@ -15,7 +15,9 @@
 #![tactic(auto)]
 
 mod conduct;
+mod laws;
 mod rails;
 
 pub use conduct::{closed, may_conduct};
+pub use laws::limits_are_as_stated;
 pub use rails::{TOO_MANY_NODES, const_rails, var_rails};

@@ -1,6 +1,8 @@
 //! Laws of texts.
 
+ghost use Rattle.std.specs.Prelude.{◌≡◌};
 ghost use Rattle.group_text.specs.Laws.{TextsAreWellFormed, ResponsesAreLocal};
+ghost use Rattle.group_text.specs.declared.text.TheConstants.{MOST_MEMBERS, MOST_SWITCHES};
 
 /// The text of a group is well formed.
 pub fn texts_are_well_formed()
@@ -16,4 +18,10 @@ pub fn texts_are_well_formed()
 /// 1987.
 pub fn responses_are_local()
     ensures { ResponsesAreLocal }
+{}
+
+/// A law: a group has a text of up to 200 members and 800 switches.
+pub fn limits_are_as_stated()
+    ensures members { MOST_MEMBERS ≡ 200 }
+    ensures switches { MOST_SWITCHES ≡ 800 }
 {}

@@ -16,7 +16,9 @@ mod columns;
 mod draws;
 mod families;
 mod inverters;
+mod laws;
 mod lines;
 mod passes;
 
 pub use families::{GenKind, GenPart, MOST_ROWS, generate};
+pub use laws::limits_are_as_stated;

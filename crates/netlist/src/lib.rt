@@ -34,7 +34,7 @@ mod strengths;
 
 pub use circuit::Circuit;
 pub use fault::EditFault;
-pub use laws::removed_numbers_stay_free;
+pub use laws::{limits_are_as_stated, removed_numbers_stay_free};
 pub use path_meaning::{GND, RAILS, VDD};
 pub use strengths::usual_strength;
 

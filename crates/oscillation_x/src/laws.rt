@@ -2,7 +2,9 @@
 //!
 //! Each function here does nothing: its contract is the law, and its proof proves it. So a law can
 //! be cited like any other contract.
+ghost use Rattle.std.specs.Prelude.{◌≡◌};
 ghost use Rattle.oscillation_x.specs.Laws.{EveryStateSettles, JoiningStepsMakeX, SettlingIsUnique};
+ghost use Rattle.oscillation_x.specs.declared.settling.TheConstants.{MOST_LIMIT};
 
 /// Every state of a graph settles, under every limit.
 ///
@@ -25,4 +27,9 @@ pub fn joining_steps_make_x()
 /// limit, though it is defined as a relation: any two steppers that fit the graph settle alike.
 pub fn settling_is_unique()
     ensures { SettlingIsUnique }
+{}
+
+/// A law: the limit of a phase is at most 1,000,000.
+pub fn limits_are_as_stated()
+    ensures { MOST_LIMIT ≡ 1000000 }
 {}

@@ -23,7 +23,9 @@ mod plain_stepping;
 mod settling;
 mod stepping;
 
-pub use laws::{every_state_settles, joining_steps_make_x, settling_is_unique};
+pub use laws::{
+    every_state_settles, joining_steps_make_x, limits_are_as_stated, settling_is_unique,
+};
 pub use plain_stepping::PlainStepper;
 pub use settling::{MOST_LIMIT, Settled, settle};
 pub use stepping::Stepper;

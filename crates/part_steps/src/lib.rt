@@ -21,6 +21,7 @@ mod agenda;
 mod batches;
 mod dense;
 mod evaluation;
+mod laws;
 mod making;
 mod putting;
 mod readers;
@@ -30,6 +31,7 @@ pub use agenda::{Agenda, mark_all, numbers_below};
 pub use batches::Batches;
 pub use dense::{DenseParts, Seat};
 pub use evaluation::Desk;
+pub use laws::limits_are_as_stated;
 pub use making::{
     Needs, all_owners, count_held, desk_for, held_parts, needs_of, own, widen_for_codes,
     widen_for_parts,

@@ -3,6 +3,8 @@
 //! Each function here does nothing: its contract is the law, and its proof proves it. So a law can
 //! be cited like any other contract.
 
+ghost use Rattle.std.specs.Prelude.{◌≡◌};
+ghost use Rattle.path_meaning.specs.declared.TheConstants.{GND, VDD, RAILS};
 ghost use Rattle.path_meaning.specs.Graphs.{IsWired};
 ghost use Rattle.path_meaning.specs.Laws.{EveryNodeIsReached, StrongestIsUnblocked, CyclesCanBeCut, ReachesOn, RootsReachThemselves, InputNodesKeepTheirStates, StepsJoin, StepsRest, StepExists, StepIsUnique};
 
@@ -98,4 +100,11 @@ pub fn step_exists()
 /// After Bryant, "Boolean Analysis of MOS Circuits", 1987.
 pub fn step_is_unique()
     ensures { StepIsUnique }
+{}
+
+/// A law: the rails are the nodes 0 and 1, and there are two.
+pub fn rails_are_numbered()
+    ensures gnd { GND ≡ 0 }
+    ensures vdd { VDD ≡ 1 }
+    ensures rails { RAILS ≡ 2 }
 {}

@@ -32,7 +32,8 @@ mod walks;
 pub use graph::Graph;
 pub use laws::{
     cycles_can_be_cut, every_node_is_reached, graphs_are_wired, input_nodes_keep_their_states,
-    reaches_on, roots_reach_themselves, step_exists, step_is_unique, steps_join, steps_rest,
+    rails_are_numbered, reaches_on, roots_reach_themselves, step_exists, step_is_unique,
+    steps_join, steps_rest,
 };
 pub use plain::{PlainRoom, plain_step, plain_step_into, strongest};
 pub use switching::{Switch, SwitchKind, SwitchState, switch_state};

@@ -24,7 +24,7 @@ mod reader;
 mod verb;
 
 pub use command::{Command, ScriptFault};
-pub use laws::readings_are_commands_or_refusals;
+pub use laws::{limits_are_as_stated, readings_are_commands_or_refusals};
 pub use lists::{AssignList, ClockList, ItemList, Name, NameList, StateList};
 pub use parts::beats;
 pub use reader::read_command;

@@ -1,8 +1,16 @@
 //! What holds of a session's machine, whatever the commands.
 
+ghost use Rattle.std.specs.Prelude.{◌≡◌};
 ghost use Rattle.session_meaning.specs.Machines.{OnlyEditsLoseMachines};
+ghost use Rattle.session_meaning.specs.declared.TheConstants.{MOST_WATCHED, FIRST_LIMIT};
 
 /// A law: where an accepted command found a machine and leaves none, it edited the circuit.
 pub fn only_edits_lose_the_machine()
     ensures { OnlyEditsLoseMachines }
+{}
+
+/// A law: the watch list has up to 256 entries, and the limit of a phase is 100 at the start.
+pub fn limits_are_as_stated()
+    ensures watched { MOST_WATCHED ≡ 256 }
+    ensures limit { FIRST_LIMIT ≡ 100 }
 {}

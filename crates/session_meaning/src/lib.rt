@@ -31,7 +31,7 @@ mod switches;
 
 pub use clock::{Clock, places_of};
 pub use fault::{ApplyFault, Refusal};
-pub use laws::only_edits_lose_the_machine;
+pub use laws::{limits_are_as_stated, only_edits_lose_the_machine};
 pub use switches::SwitchEdit;
 
 /// The most entries of the watch list.

@@ -9,6 +9,8 @@ ghost use Rattle.sim_read.specs.Items.{number_that, strength_after};
 ghost use Rattle.sim_read.specs.Meaning.{netlist_of};
 ghost use Rattle.sim_read.specs.FirstRefused.{IsFirstRefused, MakesAll};
 ghost use Rattle.sim_read.specs.declared.fault.NetRefusal.{NetRefusal};
+ghost use Rattle.sim_read.specs.declared.header.TheConstants.{HEADER_LINE, MOST_THRESHOLDS};
+ghost use Rattle.sim_read.specs.declared.pieces.TheConstants.{MOST_HELD};
 
 use strength_order::Profile;
 
@@ -42,4 +44,11 @@ pub fn the_last_strength_counts(profile: Profile)
     ensures bad { (usual : ℕ) (before after : List (List ℕ)) (text : List ℕ)
         → number_that (is_strength profile) text ≡ None
         → strength_after profile usual (before ++ text ∷ after) ≡ None }
+{}
+
+/// A law: the header is line 1, it gives up to 7 thresholds, and of a line up to 65,538 bytes are held.
+pub fn limits_are_as_stated()
+    ensures header { HEADER_LINE ≡ 1 }
+    ensures thresholds { MOST_THRESHOLDS ≡ 7 }
+    ensures held { MOST_HELD ≡ 65538 }
 {}

@@ -36,6 +36,7 @@ mod sums;
 
 pub use fault::{NetFault, NetRefusal, NetWhat};
 pub use laws::{
-    capacitances_add_in_any_order, netlists_are_circuits_or_refused_lines, the_last_strength_counts,
+    capacitances_add_in_any_order, limits_are_as_stated, netlists_are_circuits_or_refused_lines,
+    the_last_strength_counts,
 };
 pub use pieces::{MOST_HELD, Reader, read_netlist};

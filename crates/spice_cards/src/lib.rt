@@ -31,6 +31,7 @@
 mod cards;
 mod deck;
 mod fault;
+mod laws;
 mod parts;
 mod places;
 mod pool;
@@ -43,6 +44,7 @@ mod words;
 pub use cards::TRANSISTOR_WORDS;
 pub use deck::{Deck, Subcircuit, folded, read_cards};
 pub use fault::{DeckFault, DeckWhat};
+pub use laws::limits_are_as_stated;
 pub use parts::{Part, Parts};
 pub use report::deck_line;
 pub use sorts::{PartSort, Strength};

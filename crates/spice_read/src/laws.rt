@@ -8,6 +8,7 @@ ghost use Rattle.spice_cards.specs.Tables.{named};
 ghost use Rattle.spice_read.specs.Expansions.{last_named, IsExpanded};
 ghost use Rattle.spice_read.specs.Making.{circuit_of};
 ghost use Rattle.spice_read.specs.Scopes.{with_each};
+ghost use Rattle.spice_read.specs.declared.expansion.TheConstants.{MOST_CALLS, MOST_OPEN};
 
 /// A law: where a port is named twice, the node at its last place counts.
 pub fn the_last_place_of_a_port_counts()
@@ -28,4 +29,10 @@ pub fn decks_are_expanded()
 
     // What is refused is refused at a line: no text means want of memory.
     ensures memory { (text : List ℕ) → circuit_of text ≢ Err NoMemory }
+{}
+
+/// A law: up to 32 calls are open inside one another, and up to 1,000,000 are made.
+pub fn limits_are_as_stated()
+    ensures deep { MOST_OPEN ≡ 32 }
+    ensures calls { MOST_CALLS ≡ 1000000 }
 {}

@@ -34,5 +34,5 @@ mod ports;
 mod reader;
 
 pub use expansion::{MOST_CALLS, MOST_OPEN};
-pub use laws::{decks_are_expanded, the_last_place_of_a_port_counts};
+pub use laws::{decks_are_expanded, limits_are_as_stated, the_last_place_of_a_port_counts};
 pub use reader::read_deck;

@@ -24,6 +24,7 @@ mod editing;
 mod finishing;
 mod growing;
 mod lasting;
+mod laws;
 mod machine;
 mod planning;
 mod rousing;
@@ -32,6 +33,7 @@ mod waking;
 
 pub use editing::{EditRefused, NEW_NODES};
 pub use growing::grow;
+pub use laws::limits_are_as_stated;
 pub use machine::Machine;
 pub use machine_laws::{
     alike_groups_keep_their_parts, columns_step_apart, empty_places_are_covered,

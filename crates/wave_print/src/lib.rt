@@ -18,12 +18,14 @@
 #![tactic(auto)]
 
 mod faults;
+mod laws;
 mod line_buf;
 mod lines;
 mod verdicts;
 mod waves;
 
 pub use faults::{FAULT_LINE_ROOM, FaultCode, FaultPlace, fault_line};
+pub use laws::limits_are_as_stated;
 pub use line_buf::LineBuf;
 pub use lines::{
     CHECK_LINE_ROOM, EXPECT_LINE_ROOM, GROUP_START_ROOM, MOST_VALUES, REPORT_LINE_ROOM,
