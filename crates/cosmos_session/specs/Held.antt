@@ -1,6 +1,7 @@
 -- What a session's stage holds: the state alone, or the machine that moves it.
-use Rattle.std.specs.Prelude.{ℕ, ◌-◌, List, Option, None, Some, vec_len, vec_capacity}
+use Rattle.std.specs.Prelude.{ℕ, ◌-◌, ◌<◌, List, Option, None, Some, length, count_by, vec_len, vec_capacity}
 use Rattle.ternary.specs.declared.tern.Tern.{Tern}
+use Rattle.machine_parts.specs.Parts.{has_members}
 use Rattle.machine_laws.specs.Machines.{MachineData}
 use Rattle.session_meaning.specs.Machines.{without_room}
 use Rattle.cosmos_session.specs.declared.stage.Held.{Held}
@@ -20,3 +21,11 @@ machine_held (Built machine) = Some (without_room machine)
 abbrev pub spare_held : Held → ℕ
 spare_held (Still state) = vec_capacity state - vec_len state
 spare_held (Built machine) = machine.spare
+
+-- how many parts of a machine groups left that are gone
+abbrev pub parts_left : MachineData → ℕ
+parts_left machine = length machine.parts - count_by has_members machine.parts
+
+-- groups that are gone left more of the machine's parts than it has groups, and more than 16
+abbrev pub IsSparse : MachineData → Type 0
+IsSparse machine = (count_by has_members machine.parts < parts_left machine) × (16 < parts_left machine)

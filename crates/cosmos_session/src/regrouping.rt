@@ -1,6 +1,6 @@
 //! What an edit of the circuit does to a session's state and its machine.
 
-ghost use Rattle.std.specs.Prelude.{◌≡◌, ◌≢◌, ◌+◌, ◌-◌, ◌≤◌, length, IfSome, IfOk, IfErr};
+ghost use Rattle.std.specs.Prelude.{◌≡◌, ◌≢◌, ◌↔◌, ◌+◌, ◌-◌, ◌≤◌, true, length, IfSome, IfOk, IfErr};
 ghost use Rattle.path_meaning.specs.Graphs.{nodes, IsWired};
 ghost use Rattle.channel_groups.specs.Changes.{undo};
 ghost use Rattle.machine_laws.specs.Fitting.{Covers};
@@ -9,7 +9,7 @@ ghost use Rattle.analysis_cache.specs.Keeping.{texts_of};
 ghost use Rattle.machine_laws.specs.Editing.{with_new_nodes, Edits};
 ghost use Rattle.session_meaning.specs.Machines.{AreAmong, kept_in, last_in};
 ghost use Rattle.session_meaning.specs.Stages.{before_place, before_level, EditsFrom};
-ghost use Rattle.cosmos_session.specs.Held.{state_held, machine_held, spare_held};
+ghost use Rattle.cosmos_session.specs.Held.{state_held, machine_held, spare_held, IsSparse};
 
 use crate::stage::Held;
 use analysis_cache::Kept;
@@ -74,6 +74,7 @@ pub(crate) fn regrouped(held: Held, graph: &Graph, change: &Change, kept: &mut K
     ensures kept { kept_in (machine_held result) (texts_of kept.new) ≡ kept_in (machine_held held) (texts_of kept.old) }
     ensures last { AreAmong (last_in (machine_held result)) (texts_of kept.new) }
     ensures bound { kept.new.bound ≡ kept.old.bound }
+    ensures dense { IfSome (machine_held result) (λ machine. ¬ IsSparse machine) }
 {
     match held {
         Held::Still(mut state) => {
@@ -110,8 +111,10 @@ fn let_go(machine: Machine, graph: &Graph, kept: &mut Kept) -> Vec<Tern>
     state
 }
 
-// Whether most of a machine's parts were left by groups that are gone.
-fn is_sparse(machine: &Machine) -> bool {
+// Whether most of a machine's parts, and more than 16, were left by groups that are gone.
+fn is_sparse(machine: &Machine) -> bool
+    ensures { (result ≡ true) ↔ IsSparse machine.now }
+{
     let left = machine.parts().saturating_sub(machine.groups());
     left > machine.groups() && left > MOST_LEFT
 }

@@ -22,7 +22,7 @@ use Rattle.machine_parts.specs.Marking.{IsMarked, count_marked, IsAgenda}
 use Rattle.machine_parts.specs.Evaluating.{Rooms, IsSeated}
 use Rattle.machine_parts.specs.Running.{AreOwners, IsMachine}
 use Rattle.machine_parts.specs.Readers.{readers_of}
-use Rattle.machine_parts.specs.Making.{ShareNone, held, Owns, HasRoomFor, IsCodeRoom, IsFormed, AreOwned}
+use Rattle.machine_parts.specs.Making.{held, Owns, HasRoomFor, IsCodeRoom, IsFormed, AreOwned}
 use Rattle.machine_parts.proofs.SetMarks.{marked_inside}
 use Rattle.machine_parts.proofs.PartLemmas.{same_part}
 
@@ -241,7 +241,8 @@ held_at (part ∷ parts) (nodes ∷ reads) (suc k) one stands =
     held_at parts reads k one (record { inside = omega (arith, stands.inside); here = stands.here })
 
 -- parts that share no member are apart
-pub apart_parts : (parts : List Part) (reads : List (Vec ℕ Global)) → ShareNone parts → AreApart (map held (zip parts reads))
+pub apart_parts : (parts : List Part) (reads : List (Vec ℕ Global)) →
+    ((node k j l i : ℕ) → straight.IsMemberAt parts node k j → straight.IsMemberAt parts node l i → k ≡ l) → AreApart (map held (zip parts reads))
 apart_parts parts reads share k l node one two =
     share node k one.place l two.place (member_of k node one) (member_of l node two)
   where

@@ -11,10 +11,6 @@ use Rattle.machine_parts.specs.Marking.{members_of}
 use Rattle.machine_parts.specs.Evaluating.{Rooms}
 use Rattle.machine_parts.specs.Parts.{HasMember}
 
--- no node is a member of two parts
-abbrev pub ShareNone : List Part → Type 0
-ShareNone parts = (node k j l i : ℕ) → straight.IsMemberAt parts node k j → straight.IsMemberAt parts node l i → k ≡ l
-
 -- a part with the nodes that it reads
 abbrev pub held : Part × Vec ℕ Global → HeldPart
 held (part, reads) = record { code = Some part.code; map = part.map; members = part.members; reads = reads }

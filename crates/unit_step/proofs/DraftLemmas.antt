@@ -1,6 +1,6 @@
 -- A draft of a plan's parts: the machine that starts so fits the graph, and the texts of the graph's groups are those of its last build.
-use Rattle.std.proofs.Common.{◌≡◌, ℕ, zero, suc, List, [], ◌∷◌, length, map, Some, None, Result, Ok, Err, IfOk, Vec, Global, refl, sym, subst, ◌∙◌, ap}
-use Rattle.std.specs.Prelude.{Option, zip, replicate, slice_index_or, slice_get}
+use Rattle.std.proofs.Common.{◌≡◌, ℕ, zero, suc, List, [], ◌∷◌, length, map, Some, Result, Ok, Err, IfOk, Vec, Global, refl, sym, subst, ◌∙◌, ap}
+use Rattle.std.specs.Prelude.{Option, zip, slice_get}
 use Rattle.std.specs.List.{AllZip}
 use Rattle.ternary.specs.declared.memory.NoMemory.{NoMemory}
 use Rattle.ternary.specs.declared.tern.Tern.{Tern}
@@ -11,7 +11,6 @@ use Rattle.group_text.specs.Texts.{GroupTextData}
 use Rattle.straight_code.specs.declared.part.Part.{Part}
 use Rattle.circuit_texts.specs.Parts as made
 use Rattle.circuit_texts.proofs.MemberLemmas.{AreMembers-from_groups}
-use Rattle.circuit_texts.proofs.PairedLists.{partner_first}
 use Rattle.kept_parts.specs.Uses.{UsesData, texts_used}
 use Rattle.machine_parts.specs.declared.part.HeldPart.{HeldPart}
 use Rattle.unit_step.specs.declared.planning.Plan.{Plan}
@@ -20,7 +19,7 @@ use Rattle.machine_parts.specs.Making.{held}
 use Rattle.unit_step.specs.Drafting.{started, drafted}
 use Rattle.unit_step.specs.Planning.{IsPlan}
 use Rattle.machine_laws.specs.Fitting.{FitsGraph}
-use Rattle.machine_laws.specs.Beginnings.{Begins, AreInOrder, HasLast}
+use Rattle.machine_laws.specs.Beginnings.{AreInOrder, HasLast}
 use Rattle.unit_step.specs.Lasting.{texts_lasting}
 use Rattle.machine_parts.proofs.MakingLemmas.{apart_parts}
 use Rattle.unit_step.proofs.BuildLemmas.{fresh_parts, FitsGraph-started}
@@ -70,20 +69,6 @@ pub drafted-of : (groups : Option GroupsData) (parts : Vec HeldPart Global) (sta
     drafted draft spare ≡ started groups parts.items state.items (texts_used uses) (texts_lasting uses.known draft.lasting) spare
 drafted-of groups parts state uses draft groups_are parts_are state_is uses_are spare = λ i.
     started (groups_are i) (parts_are i).items (state_is i).items (texts_used (uses_are i)) (texts_lasting (uses_are i).known draft.lasting) spare
-
--- where the same stands everywhere, it stands at each place
-same_at : {X : Type 0} (x : X) (n k : ℕ) → slice_index_or (replicate n x) k x ≡ x
-same_at x zero k = refl
-same_at x (suc n) zero = refl
-same_at x (suc n) (suc k) = same_at x n k
-
--- parts without texts have no last ones
-pub none_last : (parts : List HeldPart) (count : ℕ) (last : List GroupTextData) → AreInOrder parts (replicate count None) last → last ≡ []
-none_last parts count [] order = refl
-none_last parts count (text ∷ last) order =
-    let (place, at, begins) = partner_first (Begins parts (replicate count None)) order.places (text ∷ last) 0 text order.each refl in
-    let both : None ≡ Some text = sym (same_at None count begins.k) ∙ begins.has in
-    absurd cc
 
 module _ (g : GraphData) (groups : Option GroupsData) (parts : Vec HeldPart Global) (state : Vec Tern Global) (uses : UsesData)
     (fits : (last : List GroupTextData) (spare : ℕ) → FitsGraph g (started groups parts.items state.items (texts_used uses) last spare)) where

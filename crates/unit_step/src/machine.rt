@@ -1,5 +1,5 @@
 //! The machine.
-ghost use Rattle.std.specs.Prelude.{◌≡◌, ◌≢◌, ℕ, List, [], ◌-◌, vec_len, vec_capacity, ◌+◌, ◌^◌, ◌<◌, ◌≤◌, ◌⊎◌, true, false, length, map, zip, count_by, replicate, option_map, All, None, Some, Err, IsTrue, IfSome, IfNone, IfOk, IfErr, OnErr};
+ghost use Rattle.std.specs.Prelude.{◌≡◌, ◌≢◌, ℕ, List, ◌-◌, vec_len, vec_capacity, ◌+◌, ◌^◌, ◌<◌, ◌≤◌, ◌⊎◌, true, false, length, count_by, option_map, All, None, Some, Err, IsTrue, IfSome, IfNone, IfOk, IfErr, OnErr};
 ghost use Rattle.std.specs.Bool.{OnTrue, OnFalse};
 ghost use Rattle.ternary.specs.Counts.{raised};
 ghost use Rattle.path_meaning.specs.declared.TheConstants.{RAILS};
@@ -7,7 +7,6 @@ ghost use Rattle.path_meaning.specs.Graphs.{nodes};
 ghost use Rattle.path_meaning.specs.Rails.{IsRailed, IsSound};
 ghost use Rattle.path_meaning.specs.Step.{IsStep};
 ghost use Rattle.oscillation_x.specs.Settling.{IsJoinStep, StaysOrBecomesX};
-ghost use Rattle.straight_code.specs.Parts.{IsPart};
 ghost use Rattle.analysis_cache.specs.Keeping.{texts_of, IsGrown};
 ghost use Rattle.group_text.specs.Texts.{GroupTextData};
 ghost use Rattle.group_text.specs.FirstTexts.{is_among};
@@ -17,8 +16,7 @@ ghost use Rattle.circuit_texts.specs.Sizes.{TellsTooLarge};
 ghost use Rattle.circuit_texts.specs.Building.{Builds, IsCutOff};
 ghost use Rattle.machine_parts.specs.Parts.{HasMember, ReadsAt, AreApart, has_members};
 ghost use Rattle.machine_laws.specs.Columns.{AreSeated};
-ghost use Rattle.machine_parts.specs.Making.{ShareNone, held};
-ghost use Rattle.unit_step.specs.Drafting.{started, CanStart, drafted};
+ghost use Rattle.unit_step.specs.Drafting.{CanStart, drafted};
 ghost use Rattle.machine_parts.specs.Marking.{count_marked, marked_sum, instructions_of, MarksAll};
 ghost use Rattle.machine_laws.specs.Machines.{Advances, Places};
 ghost use Rattle.machine_laws.specs.Fitting.{Covers, FitsGraph};
@@ -32,20 +30,18 @@ use circuit_texts::BuildFault;
 use kept_parts::TextUses;
 use machine_parts::HeldPart;
 use oscillation_x::Stepper;
-use part_steps::{Agenda, DenseParts, Desk, ReaderLists, advance, held_parts, mark_all};
+use part_steps::{Agenda, DenseParts, Desk, ReaderLists, advance, mark_all};
 use path_meaning::{Graph, graphs_are_wired};
 use std::alloc::Global;
 use std::marker::Model;
 use std::sync::ledger::Ledger;
-use straight_code::Part;
-use table_keys::TableKeys;
-use ternary::{NoMemory, Steps, Tern};
+use ternary::{Steps, Tern};
 
 /// A compiled circuit: the parts of its groups, which of them are marked, and a state.
 ///
 /// A step runs the code of the marked parts alone. All its room is taken when the machine is made.
 pub struct Machine {
-    // the groups of the graph that the machine was built for, if it was
+    // the groups of the graph that the machine was built for
     pub(crate) groups: Option<Groups>,
     pub(crate) parts: Vec<HeldPart>,
     // what a step reads of the parts
@@ -118,28 +114,6 @@ impl Machine {
         let draft = Draft::of_plan(alloc, graph, plan, kept)?;
         kept.put_first(draft.uses.known(), analyst);
         Ok((Machine::start(draft), fresh))
-    }
-
-    /// A machine of these parts, in this state: part k reads the nodes of list k.
-    ///
-    /// The codes may be any codes. Every part is marked, and there are no groups and no texts.
-    pub fn of_parts(
-        alloc: Global,
-        parts: Vec<Part>,
-        reads: Vec<Vec<usize>>,
-        state: &[Tern],
-    ) -> Result<Machine, NoMemory>
-        requires fit { All (IsPart (length state.now)) parts.items }
-        requires apart { ShareNone parts.items }
-        requires counted { length reads.items ≡ length parts.items }
-        requires below { All (λ nodes. All (λ node. node < length state.now) nodes.items) reads.items }
-        ensures { IfOk result (λ machine. machine ≡ started None (map held (zip parts.items reads.items)) state.now (replicate (length parts.items) None) [] machine.spare) }
-    {
-        let held = held_parts(alloc, parts, reads)?;
-        let copy = Vec::from_slice(alloc, state)?;
-        let uses = TextUses::new(alloc, TableKeys::fixed(), held.len())?;
-        let draft = Draft::of_parts(alloc, None, held, copy, uses)?;
-        Ok(Machine::start(draft))
     }
 
     // The machine that starts with what was made for it. It takes no memory.
@@ -233,8 +207,7 @@ impl Machine {
         (parts, state)
     }
 
-    /// The groups of the graph that it covers, as they were found when it was built and kept through edits;
-    /// none where it was made of parts.
+    /// The groups of the graph that it covers, as they were found when it was built and kept through edits.
     pub fn grouping(&self) -> Option<&Groups>
         ensures { option_map (λ groups. groups.now) result ≡ self.now.groups }
     {
@@ -255,7 +228,7 @@ impl Machine {
         self.parts.len()
     }
 
-    /// How many distinct texts its groups have; 0 where it wasn't built for groups.
+    /// How many distinct texts its groups have.
     pub fn texts(&self) -> usize
         ensures { result ≡ self.now.texts }
     {
