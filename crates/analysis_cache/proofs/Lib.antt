@@ -8,3 +8,4 @@ pub mod CountLemmas
 pub mod FillLemmas
 pub mod CutLemmas
 pub mod OrderLemmas
+pub mod HoldingLemmas

@@ -1,6 +1,6 @@
 ghost use Rattle.std.specs.Prelude.{◌≡◌, ◌<◌, ◌≤◌, ◌-◌, ℕ, max, length, List, [], option_map, All, None, Some, IsTrue, false, take, drop, IfOk, IfSome, OnOk, OnErr, is_none, not, Contains};
 ghost use Rattle.group_analysis.specs.Meaning.{MeansText};
-ghost use Rattle.group_analysis.specs.Held.{without_texts};
+ghost use Rattle.group_analysis.specs.Held.{set_of, without_texts};
 ghost use Rattle.group_text.specs.FirstTexts.{first_texts, is_among};
 ghost use Rattle.group_text.specs.Texts.{GroupTextData};
 ghost use Rattle.group_analysis.specs.Using.{used_texts, within, past, kept_after, cut_after};
@@ -8,6 +8,7 @@ ghost use Rattle.group_analysis.specs.Using.{to_front};
 ghost use Rattle.analysis_cache.specs.Keeping.{Entry, IsKept, code_in, KeepsAll, KeepsSome, texts_of};
 ghost use Rattle.analysis_cache.specs.Adding.{AddsText, FillsAll, LacksText};
 ghost use Rattle.analysis_cache.specs.Cutting.{StartsWith};
+ghost use Rattle.analysis_cache.specs.Holding.{HoldsKept, HoldsNearlyKept};
 
 use crate::recent::Recent;
 use group_analysis::Analyst;
@@ -113,6 +114,8 @@ impl Kept {
         ensures there { OnOk result (All (λ text. IsTrue (is_among (texts_of self.new) text)) texts.now) }
         ensures err { OnErr result (KeepsSome self.old self.new (A.analysed analyst.old) (A.analysed analyst.new)
             (A.held analyst.old) (A.held analyst.new) texts.now) }
+        ensures holds { OnOk result (HoldsKept self.old (A.held analyst.old) → HoldsKept self.new (A.held analyst.new)) }
+        ensures nearly { OnErr result (HoldsKept self.old (A.held analyst.old) → HoldsNearlyKept self.new (A.held analyst.new)) }
     {
         let fresh = self.fill(texts, analyst)?;
         self.put_first(texts, analyst);
@@ -131,6 +134,8 @@ impl Kept {
         ensures there { OnOk result (All (λ text. IsTrue (is_among (texts_of self.new) text)) texts.now) }
         ensures err { OnErr result (KeepsSome self.old self.new (A.analysed analyst.old) (A.analysed analyst.new)
             (A.held analyst.old) (A.held analyst.new) texts.now) }
+        ensures holds { OnOk result (HoldsKept self.old (A.held analyst.old) → HoldsKept self.new (A.held analyst.new)) }
+        ensures nearly { OnErr result (HoldsKept self.old (A.held analyst.old) → HoldsNearlyKept self.new (A.held analyst.new)) }
     {
         let before = self.size();
         for text in texts {
@@ -152,6 +157,7 @@ impl Kept {
         ensures bound { self.new.bound ≡ self.old.bound }
         ensures analysed { A.analysed analyst.new ≡ A.analysed analyst.old }
         ensures held { A.held analyst.new ≡ without_texts (A.held analyst.old) (cut_after self.old.bound texts.now (texts_of self.old)) }
+        ensures holds { HoldsKept self.old (A.held analyst.old) → HoldsKept self.new (A.held analyst.new) }
     {
         self.use_all(texts);
         self.cut(texts, analyst);
@@ -161,6 +167,7 @@ impl Kept {
     pub fn use_text(&mut self, text: &GroupText)
         requires { IsTrue (is_among (texts_of self.old) text.now) }
         ensures texts { texts_of self.new ≡ to_front text.now (texts_of self.old) }
+        ensures set { set_of (texts_of self.new) ≡ set_of (texts_of self.old) }
         ensures same { (entry : Entry) → Contains self.new.entries entry → Contains self.old.entries entry }
         ensures bound { self.new.bound ≡ self.old.bound }
     {
@@ -184,6 +191,7 @@ impl Kept {
     fn use_all(&mut self, texts: &[GroupText])
         requires { All (λ text. IsTrue (is_among (texts_of self.old) text)) texts.now }
         ensures texts { texts_of self.new ≡ used_texts texts.now (texts_of self.old) }
+        ensures set { set_of (texts_of self.new) ≡ set_of (texts_of self.old) }
         ensures same { (entry : Entry) → Contains self.new.entries entry → Contains self.old.entries entry }
         ensures bound { self.new.bound ≡ self.old.bound }
     {
@@ -198,6 +206,7 @@ impl Kept {
         ensures bound { self.new.bound ≡ self.old.bound }
         ensures analysed { A.analysed analyst.new ≡ A.analysed analyst.old }
         ensures held { A.held analyst.new ≡ without_texts (A.held analyst.old) (past self.old.bound texts.now (texts_of self.old)) }
+        ensures holds { HoldsKept self.old (A.held analyst.old) → HoldsKept self.new (A.held analyst.new) }
     {
         let Some(bound) = self.bound else {
             return;
@@ -217,6 +226,7 @@ impl Kept {
         ensures bound { self.new.bound ≡ self.old.bound }
         ensures analysed { A.analysed analyst.new ≡ A.analysed analyst.old }
         ensures held { A.held analyst.new ≡ without_texts (A.held analyst.old) (drop room (texts_of self.old)) }
+        ensures holds { HoldsKept self.old (A.held analyst.old) → HoldsKept self.new (A.held analyst.new) }
     {
         if self.size() <= room {
             return;

@@ -4,6 +4,7 @@ ghost use Rattle.group_text.specs.Texts.{GroupTextData};
 ghost use Rattle.group_text.specs.FirstTexts.{new_texts, is_among};
 ghost use Rattle.group_analysis.specs.Using.{used_texts};
 ghost use Rattle.analysis_cache.specs.Keeping.{texts_of};
+ghost use Rattle.analysis_cache.specs.Holding.{HoldsKept};
 ghost use Rattle.kept_parts.specs.Uses.{IsNumbered, CutsTo, in_use, some_texts, texts_used, count_distinct, first_use, last_use};
 
 use analysis_cache::{Analyst, Kept};
@@ -163,6 +164,7 @@ impl TextUses {
         requires { All (λ text. IsTrue (is_among (texts_of kept.old) text)) (in_use self.now) }
         ensures cuts { CutsTo (in_use self.now) kept.old kept.new }
         ensures analysed { A.analysed analyst.new ≡ A.analysed analyst.old }
+        ensures holds { HoldsKept kept.old (A.held analyst.old) → HoldsKept kept.new (A.held analyst.new) }
     {
         let Some(bound) = kept.bound() else {
             return;

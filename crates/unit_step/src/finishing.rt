@@ -3,6 +3,7 @@ ghost use Rattle.std.specs.Prelude.{◌≡◌, ℕ, ◌⊎◌, None, All, IsTrue
 ghost use Rattle.path_meaning.specs.Rails.{IsRailed, IsSound};
 ghost use Rattle.group_text.specs.FirstTexts.{is_among};
 ghost use Rattle.analysis_cache.specs.Keeping.{texts_of, IsGrown};
+ghost use Rattle.analysis_cache.specs.Holding.{HoldsKept, HoldsNearlyKept};
 ghost use Rattle.circuit_texts.specs.Sizes.{TellsTooLarge};
 ghost use Rattle.circuit_texts.specs.Building.{Builds, Fills, IsCutOff};
 ghost use Rattle.group_analysis.specs.Using.{used_texts};
@@ -35,6 +36,9 @@ impl Machine {
     /// kept, in order, and what is past its bound is cut: so with the present texts in front it is what a build
     /// keeps. States, marks, and the parts that had code stay. The refusals are those of `build`; after them
     /// the machine is as before, and nothing was moved or cut.
+    ///
+    /// An analyst that held exactly the texts that were kept holds exactly those that are kept, and after a refusal
+    /// at most one besides.
     pub fn finish<A: Analyst>(
         &mut self,
         graph: &Graph,
@@ -57,6 +61,8 @@ impl Machine {
             ⊎ (TellsTooLarge graph.now fault × (kept.new ≡ kept.old) × (A.analysed analyst.new ≡ A.analysed analyst.old))) }
         ensures err { OnErr result (self.new ≡ self.old) }
         ensures grown { OnErr result (IsGrown kept.old kept.new) }
+        ensures holds { OnOk result (HoldsKept kept.old (A.held analyst.old) → HoldsKept kept.new (A.held analyst.new)) }
+        ensures nearly { OnErr result (HoldsKept kept.old (A.held analyst.old) → HoldsNearlyKept kept.new (A.held analyst.new)) }
     {
         let fresh = self.wake(graph, kept, analyst)?;
         self.settle_last(kept, analyst);
@@ -83,6 +89,8 @@ impl Machine {
             ⊎ (TellsTooLarge graph.now fault × (kept.new ≡ kept.old) × (A.analysed analyst.new ≡ A.analysed analyst.old))) }
         ensures err { OnErr result (self.new ≡ self.old) }
         ensures grown { IsGrown kept.old kept.new }
+        ensures holds { OnOk result (HoldsKept kept.old (A.held analyst.old) → HoldsKept kept.new (A.held analyst.new)) }
+        ensures nearly { OnErr result (HoldsKept kept.old (A.held analyst.old) → HoldsNearlyKept kept.new (A.held analyst.new)) }
     {
         if self.agenda.none_waits() {
             return Ok(0);
@@ -105,6 +113,7 @@ impl Machine {
         ensures there { All (λ text. IsTrue (is_among (texts_of kept.new) text)) self.new.last }
         ensures bound { kept.new.bound ≡ kept.old.bound }
         ensures analysed { A.analysed analyst.new ≡ A.analysed analyst.old }
+        ensures holds { HoldsKept kept.old (A.held analyst.old) → HoldsKept kept.new (A.held analyst.new) }
     {
         self.lasting.use_leavers(&self.parts, &self.uses, kept);
         self.uses.cut_past_bound(kept, analyst);

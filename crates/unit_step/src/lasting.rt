@@ -2,6 +2,7 @@
 ghost use Rattle.std.specs.Prelude.{◌≡◌, ℕ, ◌<◌, ◌≤◌, ◌++◌, [], None, Some, length, All, Contains, ◌⊎◌, IfOk, IsTrue, IfSome, OnOk, OnErr, slice_index_or, slice_get};
 ghost use Rattle.group_text.specs.FirstTexts.{is_among};
 ghost use Rattle.group_analysis.specs.Using.{used_texts};
+ghost use Rattle.group_analysis.specs.Held.{set_of};
 ghost use Rattle.analysis_cache.specs.Keeping.{texts_of};
 ghost use Rattle.group_text.specs.Texts.{GroupTextData};
 ghost use Rattle.machine_parts.specs.Parts.{AreApart};
@@ -88,6 +89,7 @@ impl Lasting {
         ensures lasting { AreLasting parts.now uses.now.numbers (length self.old.numbers.items) (length uses.now.known) self.new }
         ensures numbers { self.new.numbers ≡ self.old.numbers }
         ensures uses { UsesLeavers uses.now self.old (texts_of kept.old) (texts_of kept.new) }
+        ensures set { set_of (texts_of kept.new) ≡ set_of (texts_of kept.old) }
         ensures bound { kept.new.bound ≡ kept.old.bound }
     {
         self.changed.sort_unstable();
@@ -156,6 +158,7 @@ fn use_leaver(number: Option<usize>, uses: &TextUses, kept: &mut Kept)
     requires inside { IfSome number (λ one. one < length uses.now.known) }
     requires kept { IfSome number (λ one. (text : GroupTextData) → slice_get uses.now.known one ≡ Some text → IsTrue (is_among (texts_of kept.old) text)) }
     ensures uses { UsesLeaver uses.now number (texts_of kept.old) (texts_of kept.new) }
+    ensures set { set_of (texts_of kept.new) ≡ set_of (texts_of kept.old) }
     ensures bound { kept.new.bound ≡ kept.old.bound }
 {
     if let Some(number) = number {

@@ -1,5 +1,5 @@
 //! The machine.
-ghost use Rattle.std.specs.Prelude.{◌≡◌, ◌≢◌, ℕ, List, ◌-◌, vec_len, vec_capacity, ◌+◌, ◌^◌, ◌<◌, ◌≤◌, ◌⊎◌, true, false, length, count_by, option_map, All, None, Some, Err, IsTrue, IfSome, IfNone, IfOk, IfErr, OnErr};
+ghost use Rattle.std.specs.Prelude.{◌≡◌, ◌≢◌, ℕ, List, ◌-◌, vec_len, vec_capacity, ◌+◌, ◌^◌, ◌<◌, ◌≤◌, ◌⊎◌, true, false, length, count_by, option_map, All, None, Some, Err, IsTrue, IfSome, IfNone, IfOk, IfErr, OnOk, OnErr};
 ghost use Rattle.std.specs.Bool.{OnTrue, OnFalse};
 ghost use Rattle.ternary.specs.Counts.{raised};
 ghost use Rattle.path_meaning.specs.declared.TheConstants.{RAILS};
@@ -8,6 +8,7 @@ ghost use Rattle.path_meaning.specs.Rails.{IsRailed, IsSound};
 ghost use Rattle.path_meaning.specs.Step.{IsStep};
 ghost use Rattle.oscillation_x.specs.Settling.{IsJoinStep, StaysOrBecomesX};
 ghost use Rattle.analysis_cache.specs.Keeping.{texts_of, IsGrown};
+ghost use Rattle.analysis_cache.specs.Holding.{HoldsKept, HoldsNearlyKept};
 ghost use Rattle.group_text.specs.Texts.{GroupTextData};
 ghost use Rattle.group_text.specs.FirstTexts.{is_among};
 ghost use Rattle.group_analysis.specs.Using.{used_texts};
@@ -89,6 +90,9 @@ impl Machine {
     /// then, and what is past its bound is cut. Every part is marked. Where some group is too large, the first
     /// such group is told and nothing is analysed. At want of memory nothing was analysed, or a front of what
     /// is new, and nothing is moved or cut.
+    ///
+    /// An analyst that held exactly the texts that were kept holds exactly those that are kept, and after a refusal
+    /// at most one besides.
     pub fn build<A: Analyst>(
         alloc: Global,
         graph: &Graph,
@@ -108,6 +112,8 @@ impl Machine {
         ensures refused { IfErr result (λ fault. (fault ≡ BuildFault.NoMemory)
             ⊎ (TellsTooLarge graph.now fault × (kept.new ≡ kept.old) × (A.analysed analyst.new ≡ A.analysed analyst.old))) }
         ensures grown { OnErr result (IsGrown kept.old kept.new) }
+        ensures holds { OnOk result (HoldsKept kept.old (A.held analyst.old) → HoldsKept kept.new (A.held analyst.new)) }
+        ensures nearly { OnErr result (HoldsKept kept.old (A.held analyst.old) → HoldsNearlyKept kept.new (A.held analyst.new)) }
     {
         let plan = plan_of(alloc, kept.keys(), graph, state)?;
         let fresh = kept.fill(plan.uses.known(), analyst)?;

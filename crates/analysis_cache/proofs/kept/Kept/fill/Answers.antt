@@ -4,6 +4,7 @@ use Rattle.std.proofs.lemmas.List.{take_more, take_all, drop_more, take-append-d
 use Rattle.group_text.specs.FirstTexts.{is_among}
 use Rattle.analysis_cache.specs.Keeping.{texts_of}
 use Rattle.analysis_cache.proofs.FillLemmas.{is_some-among, length-FillsAll, each_kept, FillsAll-known, FillsAll-added, KeepsSome-lacking}
+use Rattle.analysis_cache.proofs.HoldingLemmas.{HoldsKept-filled, HoldsNearlyKept-lacks}
 use Rattle.analysis_cache.proofs.kept.Kept.fill.Goals as goal
 use Rattle.analysis_cache.proofs.kept.Kept.fill.Goals.{then-is_none+in_ok-add, else-is_none}
 
@@ -75,3 +76,25 @@ returns-clause-there g c =
     (each_kept old now (g.A.Analyst.analysed c.args.analyst.now) (g.A.Analyst.analysed c.loop-text.analyst)
     (g.A.Analyst.held c.args.analyst.now) (g.A.Analyst.held c.loop-text.analyst) (take c.loop-text.text-index texts)
     (length now.entries - length old.entries) c.loop-text.invariant)
+
+-- what was analysed so far is held
+pub returns-clause-holds : goal.returns-clause-holds
+returns-clause-holds g c =
+    let old = c.args.self.now in
+    let now = c.loop-text.self in
+    HoldsKept-filled old now (g.A.Analyst.analysed c.args.analyst.now) (g.A.Analyst.analysed c.loop-text.analyst) (g.A.Analyst.held c.args.analyst.now)
+    (g.A.Analyst.held c.loop-text.analyst) (take c.loop-text.text-index c.args.texts.now) (length now.entries - length old.entries) c.loop-text.invariant
+
+pub returns-in_err-add-clause-nearly : goal.returns-in_err-add-clause-nearly
+returns-in_err-add-clause-nearly g c =
+    let old = c.args.self.now in
+    let now = c.loop-text.self in
+    let before = g.A.Analyst.analysed c.args.analyst.now in
+    let so_far = g.A.Analyst.analysed c.loop-text.analyst in
+    let held_before = g.A.Analyst.held c.args.analyst.now in
+    let held_now = g.A.Analyst.held c.loop-text.analyst in
+    at_err c.from_residual.result (λ holds.
+    HoldsNearlyKept-lacks now c.add.new.self so_far (g.A.Analyst.analysed c.add.new.analyst) held_now (g.A.Analyst.held c.add.new.analyst)
+    c.text-item.result c.in_err-add.ensures.err
+    (HoldsKept-filled old now before so_far held_before held_now (take c.loop-text.text-index c.args.texts.now) (length now.entries - length old.entries)
+    c.loop-text.invariant holds))

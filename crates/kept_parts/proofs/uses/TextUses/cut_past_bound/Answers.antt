@@ -1,6 +1,9 @@
 -- There is room for as many as are in use, or for more; and what is used stands in front where something is cut.
 use Rattle.std.proofs.Common.{◌≡◌, max, Some, length, take, sym, ap, ◌∙◌, arith}
 use Rattle.group_text.specs.FirstTexts.{first_texts}
+use Rattle.group_analysis.specs.Held.{set_of}
+use Rattle.analysis_cache.specs.Keeping.{texts_of}
+use Rattle.analysis_cache.proofs.HoldingLemmas.{set-used}
 use Rattle.kept_parts.specs.Uses.{in_use}
 use Rattle.kept_parts.proofs.BoundLemmas.{distinct-in_use, CutsTo-roomy, CutsTo-cut}
 use Rattle.kept_parts.proofs.uses.TextUses.cut_past_bound.Given.{Over}
@@ -30,3 +33,8 @@ returns-clause-cuts g c =
     CutsTo-cut (in_use c.args.self.now) c.args.kept.now c.in-Some.bound (bound_is g at.In-Some) c.use_all.new.kept c.cut_to.new.self c.use_all.ensures.texts
     (c.cut_to.ensures.entries ∙ ap (λ room. take room c.use_all.new.kept.entries) (c.room_for-room.ensures ∙ ap (max c.in-Some.bound) (counted g at.After-room_for-room)))
     (c.cut_to.ensures.bound ∙ c.use_all.ensures.bound)
+
+pub returns-clause-holds : goal.returns-clause-holds
+returns-clause-holds g c = λ holds.
+    let used = ap (λ texts. set_of texts) c.use_all.ensures.texts ∙ set-used (in_use c.args.self.now) (texts_of c.args.kept.now) c.requires in
+    c.cut_to.ensures.holds (holds ∙ sym used)

@@ -26,6 +26,7 @@ loop-place-init c =
     record {
       inside = omega (arith, c.dedup.new.self.ok.0);
       texts = sym (ap (λ rest. used_texts (texts_left c.args.uses.now c.args.self.now.numbers.items rest) kept) none ∙ used_texts-none kept);
+      set = refl;
       bound = refl;
     }
 
@@ -102,6 +103,7 @@ loop-place-preserved c =
           ∙ (ap (used_texts (filter (is_unused uses) (text_in uses number)))
           (c.loop-place.invariant.texts ∙ ap (λ k. used_texts (texts_left uses numbers (drop k places)) kept) next)
           ∙ used-left uses numbers kept places place number inside read.1);
+      set = c.use_leaver.ensures.set ∙ c.loop-place.invariant.set;
       bound = c.use_leaver.ensures.bound ∙ c.loop-place.invariant.bound;
     }
 

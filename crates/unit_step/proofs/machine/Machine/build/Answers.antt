@@ -8,6 +8,7 @@ use Rattle.analysis_cache.specs.Adding.{FillsAll}
 use Rattle.circuit_texts.specs.Building.{Builds, BuildsFresh}
 use Rattle.kept_parts.specs.Uses.{UsesData}
 use Rattle.machine_laws.specs.Fitting.{FitsGraph}
+use Rattle.analysis_cache.proofs.HoldingLemmas.{HoldsNearlyKept-same}
 use Rattle.machine_laws.proofs.FillingLemmas.{on_err, IsGrown-same, IsGrown-filled, IsGrown-cut_off, Builds-first, cut_off_front, cut_off_end}
 use Rattle.unit_step.proofs.BuildLemmas.{HasTexts-planned, planned_texts}
 use Rattle.unit_step.proofs.machine.Machine.build.Given.{Over}
@@ -63,3 +64,18 @@ returns-clause-builds g c =
 
 pub returns-clause-fits : goal.returns-clause-fits
 returns-clause-fits g c = subst (FitsGraph c.args.graph.now) (sym c.start.ensures) (c.in_ok-draft.ensures.fits c.start.result.spare)
+
+pub returns-in_err-plan-clause-nearly : goal.returns-in_err-plan-clause-nearly
+returns-in_err-plan-clause-nearly g c =
+    on_err c.from_residual.result (HoldsNearlyKept-same c.args.kept.now (g.A.Analyst.held c.args.analyst.now))
+
+pub returns-in_err-fresh-clause-nearly : goal.returns-in_err-fresh-clause-nearly
+returns-in_err-fresh-clause-nearly g c = on_err c.from_residual-in_err-fresh.result c.in_err-fresh.ensures.nearly
+
+pub returns-in_err-draft-clause-nearly : goal.returns-in_err-draft-clause-nearly
+returns-in_err-draft-clause-nearly g c =
+    on_err c.from_residual-in_err-draft.result (λ holds.
+    HoldsNearlyKept-same c.fill.new.self (g.A.Analyst.held c.fill.new.analyst) (c.in_ok-fresh.ensures.holds holds))
+
+pub returns-clause-holds : goal.returns-clause-holds
+returns-clause-holds g c = λ holds. c.put_first.ensures.holds (c.in_ok-fresh.ensures.holds holds)

@@ -5,6 +5,7 @@ use Rattle.group_text.specs.FirstTexts.{is_among}
 use Rattle.group_analysis.specs.Using.{used_texts}
 use Rattle.analysis_cache.specs.Keeping.{texts_of}
 use Rattle.circuit_texts.specs.Building.{Builds}
+use Rattle.machine_laws.proofs.FillingLemmas.{on_err}
 use Rattle.unit_step.specs.Lasting.{IsLeft}
 use Rattle.unit_step.proofs.FinishingOrder.{IsCutOff-used, last_filled, used_filled, Builds-left, HasLast-settled, Finishes-settled}
 use Rattle.unit_step.proofs.machine.Machine.finish.Goals as goal
@@ -49,3 +50,9 @@ returns-clause-builds g c =
     (g.A.Analyst.analysed c.wake.new.analyst) c.in_ok-fresh.fresh c.in_ok-fresh.ensures.fills c.args.kept.now.bound last now has left in
     subst (λ told. Builds c.args.graph.now c.args.kept.now.bound (used_texts c.args.self.now.last (texts_of c.args.kept.now)) (used_texts last now) before told c.in_ok-fresh.fresh)
     (sym c.settle_last.ensures.analysed) builds
+
+pub returns-in_err-fresh-clause-nearly : goal.returns-in_err-fresh-clause-nearly
+returns-in_err-fresh-clause-nearly g c = on_err c.from_residual.result c.in_err-fresh.ensures.nearly
+
+pub returns-clause-holds : goal.returns-clause-holds
+returns-clause-holds g c = λ holds. c.settle_last.ensures.holds (c.in_ok-fresh.ensures.holds holds)

@@ -93,3 +93,6 @@ returns-clause-there g c =
     present-kept i.parts.items i.uses (length i.state.items) i.lasting c.self.invariant.2 (texts_lasting i.uses.known c.renew.new.self)
     (present_now g (goal.at.returns-clause-there g c).After-renew) c.args.kept.now c.use_leavers.new.kept c.cut_past_bound.new.kept
     c.use_leavers.ensures.uses c.use_leavers.ensures.bound c.cut_past_bound.ensures.cuts
+
+pub returns-clause-holds : goal.returns-clause-holds
+returns-clause-holds g c = λ holds. c.cut_past_bound.ensures.holds (holds ∙ sym c.use_leavers.ensures.set)

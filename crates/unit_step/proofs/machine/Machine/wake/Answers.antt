@@ -5,7 +5,8 @@ use Rattle.analysis_cache.specs.Keeping.{texts_of}
 use Rattle.circuit_texts.specs.Building.{BuildsFresh}
 use Rattle.kept_parts.specs.Uses.{count_distinct}
 use Rattle.machine_laws.specs.Machines.{MachineData}
-use Rattle.machine_laws.proofs.FillingLemmas.{IsGrown-same, IsGrown-filled, IsGrown-cut_off, Fills-filled, cut_off_front, cut_off_end}
+use Rattle.analysis_cache.proofs.HoldingLemmas.{HoldsNearlyKept-same}
+use Rattle.machine_laws.proofs.FillingLemmas.{on_err, IsGrown-same, IsGrown-filled, IsGrown-cut_off, Fills-filled, cut_off_front, cut_off_end}
 use Rattle.machine_laws.proofs.FinishingBuilds.{waiting_texts}
 use Rattle.unit_step.proofs.FinishingFits.{AllCoded, none_stale, Rouses-coded, Fills-none}
 use Rattle.unit_step.proofs.machine.Machine.wake.Given.{Over}
@@ -68,3 +69,15 @@ returns-clause-fills g c =
 pub returns-clause-grown : goal.returns-clause-grown
 returns-clause-grown g c =
     IsGrown-filled c.args.graph.now c.args.kept.now c.fill.new.self _ _ _ _ c.deref.result.now c.in_ok-fresh.fresh c.in_ok-fresh.ensures.ok
+
+pub returns-in_err-waking-clause-nearly : goal.returns-in_err-waking-clause-nearly
+returns-in_err-waking-clause-nearly g c =
+    on_err c.from_residual.result (HoldsNearlyKept-same c.args.kept.now (g.A.Analyst.held c.args.analyst.now))
+
+pub returns-in_err-fresh-clause-nearly : goal.returns-in_err-fresh-clause-nearly
+returns-in_err-fresh-clause-nearly g c = on_err c.from_residual-in_err-fresh.result c.in_err-fresh.ensures.nearly
+
+pub returns-in_err-rouse-clause-nearly : goal.returns-in_err-rouse-clause-nearly
+returns-in_err-rouse-clause-nearly g c =
+    on_err c.from_residual-in_err-rouse.result (λ holds.
+    HoldsNearlyKept-same c.fill.new.self (g.A.Analyst.held c.fill.new.analyst) (c.in_ok-fresh.ensures.holds holds))
