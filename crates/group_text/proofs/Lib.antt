@@ -1,5 +1,6 @@
 pub mod LocalNodes
 pub mod LocalEdges
+pub mod SmallTexts
 pub mod WellFormedTexts
 pub mod AlikeNodes
 pub mod LocalHops

@@ -88,3 +88,9 @@ abbrev pub size_fault : ℕ → ℕ → Option TextFault
 size_fault members switches =
     if nat_lt MOST_MEMBERS members then Some (GroupNodes members)
     else (if nat_lt MOST_SWITCHES switches then Some (GroupSwitches switches) else None)
+
+-- a text of no more than 200 members, 800 switches, and 2,600 local nodes
+pub record IsSmall (text : GroupTextData) : Type 0 where
+  pub members : text.members ≤ 200
+  pub switches : length text.graph.places ≤ 800
+  pub few : nodes text.graph ≤ 2600

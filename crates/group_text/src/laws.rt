@@ -1,12 +1,17 @@
 //! Laws of texts.
 
 ghost use Rattle.std.specs.Prelude.{◌≡◌};
-ghost use Rattle.group_text.specs.Laws.{TextsAreWellFormed, ResponsesAreLocal};
+ghost use Rattle.group_text.specs.Laws.{TextsAreWellFormed, TextsAreSmall, ResponsesAreLocal};
 ghost use Rattle.group_text.specs.declared.text.TheConstants.{MOST_MEMBERS, MOST_SWITCHES};
 
 /// The text of a group is well formed.
 pub fn texts_are_well_formed()
     ensures { TextsAreWellFormed }
+{}
+
+/// The text of a group that isn't too large has at most 200 members, 800 switches and 2,600 local nodes.
+pub fn texts_are_small()
+    ensures { TextsAreSmall }
 {}
 
 /// Responses are local: the steady state of a member in its group's local graph, under the local

@@ -24,5 +24,5 @@ mod laws;
 mod local;
 mod text;
 
-pub use laws::{limits_are_as_stated, responses_are_local, texts_are_well_formed};
+pub use laws::{limits_are_as_stated, responses_are_local, texts_are_small, texts_are_well_formed};
 pub use text::{GroupText, MOST_MEMBERS, MOST_SWITCHES, TextFault, text_of};

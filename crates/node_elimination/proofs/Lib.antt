@@ -18,3 +18,4 @@ pub mod MeaningLemmas
 pub mod HoldingLemmas
 pub mod HeldTableLemmas
 pub mod GivenWalks
+pub mod LargestTexts

@@ -30,4 +30,4 @@ mod system;
 
 pub use analysis::analyse;
 pub use analyst::SymbolicAnalyst;
-pub use laws::{elimination_keeps_the_solution, equations_are_the_paths};
+pub use laws::{elimination_keeps_the_solution, equations_are_the_paths, largest_texts_fit};

@@ -7,3 +7,4 @@ pub mod AdvanceLemmas
 pub mod ReadersLemmas
 pub mod DenseLemmas
 pub mod PuttingLemmas
+pub mod SmallLemmas

@@ -31,7 +31,7 @@ pub use agenda::{Agenda, mark_all, numbers_below};
 pub use batches::Batches;
 pub use dense::{DenseParts, Seat};
 pub use evaluation::Desk;
-pub use laws::limits_are_as_stated;
+pub use laws::{limits_are_as_stated, small_parts_fit};
 pub use making::{
     Needs, all_owners, count_held, desk_for, held_parts, needs_of, own, widen_for_codes,
     widen_for_parts,

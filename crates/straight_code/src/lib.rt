@@ -20,10 +20,12 @@
 
 mod code;
 mod flat;
+mod laws;
 mod linear;
 mod part;
 
 pub use code::{Code, Instruction, Operand, Output, instruction_value, output_state};
 pub use flat::{FlatCode, FlatOutput, FlatStep, StepKind};
+pub use laws::limits_are_as_stated;
 pub use linear::linearise;
 pub use part::Part;
