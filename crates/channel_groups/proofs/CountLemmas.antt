@@ -1,40 +1,21 @@
 -- The places that are listed at different nodes are different, so those at the members of a group are at most its switches.
-use Rattle.std.proofs.Common.{◌≡◌, ℕ, ◌+◌, ◌<◌, ◌≤◌, Bool, false, inl, inr, List, [], ◌∷◌, ◌++◌, length, get_or, filter, nat_eq, Contains, Option, refl, sym, ap, subst, ◌∙◌, not, take, arith}
+use Rattle.std.proofs.Common.{◌≡◌, ℕ, ◌+◌, ◌<◌, ◌≤◌, false, inl, inr, List, [], ◌∷◌, ◌++◌, length, get_or, nat_eq, Contains, Option, refl, sym, ap, subst, ◌∙◌, not, take, arith}
 use Rattle.std.proofs.lemmas.Cmp.{nat_eq_equiv}
 use Rattle.std.proofs.lemmas.List.{take_more, flat_map_more, length-append}
 use Rattle.std.proofs.lemmas.List.Folds.{list_any_at}
 use Rattle.std.specs.List.{flat_map, IsDistinct}
-use Rattle.std.proofs.lemmas.Bool.{cases_Bool, eqb-true, eq-eqb}
-use Rattle.std.proofs.lemmas.List.Elements.{All-from_recursion, recursion_from_All, Contains-append_cases}
-use Rattle.std.proofs.lemmas.Map.Keys.{IsDistinct-head, IsDistinct-tail, IsDistinct-cons}
+use Rattle.std.proofs.lemmas.Bool.{eqb-true, eq-eqb}
+use Rattle.std.proofs.lemmas.List.Elements.{recursion_from_All, Contains-append_cases}
+use Rattle.std.proofs.lemmas.Map.Keys.{IsDistinct-tail, IsDistinct-cons}
 use Rattle.std.proofs.lemmas.Map.Made.{length-le_from_is_member}
 use Rattle.list_facts.proofs.ContainsLemmas.{Contains-cons_first, Contains-cons_later, Contains-from_filter, passes-from_filter, unlike}
+use Rattle.list_facts.proofs.DistinctLemmas.{not_again, IsDistinct-filter}
 use Rattle.indexmap.proofs.CallerLemmas.{Contains-list_any}
 use Rattle.path_meaning.specs.declared.switching.Switch.{Switch}
 use Rattle.path_meaning.specs.Graphs.{GraphData}
 use Rattle.channel_groups.specs.Listing.{HasEndAt, AreListed, is_other, others_at}
 
--- a number in front of a list without repeats isn't in it
-pub not_again : (x : ℕ) (xs : List ℕ) → IsDistinct nat_eq (x ∷ xs) → ¬ Contains xs x
-not_again x xs distinct there =
-    let apart = All-from_recursion (λ y. nat_eq x y ≡ false) xs (IsDistinct-head nat_eq x xs distinct) there.0 x there.1 in
-    let same = eq-eqb x (get_or xs there.0 x) (sym there.2) in
-    absurd (cc)
-
--- a list without repeats has none after a filter
-pub IsDistinct-filter : (test : ℕ → Bool) (xs : List ℕ) → IsDistinct nat_eq xs → IsDistinct nat_eq (filter test xs)
-IsDistinct-filter test [] distinct = distinct
-IsDistinct-filter test (x ∷ xs) distinct =
-    let rest = IsDistinct-filter test xs (IsDistinct-tail nat_eq x xs distinct) in
-    elim (cases_Bool (test x)) [
-      | inl passes ↦ rw passes
-          (IsDistinct-cons nat_eq x (filter test xs)
-          (recursion_from_All (λ y. nat_eq x y ≡ false) (filter test xs)
-          (unlike x (filter test xs) (λ there. not_again x xs distinct (Contains-from_filter test xs x there)))) rest)
-      | inr fails ↦ rw fails rest
-    ]
-
--- nor have two such lists together that share nothing
+-- two lists without repeats have none together, where they share nothing
 pub IsDistinct-append : (xs ys : List ℕ) → IsDistinct nat_eq xs → IsDistinct nat_eq ys → ((x : ℕ) → Contains xs x → ¬ Contains ys x) →
     IsDistinct nat_eq (xs ++ ys)
 IsDistinct-append [] ys one two apart = two

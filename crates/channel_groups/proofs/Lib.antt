@@ -6,7 +6,6 @@ pub mod HeldLemmas
 pub mod RegroupedLemmas
 pub mod WritingLemmas
 pub mod SearchLemmas
-pub mod SwapLemmas
 pub mod ListingLemmas
 pub mod StoreLemmas
 pub mod TickLemmas

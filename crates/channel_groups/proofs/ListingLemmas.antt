@@ -1,20 +1,19 @@
 -- The places at each node: as they are listed one by one, and when a place is moved from one node to another.
-use Rattle.std.proofs.Common.{◌≡◌, ◌≢◌, ℕ, ◌+◌, ◌<◌, ◌≤◌, ◌==◌, ◌⊎◌, inl, inr, Bool, true, not, cond, List, [], ◌∷◌, ◌++◌, length, map, get_or, set, filter, nat_eq, Contains, Option, Some, None, refl, sym, ap, subst, ◌∙◌, arith}
+use Rattle.std.proofs.Common.{◌≡◌, ◌≢◌, ℕ, ◌+◌, ◌<◌, ◌≤◌, ◌⊎◌, inl, inr, Bool, cond, List, [], ◌∷◌, ◌++◌, length, map, get_or, set, filter, nat_eq, Contains, Option, Some, None, refl, sym, ap, subst, ◌∙◌, arith}
 use Rattle.std.specs.List.{IsDistinct, list_any}
 use Rattle.std.specs.List.Retain.{RetainsInTurn}
-use Rattle.std.proofs.lemmas.Bool.{cases_lt, cases_eq, cases_Bool, eqb-true, eq-eqb, ne_eqb}
+use Rattle.std.proofs.lemmas.Bool.{cases_lt, cases_eq, cases_Bool, eqb-true}
 use Rattle.std.proofs.lemmas.Cmp.{nat_eq_equiv}
 use Rattle.std.proofs.lemmas.List.{length-map, get_or-map, get_or_past, map-set, map_push, get_or-set_same, get_or-set_other, get_or_append_left, get_or_push, length_push}
 use Rattle.std.proofs.lemmas.List.Elements.{Contains-push, Contains-push_cases, Contains-append_left}
 use Rattle.std.proofs.lemmas.Map.Keys.{IsDistinct-push}
-use Rattle.list_facts.proofs.ContainsLemmas.{Contains-filter, Contains-from_filter, passes-from_filter}
 use Rattle.indexmap.proofs.CallerLemmas.{Contains-list_any}
 use Rattle.smallvec.specs.SmallVec.{SmallVec}
 use Rattle.path_meaning.specs.declared.switching.Switch.{Switch}
 use Rattle.path_meaning.specs.Graphs.{GraphData, place_at}
 use Rattle.path_meaning.proofs.PathLemmas.{place_inside}
-use Rattle.channel_groups.specs.Listing.{places_of, HasEndAt, AreListed, AreListedTo, SetsAt, TakesOut, without, Moves}
-use Rattle.channel_groups.proofs.CountLemmas.{IsDistinct-filter}
+use Rattle.channel_groups.specs.Listing.{places_of, HasEndAt, AreListed, AreListedTo, SetsAt, Moves}
+use Rattle.list_facts.specs.Taking.{TakesOut}
 
 module _ (lists : List (SmallVec ℕ)) where
   -- the list that stands at a node

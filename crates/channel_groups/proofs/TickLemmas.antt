@@ -22,7 +22,8 @@ use Rattle.channel_groups.specs.Changes.{ends_of, ends_before, levelled, nodes_b
 use Rattle.channel_groups.specs.Grouping.{slot_at, held, IsHeld, group_at_node}
 use Rattle.channel_groups.specs.Search.{is_storage, search_cost, ArePaid}
 use Rattle.channel_groups.specs.Writing.{AreTouched, IsPlan, members_in, before_cost, IsCheap}
-use Rattle.channel_groups.proofs.CountLemmas.{IsDistinct-filter, length-le_from_contained, not_again}
+use Rattle.list_facts.proofs.DistinctLemmas.{not_again, IsDistinct-filter}
+use Rattle.channel_groups.proofs.CountLemmas.{length-le_from_contained}
 use Rattle.channel_groups.proofs.HeldLemmas.{held-from_slot}
 use Rattle.channel_groups.proofs.SearchLemmas.{IsStorage-from_test}
 use Rattle.channel_groups.proofs.StoreLemmas.{group-at_node}

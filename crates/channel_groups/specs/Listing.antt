@@ -41,16 +41,6 @@ pub record SetsAt (node : ℕ) (value : List ℕ) (old new : ℕ → List ℕ) :
   pub at : new node ≡ value
   pub others : (n : ℕ) → n ≢ node → new n ≡ old n
 
--- the list of a node without this place
-abbrev pub without : ℕ → List ℕ → List ℕ
-without place places = filter (λ one. not (one == place)) places
-
--- the place is taken out of a list without repeats: all others stay, in some order
-pub record TakesOut (place : ℕ) (old new : List ℕ) : Type 0 where
-  pub kept : (q : ℕ) → q ≢ place → Contains old q → Contains new q
-  pub only : (q : ℕ) → Contains new q → Contains old q × (q ≢ place)
-  pub distinct : IsDistinct nat_eq new
-
 -- there is room for one place more at the node
 pub record HasRoomAt (lists : List (SmallVec ℕ)) (node : ℕ) : Type 0 where
   pub inside : node < length lists

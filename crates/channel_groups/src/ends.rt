@@ -4,7 +4,8 @@ ghost use Rattle.std.specs.Prelude.{◌≡◌, ℕ, ◌+◌, ◌<◌, ◌≤◌,
 ghost use Rattle.std.specs.List.{IsDistinct};
 ghost use Rattle.smallvec.specs.SmallVec.{HasRoomFor};
 ghost use Rattle.path_meaning.specs.Graphs.{nodes, place_at};
-ghost use Rattle.channel_groups.specs.Listing.{places_of, AreListed, AreListedTo, SetsAt, TakesOut, HasRoomAt, Moves};
+ghost use Rattle.list_facts.specs.Taking.{TakesOut};
+ghost use Rattle.channel_groups.specs.Listing.{places_of, AreListed, AreListedTo, SetsAt, HasRoomAt, Moves};
 
 use path_meaning::Graph;
 use smallvec::SmallVec;

@@ -16,7 +16,7 @@
 //! at the changed nodes alone; `UntouchedLemmas` and `KeptLemmas`, that a group which the edit
 //! doesn't touch is a group of both graphs, with the same switches and levels; `EditLemmas`, the
 //! graph before each kind of edit; `HeldLemmas`, which group an id finds. They cite `CountLemmas`,
-//! `StoreLemmas`, `SwapLemmas` and `TickLemmas` too, whose heads say what they are of.
+//! `StoreLemmas` and `TickLemmas` too, whose heads say what they are of.
 //!
 //! After Bryant, Beatty, Brace, Cho and Sheffler, "COSMOS: A Compiled Simulator for MOS Circuits",
 //! 1987.

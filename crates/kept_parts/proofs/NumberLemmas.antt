@@ -16,12 +16,8 @@ use Rattle.group_text.specs.FirstTexts.{is_among, first_texts, new_texts}
 use Rattle.analysis_cache.proofs.NewTextLemmas.{is_among-first, first_texts-append}
 use Rattle.kept_parts.specs.Uses.{UsesData, IsNumbered, texts_used, some_texts, count_distinct, CountsUses, used, is_number, first_use, last_use, AreCounted}
 use Rattle.kept_parts.proofs.UseLemmas.{CountsUses-more, used-more, CountsUses-none, used-none, same_place, used-again, used-first}
-use Rattle.kept_parts.proofs.PlaceLemmas.{there, among_at, slice_get-grown}
-
--- parts without numbers have no texts
-pub none_used : (known : List GroupTextData) (n : ℕ) → texts_used (record { known = known; numbers = replicate n None }) ≡ replicate n None
-none_used known zero = refl
-none_used known (suc n) = ap (λ rest. None ∷ rest) (none_used known n)
+use Rattle.list_facts.proofs.PlaceLemmas.{slice_get-grown}
+use Rattle.kept_parts.proofs.PlaceLemmas.{there, among_at}
 
 -- a text that is among others stands at some place
 place_among : (texts : List GroupTextData) (text : GroupTextData) → is_among texts text ≡ true → (i : ℕ) × (slice_get texts i ≡ Some text)

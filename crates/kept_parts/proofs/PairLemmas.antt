@@ -1,9 +1,8 @@
--- Two lists as one list of pairs, and a list with an item more.
-use Rattle.std.proofs.Common.{◌≡◌, ℕ, zero, suc, ◌+◌, ◌<◌, inl, inr, ◌⊎◌, List, [], ◌∷◌, ◌++◌, Some, length, take, get_or, refl, sym, ap, ◌∙◌, arith}
-use Rattle.std.specs.Prelude.{zip, slice_get}
+-- Two lists as one list of pairs.
+use Rattle.std.proofs.Common.{◌≡◌, ℕ, ◌+◌, ◌<◌, List, [], ◌∷◌, ◌++◌, length, take, get_or, refl, sym, ap, ◌∙◌, arith}
+use Rattle.std.specs.Prelude.{zip}
 use Rattle.std.specs.List.{AllZip}
 use Rattle.std.proofs.lemmas.List.{take_more, length-take-le}
-use Rattle.std.proofs.lemmas.Option.{same_Some, none-some}
 use Rattle.std.proofs.lemmas.Slice.Zip.{all_zipped_more}
 
 -- with an item more at the end of each, one pair more
@@ -26,14 +25,3 @@ all_paired_more R xs ys zs i x y z inside here stands so_far next =
     ap (λ front. zip front (ys ++ y ∷ [])) (take_more xs i x inside ∙ ap (λ last. take i xs ++ last ∷ []) (sym stands))
     ∙ zip_pushed (take i xs) ys x y as_many in
     rw pairs (all_zipped_more R (zip (take i xs) ys) zs (x, y) z so_far next)
-
--- what stands in a list with an item more stood there, or is this item
-pub pushed_at : {X : Type 0} (xs : List X) (x y : X) (k : ℕ) → slice_get (xs ++ x ∷ []) k ≡ Some y → (slice_get xs k ≡ Some y) ⊎ ((k ≡ length xs) × (x ≡ y))
-pushed_at [] x y zero at = inr (refl, same_Some x y at)
-pushed_at [] x y (suc k) at = absurd (none-some y at)
-pushed_at (z ∷ xs) x y zero at = inl at
-pushed_at (z ∷ xs) x y (suc k) at =
-    elim (pushed_at xs x y k at) [
-      | inl before ↦ inl before
-      | inr (place, is) ↦ inr (omega (arith, place), is)
-    ]

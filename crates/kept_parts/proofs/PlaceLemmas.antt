@@ -1,5 +1,5 @@
 -- What stands at places of lists, and among texts.
-use Rattle.std.proofs.Common.{◌≡◌, ℕ, zero, suc, ◌<◌, Bool, true, false, ◌||◌, List, [], ◌∷◌, ◌++◌, length, Some, refl, sym, ap, arith}
+use Rattle.std.proofs.Common.{◌≡◌, ℕ, zero, suc, ◌<◌, Bool, true, false, ◌||◌, List, [], ◌∷◌, length, Some, refl, sym, ap, arith}
 use Rattle.std.specs.Prelude.{slice_get}
 use Rattle.group_text.specs.Texts.{GroupTextData}
 use Rattle.group_text.specs.Compared.{same_text, same_text_decides}
@@ -23,13 +23,3 @@ among_at (first ∷ texts) zero text here =
     let found : same_text text first ≡ true = (same_text_decides text first).1 (sym same) in
     ap (λ b. b || is_among texts text) found
 among_at (first ∷ texts) (suc i) text here = or_true (same_text text first) (is_among texts text) (among_at texts i text here)
-
--- what has a place in a list that grew
-pub slice_get-grown : {A : Type 0} (xs more : List A) (i : ℕ) (x : A) → slice_get xs i ≡ Some x → slice_get (xs ++ more) i ≡ Some x
-slice_get-grown [] more i x is = absurd cc
-slice_get-grown (y ∷ xs) more zero x is = is
-slice_get-grown (y ∷ xs) more (suc i) x is = slice_get-grown xs more i x is
-
-pub slice_get-last : {A : Type 0} (xs : List A) (x : A) → slice_get (xs ++ x ∷ []) (length xs) ≡ Some x
-slice_get-last [] x = refl
-slice_get-last (y ∷ xs) x = slice_get-last xs x

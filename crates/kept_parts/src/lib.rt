@@ -12,8 +12,8 @@
 //! ```
 //!
 //! For the proofs of crates above: `GroupParts` (the parts of the texts of a graph's groups),
-//! `BoundLemmas` (which texts are in use, and what a cut leaves). They cite `NumberLemmas`,
-//! `PairLemmas` and `PlaceLemmas` too, whose heads say what they are of.
+//! `BoundLemmas` (which texts are in use, and what a cut leaves). They cite `NumberLemmas`
+//! too, whose head says what it is of.
 //!
 //! After Beatty and Bryant, "Fast Incremental Circuit Analysis Using Extracted Hierarchy", 1988.
 #![tactic(auto)]

@@ -1,1 +1,4 @@
 pub mod ContainsLemmas
+pub mod DistinctLemmas
+pub mod TakingLemmas
+pub mod PlaceLemmas

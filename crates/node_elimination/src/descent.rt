@@ -23,7 +23,7 @@ use std::sync::ledger::Ledger;
 use strength_order::INPUT_LEVEL;
 use ternary::{NoMemory, Steps};
 
-/// U of one level, for each member: an unblocked path of at least this strength leads to it from a
+/// What drives each member at one level: an unblocked path of at least this strength leads to it from a
 /// root that may be 1, or that may be 0.
 #[derive(Drop)]
 pub(crate) struct Drives {
@@ -34,14 +34,15 @@ pub(crate) struct Drives {
 // The formulas of one level, for each member.
 #[derive(Drop)]
 struct Levels {
-    // D: a definite path of at least this strength leads to it
+    // a definite path of at least this strength leads to it
     strong: Vec<Id>,
     drives: Drives,
 }
 
-/// U of the least level.
+/// What drives each member at the least level.
 ///
-/// At the least level that a node or a switch has, D isn't made, since only a lower one would read it.
+/// Which members definite paths reach isn't made at the least level that a node or a switch has, since only a lower
+/// level would read it.
 pub(crate) fn go_down<L: Ledger>(
     alloc: Global,
     pool: &mut Pool,
@@ -222,7 +223,7 @@ fn next_level<L: Ledger>(
     Ok(Levels { strong, drives })
 }
 
-// U of this level. At an error the system is of no use any more.
+// What drives each member at this level. At an error the system is of no use any more.
 fn drive_members<L: Ledger>(
     alloc: Global,
     pool: &mut Pool,
@@ -288,7 +289,7 @@ fn drive_members<L: Ledger>(
     Ok(Drives { one, zero })
 }
 
-// D of this level. At an error the system is of no use any more.
+// Which members definite paths reach at this level. At an error the system is of no use any more.
 fn reach_members<L: Ledger>(
     alloc: Global,
     pool: &mut Pool,

@@ -33,7 +33,8 @@ pub(crate) struct Links<'a> {
     pub(crate) sources: &'a [Id],
 }
 
-/// Solves the equations of D(s) at the level of the links: one formula for each member.
+/// Solves the equations of the members that definite paths reach, at the level of the links: one formula for each
+/// member.
 ///
 /// The unknowns of `system` are the members, all of them left. At an error it is of no use any more.
 pub(crate) fn reach<L: Ledger>(
@@ -66,8 +67,9 @@ pub(crate) fn reach<L: Ledger>(
     solve_level(alloc, pool, system, links, steps)
 }
 
-/// Solves the equations of U(s) for a rail, at the level of the links, whose gates are clear(s) and
-/// whose sources are the rail: one formula for each member. `above` has U(s + 1).
+/// Solves the equations of what drives the members to a rail, at the level of the links, whose gates say which members
+/// are clear of stronger definite paths and whose sources are the rail: one formula for each member. `above` has
+/// those of the next level.
 ///
 /// The unknowns of `system` are the members, all of them left. At an error it is of no use any more.
 pub(crate) fn drive<L: Ledger>(

@@ -7,7 +7,7 @@ use Rattle.std.proofs.lemmas.List.{length-append, length-drop, length-set, lengt
 use Rattle.std.proofs.lemmas.Option.{same_Some, none-some, slice_get_within, slice_get-get_or, get_or_from_slice_get}
 use Rattle.std.specs.declared.rc.Rc.{Rc}
 use Rattle.straight_code.specs.Code.{CodeData}
-use Rattle.part_steps.proofs.PuttingLemmas.{slice_get-grown, slice_get-last, pushed_at}
+use Rattle.list_facts.proofs.PlaceLemmas.{slice_get-grown, slice_get-last, pushed_at}
 use Rattle.part_words.specs.Noting.{map_at}
 use Rattle.machine_parts.specs.declared.part.HeldPart.{HeldPart}
 use Rattle.part_steps.specs.declared.dense.Seat.{Seat}
@@ -346,10 +346,3 @@ pub numbered_part : (numbers : List (Option ℕ)) (parts : List HeldPart) (codes
     slice_get parts k ≡ Some part → k < length numbers → number ≡ slice_index_or numbers k None → IsPartNumbered codes.codes number part
 numbered_part numbers parts codes k part number part_is inside number_is code has n some =
     codes.each k n part code (slice_get-get_or numbers k None inside ∙ ap Some (sym number_is ∙ some)) part_is has
-
--- where no text has a number no code is asked for
-pub HaveCodes-none : (count : ℕ) (parts : List HeldPart) → HaveCodes (replicate count None) parts
-HaveCodes-none count parts = record {
-  codes = [];
-  each = λ k n part code number_is part_is has. absurd (none_there count k n number_is);
-}

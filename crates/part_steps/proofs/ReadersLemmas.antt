@@ -12,7 +12,7 @@ use Rattle.std.proofs.lemmas.Map.Keys.{IsDistinct-push}
 use Rattle.std.proofs.lemmas.Map.Views.{Contains-from_any}
 use Rattle.std.proofs.lemmas.Option.{slice_get_within, slice_get-get_or, get_or_from_slice_get}
 use Rattle.smallvec.specs.SmallVec.{SmallVec}
-use Rattle.channel_groups.specs.Listing.{TakesOut}
+use Rattle.list_facts.specs.Taking.{TakesOut}
 use Rattle.machine_parts.specs.declared.part.HeldPart.{HeldPart}
 use Rattle.machine_parts.specs.Marking.{AreOnce}
 use Rattle.machine_parts.specs.Parts.{Stands}

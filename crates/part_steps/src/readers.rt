@@ -1,7 +1,7 @@
 //! Who reads each node: lists of parts, which a part enters at the end and leaves without a search.
 ghost use Rattle.std.specs.Prelude.{◌≡◌, ◌↔◌, ℕ, ◌+◌, ◌-◌, ◌<◌, ◌≤◌, length, vec_capacity, All, Contains, nat_eq, slice_index, IfOk, IfSome, IfNone, IsTrue, OnOk, OnErr};
 ghost use Rattle.std.specs.List.{IsDistinct};
-ghost use Rattle.channel_groups.specs.Listing.{TakesOut};
+ghost use Rattle.list_facts.specs.Taking.{TakesOut};
 ghost use Rattle.machine_parts.specs.Marking.{AreOnce};
 ghost use Rattle.machine_parts.specs.Parts.{ReadsAt};
 ghost use Rattle.machine_parts.specs.Readers.{readers_of, AreEachOnce, IsLastIf, Adds, ListsSome, Unlists, ListsAll, HaveSameReaders, AreListed, AreOffTo};

@@ -7,6 +7,7 @@ use Rattle.std.proofs.lemmas.Nat.Bits.{bit_at_set_same, bit_at_set_other}
 use Rattle.ternary.specs.declared.tern.Tern.{Tern}
 use Rattle.ternary.specs.declared.tern.Tern.TheVariants.{Zero, One, Unk}
 use Rattle.ternary.specs.Tern.{may_one, may_zero, join}
+use Rattle.ternary.proofs.TernLemmas.{may_one-join, may_zero-join}
 use Rattle.straight_code.specs.Code.{settled}
 use Rattle.batch_words.specs.Lanes.{is_in_lane}
 use Rattle.batch_words.proofs.LaneLemmas.{turn, lane-and, lane-or, lane-xor, lane-none}
@@ -43,23 +44,11 @@ lane-with_other word lane false inside other differs =
 
 -- ---- states
 
--- the rails of the join are those of both states together
-join_rails : (s t : Tern) → ((may_one s || may_one t) ≡ may_one (join s t)) × ((may_zero s || may_zero t) ≡ may_zero (join s t))
-join_rails Zero Zero = (refl, refl)
-join_rails Zero One = (refl, refl)
-join_rails Zero Unk = (refl, refl)
-join_rails One Zero = (refl, refl)
-join_rails One One = (refl, refl)
-join_rails One Unk = (refl, refl)
-join_rails Unk Zero = (refl, refl)
-join_rails Unk One = (refl, refl)
-join_rails Unk Unk = (refl, refl)
-
 -- the bits of both words together are the rails of the join
 pub HasState-join : (lane a b c d : ℕ) (s t : Tern) → HasState lane a b s → HasState lane c d t → HasState lane (bit_or a c) (bit_or b d) (join s t)
 HasState-join lane a b c d s t first second = record {
-  one = lane-or lane a c ∙ (ap₂ (λ x y. x || y) first.one second.one ∙ (join_rails s t).0);
-  other = lane-or lane b d ∙ (ap₂ (λ x y. x || y) first.other second.other ∙ (join_rails s t).1);
+  one = lane-or lane a c ∙ (ap₂ (λ x y. x || y) first.one second.one ∙ sym (may_one-join s t));
+  other = lane-or lane b d ∙ (ap₂ (λ x y. x || y) first.other second.other ∙ sym (may_zero-join s t));
 }
 
 settled-rails : (s : Tern) → settled (may_one s) (may_zero s) ≡ s

@@ -3,7 +3,7 @@ use Rattle.std.proofs.Common.{◌≡◌, ℕ, ◌+◌, List, [], ◌∷◌, ◌+
 use Rattle.std.specs.Prelude.{slice_get}
 use Rattle.group_text.specs.Texts.{GroupTextData}
 use Rattle.kept_parts.specs.Uses.{UsesData, IsNumbered}
-use Rattle.kept_parts.proofs.PlaceLemmas.{slice_get-grown}
+use Rattle.list_facts.proofs.PlaceLemmas.{slice_get-grown}
 
 -- where further texts are known, the numbers' texts are the same
 pub known_more : (known more : List GroupTextData) (numbers : List ℕ) (texts : List GroupTextData) → map (slice_get known) numbers ≡ map Some texts →

@@ -2,9 +2,9 @@
 use Rattle.std.proofs.Common.{◌≡◌, ◌==◌, ◌<◌, List, ℕ, length, not, sym, subst, rules}
 use Rattle.std.specs.Prelude.{slice_index_or}
 use Rattle.std.specs.List.{swap_remove}
-use Rattle.channel_groups.specs.Listing.{TakesOut}
+use Rattle.list_facts.specs.Taking.{TakesOut}
 use Rattle.channel_groups.proofs.ListingLemmas.{filter-from_retain}
-use Rattle.channel_groups.proofs.SwapLemmas.{TakesOut-filtered, TakesOut-swapped}
+use Rattle.list_facts.proofs.TakingLemmas.{TakesOut-filtered, TakesOut-swapped}
 use Rattle.channel_groups.proofs.ends.take_from.Goals.{After-swap_remove}
 use Rattle.channel_groups.proofs.ends.take_from.Goals as goal
 

@@ -8,7 +8,8 @@ use Rattle.group_analysis.specs.Meaning.{MeansText}
 use Rattle.straight_code.specs.declared.part.Part.{Part}
 use Rattle.circuit_texts.specs.Parts.{IsMadeOf}
 use Rattle.circuit_texts.proofs.PairedLists.{partner_second}
-use Rattle.kept_parts.proofs.PairLemmas.{all_paired_more, pushed_at}
+use Rattle.list_facts.proofs.PlaceLemmas.{pushed_at}
+use Rattle.kept_parts.proofs.PairLemmas.{all_paired_more}
 use Rattle.kept_parts.proofs.NumberLemmas.{text_of_number}
 use Rattle.kept_parts.proofs.parts.parts_by_number.Goals as goal
 

@@ -1,8 +1,8 @@
 -- The last one comes to the part's spot, or the part isn't there.
 use Rattle.std.proofs.Common.{◌≡◌, ◌<◌, List, ℕ, length, sym, subst}
 use Rattle.std.specs.Prelude.{Contains, slice_index}
-use Rattle.channel_groups.specs.Listing.{TakesOut}
-use Rattle.channel_groups.proofs.SwapLemmas.{TakesOut-swapped}
+use Rattle.list_facts.specs.Taking.{TakesOut}
+use Rattle.list_facts.proofs.TakingLemmas.{TakesOut-swapped}
 use Rattle.part_steps.proofs.ReadersLemmas.{TakesOut-none}
 use Rattle.part_steps.proofs.readers.take_off.Goals as goal
 

@@ -1,23 +1,23 @@
--- A place is taken out of a list: all others stay, in some order.
-use Rattle.std.proofs.Common.{◌≡◌, ◌≢◌, ℕ, ◌+◌, ◌-◌, ◌<◌, ◌==◌, ◌⊎◌, inl, inr, false, not, List, length, get_or, set, take, filter, nat_eq, Contains, sym, ap, subst, ◌∙◌, arith}
+-- A number is taken out of a list: all others stay, in some order.
+use Rattle.std.proofs.Common.{◌≡◌, ◌≢◌, ℕ, ◌+◌, ◌-◌, ◌<◌, ◌==◌, inl, inr, not, List, length, get_or, set, nat_eq, sym, ap, subst, ◌∙◌, arith}
 use Rattle.std.specs.List.{IsDistinct, swap_remove}
 use Rattle.std.proofs.lemmas.Bool.{cases_lt, cases_eq, eq-eqb, ne_eqb}
 use Rattle.std.proofs.lemmas.List.{get_or_default, get_or-set_same, get_or-set_other, get_or-take, length-set, length-take-le}
 use Rattle.std.proofs.lemmas.Map.Keys.{apart_from_distinct, IsDistinct-from_apart}
 use Rattle.list_facts.proofs.ContainsLemmas.{Contains-filter, Contains-from_filter, passes-from_filter}
-use Rattle.channel_groups.specs.Listing.{without, TakesOut}
-use Rattle.channel_groups.proofs.CountLemmas.{IsDistinct-filter}
+use Rattle.list_facts.proofs.DistinctLemmas.{IsDistinct-filter}
+use Rattle.list_facts.specs.Taking.{without, TakesOut}
 
 -- by a filter
-pub TakesOut-filtered : (place : ℕ) (old : List ℕ) → IsDistinct nat_eq old → TakesOut place old (without place old)
-TakesOut-filtered place old distinct = record {
-  kept = λ q other there. Contains-filter (λ one. not (one == place)) old q there (ap not (ne_eqb q place other));
+pub TakesOut-filtered : (number : ℕ) (old : List ℕ) → IsDistinct nat_eq old → TakesOut number old (without number old)
+TakesOut-filtered number old distinct = record {
+  kept = λ q other there. Contains-filter (λ one. not (one == number)) old q there (ap not (ne_eqb q number other));
   only = λ q there.
-      let passed = passes-from_filter (λ one. not (one == place)) old q there in (
-        Contains-from_filter (λ one. not (one == place)) old q there,
-        (λ same. let fails = ap not (eq-eqb q place same) in absurd (cc (fails, passed))),
+      let passed = passes-from_filter (λ one. not (one == number)) old q there in (
+        Contains-from_filter (λ one. not (one == number)) old q there,
+        (λ same. let fails = ap not (eq-eqb q number same) in absurd (cc (fails, passed))),
       );
-  distinct = IsDistinct-filter (λ one. not (one == place)) old distinct;
+  distinct = IsDistinct-filter (λ one. not (one == number)) old distinct;
 }
 
 module _ (xs : List ℕ) (i d : ℕ) (inside : i < length xs) (distinct : IsDistinct nat_eq xs) where
@@ -74,8 +74,8 @@ module _ (xs : List ℕ) (i d : ℕ) (inside : i < length xs) (distinct : IsDist
       ]
 
   -- by the last one, which moves to its position
-  pub TakesOut-swapped : (place : ℕ) → get_or xs i 0 ≡ place → TakesOut place xs (swap_remove xs i d)
-  TakesOut-swapped place is = record {
+  pub TakesOut-swapped : (number : ℕ) → get_or xs i 0 ≡ number → TakesOut number xs (swap_remove xs i d)
+  TakesOut-swapped number is = record {
     kept = λ q other there.
         let k = there.0 in
         let at : get_or xs k 0 ≡ q = get_or_default xs k 0 q there.1 ∙ there.2 in
