@@ -1,12 +1,12 @@
 /// A formula of a pool: the place of its gate.
-#[derive(Clone, Copy, Debug, PartialEq, Eq, Hash)]
+#[derive(Clone, Copy, PartialEq, Eq, Hash)]
 pub struct Id {
     /// The index of the gate in the pool.
     pub place: usize,
 }
 
 /// A gate of a pool.
-#[derive(Clone, Copy, Debug, PartialEq, Eq, Hash)]
+#[derive(Clone, Copy, PartialEq, Eq, Hash)]
 pub enum Gate {
     /// The constant false.
     False,
@@ -23,7 +23,7 @@ pub enum Gate {
 }
 
 /// The two formulas that stand for the state of a node.
-#[derive(Clone, Copy, Debug, PartialEq, Eq)]
+#[derive(Clone, Copy, PartialEq, Eq)]
 pub struct Rails {
     /// The formula for "may be 1".
     pub hi: Id,

@@ -9,7 +9,7 @@ use std::alloc::{AllocError, Global};
 
 /// How a graph was before one edit: how many nodes it had, what the named place held, and which
 /// level the named node had.
-#[derive(Clone, Copy, Debug, PartialEq, Eq)]
+#[derive(Clone, Copy, PartialEq, Eq)]
 pub struct Change {
     pub nodes: usize,
     pub place: Option<(usize, Option<Switch>)>,

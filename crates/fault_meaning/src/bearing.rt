@@ -1,5 +1,5 @@
 /// What a line of a script means for what is built.
-#[derive(Clone, Copy, Debug, PartialEq, Eq)]
+#[derive(Clone, Copy, PartialEq, Eq)]
 pub enum Bearing {
     /// After it a build may have other texts analysed, or keep others.
     Unsettles,

@@ -6,7 +6,7 @@ ghost use Rattle.fault_meaning.specs.Counts as spec;
 use fault_sim::Verdict;
 
 /// How many faults have each verdict.
-#[derive(Clone, Copy, Debug, PartialEq, Eq)]
+#[derive(Clone, Copy, PartialEq, Eq)]
 pub struct VerdictCounts {
     /// Those that show for certain.
     pub detected: u64,

@@ -4,7 +4,7 @@ use fault_sim::Fault;
 use wave_print::FaultCode;
 
 /// A fault of a list, with the number of its line.
-#[derive(Clone, Copy, Debug, PartialEq, Eq)]
+#[derive(Clone, Copy, PartialEq, Eq)]
 pub struct ListedFault {
     /// The number of its line.
     pub line: u64,
@@ -13,7 +13,7 @@ pub struct ListedFault {
 }
 
 /// The first refused line of a list, by its number, and the code of its refusal.
-#[derive(Clone, Copy, Debug, PartialEq, Eq)]
+#[derive(Clone, Copy, PartialEq, Eq)]
 pub struct ListRefusal {
     /// The number of the line.
     pub line: u64,

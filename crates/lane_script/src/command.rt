@@ -59,7 +59,7 @@ pub enum LaneCommand {
 }
 
 /// A command that gives values to nodes.
-#[derive(Clone, Copy, Debug, PartialEq, Eq)]
+#[derive(Clone, Copy, PartialEq, Eq)]
 pub(crate) enum ValueCommand {
     Set,
     Charge,

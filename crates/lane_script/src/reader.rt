@@ -52,7 +52,7 @@ pub fn read_lane_command(
 }
 
 // How the columns are given a command.
-#[derive(Clone, Copy, Debug, PartialEq, Eq)]
+#[derive(Clone, Copy, PartialEq, Eq)]
 enum Sort {
     // nodes get values, which can differ from column to column
     Valued(ValueCommand),

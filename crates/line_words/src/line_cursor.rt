@@ -9,7 +9,7 @@ use crate::pieces::line_end;
 use std::marker::Model;
 
 /// A line of a text, with its number.
-#[derive(Clone, Copy, Debug, PartialEq, Eq)]
+#[derive(Clone, Copy, PartialEq, Eq)]
 pub struct Line<'a> {
     /// The line's number; the first line of a text has number 1.
     pub number: u64,

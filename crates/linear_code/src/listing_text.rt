@@ -24,7 +24,7 @@ enum Piece<'a> {
 }
 
 /// A place in the text of a listing, between two of its lines.
-#[derive(Clone, Copy, Debug)]
+#[derive(Clone, Copy)]
 pub struct TextPlace {
     // how many lines of nodes and of instructions stand before it
     nodes: usize,

@@ -14,7 +14,7 @@ const DROPPED: u64 = 1 << 16;
 ///
 /// A draw replaces the generator's number x, at first the seed modulo 2^31, by
 /// (x * 1103515245 + 12345) modulo 2^31, and gives it divided by 65536: 0 to 32767.
-#[derive(Debug, Drop)]
+#[derive(Drop)]
 pub struct Draws {
     /// What they are drawn from.
     pub seed: u64,

@@ -12,7 +12,7 @@ use ternary::NoMemory;
 pub const MOST_ROWS: u64 = 10_000;
 
 /// A family of circuits, of n rows.
-#[derive(Clone, Copy, Debug, PartialEq, Eq)]
+#[derive(Clone, Copy, PartialEq, Eq)]
 pub enum GenKind {
     /// A chain of n inverters: inverter i, from 1, has its input at w{i-1} and its output at w{i}.
     ///
@@ -36,7 +36,7 @@ pub enum GenKind {
 }
 
 /// Which of a family's two texts is written.
-#[derive(Clone, Copy, Debug, PartialEq, Eq)]
+#[derive(Clone, Copy, PartialEq, Eq)]
 pub enum GenPart {
     /// The netlist.
     Net,

@@ -14,7 +14,7 @@ pub const MOST_LIMIT: u64 = 1_000_000;
 
 /// How a state settled: the number of steps of both kinds that changed something, and whether a
 /// joining step was among them.
-#[derive(Clone, Copy, Debug, PartialEq, Eq)]
+#[derive(Clone, Copy, PartialEq, Eq)]
 pub struct Settled {
     pub steps: u64,
     pub joined: bool,

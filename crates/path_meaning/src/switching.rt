@@ -15,7 +15,7 @@ pub enum SwitchKind {
 }
 
 /// What a switch does under a state of its gate.
-#[derive(Clone, Copy, Debug, PartialEq, Eq)]
+#[derive(Clone, Copy, PartialEq, Eq)]
 pub enum SwitchState {
     /// It doesn't conduct.
     Open,

@@ -2,7 +2,7 @@ use circuit_texts::BuildFault;
 use wave_print::FaultCode;
 
 /// How the lines of a script ended.
-#[derive(Clone, Copy, Debug, PartialEq, Eq)]
+#[derive(Clone, Copy, PartialEq, Eq)]
 pub enum Halt {
     /// All were obeyed.
     End,

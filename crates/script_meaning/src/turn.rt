@@ -2,7 +2,7 @@ use circuit_texts::BuildFault;
 use wave_print::FaultCode;
 
 /// What became of a line of the script.
-#[derive(Clone, Copy, Debug, PartialEq, Eq)]
+#[derive(Clone, Copy, PartialEq, Eq)]
 pub enum Turn {
     /// It was obeyed, or there was nothing to do.
     Accepted,

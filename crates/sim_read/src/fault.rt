@@ -85,7 +85,7 @@ impl From<NoMemory> for NetFault {
 }
 
 /// Why the reading stops at a line.
-#[derive(Clone, Copy, Debug, PartialEq, Eq)]
+#[derive(Clone, Copy, PartialEq, Eq)]
 pub(crate) enum LineStop {
     /// The line is refused for this cause.
     Refused(NetWhat),

@@ -11,7 +11,7 @@ use std::marker::Model;
 use strength_order::{Profile, size_level, switch_level};
 
 /// What a line of attributes sets at its node.
-#[derive(Clone, Copy, Debug, PartialEq, Eq)]
+#[derive(Clone, Copy, PartialEq, Eq)]
 pub(crate) enum Setting {
     /// Nothing.
     Unset,

@@ -4,7 +4,7 @@ ghost use Rattle.sim_read.specs.Records as spec;
 use path_meaning::SwitchKind;
 
 /// What a line of a netlist is, by its first word.
-#[derive(Clone, Copy, Debug, PartialEq, Eq)]
+#[derive(Clone, Copy, PartialEq, Eq)]
 pub(crate) enum Record {
     /// `n`, `e`, `p`, `d`: a transistor.
     Transistor(SwitchKind),

@@ -10,7 +10,7 @@ use std::sync::ledger::Ledger;
 use ternary::{NoMemory, Steps, Tern};
 
 /// What an instruction or an output reads.
-#[derive(Clone, Copy, Debug, PartialEq, Eq)]
+#[derive(Clone, Copy, PartialEq, Eq)]
 pub enum Operand {
     /// This truth value.
     Constant(bool),
@@ -23,7 +23,7 @@ pub enum Operand {
 }
 
 /// An instruction: its result is a truth value.
-#[derive(Clone, Copy, Debug, PartialEq, Eq)]
+#[derive(Clone, Copy, PartialEq, Eq)]
 pub enum Instruction {
     /// True where the operand is false.
     Not(Operand),
@@ -34,7 +34,7 @@ pub enum Instruction {
 }
 
 /// The two rails of an output's state.
-#[derive(Clone, Copy, Debug, PartialEq, Eq)]
+#[derive(Clone, Copy, PartialEq, Eq)]
 pub struct Output {
     /// Whether the output may be 1.
     pub hi: Operand,

@@ -14,7 +14,7 @@ use std::alloc::{AllocError, Global};
 use ternary::{NoMemory, Tern};
 
 /// What an instruction does.
-#[derive(Clone, Copy, Debug, PartialEq, Eq)]
+#[derive(Clone, Copy, PartialEq, Eq)]
 pub enum StepKind {
     Not,
     And,
@@ -22,7 +22,7 @@ pub enum StepKind {
 }
 
 /// An instruction over the places of the array.
-#[derive(Clone, Copy, Debug, PartialEq, Eq)]
+#[derive(Clone, Copy, PartialEq, Eq)]
 pub struct FlatStep {
     pub kind: StepKind,
     pub a: u32,
@@ -31,7 +31,7 @@ pub struct FlatStep {
 }
 
 /// The places of both rails of an output.
-#[derive(Clone, Copy, Debug, PartialEq, Eq)]
+#[derive(Clone, Copy, PartialEq, Eq)]
 pub struct FlatOutput {
     pub hi: u32,
     pub lo: u32,

@@ -38,7 +38,7 @@ pub const GREATEST_SWITCH_LEVEL: u8 = 15;
 pub const INPUT_LEVEL: u8 = 16;
 
 /// How many sizes and strengths a netlist may use.
-#[derive(Clone, Copy, Debug, PartialEq, Eq)]
+#[derive(Clone, Copy, PartialEq, Eq)]
 pub enum Profile {
     /// Sizes 1 to 3 and strengths 1 to 4.
     One,

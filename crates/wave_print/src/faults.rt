@@ -14,7 +14,7 @@ const PLACE_ROOM: usize = 34;
 const TEXT_ROOM: usize = 18;
 
 /// Where a fault was met.
-#[derive(Clone, Copy, Debug, PartialEq, Eq)]
+#[derive(Clone, Copy, PartialEq, Eq)]
 pub enum FaultPlace {
     /// A line of the netlist, counted from 1.
     Net(u64),
@@ -29,7 +29,7 @@ pub enum FaultPlace {
 }
 
 /// A refusal, by its code and its word, in the order lines, netlist, groups, edits, script, list.
-#[derive(Clone, Copy, Debug, PartialEq, Eq)]
+#[derive(Clone, Copy, PartialEq, Eq)]
 pub enum FaultCode {
     /// A line has more than 65,536 bytes.
     L1LineTooLong,

@@ -8,7 +8,7 @@ use ternary::Tern;
 
 /// What a whole run comes to: its circuit's nodes and transistors, and what its waveform lines tell
 /// together. A count that is at the last value of its type may stand for more.
-#[derive(Clone, Copy, Debug, PartialEq, Eq)]
+#[derive(Clone, Copy, PartialEq, Eq)]
 pub struct Summary {
     /// How many nodes the circuit has.
     pub nodes: u64,
