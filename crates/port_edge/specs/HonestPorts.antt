@@ -6,11 +6,13 @@ use Rattle.std.specs.declared.alloc.Global.{Global}
 abbrev pub Table : Type 0
 Table = List (String Global × Vec ℕ Global)
 
--- a table, what is left of the started entry, and the names started so far
+-- a table, what is left of the started entry, the names started so far, and how much was taken since each start, the last
+-- one first
 pub record HonestFilesData : Type 0 where
   pub table : Table
   pub rest : List ℕ
   pub started : List (List ℕ)
+  pub taken : List ℕ
 
 -- the bytes written so far, and how often memory was refused
 pub record HonestSinkData : Type 0 where
@@ -37,7 +39,7 @@ bytes_at table (Some place) = bytes_of (slice_get table place)
 
 -- files of this table, none of them started
 abbrev pub unread : Table → HonestFilesData
-unread table = record { table = table; rest = []; started = [] }
+unread table = record { table = table; rest = []; started = []; taken = [] }
 
 -- a sink to which nothing was written
 abbrev pub unwritten : HonestSinkData

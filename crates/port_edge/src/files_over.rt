@@ -1,49 +1,43 @@
-//! Files over anything that opens readers by name.
-ghost use Rattle.std.specs.Prelude.{◌≡◌, ℕ, ◌≤◌, List, [], Option, None, Some, length, IfOk, OnOk, OnErr};
-ghost use Rattle.std.specs.Io.KnownBytes.{ReadConsumes};
-ghost use Rattle.port_edge.specs.Ports.{faults_after};
-ghost use Rattle.port_edge.specs.OuterPorts.{FilesOverData, files_counted, rest_of, Gives};
+//! Files over anything that opens inlets by name.
+ghost use Rattle.std.specs.Prelude.{◌≡◌, ◌-◌, [], None, Some, length, option_copied, slice_get, string_bytes};
+ghost use Rattle.port_edge.specs.OuterPorts.{files_counted, files_unopened};
 
+use crate::outer::{Inlet, Open};
 use crate::ports::{Files, PortFault};
+use std::alloc::Global;
 use std::io;
-use std::io::{ErrorKind, Read};
+use std::io::ErrorKind;
 use std::marker::Model;
 use table_keys::TableKeys;
 
-/// What opens readers by name.
-pub trait Open {
-    /// The reader of one file.
-    type File: Read + Drop;
-
-    // What a name holds, where that is told.
-    ghost holds: { List ℕ → Option (List ℕ) };
-
-    /// Opens the file of this name. The reader gives all that the name holds, where that is told.
-    fn open(&self, name: &str) -> io::Result<Self::File>
-        ensures { IfOk result (λ file. Gives (holds name.now) (Self.File.remaining file)) };
-}
-
 /// Files over an opener. A name that it doesn't open is a fault.
 ///
-/// Contracts see what the reader of the started file tells of the bytes that it has left, and the count of
-/// faults. A start that is answered gives what the name holds, and none of the file before; a read gives what
-/// it takes of the reader, and after a fault nothing is taken. Layers above see the count alone.
+/// Contracts see the opener, what the inlet of the started file tells of the bytes that it has left, the names
+/// that were started, and the count of faults. What a name holds is what the opener tells of it. How much was
+/// taken of a file isn't told, since a file may have no end.
 #[derive(Drop)]
 pub struct FilesOver<O: Open + Drop> {
+    alloc: Global,
     opener: O,
     keys: TableKeys,
     file: Option<O::File>,
+    names: Vec<String>,
     faults: u64,
     reason: Option<io::Error>,
 }
 
 impl<O: Open + Drop> Model for FilesOver<O> {
-    ghost use Rattle.port_edge.specs.OuterPorts.{FilesOverData, rest_of};
+    ghost use Rattle.std.specs.Prelude.{map, string_bytes};
+    ghost use Rattle.port_edge.specs.OuterPorts.{FilesOverData, files_over_code, rest_of};
 
-    ghost Value = { FilesOverData };
+    ghost Value = { FilesOverData O };
+
+    ghost coded = { files_over_code O.code };
 
     ghost view = { λ files. record {
-      rest = rest_of O.File.remaining files.file;
+      opener = files.opener;
+      rest = rest_of O.File.left files.file;
+      started = map string_bytes files.names.items;
       faults = files.faults;
     } };
 }
@@ -51,16 +45,30 @@ impl<O: Open + Drop> Model for FilesOver<O> {
 impl<O: Open + Drop> FilesOver<O> {
     /// The files of this opener. None is started, and no fault is counted. Tables whose entries come from
     /// them are hashed with these keys.
-    pub fn new(opener: O, keys: TableKeys) -> FilesOver<O>
+    pub fn new(alloc: Global, opener: O, keys: TableKeys) -> FilesOver<O>
+        ensures opener { result.opener ≡ opener }
         ensures rest { result.rest ≡ Some [] }
+        ensures started { result.started ≡ [] }
         ensures faults { result.faults ≡ 0 }
     {
         FilesOver {
+            alloc,
             opener,
             keys,
             file: None,
+            names: Vec::new(alloc),
             faults: 0,
             reason: None,
+        }
+    }
+
+    /// The name that was started last, where one was.
+    pub fn name(&self) -> Option<&str>
+        ensures { option_copied result ≡ slice_get self.now.started (length self.now.started - 1) }
+    {
+        match self.names.last() {
+            Some(name) => Some(name.as_str()),
+            None => None,
         }
     }
 
@@ -69,7 +77,7 @@ impl<O: Open + Drop> FilesOver<O> {
         self.reason
     }
 
-    // The fault that an error is, kept. A failure is counted.
+    // The fault that an error of a read is, kept. A failure is counted.
     fn fault(&mut self, error: io::Error) -> PortFault
         ensures { self.new ≡ files_counted self.old result }
     {
@@ -80,14 +88,26 @@ impl<O: Open + Drop> FilesOver<O> {
         self.faults = self.faults.saturating_add(1);
         PortFault::Failed
     }
+
+    // The fault that an error of a start is, kept. A failure is counted, and the name noted.
+    fn unopened(&mut self, name: String, error: io::Error) -> PortFault
+        ensures { self.new ≡ files_unopened self.old (string_bytes name) result }
+    {
+        self.reason = Some(error);
+        if error.kind() == ErrorKind::OutOfMemory || self.names.push(name).is_err() {
+            return PortFault::NoMemory;
+        }
+        self.faults = self.faults.saturating_add(1);
+        PortFault::Failed
+    }
 }
 
 impl<O: Open + Drop> Files for FilesOver<O> {
-    ghost holds = { λ _. None };
+    ghost holds = { λ files. O.holds files.opener };
 
-    ghost rest = { λ _. None };
+    ghost rest = { λ files. files.rest };
 
-    ghost started = { λ _. None };
+    ghost started = { λ files. Some files.started };
 
     ghost taken = { λ _. None };
 
@@ -97,30 +117,21 @@ impl<O: Open + Drop> Files for FilesOver<O> {
         self.keys
     }
 
-    fn start(&mut self, name: &str) -> Result<(), PortFault>
-        ensures cause { self.new.faults ≡ faults_after self.old.faults result }
-
-        // What is left is what the name holds; after a fault it is as before.
-        ensures opened { OnOk result (Gives (O.holds name.now) self.new.rest) }
-        ensures same { OnErr result (self.new.rest ≡ self.old.rest) }
-    {
+    // The room for the name is taken first: once the file was asked for, no memory is wanted.
+    fn start(&mut self, name: &str) -> Result<(), PortFault> {
+        let kept = String::from_str(self.alloc, name)?;
+        self.names.reserve(1)?;
         match self.opener.open(name) {
             Ok(file) => {
+                self.names.push(kept)?;
                 self.file = Some(file);
                 Ok(())
             }
-            Err(error) => Err(self.fault(error)),
+            Err(error) => Err(self.unopened(kept, error)),
         }
     }
 
-    fn read(&mut self, buf: &mut [u8]) -> Result<usize, PortFault>
-        ensures empty { length buf.old ≡ 0 → (result ≡ Ok 0) × (self.new ≡ self.old) }
-        ensures bound { IfOk result (λ n. n ≤ length buf.new) }
-        ensures cause { self.new.faults ≡ faults_after self.old.faults result }
-
-        // The bytes come from what is left, none only at its end, and none after a fault.
-        ensures given { ReadConsumes self.old.rest self.new.rest result buf.new }
-    {
+    fn read(&mut self, buf: &mut [u8]) -> Result<usize, PortFault> {
         if buf.is_empty() {
             return Ok(0);
         }

@@ -1,7 +1,7 @@
 //! Files in memory that never fail: what they lack can only be memory.
-ghost use Rattle.std.specs.Prelude.{◌≡◌, ◌≤◌, [], ◌∷◌, ◌++◌, None, Some, length, drop, map, take, string_bytes, position, min, IfOk, IsOk, OnErr, OnOk};
+ghost use Rattle.std.specs.Prelude.{◌≡◌, ◌≤◌, [], ◌∷◌, ◌++◌, Some, length, drop, map, take, string_bytes, position, min, slice_index, IfOk, IsOk, OnErr, OnOk};
 ghost use Rattle.port_edge.specs.Ports.{faults_after, Reads};
-ghost use Rattle.port_edge.specs.Taken.{taken_after};
+ghost use Rattle.port_edge.specs.Taken.{more_of_last, taken_after};
 ghost use Rattle.port_edge.specs.HonestPorts.{HonestFilesData, has_name, held, bytes_at, unread};
 ghost use Rattle.port_edge.specs.MemPorts.{is_there};
 
@@ -20,6 +20,7 @@ pub struct HonestFiles {
     place: Option<usize>,
     taken: usize,
     started: Vec<String>,
+    counts: Vec<usize>,
 }
 
 impl Model for HonestFiles {
@@ -29,9 +30,12 @@ impl Model for HonestFiles {
       table = files.table.items;
       rest = drop files.taken (bytes_at files.table.items files.place);
       started = map string_bytes files.started.items;
+      taken = files.counts.items;
     } };
 
-    ghost invariant = { λ files. files.taken ≤ length (bytes_at files.table.items files.place) };
+    // Of the entry no less was taken than since the last start, which may be that of a name that failed.
+    ghost invariant = { λ files. (files.taken ≤ length (bytes_at files.table.items files.place))
+        × (slice_index files.counts.items 0 ≤ files.taken) };
 }
 
 impl HonestFiles {
@@ -45,6 +49,7 @@ impl HonestFiles {
             place: None,
             taken: 0,
             started: Vec::new(alloc),
+            counts: Vec::new(alloc),
         }
     }
 
@@ -55,18 +60,25 @@ impl HonestFiles {
         self.table.iter().any(|entry| entry.0.as_str() == name)
     }
 
-    // Puts a name after those that were started.
+    // Puts a name after those that were started. Nothing was taken of it so far.
     pub(crate) fn note(&mut self, name: &str) -> Result<(), AllocError>
-        ensures ok { OnOk result (self.new ≡ record self.old { started = self.old.started ++ name.now ∷ [] }) }
+        ensures ok { OnOk result (self.new ≡ record self.old {
+          started = self.old.started ++ name.now ∷ [];
+          taken = 0 ∷ self.old.taken;
+        }) }
         ensures err { OnErr result (self.new ≡ self.old) }
     {
         let kept = String::from_str(self.alloc, name)?;
+        self.counts.reserve(1)?;
         self.started.push(kept)?;
+        self.counts.insert(0, 0)?;
         Ok(())
     }
 
-    // Starts the first entry of this name, or none where there is none.
+    // Starts the first entry of this name, or none where there is none. Nothing was taken since the name
+    // was noted.
     pub(crate) fn open(&mut self, name: &str)
+        requires { slice_index self.old.taken 0 ≡ 0 }
         ensures { self.new ≡ record self.old { rest = held self.old.table name.now } }
     {
         let place = place_of(&self.table, name);
@@ -79,11 +91,17 @@ impl HonestFiles {
     pub(crate) fn take(&mut self, most: usize, buf: &mut [u8]) -> usize
         ensures count { result ≡ min most (min (length buf.old) (length self.old.rest)) }
         ensures front { take result buf.new ≡ take result self.old.rest }
-        ensures rest { self.new ≡ record self.old { rest = drop result self.old.rest } }
+        ensures rest { self.new ≡ record self.old {
+          rest = drop result self.old.rest;
+          taken = more_of_last result self.old.taken;
+        } }
     {
         let left = self.left();
         let count = copy_front(&left[..left.len().min(most)], buf);
         self.taken += count;
+        if !self.counts.is_empty() {
+            self.counts[0] += count;
+        }
         count
     }
 
@@ -102,7 +120,7 @@ impl Files for HonestFiles {
 
     ghost started = { λ files. Some files.started };
 
-    ghost taken = { λ _. None };
+    ghost taken = { λ files. Some files.taken };
 
     ghost faults = { λ _. 0 };
 
@@ -122,7 +140,7 @@ impl Files for HonestFiles {
         ensures empty { length buf.old ≡ 0 → (result ≡ Ok 0) × (self.new ≡ self.old) }
         ensures bound { IfOk result (λ n. n ≤ length buf.new) }
         ensures bytes { Reads (Some self.old.rest) (Some self.new.rest) result buf.new }
-        ensures taken { None ≡ taken_after None result }
+        ensures taken { Some self.new.taken ≡ taken_after (Some self.old.taken) result }
         ensures cause { 0 ≡ faults_after 0 result }
 
         // A read takes no memory, and no file fails.
@@ -133,14 +151,14 @@ impl Files for HonestFiles {
 }
 
 // The place of the first entry of this name.
-fn place_of(table: &[(String, Vec<u8>)], name: &str) -> Option<usize>
+pub(crate) fn place_of(table: &[(String, Vec<u8>)], name: &str) -> Option<usize>
     ensures { result ≡ position (has_name name.now) table.now }
 {
     table.iter().position(|entry| entry.0.as_str() == name)
 }
 
 // The bytes of the entry at this place, and none where there is no place.
-fn entry_bytes(table: &[(String, Vec<u8>)], place: Option<usize>) -> &[u8]
+pub(crate) fn entry_bytes(table: &[(String, Vec<u8>)], place: Option<usize>) -> &[u8]
     ensures { result.now ≡ bytes_at table.now place }
 {
     let Some(place) = place else {
@@ -153,7 +171,7 @@ fn entry_bytes(table: &[(String, Vec<u8>)], place: Option<usize>) -> &[u8]
 }
 
 // Copies as many of the bytes as the buffer has room for to its front, and answers how many they are.
-fn copy_front(bytes: &[u8], buf: &mut [u8]) -> usize
+pub(crate) fn copy_front(bytes: &[u8], buf: &mut [u8]) -> usize
     ensures count { result ≡ min (length bytes.now) (length buf.old) }
     ensures front { take result buf.new ≡ take result bytes.now }
 {

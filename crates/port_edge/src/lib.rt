@@ -5,9 +5,14 @@
 //! and at no other.
 //! `HonestFiles` and `HonestSink` are ports in memory that tell everything and never fail. `MemFiles` and
 //! `MemSink` tell everything too; their calls are numbered, those of some numbers fail, and each moves a few
-//! bytes at most. `DropSink` takes every piece and keeps nothing. `SinkOver` and `FilesOver` are ports over any writer, and over anything that opens readers:
-//! what they do to the writer and the readers is proved. `real_sink` and `real_files` make them of standard
-//! output and of the system's files: only the opening of a file, and what the system does, is trusted.
+//! bytes at most. `DropSink` takes every piece and keeps nothing.
+//!
+//! `SinkOver` and `FilesOver` are ports over any `Outlet`, and over anything that can `Open` inlets by name:
+//! they tell what these tell, and meet all clauses whatever they are over. So what a program adds to a port is
+//! an outlet or an opener, inside of it. `Writer` and `Reader` make an outlet and an inlet of what the standard
+//! library has; `real_sink` and `real_files` are over standard output and the system's files. Only the opening
+//! of a file, and what the system does, is trusted. A `Vec` of bytes is an outlet in memory, and `MemOpener` an
+//! opener.
 //!
 //! The layers above use two calls. `send` writes a whole text: on `Ok` the sink grew by it, and after a
 //! fault by a front of it. `read_front` gives the first `most` bytes of what a name holds.
@@ -29,7 +34,9 @@ mod files_over;
 mod honest_files;
 mod honest_sink;
 mod mem_files;
+mod mem_outer;
 mod mem_sink;
+mod outer;
 mod ports;
 mod reading;
 mod real_ports;
@@ -37,13 +44,17 @@ mod sending;
 mod sink_over;
 
 pub use drop_sink::DropSink;
-pub use files_over::{FilesOver, Open};
+pub use files_over::FilesOver;
 pub use honest_files::HonestFiles;
 pub use honest_sink::HonestSink;
 pub use mem_files::MemFiles;
+pub use mem_outer::{MemInlet, MemOpener};
 pub use mem_sink::MemSink;
+pub use outer::{Inlet, Open, Outlet};
 pub use ports::{Files, PortFault, Sink};
 pub use reading::read_front;
-pub use real_ports::{HostFiles, RealFiles, RealSink, real_files, real_sink};
+pub use real_ports::{
+    HostFiles, Reader, RealFiles, RealOutlet, RealSink, Writer, real_files, real_outlet, real_sink,
+};
 pub use sending::send;
 pub use sink_over::SinkOver;

@@ -1,5 +1,5 @@
 //! Files in memory that give a few bytes at a time, and fail when they are told to.
-ghost use Rattle.std.specs.Prelude.{◌≡◌, ◌≢◌, ◌↔◌, ◌⊎◌, ◌<◌, ◌≤◌, None, Some, length, min, IfOk, IsErrOf, IsTrue, OnErr, OnOk};
+ghost use Rattle.std.specs.Prelude.{◌≡◌, ◌≢◌, ◌↔◌, ◌⊎◌, ◌<◌, ◌≤◌, Some, length, min, IfOk, IsErrOf, IsTrue, OnErr, OnOk};
 ghost use Rattle.port_edge.specs.Ports.{faults_after, Opens, Reads, started_after};
 ghost use Rattle.port_edge.specs.Taken.{opened_after, taken_after};
 ghost use Rattle.port_edge.specs.HonestPorts.{held};
@@ -60,7 +60,7 @@ impl Files for MemFiles {
 
     ghost started = { λ files. Some files.files.started };
 
-    ghost taken = { λ _. None };
+    ghost taken = { λ files. Some files.files.taken };
 
     ghost faults = { λ files. files.calls.faults };
 
@@ -75,7 +75,7 @@ impl Files for MemFiles {
         ensures err { OnErr result (Some self.new.files.rest ≡ Some self.old.files.rest) }
         ensures started { Some self.new.files.started
             ≡ started_after (Some self.old.files.started) name.now result }
-        ensures taken { None ≡ opened_after None result }
+        ensures taken { Some self.new.files.taken ≡ opened_after (Some self.old.files.taken) result }
         ensures cause { self.new.calls.faults ≡ faults_after self.old.calls.faults result }
 
         // Where memory is lacking, nothing changes. Any other start is counted, and fails exactly
@@ -103,7 +103,7 @@ impl Files for MemFiles {
         ensures empty { length buf.old ≡ 0 → (result ≡ Ok 0) × (self.new ≡ self.old) }
         ensures bound { IfOk result (λ n. n ≤ length buf.new) }
         ensures bytes { Reads (Some self.old.files.rest) (Some self.new.files.rest) result buf.new }
-        ensures taken { None ≡ taken_after None result }
+        ensures taken { Some self.new.files.taken ≡ taken_after (Some self.old.files.taken) result }
         ensures cause { self.new.calls.faults ≡ faults_after self.old.calls.faults result }
 
         // A read takes no memory. It fails exactly where its number says so, and each is counted.

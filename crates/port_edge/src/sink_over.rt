@@ -1,54 +1,60 @@
-//! A sink over any writer of bytes.
-ghost use Rattle.std.specs.Prelude.{◌≡◌, ◌<◌, ◌≤◌, None, length, IfOk};
-ghost use Rattle.std.specs.Io.KnownBytes.{WriteAppends};
-ghost use Rattle.port_edge.specs.Ports.{faults_after, refusals_after, Writes};
-ghost use Rattle.port_edge.specs.OuterPorts.{SinkOverData, sink_counted};
+//! A sink over any outlet.
+ghost use Rattle.std.specs.Prelude.{◌≡◌};
+ghost use Rattle.port_edge.specs.OuterPorts.{sink_counted};
 
+use crate::outer::Outlet;
 use crate::ports::{PortFault, Sink};
 use std::io;
-use std::io::{ErrorKind, Write};
+use std::io::ErrorKind;
 use std::marker::Model;
 
-/// A sink over a writer. A write that takes no byte of a piece is a fault.
+/// A sink over an outlet. A write of which the outlet takes no byte is a fault.
 ///
-/// Contracts see what the writer tells of the bytes that it holds, and both counts. A write grows the writer
-/// by the bytes that it says, and after a fault by none. Layers above see the counts alone.
+/// Contracts see what the outlet tells of the bytes that it took, and both counts: what was written to the
+/// sink is what the outlet took.
 #[derive(Drop)]
-pub struct SinkOver<W: Write> {
-    writer: W,
+pub struct SinkOver<W: Outlet> {
+    outlet: W,
     faults: u64,
     refusals: u64,
     reason: Option<io::Error>,
 }
 
-impl<W: Write> Model for SinkOver<W> {
+impl<W: Outlet> Model for SinkOver<W> {
     ghost use Rattle.port_edge.specs.OuterPorts.{SinkOverData};
 
     ghost Value = { SinkOverData };
 
     ghost view = { λ sink. record {
-      contents = W.contents sink.writer;
+      contents = W.contents sink.outlet;
       faults = sink.faults;
       refusals = sink.refusals;
     } };
 }
 
-impl<W: Write> SinkOver<W> {
-    /// A sink over this writer. No fault and no refusal is counted.
-    pub fn new(writer: W) -> SinkOver<W>
-        ensures contents { result.contents ≡ W.contents writer }
+impl<W: Outlet> SinkOver<W> {
+    /// A sink over this outlet. No fault and no refusal is counted.
+    pub fn new(outlet: W) -> SinkOver<W>
+        ensures contents { result.contents ≡ W.contents outlet }
         ensures faults { result.faults ≡ 0 }
         ensures refusals { result.refusals ≡ 0 }
     {
         SinkOver {
-            writer,
+            outlet,
             faults: 0,
             refusals: 0,
             reason: None,
         }
     }
 
-    /// The writer's reason for the last fault, where there was one.
+    /// The outlet, which took what was written.
+    pub fn outlet(&self) -> &W
+        ensures { W.contents result.now ≡ self.now.contents }
+    {
+        &self.outlet
+    }
+
+    /// The outlet's reason for the last fault, where there was one.
     pub fn reason(&self) -> Option<io::Error> {
         self.reason
     }
@@ -67,28 +73,18 @@ impl<W: Write> SinkOver<W> {
     }
 }
 
-impl<W: Write> Sink for SinkOver<W> {
-    ghost written = { λ _. None };
+impl<W: Outlet> Sink for SinkOver<W> {
+    ghost written = { λ sink. sink.contents };
 
     ghost faults = { λ sink. sink.faults };
 
     ghost refusals = { λ sink. sink.refusals };
 
-    fn write(&mut self, piece: &[u8]) -> Result<usize, PortFault>
-        ensures empty { length piece.now ≡ 0 → (result ≡ Ok 0) × (self.new ≡ self.old) }
-        ensures bound { IfOk result (λ n. n ≤ length piece.now) }
-        ensures progress { IfOk result (λ n. 0 < length piece.now → 0 < n) }
-        ensures bytes { Writes None None result piece.now }
-        ensures cause { self.new.faults ≡ faults_after self.old.faults result }
-        ensures memory { self.new.refusals ≡ refusals_after self.old.refusals result }
-
-        // The writer grew by the bytes that are answered, and by none at a fault.
-        ensures appends { WriteAppends self.old.contents self.new.contents result piece.now }
-    {
+    fn write(&mut self, piece: &[u8]) -> Result<usize, PortFault> {
         if piece.is_empty() {
             return Ok(0);
         }
-        match self.writer.write(piece) {
+        match self.outlet.write(piece) {
             Ok(0) => Err(self.fault(io::Error::from(ErrorKind::WriteZero))),
             Ok(count) => Ok(count),
             Err(error) => Err(self.fault(error)),

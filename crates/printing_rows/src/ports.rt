@@ -1,6 +1,6 @@
 use port_edge::{
-    Files, HonestFiles, HonestSink, MemFiles, MemSink, PortFault, Sink, read_front, real_files,
-    real_sink, send,
+    Files, FilesOver, HonestFiles, HonestSink, MemFiles, MemOpener, MemSink, PortFault, Sink,
+    SinkOver, read_front, real_files, real_sink, send,
 };
 use std::alloc::{AllocError, Global};
 use std::io::ErrorKind;
@@ -105,6 +105,25 @@ fn writes_fail_by_their_number(rt: HostRuntime) -> Result<(), Fail> {
     assert_eq!(rt; out.written(), b"1".as_slice());
     assert_eq!(rt; send(&mut out, b" 1 10\n"), Ok(()));
     assert_eq!(rt; out.written(), b"1 1 10\n".as_slice());
+    Ok(())
+}
+
+#[test]
+fn generic_ports_answer_over_memory(rt: HostRuntime) -> Result<(), Fail> {
+    let opener = MemOpener::new(rt.alloc(), small_table(rt.alloc())?);
+    let mut files = FilesOver::new(rt.alloc(), opener, TableKeys::fixed());
+    assert!(rt; files.name().is_none());
+    let read = read_front(rt.alloc(), &mut files, "row.net", 2)?;
+    assert_eq!(rt; read.as_slice(), b"n ".as_slice());
+    assert_eq!(rt; files.start("absent"), Err(PortFault::Failed));
+    assert!(rt; files.name().is_some_and(|name| name == "absent"));
+    let mut buf = [0; 4];
+    assert_eq!(rt; files.read(&mut buf), Ok(1));
+    assert_eq!(rt; buf, [b'a', 0, 0, 0]);
+
+    let mut out = SinkOver::new(Vec::new(rt.alloc()));
+    assert_eq!(rt; send(&mut out, b"1 1 01\n"), Ok(()));
+    assert_eq!(rt; out.outlet().as_slice(), b"1 1 01\n".as_slice());
     Ok(())
 }
 
