@@ -19,26 +19,34 @@
 //! 6 where reading or writing failed, and 7 for want of memory. For 2, 5, 6 and 7 a line on standard error
 //! says more.
 //!
+//! `answer_over` makes that call, over any opener of files and any outlet, and has its clauses for all of them;
+//! `main` hands it the files of the system and standard output.
+//!
 //! ```text
 //! cosmos sim inverter.sim inverter.cmd
 //! cosmos check inverter.sim
 //! ```
 #![tactic(auto)]
 
-mod named_files;
+ghost use Rattle.std.specs.Prelude.{◌≡◌, Some, IfSome};
+ghost use Rattle.command_line.specs.Requests.{names_of, request_of};
+ghost use Rattle.cosmos_app.specs.Answers.{IsAnswered};
+ghost use Rattle.cosmos_app.specs.Counts.{files_count, sink_count};
+ghost use Rattle.cosmos_app.specs.Starts.{RequestStarts};
+
 mod telling;
-mod told_sink;
+mod told;
 
 use cosmos_app::{Status, run};
-use named_files::NamedFiles;
+use group_analysis::Analyst;
 use node_elimination::SymbolicAnalyst;
-use port_edge::real_files;
+use port_edge::{FilesOver, Open, Outlet, SinkOver, real_files, real_outlet};
 use std::hash::RandomState;
 use std::process::ExitCode;
 use std::{env, io};
 use table_keys::TableKeys;
 use telling::{tell_start, tell_stop};
-use told_sink::ToldSink;
+use told::Told;
 
 fn main(rt: HostRuntime) -> ExitCode {
     ExitCode::from(status(&rt).code())
@@ -75,17 +83,30 @@ fn answer_drawn(rt: &HostRuntime, words: &[String]) -> Status {
 
 // Answers the words over the files of the system and the standard output.
 fn answer(rt: &HostRuntime, words: &[String], keys: TableKeys) -> Status {
-    let mut files = NamedFiles::over(real_files(rt, keys));
-    let mut out = ToldSink::over(rt, words);
+    let mut files = real_files(rt, keys);
+    let mut out = SinkOver::new(Told::over(real_outlet(rt), rt, words));
     let mut analyst = SymbolicAnalyst::with_keys(rt.alloc(), keys);
-    let status = run(rt.alloc(), words, &mut files, &mut out, &mut analyst);
-    out.finish();
-    tell_stop(
-        rt,
-        status,
-        files.name_in(words),
-        files.reason(),
-        out.reason(),
-    );
+    answer_over(rt, words, &mut files, &mut out, &mut analyst)
+}
+
+// Answers the words over the files of an opener and an outlet that tells how far it is, and says on standard
+// error why a run stopped: of a file that can't be read the name that was started last.
+fn answer_over<O: Open + Drop, W: Outlet, A: Analyst>(
+    rt: &HostRuntime,
+    words: &[String],
+    files: &mut FilesOver<O>,
+    out: &mut SinkOver<Told<'_, W>>,
+    analyst: &mut A,
+) -> Status
+    ensures answer { IfSome (O.holds files.old.opener) (λ holds. IsAnswered (names_of words.now) holds
+        out.old.contents out.new.contents (A.analysed analyst.old) (A.analysed analyst.new) result) }
+    ensures started { RequestStarts (request_of (names_of words.now))
+        (O.holds files.old.opener) (Some files.old.started) (Some files.new.started) }
+    ensures read { files.new.faults ≡ files_count files.old.faults result }
+    ensures write { out.new.faults ≡ sink_count out.old.faults result }
+{
+    let status = run(rt.alloc(), words, files, out, analyst);
+    out.outlet().finish();
+    tell_stop(rt, status, files.name(), files.reason(), out.reason());
     status
 }
