@@ -14,8 +14,9 @@
 
 ghost use Rattle.std.specs.Prelude.{◌≡◌, ◌≢◌, Some};
 ghost use Rattle.port_edge.specs.HonestPorts.{held};
-ghost use Rattle.command_line.specs.Requests.{names_of};
+ghost use Rattle.command_line.specs.Requests.{names_of, request_of};
 ghost use Rattle.cosmos_app.specs.Answers.{IsAnswered};
+ghost use Rattle.cosmos_app.specs.Wholes.{ReadsAll};
 
 use cosmos_app::{Status, run};
 use group_analysis::Analyst;
@@ -34,6 +35,11 @@ pub fn run_in_memory<A: Analyst>(
 ) -> Status
     ensures answer { IsAnswered (names_of words.now) (held files.old.table) (Some out.old.written) (Some out.new.written)
         (A.analysed analyst.old) (A.analysed analyst.new) result }
+
+    // Each file that the words need was read to its end, or to the first byte too many, before any answer
+    // but want of memory.
+    ensures whole { ReadsAll (Some files.old.taken) (Some files.new.taken)
+        (held files.old.table) (request_of (names_of words.now)) result }
 
     // Over ports that never fail no fault is answered.
     ensures no_read_fault { result ≢ Status.ReadFault }
