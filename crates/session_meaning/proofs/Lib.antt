@@ -18,3 +18,5 @@ pub mod BuildLemmas
 pub mod MoveLemmas
 pub mod ReportLemmas
 pub mod BoundLemmas
+pub mod UniqueBuilds
+pub mod UniqueEffects

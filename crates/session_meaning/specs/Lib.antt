@@ -9,3 +9,4 @@ pub mod Machines
 pub mod Outcomes
 pub mod Stages
 pub mod Bounds
+pub mod Laws

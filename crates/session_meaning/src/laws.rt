@@ -1,6 +1,7 @@
-//! What holds of a session's machine, whatever the commands.
+//! What holds of a session's machine and of its commands, whatever they are.
 
 ghost use Rattle.std.specs.Prelude.{◌≡◌};
+ghost use Rattle.session_meaning.specs.Laws.{CommandsPerformOneThing, EffectsAreUnique};
 ghost use Rattle.session_meaning.specs.Machines.{OnlyEditsLoseMachines};
 ghost use Rattle.session_meaning.specs.declared.TheConstants.{MOST_WATCHED, FIRST_LIMIT};
 
@@ -13,4 +14,11 @@ pub fn only_edits_lose_the_machine()
 pub fn limits_are_as_stated()
     ensures watched { MOST_WATCHED ≡ 256 }
     ensures limit { FIRST_LIMIT ≡ 100 }
+{}
+
+/// A law: what a command does is determined. `effect`: it has one outcome and one list of lines. `performed`: so it
+/// is with what is built before it, whose texts are the same.
+pub fn commands_have_one_effect()
+    ensures effect { EffectsAreUnique }
+    ensures performed { CommandsPerformOneThing }
 {}

@@ -6,7 +6,8 @@
 //! where there is one. `refusal_of` is the first refusal of a command; `Effect` is what one that isn't refused
 //! does, and the lines that it writes; `Obeys` is what a call comes to, to the data, to the bytes that are
 //! written and to the texts that are analysed. `IsMachineAfter` is what each command does to the machine, and
-//! the law `only_edits_lose_the_machine` says that no others end without the one that was there.
+//! the law `only_edits_lose_the_machine` says that no others end without the one that was there. By the law
+//! `commands_have_one_effect` what a command does is determined.
 //!
 //! ```text
 //! `set a=1` at a node that is no input node has the refusal NotInput; at an input node its effect is a state
@@ -16,9 +17,9 @@
 //! For the proofs of crates above: `EffectLemmas`, how each formed command ends, and that what is
 //! done keeps the data ready; `BoundLemmas`, that the lines of a formed command can be read again.
 //! They cite `BeatLemmas`, `ClockLemmas`, `EditLemmas`, `LineLemmas`, `MachineLemmas`,
-//! `OutcomeLemmas`, `RefusalLemmas`, `SizeLemmas` and `StateLemmas` too, whose heads say what they
-//! are of. `cosmos_session` cites the others: `BuildLemmas`, `LastLemmas`, `MoveLemmas`, `ReportLemmas`,
-//! `RestLemmas`, `RoomLemmas`, `StayingLemmas`, `TickLemmas` and `UndoLemmas`.
+//! `OutcomeLemmas`, `RefusalLemmas`, `SizeLemmas`, `StateLemmas`, `UniqueBuilds` and `UniqueEffects` too,
+//! whose heads say what they are of. `cosmos_session` cites the others: `BuildLemmas`, `LastLemmas`,
+//! `MoveLemmas`, `ReportLemmas`, `RestLemmas`, `RoomLemmas`, `StayingLemmas`, `TickLemmas` and `UndoLemmas`.
 //!
 //! After Bryant, "A Switch-Level Model and Simulator for MOS Digital Systems", 1984, and Bryant, Beatty,
 //! Brace, Cho and Sheffler, "COSMOS: A Compiled Simulator for MOS Circuits", 1987.
@@ -31,7 +32,7 @@ mod switches;
 
 pub use clock::{Clock, places_of};
 pub use fault::{ApplyFault, Refusal};
-pub use laws::{limits_are_as_stated, only_edits_lose_the_machine};
+pub use laws::{commands_have_one_effect, limits_are_as_stated, only_edits_lose_the_machine};
 pub use switches::SwitchEdit;
 
 /// The most entries of the watch list.
