@@ -5,3 +5,4 @@ pub mod FirstRefusedLemmas
 pub mod TurnLemmas
 pub mod RunLemmas
 pub mod HaltLemmas
+pub mod UniqueRuns

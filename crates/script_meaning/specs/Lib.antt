@@ -4,3 +4,4 @@ pub mod FirstRefused
 pub mod Turns
 pub mod Halts
 pub mod Ends
+pub mod Laws

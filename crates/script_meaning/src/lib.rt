@@ -17,7 +17,7 @@
 //! For the proofs of crates above: `FirstRefusedLemmas`, how what comes of a script's lines joins;
 //! `HaltLemmas`, what the refusal of a line tells; `ReadingLemmas`, that lines are read as ever where
 //! no node is stuck; `LowerLemmas`, that a session starts ready; `RunLemmas`, that something comes of each
-//! script. They cite `TurnLemmas` too, whose head says what it is of.
+//! script. They cite `TurnLemmas` and `UniqueRuns` too, whose heads say what they are of.
 #![tactic(auto)]
 
 mod halt;
@@ -25,5 +25,5 @@ mod laws;
 mod turn;
 
 pub use halt::Halt;
-pub use laws::scripts_end_at_their_first_refused_line;
+pub use laws::{scripts_end_at_their_first_refused_line, scripts_have_one_answer};
 pub use turn::Turn;
