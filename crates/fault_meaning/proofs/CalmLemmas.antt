@@ -5,11 +5,8 @@ use Rattle.std.proofs.Common.{◌≡◌, ℕ, Bool, true, false, not, inl, inr, 
 use Rattle.std.specs.Prelude.{if◌then◌else◌}
 use Rattle.std.proofs.lemmas.List.Elements.{All-head, All-tail}
 use Rattle.ternary.specs.declared.tern.Tern.{Tern}
-use Rattle.path_meaning.specs.Graphs.{GraphData}
 use Rattle.netlist.specs.Circuits.{CircuitData}
-use Rattle.group_meaning.specs.Groups.{Group}
-use Rattle.group_meaning.proofs.UniqueGroups.{unique}
-use Rattle.group_text.specs.Texts.{GroupTextData, text_of_group}
+use Rattle.group_text.specs.Texts.{GroupTextData}
 use Rattle.group_text.specs.FirstTexts.{new_texts}
 use Rattle.group_analysis.specs.Using.{kept_after}
 use Rattle.analysis_cache.proofs.SettleLemmas.{none_is_new_again, kept_after-again}
@@ -23,6 +20,7 @@ use Rattle.session_meaning.specs.Preparing.{IsBuild, BuildsIf, builds}
 use Rattle.session_meaning.specs.Lines.{Line}
 use Rattle.session_meaning.specs.Effects.{Effect, AreBeats, places_in}
 use Rattle.session_meaning.specs.Outcomes.{Performs}
+use Rattle.session_meaning.proofs.UniqueBuilds.{HasTexts-unique}
 use Rattle.script_meaning.specs.Runs.{Outcome, Runs, ends, passes, obeys, refuses}
 use Rattle.script_meaning.specs.declared.turn.Turn.TheVariants.{Accepted}
 use Rattle.script_meaning.specs.Turns.{TakesTurn}
@@ -31,11 +29,6 @@ use Rattle.fault_meaning.specs.Early.{unsettles, IsCalm, IsBuilding}
 use Rattle.fault_meaning.proofs.OnceLemmas.{beats_leave, beats_bound, beats_kept}
 
 -- ---- builds
-
--- the texts of a graph are the same however its groups are listed
-HasTexts-unique : (g : GraphData) (texts others : List GroupTextData) → HasTexts g texts → HasTexts g others → texts ≡ others
-HasTexts-unique g texts others one two =
-    one.texts_are ∙ ap (λ (groups : List Group). map (text_of_group g) groups) (unique g one.groups two.groups one.are two.are) ∙ sym two.texts_are
 
 -- a build would find no new text, and leave what is kept
 pub record IsCurrent (session : SessionData) : Type 0 where

@@ -14,3 +14,4 @@ pub mod PlaceLemmas
 pub mod EndLemmas
 pub mod BenchLemmas
 pub mod FromLemmas
+pub mod UniqueJudging

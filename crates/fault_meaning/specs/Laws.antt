@@ -34,3 +34,9 @@ EntriesAreNamed =
     (circuit : CircuitData) (script : List ℕ) (kept : List GroupTextData) (fault : Option Fault) (trace : Trace) (texts after : List GroupTextData) →
     IsTrace circuit script kept fault trace texts after → (row entry : ℕ) (values : List Tern) (value : Tern) →
     slice_get trace.rows row ≡ Some values → slice_get values entry ≡ Some value → (name : List ℕ) × (slice_get trace.names entry ≡ Some name)
+
+-- a list of faults has one answer in a circuit, over the runs of a script
+abbrev pub JudgementsAreUnique : Type 0
+JudgementsAreUnique =
+    (script list : List ℕ) (circuit : CircuitData) (answer other : Answer) → AreJudgedFaults script list circuit answer →
+    AreJudgedFaults script list circuit other → answer ≡ other

@@ -21,7 +21,8 @@
 //! For the proofs of crates above: `ListLemmas`, how far a list was read; `BeginLemmas`, that a fault's
 //! commands are not refused; `RunLemmas`, what a run under a fault comes to; `BenchLemmas`, that it is one
 //! of a bench; `FromLemmas`, `PlaceLemmas` and `EndLemmas`, where it may end early; `JudgingLemmas`, how far
-//! the faults were judged; `FrontLemmas`, that the fronts of a script and a list are all that is read.
+//! the faults were judged; `FrontLemmas`, that the fronts of a script and a list are all that is read;
+//! `UniqueJudging`, that a list has one answer.
 #![tactic(auto)]
 
 mod bearing;
@@ -31,5 +32,5 @@ mod listed;
 
 pub use bearing::Bearing;
 pub use counts::VerdictCounts;
-pub use laws::{each_entry_is_named, each_text_is_analysed_once};
+pub use laws::{each_entry_is_named, each_text_is_analysed_once, faults_have_one_answer};
 pub use listed::{ListRefusal, ListedFault};

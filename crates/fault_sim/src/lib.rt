@@ -12,7 +12,8 @@
 //!
 //! The layer above rests on the contract of `verdict`, which is `IsVerdict`: the first strong
 //! difference, else the refused line, else the first weak difference. For the proofs of crates above,
-//! `MaskLemmas` says that without a stuck node a command is masked to itself.
+//! `MaskLemmas` says that without a stuck node a command is masked to itself, and `UniqueVerdicts` that a trace has one
+//! verdict.
 //!
 //! ```text
 //! read_fault(&circuit, b"zero a")        is Ok(Some(Fault::Stuck(2, Tern::Zero)))
