@@ -1,10 +1,7 @@
 -- Columns that are alike: they differ in their states alone. Commands keep them alike, and tell equally many lines in each.
 use Rattle.std.proofs.Common.{◌≡◌, ℕ, Bool, true, false, List, [], ◌∷◌, ◌++◌, length, map, sym, ap, subst, ◌∙◌}
-use Rattle.path_meaning.specs.Graphs.{GraphData}
 use Rattle.netlist.specs.Circuits.{CircuitData}
-use Rattle.group_meaning.specs.Groups.{Group}
-use Rattle.group_meaning.proofs.UniqueGroups.{unique}
-use Rattle.group_text.specs.Texts.{GroupTextData, text_of_group}
+use Rattle.group_text.specs.Texts.{GroupTextData}
 use Rattle.circuit_texts.specs.Building.{HasTexts}
 use Rattle.netlist.specs.Edits.{node_named, with_store, with_transistor, without_switch, with_strength, with_kind, with_wires}
 use Rattle.lane_script.specs.declared.command.LaneCommand.{LaneCommand}
@@ -15,6 +12,7 @@ use Rattle.session_meaning.specs.Refusals.{refusal_of, strength_for}
 use Rattle.session_meaning.specs.Preparing.{with_present, BuildsIf}
 use Rattle.session_meaning.specs.Lines.{Line}
 use Rattle.session_meaning.specs.Effects.{Effect, AreBeats, one_more, places_in, with_inputs, clock_of}
+use Rattle.session_meaning.proofs.UniqueBuilds.{HasTexts-unique}
 use Rattle.lane_session.proofs.RefusalLemmas.{refused_alike}
 use Rattle.lane_session.proofs.BeatLemmas.{length-beats}
 
@@ -85,11 +83,6 @@ alike-effect (Kind number kind) lane other one two after later lines more alike 
     kept_alike (λ s. record s { circuit = with_kind s.circuit number kind }) one two after later alike (ap less_states first.0) (ap less_states second.0)
 alike-effect (Wire number gate source drain) lane other one two after later lines more alike first second =
     kept_alike (λ s. record s { circuit = with_wires s.circuit number gate source drain }) one two after later alike (ap less_states first.0) (ap less_states second.0)
-
--- the texts of a graph are the same however its groups are listed
-pub HasTexts-unique : (g : GraphData) (texts others : List GroupTextData) → HasTexts g texts → HasTexts g others → texts ≡ others
-HasTexts-unique g texts others one two =
-    one.texts_are ∙ ap (λ (groups : List Group). map (text_of_group g) groups) (unique g one.groups two.groups one.are two.are) ∙ sym two.texts_are
 
 -- so do builds, since the texts of one circuit are present
 pub alike-built : (building : Bool) (one two mid then : SessionData) (texts others : List GroupTextData) → AreAlike one two →

@@ -17,13 +17,14 @@ use Rattle.session_meaning.specs.Lines.{Line}
 use Rattle.session_meaning.specs.Outcomes.{Performs}
 use Rattle.session_meaning.proofs.EffectLemmas as effects
 use Rattle.session_meaning.proofs.SizeLemmas.{texts_or_size}
+use Rattle.session_meaning.proofs.UniqueBuilds.{HasTexts-unique}
 use Rattle.run_ends.proofs.SizeLemmas.{not_both}
 use Rattle.script_meaning.proofs.LowerLemmas.{command_ends, ready-performs}
 use Rattle.lane_session.specs.Outcomes.{Tells, PerformsTogether}
 use Rattle.lane_session.proofs.RowLemmas.{rows_exist, choose}
 use Rattle.lane_session.proofs.RefusalLemmas.{builds_alike}
 use Rattle.lane_session.proofs.FormLemmas.{formed_in}
-use Rattle.lane_run.proofs.AlikeLemmas.{AreAlike, beside, alike-effect, HasTexts-unique, alike-built, alike-refused, lines_told, length-effect}
+use Rattle.lane_run.proofs.AlikeLemmas.{AreAlike, beside, alike-effect, alike-built, alike-refused, lines_told, length-effect}
 
 -- columns that are alike and ready
 pub record AreReady (lanes : ℕ) (columns : ℕ → SessionData) : Type 0 where

@@ -9,9 +9,11 @@
 //! run_batch(alloc, session, "set a=01X\nphase\n", out, analyst)   writes `1 1 1 01`, `2 1 1 10` and `3 1 0 XX`
 //! ```
 //!
-//! The proofs of crates above cite `RunLemmas`, whose head says what it is of.
+//! The proofs of crates above cite `RunLemmas` and `UniqueBatches`, whose heads say what they are of.
 #![tactic(auto)]
 
 mod batch;
+mod laws;
 
 pub use batch::run_batch;
+pub use laws::batches_have_one_answer;

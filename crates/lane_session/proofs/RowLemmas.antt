@@ -1,9 +1,9 @@
--- The rows of columns' lines: they join, they are there where the columns have equally many lines, and the columns of rows do.
+-- The rows of columns' lines: they are one text, they join, they are there where the columns have equally many lines, and the columns of rows do.
 use Rattle.std.proofs.Common.{◌≡◌, ℕ, zero, suc, ◌<◌, ◌≤◌, List, [], ◌∷◌, ◌++◌, length, refl, sym, ap, subst, ◌∙◌, append_assoc, append-nil, arith, inl, inr}
 use Rattle.std.proofs.lemmas.Bool.{cases_lt}
 use Rattle.std.specs.Prelude.{◌⊎◌}
 use Rattle.session_meaning.specs.Lines.{Line, Reported}
-use Rattle.lane_session.specs.Rows.{Interleaves, row_text}
+use Rattle.lane_session.specs.Rows.{Interleaves, lane_line, row_text}
 use Rattle.lane_session.specs.Rows.Interleaves.{no_row, one_more}
 
 -- rows are told by the lines of the columns that there are
@@ -12,6 +12,25 @@ pub rows-alike : {lanes : ℕ} {lines : ℕ → List Line} {text : List ℕ} (ot
 rows-alike other same (no_row lines none) = no_row other (λ lane inside. same lane inside ∙ none lane inside)
 rows-alike other same (one_more lines others line text parts rows) =
     one_more other others line text (λ lane inside. same lane inside ∙ parts lane inside) rows
+
+-- rows of lines that are the same are the same
+row_alike : (line other : ℕ → Line) (count : ℕ) → ((lane : ℕ) → lane < count → line lane ≡ other lane) → row_text line count ≡ row_text other count
+row_alike line other zero same = refl
+row_alike line other (suc lane) same =
+    ap (λ (row : List ℕ). row ++ lane_line lane (line lane)) (row_alike line other lane (λ before low. same before (omega (arith, low))))
+    ∙ ap (λ (one : Line). row_text other lane ++ lane_line lane one) (same lane (omega arith))
+
+-- so lines of one column or more make one text
+pub rows_unique : {lanes : ℕ} {lines others : ℕ → List Line} {text more : List ℕ} → 0 < lanes →
+    ((lane : ℕ) → lane < lanes → lines lane ≡ others lane) → Interleaves lanes lines text → Interleaves lanes others more → text ≡ more
+rows_unique some same (no_row lines none) (no_row others also) = refl
+rows_unique some same (no_row lines none) (one_more others left line text parts rows) = absurd (cc (none 0 some, same 0 some, parts 0 some))
+rows_unique some same (one_more lines rest line text parts rows) (no_row others none) = absurd (cc (none 0 some, same 0 some, parts 0 some))
+rows_unique {lanes} some same (one_more lines rest line text parts rows) (one_more others left other more pieces further) =
+    let here : (lane : ℕ) → lane < lanes → line lane ≡ other lane = λ lane inside. cc (parts lane inside, same lane inside, pieces lane inside) in
+    let later : (lane : ℕ) → lane < lanes → rest lane ≡ left lane = λ lane inside. cc (parts lane inside, same lane inside, pieces lane inside) in
+    ap (λ (row : List ℕ). row ++ text) (row_alike line other lanes here)
+    ∙ ap (λ (after : List ℕ). row_text other lanes ++ after) (rows_unique some later rows further)
 
 -- no lines make no text
 pub rows-none : (lanes : ℕ) → Interleaves lanes (λ lane. []) []

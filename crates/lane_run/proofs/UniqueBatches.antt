@@ -1,0 +1,25 @@
+-- A script in columns, of which there is one at least, has one answer: in each column it runs in one way.
+use Rattle.std.proofs.Common.{◌≡◌, ℕ, ◌<◌, List, ◌++◌, Option, sym, ap, ◌∙◌}
+use Rattle.group_text.specs.Texts.{GroupTextData}
+use Rattle.run_ends.specs.Answers.{Answer}
+use Rattle.script_meaning.specs.Runs.{RefusedLine, Outcome, refusal_text}
+use Rattle.script_meaning.proofs.UniqueRuns.{runs_unique}
+use Rattle.lane_session.proofs.RowLemmas.{rows_unique}
+use Rattle.lane_run.specs.Batches.{reading_in, status_ended}
+use Rattle.lane_run.specs.Laws.{BatchAnswersAreUnique}
+
+pub batch_unique : BatchAnswersAreUnique
+batch_unique lanes cut start lines answer other some one two =
+    let same : (lane : ℕ) → lane < lanes → one.runs.outcome lane ≡ two.runs.outcome lane = λ lane inside.
+    runs_unique (reading_in lanes lane) cut (start lane) lines (one.runs.outcome lane) (two.runs.outcome lane) (one.runs.runs lane inside)
+    (two.runs.runs lane inside) in
+    let texts : answer.texts ≡ other.texts =
+    sym (one.runs.analysed 0 some) ∙ ap (λ (outcome : Outcome). outcome.texts) (same 0 some) ∙ two.runs.analysed 0 some in
+    let refused : one.refused ≡ two.refused =
+    sym (one.runs.ended 0 some) ∙ ap (λ (outcome : Outcome). outcome.refused) (same 0 some) ∙ two.runs.ended 0 some in
+    let text : one.text ≡ two.text =
+    rows_unique some (λ lane inside. ap (λ (outcome : Outcome). outcome.lines) (same lane inside)) one.runs.rows two.runs.rows in
+    let told : List ℕ → Option RefusedLine → List GroupTextData → Answer =
+    λ text refused texts. record { status = status_ended refused; text = text ++ refusal_text refused; texts = texts } in
+    one.told ∙ ap (λ (wrote : List ℕ). told wrote one.refused answer.texts) text
+    ∙ ap (λ (stopped : Option RefusedLine). told two.text stopped answer.texts) refused ∙ ap (told two.text two.refused) texts ∙ sym two.told

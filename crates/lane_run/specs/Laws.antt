@@ -1,0 +1,11 @@
+-- Laws of scripts in columns: what one answers is determined.
+use Rattle.std.specs.Prelude.{◌≡◌, ℕ, ◌<◌, List, Option}
+use Rattle.session_meaning.specs.Sessions.{SessionData}
+use Rattle.run_ends.specs.Answers.{Answer}
+use Rattle.lane_run.specs.Batches.{IsBatchAnswer}
+
+-- a script in one column or more has one answer
+abbrev pub BatchAnswersAreUnique : Type 0
+BatchAnswersAreUnique =
+    (lanes : ℕ) (cut : Option ℕ) (start : ℕ → SessionData) (lines : List (ℕ × List ℕ)) (answer other : Answer) → 0 < lanes →
+    IsBatchAnswer lanes cut start lines answer → IsBatchAnswer lanes cut start lines other → answer ≡ other
