@@ -1,3 +1,4 @@
 mod GroupsLemmas
 mod ListLemmas
 mod PieceLemmas
+pub mod UniqueAnswers

@@ -10,6 +10,8 @@
 //! refuse_net(alloc, refusal, out)                   writes `net line 1: N3 Format`, and is Ok(End::NetRefused)
 //! refuse_words(out)                                 writes `bad command line`, and is Ok(End::Usage)
 //! ```
+//!
+//! The proofs of crates above cite `UniqueAnswers`, whose head says what it is of.
 #![tactic(auto)]
 
 mod codes;

@@ -9,6 +9,8 @@
 //! request_of(["gen", "net", "inverters", "1", "2"])     is Alone(Generate { part: Net, sample })
 //! request_of(["batch", "inverter.sim", "65", "a.cmd"])  is Alone(Unclear)
 //! ```
+//!
+//! The proofs of crates above cite `LaneLemmas`, whose head says what it is of.
 #![tactic(auto)]
 
 mod columns;

@@ -8,6 +8,8 @@
 //! an inverter a -> out, a an input node:     group 1 nodes 1 switches 2 text 1: out
 //! ```
 //!
+//! The proofs of crates above cite `ReportLemmas`, whose head says what it is of.
+//!
 //! After Beatty and Bryant, "Fast Incremental Circuit Analysis Using Extracted Hierarchy", 1988.
 #![tactic(auto)]
 

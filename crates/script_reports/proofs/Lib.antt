@@ -2,3 +2,4 @@ mod WaveLemmas
 mod AlikeLemmas
 mod CountingLemmas
 mod ReasonedLemmas
+pub mod UniqueAnswers

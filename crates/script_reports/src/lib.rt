@@ -10,6 +10,8 @@
 //!                                                        there is none, and that of 0
 //! sum_up(alloc, keys, sample, out, analyst)              writes `large nodes 5 switches 4 lines 4 ..`
 //! ```
+//!
+//! The proofs of crates above cite `UniqueAnswers`, whose head says what it is of.
 #![tactic(auto)]
 
 mod counting;

@@ -1,0 +1,83 @@
+-- A request for columns asks for one at least.
+use Rattle.std.proofs.Common.{◌≡◌, ℕ, ◌<◌, Bool, true, false, ◌&&◌, List, [], ◌∷◌, nat_le, Option, None, Some, refl, arith}
+use Rattle.std.specs.Prelude.{if◌then◌else◌, bytes_eq, codes}
+use Rattle.std.specs.Option.{option_and_then}
+use Rattle.std.proofs.lemmas.Bool.{leb-true}
+use Rattle.line_words.specs.Decimals.{decimal_of}
+use Rattle.net_gen.specs.declared.families.GenPart.{GenPart}
+use Rattle.command_line.specs.Columns.{lanes_of}
+use Rattle.command_line.specs.Samples.{Sample, part_of, sample_of}
+use Rattle.command_line.specs.Requests.{Question, Simulate, Batch, Check, Groups, Compile, Explain, Judge, Request, About, OverDeck, Unclear, request_of, about, generate, sum_up, in_columns}
+
+-- a question for columns is for one at least
+abbrev pub HasColumns : Question → Type 0
+HasColumns (Batch lanes script) = 0 < lanes
+HasColumns question = Unit {0}
+
+-- so is a request
+abbrev pub AsksColumns : Request → Type 0
+AsksColumns (About net question) = HasColumns question
+AsksColumns request = Unit {0}
+
+-- a word that tells of columns tells of one at least
+told_columns : (net script : List ℕ) (lanes : ℕ) (low high : Bool) → nat_le 1 lanes ≡ low →
+    AsksColumns (in_columns net (if low && high then Some lanes else None) script)
+told_columns net script lanes true true is = (let least = leb-true 1 lanes is in omega arith)
+told_columns net script lanes true false is = tt
+told_columns net script lanes false high is = tt
+
+columns_fit : (net script : List ℕ) (found : Option ℕ) →
+    AsksColumns (in_columns net (option_and_then (λ lanes. if nat_le 1 lanes && nat_le lanes 64 then Some lanes else None) found) script)
+columns_fit net script None = tt
+columns_fit net script (Some lanes) = told_columns net script lanes (nat_le 1 lanes) (nat_le lanes 64) refl
+
+-- the other requests ask for none
+two_fit : (net : List ℕ) (check groups compile : Bool) →
+    AsksColumns (about net (if check then Some Check else (if groups then Some Groups else (if compile then Some Compile else None))))
+two_fit net true groups compile = tt
+two_fit net false true compile = tt
+two_fit net false false true = tt
+two_fit net false false false = tt
+
+three_fit : (circuit script : List ℕ) (plain deck : Bool) →
+    AsksColumns (if plain then About circuit (Simulate script) else (if deck then OverDeck circuit script else Unclear))
+three_fit circuit script true deck = tt
+three_fit circuit script false true = tt
+three_fit circuit script false false = tt
+
+sum_fits : (sample : Option Sample) → AsksColumns (sum_up sample)
+sum_fits None = tt
+sum_fits (Some sample) = tt
+
+four_fit : (first second third : List ℕ) (sample : Option Sample) (large why faults batch : Bool) →
+    AsksColumns (if large then sum_up sample else (if why then About first (Explain second third)
+    else (if faults then About first (Judge second third) else (if batch then in_columns first (lanes_of second) third else Unclear))))
+four_fit first second third sample true why faults batch = sum_fits sample
+four_fit first second third sample false true faults batch = tt
+four_fit first second third sample false false true batch = tt
+four_fit first second third sample false false false true = columns_fit first third (decimal_of second)
+four_fit first second third sample false false false false = tt
+
+part_fits : (part : Option GenPart) (sample : Option Sample) → AsksColumns (generate part sample)
+part_fits None sample = tt
+part_fits (Some part) None = tt
+part_fits (Some part) (Some sample) = tt
+
+five_fit : (part : Option GenPart) (sample : Option Sample) (gen : Bool) → AsksColumns (if gen then generate part sample else Unclear)
+five_fit part sample true = part_fits part sample
+five_fit part sample false = tt
+
+-- so words that ask for columns ask for one at least
+pub asks_columns : (words : List (List ℕ)) → AsksColumns (request_of words)
+asks_columns [] = tt
+asks_columns (command ∷ []) = tt
+asks_columns (command ∷ net ∷ []) =
+    two_fit net (bytes_eq command (codes "check")) (bytes_eq command (codes "groups")) (bytes_eq command (codes "compile"))
+asks_columns (command ∷ circuit ∷ script ∷ []) =
+    three_fit circuit script (bytes_eq command (codes "sim")) (bytes_eq command (codes "sim-spice"))
+asks_columns (command ∷ first ∷ second ∷ third ∷ []) =
+    four_fit first second third (sample_of first second third) (bytes_eq command (codes "large")) (bytes_eq command (codes "why"))
+    (bytes_eq command (codes "faults")) (bytes_eq command (codes "batch"))
+asks_columns (command ∷ part ∷ kind ∷ seed ∷ rows ∷ []) =
+    five_fit (part_of part) (sample_of kind seed rows) (bytes_eq command (codes "gen"))
+asks_columns (command ∷ one ∷ two ∷ three ∷ four ∷ five ∷ words) = tt
