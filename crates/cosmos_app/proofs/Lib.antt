@@ -7,3 +7,4 @@ pub mod FaultLemmas
 pub mod CountLemmas
 mod PurposeLemmas
 mod AskedLemmas
+mod UniqueAnswers

@@ -4,3 +4,4 @@ pub mod Purposes
 pub mod Starts
 pub mod Counts
 pub mod Wholes
+pub mod Laws

@@ -6,7 +6,8 @@
 //! words, that is, the text of the netlist or the deck has its meaning as a circuit or a first refused line, the
 //! script's lines have their effects in order from the start, every `step` is the unit step by
 //! unblocked paths in the circuit and the state at that point, and every phase settles by such
-//! steps. After a fault or want of memory the bytes are a front of such an answer.
+//! steps. After a fault or want of memory the bytes are a front of such an answer. By the law
+//! `answers_are_unique` there is one answer, unless the words ask for a listing or for reasons.
 //!
 //! ```text
 //! run(alloc, ["sim", "inverter.sim", "inverter.cmd"], files, out)   is Status::Done
@@ -26,9 +27,11 @@
 
 mod batch;
 mod faults;
+mod laws;
 mod reports;
 mod top;
 
+pub use laws::answers_are_unique;
 pub use run_ends::Status;
 pub use script_meaning::scripts_end_at_their_first_refused_line;
 pub use top::run;

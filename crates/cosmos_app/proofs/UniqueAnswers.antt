@@ -1,0 +1,93 @@
+-- The words have one answer, unless they ask for a listing or for reasons; of these the status and the texts that are analysed are one.
+use Rattle.std.proofs.Common.{◌≡◌, ℕ, false, List, Result, Ok, Err, refl, sym, ◌∙◌}
+use Rattle.line_words.specs.Files.{lines_in, cut_line}
+use Rattle.netlist.specs.Circuits.{CircuitData}
+use Rattle.sim_read.specs.Meaning.{netlist_of}
+use Rattle.spice_cards.specs.declared.fault.DeckFault.{DeckFault}
+use Rattle.spice_cards.specs.declared.fault.DeckFault.TheVariants as deck_fault
+use Rattle.spice_read.specs.Making.{circuit_of}
+use Rattle.command_line.specs.Requests.{Question, Simulate, Batch, Check, Groups, Compile, Explain, Judge, Request, About, Generate, SumUp, OverDeck, Unclear, request_of}
+use Rattle.command_line.proofs.LaneLemmas.{HasColumns, AsksColumns, asks_columns}
+use Rattle.session_meaning.specs.Sessions.{start_of}
+use Rattle.run_ends.specs.Answers.{Answer}
+use Rattle.script_meaning.specs.Runs.{plain_reading}
+use Rattle.script_meaning.proofs.UniqueRuns.{answer_unique}
+use Rattle.lane_run.proofs.UniqueBatches.{batch_unique}
+use Rattle.fault_meaning.proofs.UniqueJudging.{judged_faults_unique}
+use Rattle.circuit_reports.specs.Alike.{AreAlike}
+use Rattle.circuit_reports.proofs.UniqueAnswers as circuit
+use Rattle.script_reports.proofs.UniqueAnswers.{sample_unique, reasoned_alike}
+use Rattle.cosmos_app.specs.Answers.{IsSimulation, IsDeckSimulation, IsAnswerIn, IsAnswerTo}
+use Rattle.cosmos_app.specs.Laws.{leaves_choice, asks_choice, AnswersAreUnique, AnswersAreAlike}
+
+-- ---- one answer
+
+-- a simulation has one
+simulated_unique : (script : List ℕ) (c : CircuitData) (first second : Answer) → IsSimulation script c first → IsSimulation script c second → first ≡ second
+simulated_unique script c first second one two = answer_unique plain_reading (cut_line script) (start_of c) (lines_in script) first second one two
+
+-- so has one over a deck
+deck_unique : (script : List ℕ) (meaning : Result CircuitData DeckFault) (first second : Answer) → IsDeckSimulation script meaning first →
+    IsDeckSimulation script meaning second → first ≡ second
+deck_unique script (Ok c) first second one two = simulated_unique script c first second one two
+deck_unique script (Err (deck_fault.At line what)) first second one two = one ∙ sym two
+deck_unique script (Err deck_fault.NoMemory) first second one two = absurd one
+
+-- a question has one in a circuit, unless it leaves a choice
+question_unique : (question : Question) (holds : List ℕ → List ℕ) → leaves_choice question ≡ false → HasColumns question →
+    (c : CircuitData) (first second : Answer) → IsAnswerIn question holds c first → IsAnswerIn question holds c second → first ≡ second
+question_unique (Simulate script) holds plain some c first second one two = simulated_unique (holds script) c first second one two
+question_unique (Batch lanes script) holds plain some c first second one two =
+    batch_unique lanes (cut_line (holds script)) (λ lane. start_of c) (lines_in (holds script)) first second some one two
+question_unique Check holds plain some c first second one two = one ∙ sym two
+question_unique Groups holds plain some c first second one two = circuit.groups_unique c first second one two
+question_unique Compile holds plain some c first second one two = absurd (cc (plain))
+question_unique (Explain script node) holds plain some c first second one two = absurd (cc (plain))
+question_unique (Judge script list) holds plain some c first second one two = judged_faults_unique (holds script) (holds list) c first second one two
+
+-- and so has a request
+request_unique : (request : Request) (holds : List ℕ → List ℕ) (first second : Answer) → asks_choice request ≡ false → AsksColumns request →
+    IsAnswerTo request holds first → IsAnswerTo request holds second → first ≡ second
+request_unique (About net question) holds first second plain some one two =
+    circuit.over_unique (IsAnswerIn question holds) (question_unique question holds plain some) (netlist_of (holds net)) first second one two
+request_unique (Generate part sample) holds first second plain some one two = one ∙ sym two
+request_unique (SumUp sample) holds first second plain some one two = sample_unique sample first second one two
+request_unique (OverDeck deck script) holds first second plain some one two =
+    deck_unique (holds script) (circuit_of (holds deck)) first second one two
+request_unique Unclear holds first second plain some one two = one ∙ sym two
+
+pub answers_unique : AnswersAreUnique
+answers_unique words holds first second plain one two = request_unique (request_of words) holds first second plain (asks_columns words) one two
+
+-- ---- answers that are alike
+
+-- any two answers of a question in a circuit are
+question_alike : (question : Question) (holds : List ℕ → List ℕ) → HasColumns question → (c : CircuitData) (first second : Answer) →
+    IsAnswerIn question holds c first → IsAnswerIn question holds c second → AreAlike first second
+question_alike (Simulate script) holds some c first second one two =
+    circuit.alike first second (question_unique (Simulate script) holds refl some c first second one two)
+question_alike (Batch lanes script) holds some c first second one two =
+    circuit.alike first second (question_unique (Batch lanes script) holds refl some c first second one two)
+question_alike Check holds some c first second one two = circuit.alike first second (question_unique Check holds refl some c first second one two)
+question_alike Groups holds some c first second one two = circuit.alike first second (question_unique Groups holds refl some c first second one two)
+question_alike Compile holds some c first second one two = circuit.compiled_alike c first second one two
+question_alike (Explain script node) holds some c first second one two = reasoned_alike (holds script) node c first second one two
+question_alike (Judge script list) holds some c first second one two =
+    circuit.alike first second (question_unique (Judge script list) holds refl some c first second one two)
+
+-- and of a request
+request_alike : (request : Request) (holds : List ℕ → List ℕ) (first second : Answer) → AsksColumns request →
+    IsAnswerTo request holds first → IsAnswerTo request holds second → AreAlike first second
+request_alike (About net question) holds first second some one two =
+    circuit.over_alike (IsAnswerIn question holds) (question_alike question holds some) (netlist_of (holds net)) first second one two
+request_alike (Generate part sample) holds first second some one two =
+    circuit.alike first second (request_unique (Generate part sample) holds first second refl some one two)
+request_alike (SumUp sample) holds first second some one two =
+    circuit.alike first second (request_unique (SumUp sample) holds first second refl some one two)
+request_alike (OverDeck deck script) holds first second some one two =
+    circuit.alike first second (request_unique (OverDeck deck script) holds first second refl some one two)
+request_alike Unclear holds first second some one two =
+    circuit.alike first second (request_unique Unclear holds first second refl some one two)
+
+pub answers_alike : AnswersAreAlike
+answers_alike words holds first second one two = request_alike (request_of words) holds first second (asks_columns words) one two

@@ -1,0 +1,8 @@
+use Rattle.cosmos_app.proofs.UniqueAnswers.{answers_unique, answers_alike}
+use Rattle.cosmos_app.proofs.laws.answers_are_unique.Goals as goal
+
+pub returns-clause-one : goal.returns-clause-one
+returns-clause-one c = answers_unique
+
+pub returns-clause-alike : goal.returns-clause-alike
+returns-clause-alike c = answers_alike

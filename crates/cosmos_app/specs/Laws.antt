@@ -1,0 +1,29 @@
+-- Laws of the answer of the words: where it is one.
+use Rattle.std.specs.Prelude.{◌≡◌, ℕ, Bool, true, false, List}
+use Rattle.command_line.specs.Requests.{Question, Compile, Explain, Request, About, request_of}
+use Rattle.run_ends.specs.Answers.{Answer}
+use Rattle.circuit_reports.specs.Alike.{AreAlike}
+use Rattle.cosmos_app.specs.Answers.{IsAnswer}
+
+-- the question leaves a choice: any faithful listing answers it, or any of the strongest reasons
+abbrev pub leaves_choice : Question → Bool
+leaves_choice Compile = true
+leaves_choice (Explain script node) = true
+leaves_choice question = false
+
+-- the request asks for a listing or for reasons
+abbrev pub asks_choice : Request → Bool
+asks_choice (About net question) = leaves_choice question
+asks_choice request = false
+
+-- words that ask neither for a listing nor for reasons have one answer, by what the files hold
+abbrev pub AnswersAreUnique : Type 0
+AnswersAreUnique =
+    (words : List (List ℕ)) (holds : List ℕ → List ℕ) (first second : Answer) → asks_choice (request_of words) ≡ false →
+    IsAnswer words holds first → IsAnswer words holds second → first ≡ second
+
+-- any two answers of the words have one status, and the same texts of groups are analysed for them, whatever the words ask for
+abbrev pub AnswersAreAlike : Type 0
+AnswersAreAlike =
+    (words : List (List ℕ)) (holds : List ℕ → List ℕ) (first second : Answer) → IsAnswer words holds first → IsAnswer words holds second →
+    AreAlike first second

@@ -1,0 +1,12 @@
+//! Laws of the answer of the words.
+
+ghost use Rattle.cosmos_app.specs.Laws.{AnswersAreAlike, AnswersAreUnique};
+
+/// A law: the words have one answer, by what the files hold.
+///
+/// `one`: it is the answer, whole, unless the words ask for a listing or for reasons: any faithful listing is right, and
+/// any of the strongest reasons. `alike`: of these too the status is one, and the same texts of groups are analysed.
+pub fn answers_are_unique()
+    ensures one { AnswersAreUnique }
+    ensures alike { AnswersAreAlike }
+{}
