@@ -70,6 +70,10 @@ IsCompiled circuit answer = IsListed circuit answer ⊎ IsTooLarge circuit NetWh
 abbrev pub IsGenerated : GenPart → Sample → Answer → Type 0
 IsGenerated part sample answer = answer ≡ plain_answer status.Done (text_of part sample)
 
+-- the answer of a request that shows a text: the text as it stands
+abbrev pub IsShown : List ℕ → Answer → Type 0
+IsShown text answer = answer ≡ plain_answer status.Done text
+
 -- the answer where the deck is refused at this line: the line of its refusal
 abbrev pub IsDeckRefusal : ℕ → DeckWhat → Answer → Type 0
 IsDeckRefusal line what answer = answer ≡ plain_answer status.NetRefused (deck_line_of line what)

@@ -1,6 +1,8 @@
 -- What the words of a command line ask for.
 use Rattle.std.specs.Prelude.{ℕ, List, [], ◌∷◌, map, codes, bytes_eq, if◌then◌else◌, Option, Some, None, String, string_bytes}
 use Rattle.std.specs.declared.alloc.Global.{Global}
+use Rattle.help_texts.specs.Texts.{text_of, topics}
+use Rattle.help_texts.specs.declared.pages.TheConstants.{PAGE, VERSION}
 use Rattle.net_gen.specs.declared.families.GenPart.{GenPart}
 use Rattle.command_line.specs.declared.request.Alone as code_alone
 use Rattle.command_line.specs.declared.request.Alone.TheVariants as code_alone_is
@@ -28,13 +30,25 @@ pub data Question : Type 0 where
   Judge : List ℕ → List ℕ → Question
 
 -- what words ask for: a question about the netlist with this name, a part of a sample, a sample's run summed up, the run of a script in the
--- circuit of a deck, by the deck's name and the script's, or nothing that there is
+-- circuit of a deck, by the deck's name and the script's, a text that is shown as it stands, or nothing that there is
 pub data Request : Type 0 where
   About : List ℕ → Question → Request
   Generate : GenPart → Sample → Request
   SumUp : Sample → Request
   OverDeck : List ℕ → List ℕ → Request
+  Show : List ℕ → Request
   Unclear : Request
+
+-- a text, where there is one
+abbrev pub shown : Option (List ℕ) → Request
+shown (Some text) = Show text
+shown None = Unclear
+
+-- what one word asks for: `help` for the page, and `version` for the version's line
+abbrev pub by_one : List ℕ → Request
+by_one command =
+    if bytes_eq command (codes "help") then Show PAGE.now
+    else (if bytes_eq command (codes "version") then Show VERSION.now else Unclear)
 
 -- what a word alone asks about a netlist
 abbrev pub question_of : List ℕ → Option Question
@@ -47,6 +61,10 @@ question_of command =
 abbrev pub about : List ℕ → Option Question → Request
 about net (Some question) = About net question
 about net None = Unclear
+
+-- what two words ask for: `help WORD` for the topic of this name, or the question of the first about the netlist of the second
+abbrev pub by_two : List ℕ → List ℕ → Request
+by_two command word = if bytes_eq command (codes "help") then shown (text_of topics word) else about word (question_of command)
 
 -- a part of a sample, where the words tell both
 abbrev pub generate : Option GenPart → Option Sample → Request
@@ -84,10 +102,12 @@ by_four command first second third =
     else (if bytes_eq command (codes "batch") then in_columns first (lanes_of second) third else Unclear)))
 
 -- what words ask for, by their number: `sim NET SCRIPT`, `sim-spice DECK SCRIPT`, `check NET`, `groups NET`, `compile NET`,
--- `gen PART KIND SEED N`, `large KIND SEED N`, `why NET SCRIPT NODE`, `faults NET SCRIPT LIST` and `batch NET L SCRIPT`, and nothing else
+-- `gen PART KIND SEED N`, `large KIND SEED N`, `why NET SCRIPT NODE`, `faults NET SCRIPT LIST`, `batch NET L SCRIPT`, `help`, `help WORD` and
+-- `version`, and nothing else
 abbrev pub request_of : List (List ℕ) → Request
 request_of (command ∷ circuit ∷ script ∷ []) = simulation command circuit script
-request_of (command ∷ net ∷ []) = about net (question_of command)
+request_of (command ∷ word ∷ []) = by_two command word
+request_of (command ∷ []) = by_one command
 request_of (command ∷ part ∷ kind ∷ seed ∷ rows ∷ []) = generation command part kind seed rows
 request_of (command ∷ first ∷ second ∷ third ∷ []) = by_four command first second third
 request_of _ = Unclear
@@ -114,6 +134,7 @@ question_seen (code_question_is.Report report) = report_seen report
 abbrev pub alone_seen : code_alone.Alone → Request
 alone_seen (code_alone_is.Generate part sample) = Generate part (sample_seen sample)
 alone_seen (code_alone_is.SumUp sample) = SumUp (sample_seen sample)
+alone_seen (code_alone_is.Show text) = Show text.now
 alone_seen code_alone_is.Unclear = Unclear
 
 -- and each request of the code

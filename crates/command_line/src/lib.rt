@@ -8,6 +8,7 @@
 //! request_of(["check", "inverter.sim"])                 is About { net: "inverter.sim", question: Report(Check) }
 //! request_of(["gen", "net", "inverters", "1", "2"])     is Alone(Generate { part: Net, sample })
 //! request_of(["batch", "inverter.sim", "65", "a.cmd"])  is Alone(Unclear)
+//! request_of(["help", "del"])                           is Alone(Show("del K\nRemoves transistor K. ..\n"))
 //! ```
 //!
 //! The proofs of crates above cite `LaneLemmas`, whose head says what it is of.

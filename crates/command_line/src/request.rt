@@ -9,6 +9,7 @@ ghost use Rattle.command_line.specs.Columns as columns;
 use crate::columns::lanes_of;
 use crate::lanes::Lanes;
 use crate::sample::Sample;
+use help_texts::{page, topic, version};
 use line_words::decimal;
 use net_gen::{GenKind, GenPart, MOST_ROWS};
 
@@ -26,16 +27,18 @@ pub enum Request<'a> {
         script: &'a str,
     },
     /// What needs no file.
-    Alone(Alone),
+    Alone(Alone<'a>),
 }
 
 /// What words ask for that needs no file.
 #[derive(Clone, Copy)]
-pub enum Alone {
+pub enum Alone<'a> {
     /// A part of a sample.
     Generate { part: GenPart, sample: Sample },
     /// The run of a sample's script in its netlist's circuit, summed up.
     SumUp(Sample),
+    /// A text, as it stands.
+    Show(&'a str),
     /// Nothing that there is.
     Unclear,
 }
@@ -80,13 +83,15 @@ pub enum Report {
 }
 
 /// What the words of a command line ask for: `sim NET SCRIPT`, `sim-spice DECK SCRIPT`, `check NET`, `groups NET`,
-/// `compile NET`, `gen PART KIND SEED N`, `large KIND SEED N`, `why NET SCRIPT NODE`, `faults NET SCRIPT LIST` and
-/// `batch NET L SCRIPT`, and nothing else.
+/// `compile NET`, `gen PART KIND SEED N`, `large KIND SEED N`, `why NET SCRIPT NODE`, `faults NET SCRIPT LIST`,
+/// `batch NET L SCRIPT`, `help`, `help WORD` of a request or a command of a script, and `version`, and nothing else.
 pub fn request_of(words: &[String]) -> Request<'_>
     ensures { spec.request_seen result ≡ spec.request_of (spec.names_of words.now) }
 {
-    if let [command, net] = words {
-        about(net, question_of(command))
+    if let [command] = words {
+        by_one(command)
+    } else if let [command, word] = words {
+        by_two(command, word)
     } else if let [command, circuit, script] = words {
         simulation(command, circuit, script)
     } else if let [command, part, kind, seed, rows] = words {
@@ -95,6 +100,30 @@ pub fn request_of(words: &[String]) -> Request<'_>
         by_four(command, first, second, third)
     } else {
         Request::Alone(Alone::Unclear)
+    }
+}
+
+// What one word asks for.
+fn by_one<'a>(command: &str) -> Request<'a>
+    ensures { spec.request_seen result ≡ spec.by_one command.now }
+{
+    if command == "help" {
+        Request::Alone(Alone::Show(page()))
+    } else if command == "version" {
+        Request::Alone(Alone::Show(version()))
+    } else {
+        Request::Alone(Alone::Unclear)
+    }
+}
+
+// What two words ask for.
+fn by_two<'a>(command: &'a str, word: &'a str) -> Request<'a>
+    ensures { spec.request_seen result ≡ spec.by_two command.now word.now }
+{
+    if command == "help" {
+        shown(topic(word))
+    } else {
+        about(word, question_of(command))
     }
 }
 
@@ -174,6 +203,16 @@ fn sum_up<'a>(sample: Option<Sample>) -> Request<'a>
 {
     match sample {
         Some(sample) => Request::Alone(Alone::SumUp(sample)),
+        None => Request::Alone(Alone::Unclear),
+    }
+}
+
+// A text, where there is one.
+fn shown<'a>(text: Option<&'a str>) -> Request<'a>
+    ensures { spec.request_seen result ≡ spec.shown (option_map (λ text. text.now) text.entry) }
+{
+    match text {
+        Some(text) => Request::Alone(Alone::Show(text)),
         None => Request::Alone(Alone::Unclear),
     }
 }

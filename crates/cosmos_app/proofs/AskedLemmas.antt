@@ -7,7 +7,7 @@ use Rattle.run_ends.specs.declared.stop.Stop.{Stop}
 use Rattle.run_ends.specs.declared.stop.End as end
 use Rattle.run_ends.specs.Ends.{IsToldBy}
 use Rattle.command_line.specs.declared.request.Alone.{Alone}
-use Rattle.command_line.specs.declared.request.Alone.TheVariants.{Generate, SumUp, Unclear}
+use Rattle.command_line.specs.declared.request.Alone.TheVariants.{Generate, SumUp, Show, Unclear}
 use Rattle.command_line.specs.declared.request.Question as code_question
 use Rattle.command_line.specs.declared.request.Report.{Report}
 use Rattle.command_line.specs.declared.request.Report.TheVariants.{Check, Groups, Compile}
@@ -71,9 +71,11 @@ module _ (request asked : Request) (same : request ≡ asked) (known : Option (L
 pub starts_alone : (alone : Alone) (known : Option (List ℕ → List ℕ)) (started : Started) → RequestStarts (alone_seen alone) known started started
 starts_alone (Generate part sample) known started = refl
 starts_alone (SumUp sample) known started = refl
+starts_alone (Show text) known started = refl
 starts_alone Unclear known started = refl
 
 pub files_alone : (alone : Alone) (holds : List ℕ → List ℕ) → files_of (alone_seen alone) holds ≡ []
 files_alone (Generate part sample) holds = refl
 files_alone (SumUp sample) holds = refl
+files_alone (Show text) holds = refl
 files_alone Unclear holds = refl

@@ -12,12 +12,12 @@ use Rattle.session_meaning.specs.Sessions.{start_of}
 use Rattle.run_ends.specs.declared.status.Status.{Status}
 use Rattle.run_ends.specs.declared.status.Status.TheVariants as status
 use Rattle.cosmos_app.specs.Batching.{IsBatch}
-use Rattle.command_line.specs.Requests.{Question, Simulate, Batch, Check, Groups, Compile, Explain, Judge, Request, About, Generate, SumUp, OverDeck, Unclear, request_of}
+use Rattle.command_line.specs.Requests.{Question, Simulate, Batch, Check, Groups, Compile, Explain, Judge, Request, About, Generate, SumUp, OverDeck, Show, Unclear, request_of}
 use Rattle.run_ends.specs.Answers.{Answer, IsWritten, IsStopped, IsAnalysed}
 use Rattle.script_meaning.specs.Runs.{plain_reading, IsScriptAnswer}
 use Rattle.script_reports.specs.Reasoned.{IsReasoned}
 use Rattle.fault_meaning.specs.Judging.{AreJudgedFaults}
-use Rattle.circuit_reports.specs.Answers.{IsUsage, IsOver, IsCheck, IsGroups, IsCompiled, IsGenerated, IsDeckRefusal}
+use Rattle.circuit_reports.specs.Answers.{IsUsage, IsOver, IsCheck, IsGroups, IsCompiled, IsGenerated, IsShown, IsDeckRefusal}
 use Rattle.script_reports.specs.Answers.{IsSampleSummary}
 
 -- the answer of a simulation: that of the script's lines from the start in the circuit
@@ -46,6 +46,7 @@ IsAnswerTo (About net question) holds answer = IsOver (IsAnswerIn question holds
 IsAnswerTo (Generate part sample) holds answer = IsGenerated part sample answer
 IsAnswerTo (SumUp sample) holds answer = IsSampleSummary sample answer
 IsAnswerTo (OverDeck deck script) holds answer = IsDeckSimulation (holds script) (circuit_of (holds deck)) answer
+IsAnswerTo (Show text) holds answer = IsShown text answer
 IsAnswerTo Unclear holds answer = IsUsage answer
 
 -- the answer of the words

@@ -4,7 +4,7 @@ use Rattle.port_edge.specs.Ports.{with_name}
 use Rattle.netlist.specs.Circuits.{CircuitData}
 use Rattle.sim_read.specs.Meaning.{netlist_of}
 use Rattle.spice_read.specs.Making.{circuit_of}
-use Rattle.command_line.specs.Requests.{Question, Simulate, Batch, Explain, Judge, Request, About, Generate, SumUp, OverDeck, Unclear}
+use Rattle.command_line.specs.Requests.{Question, Simulate, Batch, Explain, Judge, Request, About, Generate, SumUp, OverDeck, Show, Unclear}
 use Rattle.circuit_files.specs.Starts.{Started, StartsAtMost}
 
 -- nothing was started, or the file of the first name, or that and then the file of the second
@@ -43,4 +43,5 @@ RequestStarts (About net question) known old new = QuestionStarts net question k
 RequestStarts (Generate part sample) known old new = new ≡ old
 RequestStarts (SumUp sample) known old new = new ≡ old
 RequestStarts (OverDeck deck script) known old new = DeckStarts deck script known old new
+RequestStarts (Show text) known old new = new ≡ old
 RequestStarts Unclear known old new = new ≡ old

@@ -8,7 +8,7 @@ use Rattle.spice_read.specs.Making.{circuit_of}
 use Rattle.port_edge.specs.Taken.{Taken}
 use Rattle.run_ends.specs.declared.status.Status.{Status}
 use Rattle.run_ends.specs.declared.status.Status.TheVariants.{ReadFault, WriteFault, NoMemory}
-use Rattle.command_line.specs.Requests.{Question, Simulate, Batch, Explain, Judge, Request, About, Generate, SumUp, OverDeck, Unclear}
+use Rattle.command_line.specs.Requests.{Question, Simulate, Batch, Explain, Judge, Request, About, Generate, SumUp, OverDeck, Show, Unclear}
 use Rattle.circuit_files.specs.Wholes.{ReadsWhole}
 
 -- the files that a question needs beside the netlist, the last one first
@@ -35,6 +35,7 @@ files_of (About net question) holds = needed question net (netlist_of (holds net
 files_of (Generate part sample) holds = []
 files_of (SumUp sample) holds = []
 files_of (OverDeck deck script) holds = needed_over deck script (circuit_of (holds deck))
+files_of (Show text) holds = []
 files_of Unclear holds = []
 
 -- where the run isn't stopped by a fault or want of memory, each file that its request needs was read whole

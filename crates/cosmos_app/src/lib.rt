@@ -22,6 +22,8 @@
 //!     a line for the verdict on each fault of the list, and one that counts them
 //! run(alloc, ["batch", "inverter.sim", "3", "columns.cmd"], files, out) is Status::Done, and writes
 //!     the waveform lines of the three columns row by row, each after the number of its column
+//! run(alloc, ["help", "del"], files, out)                           is Status::Done, and writes
+//!     what the command `del` of a script does
 //! ```
 #![tactic(auto)]
 

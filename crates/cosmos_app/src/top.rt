@@ -22,7 +22,7 @@ use crate::batch::run_columns;
 use crate::faults::judge_list;
 use crate::reports::report_on;
 use circuit_files::{read_circuit, read_deck_file, read_file};
-use circuit_reports::{refuse_deck, refuse_net, refuse_words, write_part};
+use circuit_reports::{refuse_deck, refuse_net, refuse_words, show_text, write_part};
 use command_line::{Alone, Purpose, Question, Request, request_of};
 use cosmos_session::Session;
 use group_analysis::Analyst;
@@ -59,7 +59,9 @@ use table_keys::TableKeys;
 /// `faults NET SCRIPT LIST` reads the netlist, the script and the list of faults, runs the script as `sim` does,
 /// and then once more under each fault of the list, and writes a line with the verdict on each fault and one
 /// that counts the verdicts; the first refused line of the list, or else of the script in the run without a
-/// fault, ends it before, with the line of that refusal. All other words are answered by the usage line.
+/// fault, ends it before, with the line of that refusal. `help` writes the page of help, `help WORD` the text of
+/// the topic WORD, a request or a command of a script, and `version` the version's line, as `help_texts` has
+/// them; they read no file. All other words are answered by the usage line.
 ///
 /// A netlist, a deck or a script with a refused line ends the run with the line of that refusal. A file is
 /// read to its end, or to the first byte too many, before any refusal of it is answered. After a call
@@ -150,11 +152,11 @@ fn answer<F: Files, S: Sink, A: Analyst>(
 fn answer_alone<S: Sink, A: Analyst>(
     alloc: Global,
     keys: TableKeys,
-    alone: Alone,
+    alone: Alone<'_>,
     out: &mut S,
     analyst: &mut A,
 ) -> Result<End, Stop>
-    ensures told { (holds : List ℕ → List ℕ) → IsToldBy (IsAnswerTo (alone_seen alone) holds)
+    ensures told { (holds : List ℕ → List ℕ) → IsToldBy (IsAnswerTo (alone_seen alone.entry) holds)
         (S.written out.old) (S.written out.new) (A.analysed analyst.old) (A.analysed analyst.new) result }
     ensures no_read { IfErr result (λ stop. stop ≢ Stop.Read) }
     ensures write { S.faults out.new ≡ faults_written (S.faults out.old) result }
@@ -163,6 +165,7 @@ fn answer_alone<S: Sink, A: Analyst>(
     match alone {
         Alone::Generate { part, sample } => write_part(alloc, part, sample, out),
         Alone::SumUp(sample) => sum_up(alloc, keys, sample, out, analyst),
+        Alone::Show(text) => show_text(text, out),
         Alone::Unclear => refuse_words(out),
     }
 }

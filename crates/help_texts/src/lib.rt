@@ -1,5 +1,5 @@
-//! The texts of help: a page, the usage of a bad command line, a text for each request and each command
-//! of a script, and what each refusal means with its cure.
+//! The texts of help: a page, the usage of a bad command line, the version's line, a text for each request
+//! and each command of a script, and what each refusal means with its cure.
 //!
 //! The main functions are `topic` and `cure`, which find a text by its name. The layers above use that it is
 //! the text of the first entry of `TOPICS` or `CURES` with this name, and that there is none exactly if no
@@ -18,5 +18,5 @@ mod pages;
 mod topics;
 
 pub use cures::{CURES, cure};
-pub use pages::{PAGE, USAGE, page, usage};
+pub use pages::{PAGE, USAGE, VERSION, page, usage, version};
 pub use topics::{TOPICS, topic};

@@ -1,4 +1,4 @@
-//! The page of help, and the usage.
+//! The page of help, the usage, and the version's line.
 
 ghost use Rattle.std.specs.Prelude.{◌≡◌};
 
@@ -55,6 +55,9 @@ usage: cosmos sim NET SCRIPT
 'cosmos help' says what each does, and 'cosmos help sim' more of one.
 ";
 
+/// The line of the program's version, with the toolchain that its proofs are for.
+pub const VERSION: &str = "cosmos 1.0.0 (proved with rattle-kit-13f logic dac8208d650f15bf)\n";
+
 /// The page of help.
 pub fn page() -> &'static str
     ensures { result.now ≡ PAGE.now }
@@ -67,4 +70,11 @@ pub fn usage() -> &'static str
     ensures { result.now ≡ USAGE.now }
 {
     USAGE
+}
+
+/// The version's line.
+pub fn version() -> &'static str
+    ensures { result.now ≡ VERSION.now }
+{
+    VERSION
 }

@@ -128,12 +128,14 @@ Prints a page on all requests and commands; or of the request or the command
 WORD its form, what it does, and what it is refused for. In a form a word in
 capitals stands for one of yours, NAME.. for one or more, and [NAME] for one or
 none.
+It reads no file. A WORD that is neither is a bad command line (status 2).
 ",
     ),
     (
         "version",
         "cosmos version
-Prints the program's version.
+Prints one line: the program's version, and the toolchain that it is proved
+with.
 It reads no file and is never refused.
 ",
     ),

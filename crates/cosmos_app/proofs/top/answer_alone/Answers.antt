@@ -7,7 +7,7 @@ use Rattle.command_line.specs.declared.request.Alone.{Alone}
 use Rattle.command_line.specs.Requests.{alone_seen}
 use Rattle.command_line.specs.Samples.{sample_seen}
 use Rattle.cosmos_app.specs.Answers.{IsAnswerTo}
-use Rattle.circuit_reports.specs.Answers.{IsGenerated, IsUsage}
+use Rattle.circuit_reports.specs.Answers.{IsGenerated, IsShown, IsUsage}
 use Rattle.cosmos_app.proofs.top.answer_alone.Goals as goal
 
 pub returns-in-Generate-clause-told : goal.returns-in-Generate-clause-told
@@ -25,6 +25,17 @@ returns-in-SumUp-clause-told g c = λ holds.
     subst (λ (alone : Alone). IsToldBy (IsAnswerTo (alone_seen alone) holds) (g.S.Sink.written c.args.out.now) (g.S.Sink.written c.sum_up.new.out)
     (g.A.Analyst.analysed c.args.analyst.now) (g.A.Analyst.analysed c.sum_up.new.analyst) c.sum_up.result)
     (sym c.in-SumUp.is) c.sum_up.ensures.told
+
+pub returns-in-Show-clause-told : goal.returns-in-Show-clause-told
+returns-in-Show-clause-told g c = λ holds.
+    subst
+    (λ (alone : Alone). IsToldBy (IsAnswerTo (alone_seen alone) holds) (g.S.Sink.written c.args.out.now) (g.S.Sink.written c.show_text.new.out)
+    (g.A.Analyst.analysed c.args.analyst.now) (g.A.Analyst.analysed c.args.analyst.now) c.show_text.result)
+    (sym c.in-Show.is)
+    (told_by_none (IsShown c.in-Show.text.now) (IsShown c.in-Show.text.now) (g.S.Sink.written c.args.out.now)
+    (g.S.Sink.written c.show_text.new.out)
+    (g.A.Analyst.analysed c.args.analyst.now) c.show_text.result
+    (λ answer is. (is, ap (λ (told : Answer). told.texts) is)) c.show_text.ensures.told)
 
 pub returns-in-Unclear-clause-told : goal.returns-in-Unclear-clause-told
 returns-in-Unclear-clause-told g c = λ holds.
