@@ -11,13 +11,15 @@
 //! `cosmos large KIND SEED N` one line that sums up the run of both. `cosmos why NET SCRIPT NODE` runs
 //! the script, whose lines aren't written, and writes why the node may be 1 and why it may be 0 at its
 //! end. `cosmos faults NET SCRIPT LIST` runs the script under each fault of a list and writes whether it
-//! shows. All other words are answered by the usage line.
+//! shows. `cosmos help` writes a page on all requests and commands, `cosmos help WORD` what the request or
+//! the command WORD does, and `cosmos version` the program's version. All other words are answered by the
+//! usage line.
 //!
 //! The exit status is that of `cosmos_app::run`, whose contract says what is written: 0 where all went
 //! well, 1 where an expectation wasn't met, 2 for words that are no command line and for a NODE that
 //! isn't in use, 3 and 4 for a refused line of the netlist or the deck, or of the script or the list, 5 and
-//! 6 where reading or writing failed, and 7 for want of memory. For 2, 5, 6 and 7 a line on standard error
-//! says more.
+//! 6 where reading or writing failed, and 7 for want of memory. For 2 standard error has the forms of all
+//! requests, or a line where it is NODE that isn't in use; for 5, 6 and 7 it has a line that says more.
 //!
 //! `answer_over` makes that call, over any opener of files and any outlet, and has its clauses for all of them;
 //! `main` hands it the files of the system and standard output.
@@ -107,6 +109,13 @@ fn answer_over<O: Open + Drop, W: Outlet, A: Analyst>(
 {
     let status = run(rt.alloc(), words, files, out, analyst);
     out.outlet().finish();
-    tell_stop(rt, status, files.name(), files.reason(), out.reason());
+    tell_stop(
+        rt,
+        words,
+        status,
+        files.name(),
+        files.reason(),
+        out.reason(),
+    );
     status
 }

@@ -1,6 +1,7 @@
 //! What is told on standard error. What it doesn't take is told nowhere.
 
 use cosmos_app::Status;
+use help_texts::usage;
 use std::io;
 
 /// Tells that the program could not start for want of this.
@@ -8,27 +9,43 @@ pub(crate) fn tell_start(rt: &HostRuntime, what: &str, error: io::Error) {
     let _ = eprintln!(rt; "cosmos: no {what}: {error}");
 }
 
-/// Tells why a run stopped: for words that are no command line, for a fault of the file with this name or
-/// of the output, with the system's reason where there is one, and for want of memory.
+/// Tells why a run with these words stopped: for words that are no command line, for a node that isn't in
+/// use, for a fault of the file with this name or of the output, with the system's reason where there is
+/// one, and for want of memory.
 pub(crate) fn tell_stop(
     rt: &HostRuntime,
+    words: &[String],
     status: Status,
     file: Option<&str>,
     of_file: Option<io::Error>,
     of_output: Option<io::Error>,
 ) {
     match status {
-        Status::Usage => {
-            let _ = eprintln!(rt;
-                "cosmos: the words are `sim NET SCRIPT`, `sim-spice DECK SCRIPT`, `batch NET L SCRIPT`, `check NET`, `groups NET`, `compile NET`, `gen PART KIND SEED N`, `large KIND SEED N`, `faults NET SCRIPT LIST` or `why NET SCRIPT NODE`, of a node in use at the script's end"
-            );
-        }
+        Status::Usage => tell_usage(rt, words),
         Status::ReadFault => tell_fault(rt, file.unwrap_or("a file"), "can't be read", of_file),
         Status::WriteFault => tell_fault(rt, "the output", "can't be written", of_output),
         Status::NoMemory => {
-            let _ = eprintln!(rt; "cosmos: there was want of memory");
+            let _ = eprintln!(rt; "cosmos: out of memory");
         }
         Status::Done | Status::Mismatch | Status::NetRefused | Status::ScriptRefused => {}
+    }
+}
+
+// Tells the forms of all requests; or of `why NET SCRIPT NODE`, which is one, that the node isn't in use.
+fn tell_usage(rt: &HostRuntime, words: &[String]) {
+    let _ = if asks_why(words) {
+        eprintln!(rt; "cosmos: the NODE is not in use at the script's end")
+    } else {
+        eprint!(rt; "{}", usage())
+    };
+}
+
+// Whether the words ask for the reasons of a node.
+fn asks_why(words: &[String]) -> bool {
+    if let [command, _, _, _] = words {
+        command.as_str() == "why"
+    } else {
+        false
     }
 }
 
