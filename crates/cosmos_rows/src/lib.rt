@@ -49,8 +49,6 @@ pub fn run_in_memory<A: Analyst>(
 }
 
 #[cfg(test)]
-mod analysed;
-#[cfg(test)]
 mod tests;
 #[cfg(test)]
 mod texts;
