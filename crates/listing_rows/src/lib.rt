@@ -3,10 +3,9 @@
 //! `read_back` says in one clause that what was written is read back as the same listing, and
 //! `step_by_text` that whoever has the text alone can make the unit steps of the circuit.
 //!
-//! The tests show what no clause says: that a circuit that is read has a listing with ample memory,
-//! and that its text begins as an engineer would write it. Beside that they run the listing that is
-//! read back over all sound states, beside the plain step of the whole circuit, and two worked
-//! circuits beside the states that an engineer expects of them.
+//! The tests show what no clause and no row of the program shows: texts that are read back, those that are
+//! no listing, and the states that an engineer expects after a step by a text. Each listing of a row is
+//! stepped in all states, beside the netlist's paths, by `tools/step_listing.py`.
 //!
 //! ```text
 //! an inverter a -> out, a = X      step_by_text gives out = X, whatever out was
@@ -14,8 +13,6 @@
 #![tactic(auto)]
 
 mod by_text;
-#[cfg(test)]
-mod listings;
 #[cfg(test)]
 mod tests;
 
