@@ -1,8 +1,8 @@
 //! Scripts on a session with its compiled machine.
 //!
-//! The tests show what no clause says: that commands are accepted with ample memory, the lines that they
-//! write, and the machine's marks and counts after each phase. Groups are analysed by the analyst of
-//! `node_elimination`.
+//! The tests show what no clause and no row of the program shows: the machine's marks and counts after
+//! pieces of a script, edits among them, and that a cut of the kept texts gives gates of the analyst's pool
+//! back. Groups are analysed by the analyst of `node_elimination`.
 #![tactic(auto)]
 
 #[cfg(test)]
