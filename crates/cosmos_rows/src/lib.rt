@@ -1,8 +1,9 @@
-//! Runs of the program over ports in memory, and worked rows as tables of tests.
+//! Runs of the program over ports in memory.
 //!
 //! `run_in_memory` is the top call over a table of texts: no fault can be answered there, so its
-//! answer is that of the words, or want of memory. The tests show what no clause says: that a run with ample
-//! memory doesn't answer want of memory, and that the texts of the rows are the expected ones.
+//! answer is that of the words, or want of memory. The tests show what no clause says: that with ample
+//! memory each request and each command has the answer that is expected, and that each read and each write
+//! that fails is the last.
 //!
 //! `step_by_program` says in one clause what a written listing is worth: whoever has that text alone makes
 //! the unit steps of the netlist's circuit.

@@ -1,12 +1,8 @@
-//! Formulas, the rails of switches and parts that change together, as tables of tests.
+//! Formulas of a pool, as a test.
 //!
-//! They show what no clause says: that a formula made twice has one gate, and that each call succeeds with
-//! ample memory.
+//! It shows what no clause says: that a formula made twice has one gate, and that `Pool::value`, which the
+//! program doesn't call, answers with ample memory.
 #![tactic(auto)]
 
 #[cfg(test)]
-mod parts;
-#[cfg(test)]
 mod pools;
-#[cfg(test)]
-mod switches;

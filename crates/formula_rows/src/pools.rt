@@ -34,10 +34,13 @@ fn size_after_rows<L: Ledger>(
     let yes = pool.constant(true, steps)?;
     for (h_value, l_value, want) in ROWS {
         let vars = [h_value, false, false, l_value];
-        assert_eq!(rt; pool.value(alloc, either, &vars)?, want);
-        assert_eq!(rt; pool.value(alloc, not_both, &vars)?, !want);
-        assert_eq!(rt; pool.value(alloc, no, &vars)?, false);
-        assert_eq!(rt; pool.value(alloc, yes, &vars)?, true);
+        let told = [
+            pool.value(alloc, either, &vars)?,
+            pool.value(alloc, not_both, &vars)?,
+            pool.value(alloc, no, &vars)?,
+            pool.value(alloc, yes, &vars)?,
+        ];
+        assert!(rt; told == [want, !want, false, true]);
     }
     Ok(pool.size())
 }
@@ -58,6 +61,6 @@ fn sizes<L: Ledger>(rt: &impl Abort, alloc: Global, blank: Blank) -> Result<[usi
 #[test]
 fn formulas_made_twice_have_one_gate_each(rt: HostRuntime) -> Result<(), Fail> {
     let found = sizes::<Brand>(&rt, rt.alloc(), Blank::new(1))?;
-    assert_eq!(rt; found, [6, 6]);
+    assert!(rt; found == [6, 6]);
     Ok(())
 }
