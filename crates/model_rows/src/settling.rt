@@ -1,26 +1,44 @@
 ghost use Rattle.std.specs.Prelude.{◌≡◌, ◌≢◌, ◌≤◌};
 ghost use Rattle.oscillation_x.specs.declared.settling.TheConstants.{MOST_LIMIT};
 
-use crate::drawn::drawn;
+use crate::drawn::{Drawn, drawn};
 use oscillation_x::{MOST_LIMIT, PlainStepper, Settled, Stepper, settle};
-use path_meaning::{GND, Graph, SwitchKind, VDD};
-use std::alloc::Global;
+use path_meaning::Graph;
+use path_meaning::SwitchKind::{NChan, PChan};
 use std::marker::Brand;
 use std::sync::ledger::{Blank, Ledger};
 use std::test::Fail;
 use ternary::{Steps, Tern};
 
-// the level of each node, Gnd and Vdd first, and the input and the output of each inverter
-type Drawing = (&'static [u8], &'static [(usize, usize)]);
+// the level of each node, Gnd and Vdd first, and the switches
+type Drawing = (&'static [u8], &'static [Drawn]);
 
 // an inverter that feeds itself
-const RING: Drawing = (&[16, 16, 1], &[(2, 2)]);
+const RING: Drawing = (&[16, 16, 1], &[(PChan, 10, 2, 1, 2), (NChan, 10, 2, 0, 2)]);
 
 // two inverters in a row
-const ROW: Drawing = (&[16, 16, 16, 1, 1], &[(2, 3), (3, 4)]);
+const ROW: Drawing = (
+    &[16, 16, 16, 1, 1],
+    &[
+        (PChan, 10, 2, 1, 3),
+        (NChan, 10, 2, 0, 3),
+        (PChan, 10, 3, 1, 4),
+        (NChan, 10, 3, 0, 4),
+    ],
+);
 
 // an inverter that feeds itself, and two in a row that read it
-const READ_RING: Drawing = (&[16, 16, 1, 1, 1], &[(2, 2), (2, 3), (3, 4)]);
+const READ_RING: Drawing = (
+    &[16, 16, 1, 1, 1],
+    &[
+        (PChan, 10, 2, 1, 2),
+        (NChan, 10, 2, 0, 2),
+        (PChan, 10, 2, 1, 3),
+        (NChan, 10, 2, 0, 3),
+        (PChan, 10, 3, 1, 4),
+        (NChan, 10, 3, 0, 4),
+    ],
+);
 
 // a circuit, its states before, the limit, its states after, the number of steps, whether it joined
 type Row = (Drawing, &'static [u8], u64, &'static [u8], u64, bool);
@@ -40,10 +58,11 @@ const ROWS: [Row; 6] = [
 
 #[test]
 fn a_state_settles_or_becomes_x(rt: HostRuntime) -> Result<(), Fail> {
-    for (drawing, before, limit, after, steps, joined) in &ROWS {
-        let graph = inverters(rt.alloc(), drawing)?;
+    for ((levels, switches), before, limit, after, steps, joined) in &ROWS {
+        let graph = drawn(rt.alloc(), levels, switches)?;
         let state = vec![in rt.alloc(); Tern::Unk; graph.nodes()]?;
         let mut stepper = PlainStepper::new(rt.alloc(), &graph, &state)?;
+        assert!(rt; before.len() == stepper.state().len() && after.len() == before.len());
         for (node, letter) in before.iter().enumerate() {
             if node < stepper.state().len() {
                 stepper.set_node(node, Tern::from_letter(*letter).unwrap_or(Tern::Unk));
@@ -51,12 +70,10 @@ fn a_state_settles_or_becomes_x(rt: HostRuntime) -> Result<(), Fail> {
         }
         assert!(rt; (1..=MOST_LIMIT).contains(limit));
         let settled = counted::<_, Brand>(&mut stepper, &graph, *limit, Blank::new(1));
-        assert_eq!(rt; (settled.steps, settled.joined), (*steps, *joined));
-        let mut letters = Vec::new(rt.alloc());
-        for node in stepper.state() {
-            letters.push(node.letter())?;
+        assert!(rt; settled.steps == *steps && settled.joined == *joined);
+        for (node, letter) in stepper.state().iter().zip(*after) {
+            assert!(rt; node.letter() == *letter);
         }
-        assert_eq!(rt; letters.as_slice(), *after);
     }
     Ok(())
 }
@@ -70,15 +87,4 @@ fn counted<M: Stepper, L: Ledger>(m: &mut M, graph: &Graph, limit: u64, blank: B
     requires some { blank.parts ≢ 0 }
 {
     settle(m, graph, limit, &mut Steps::<L>::new(blank))
-}
-
-// The graph of a drawing: each inverter is a p-channel switch from Vdd and an n-channel switch from Gnd.
-fn inverters(alloc: Global, drawing: &Drawing) -> Result<Graph, Fail> {
-    let (levels, inverters) = drawing;
-    let mut switches = Vec::new(alloc);
-    for (input, output) in *inverters {
-        switches.push((SwitchKind::PChan, 10, *input, VDD, *output))?;
-        switches.push((SwitchKind::NChan, 10, *input, GND, *output))?;
-    }
-    drawn(alloc, levels, &switches)
 }
