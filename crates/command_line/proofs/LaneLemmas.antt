@@ -4,10 +4,12 @@ use Rattle.std.specs.Prelude.{if◌then◌else◌, bytes_eq, codes}
 use Rattle.std.specs.Option.{option_and_then}
 use Rattle.std.proofs.lemmas.Bool.{leb-true}
 use Rattle.line_words.specs.Decimals.{decimal_of}
+use Rattle.help_texts.specs.Texts.{text_of, topics}
+use Rattle.help_texts.specs.declared.pages.TheConstants.{PAGE, VERSION}
 use Rattle.net_gen.specs.declared.families.GenPart.{GenPart}
 use Rattle.command_line.specs.Columns.{lanes_of}
 use Rattle.command_line.specs.Samples.{Sample, part_of, sample_of}
-use Rattle.command_line.specs.Requests.{Question, Simulate, Batch, Check, Groups, Compile, Explain, Judge, Request, About, OverDeck, Unclear, request_of, about, generate, sum_up, in_columns}
+use Rattle.command_line.specs.Requests.{Question, Simulate, Batch, Check, Groups, Compile, Explain, Judge, Request, About, OverDeck, Show, Unclear, request_of, about, shown, generate, sum_up, in_columns}
 
 -- a question for columns is for one at least
 abbrev pub HasColumns : Question → Type 0
@@ -32,12 +34,26 @@ columns_fit net script None = tt
 columns_fit net script (Some lanes) = told_columns net script lanes (nat_le 1 lanes) (nat_le lanes 64) refl
 
 -- the other requests ask for none
-two_fit : (net : List ℕ) (check groups compile : Bool) →
+one_fits : (help version : Bool) → AsksColumns (if help then Show PAGE.now else (if version then Show VERSION.now else Unclear))
+one_fits true version = tt
+one_fits false true = tt
+one_fits false false = tt
+
+shown_fits : (text : Option (List ℕ)) → AsksColumns (shown text)
+shown_fits (Some text) = tt
+shown_fits None = tt
+
+about_fits : (net : List ℕ) (check groups compile : Bool) →
     AsksColumns (about net (if check then Some Check else (if groups then Some Groups else (if compile then Some Compile else None))))
-two_fit net true groups compile = tt
-two_fit net false true compile = tt
-two_fit net false false true = tt
-two_fit net false false false = tt
+about_fits net true groups compile = tt
+about_fits net false true compile = tt
+about_fits net false false true = tt
+about_fits net false false false = tt
+
+two_fit : (net : List ℕ) (text : Option (List ℕ)) (help check groups compile : Bool) →
+    AsksColumns (if help then shown text else about net (if check then Some Check else (if groups then Some Groups else (if compile then Some Compile else None))))
+two_fit net text true check groups compile = shown_fits text
+two_fit net text false check groups compile = about_fits net check groups compile
 
 three_fit : (circuit script : List ℕ) (plain deck : Bool) →
     AsksColumns (if plain then About circuit (Simulate script) else (if deck then OverDeck circuit script else Unclear))
@@ -70,9 +86,9 @@ five_fit part sample false = tt
 -- so words that ask for columns ask for one at least
 pub asks_columns : (words : List (List ℕ)) → AsksColumns (request_of words)
 asks_columns [] = tt
-asks_columns (command ∷ []) = tt
+asks_columns (command ∷ []) = one_fits (bytes_eq command (codes "help")) (bytes_eq command (codes "version"))
 asks_columns (command ∷ net ∷ []) =
-    two_fit net (bytes_eq command (codes "check")) (bytes_eq command (codes "groups")) (bytes_eq command (codes "compile"))
+    two_fit net (text_of topics net) (bytes_eq command (codes "help")) (bytes_eq command (codes "check")) (bytes_eq command (codes "groups")) (bytes_eq command (codes "compile"))
 asks_columns (command ∷ circuit ∷ script ∷ []) =
     three_fit circuit script (bytes_eq command (codes "sim")) (bytes_eq command (codes "sim-spice"))
 asks_columns (command ∷ first ∷ second ∷ third ∷ []) =
