@@ -6,7 +6,7 @@ use Rattle.sim_read.specs.Meaning.{netlist_of}
 use Rattle.spice_cards.specs.declared.fault.DeckFault.{DeckFault}
 use Rattle.spice_cards.specs.declared.fault.DeckFault.TheVariants as deck_fault
 use Rattle.spice_read.specs.Making.{circuit_of}
-use Rattle.command_line.specs.Requests.{Question, Simulate, Batch, Check, Groups, Compile, Explain, Judge, Request, About, Generate, SumUp, OverDeck, Unclear, request_of}
+use Rattle.command_line.specs.Requests.{Question, Simulate, Batch, Check, Groups, Compile, Explain, Judge, Request, About, Generate, SumUp, OverDeck, Show, Unclear, request_of}
 use Rattle.command_line.proofs.LaneLemmas.{HasColumns, AsksColumns, asks_columns}
 use Rattle.session_meaning.specs.Sessions.{start_of}
 use Rattle.run_ends.specs.Answers.{Answer}
@@ -54,6 +54,7 @@ request_unique (Generate part sample) holds first second plain some one two = on
 request_unique (SumUp sample) holds first second plain some one two = sample_unique sample first second one two
 request_unique (OverDeck deck script) holds first second plain some one two =
     deck_unique (holds script) (circuit_of (holds deck)) first second one two
+request_unique (Show text) holds first second plain some one two = one ∙ sym two
 request_unique Unclear holds first second plain some one two = one ∙ sym two
 
 pub answers_unique : AnswersAreUnique
@@ -86,8 +87,11 @@ request_alike (SumUp sample) holds first second some one two =
     circuit.alike first second (request_unique (SumUp sample) holds first second refl some one two)
 request_alike (OverDeck deck script) holds first second some one two =
     circuit.alike first second (request_unique (OverDeck deck script) holds first second refl some one two)
+request_alike (Show text) holds first second some one two =
+    circuit.alike first second (request_unique (Show text) holds first second refl some one two)
 request_alike Unclear holds first second some one two =
-    circuit.alike first second (request_unique Unclear holds first second refl some one two)
+    circuit.alike first second (request_unique (Show text) holds first second plain some one two = one ∙ sym two
+request_unique Unclear holds first second refl some one two)
 
 pub answers_alike : AnswersAreAlike
 answers_alike words holds first second one two = request_alike (request_of words) holds first second (asks_columns words) one two
