@@ -90,8 +90,7 @@ request_alike (OverDeck deck script) holds first second some one two =
 request_alike (Show text) holds first second some one two =
     circuit.alike first second (request_unique (Show text) holds first second refl some one two)
 request_alike Unclear holds first second some one two =
-    circuit.alike first second (request_unique (Show text) holds first second plain some one two = one ∙ sym two
-request_unique Unclear holds first second refl some one two)
+    circuit.alike first second (request_unique Unclear holds first second refl some one two)
 
 pub answers_alike : AnswersAreAlike
 answers_alike words holds first second one two = request_alike (request_of words) holds first second (asks_columns words) one two
