@@ -88,7 +88,7 @@ impl Kept {
         self.bound
     }
 
-    /// Sets the bound on the number of texts, or takes it away. It takes effect at the next `ensure`, and
+    /// Sets the bound on the number of texts, or takes it away. It takes effect at the next build, and
     /// takes no memory.
     pub fn set_bound(&mut self, bound: Option<u64>)
         ensures { self.new ≡ record { entries = self.old.entries; bound = bound } }
@@ -147,9 +147,9 @@ impl Kept {
     }
 
     /// Moves these texts, which are kept, to the front, in order of first appearance, and cuts what is past the
-    /// bound, where there is one, but none of these texts: the second half of `ensure`, which takes no memory.
+    /// bound, if there is one, but none of these texts: the second half of `ensure`, which has no refusal.
     ///
-    /// The analyst releases what is cut, and is compacted where that was something.
+    /// The analyst releases what is cut, and is compacted if that was something and there is memory for it.
     pub fn put_first<A: Analyst>(&mut self, texts: &[GroupText], analyst: &mut A)
         requires { All (λ text. IsTrue (is_among (texts_of self.old) text)) texts.now }
         ensures texts { texts_of self.new ≡ kept_after self.old.bound texts.now (texts_of self.old) }

@@ -158,8 +158,8 @@ impl TextUses {
     /// Cuts what is kept past its bound, where it has one, but no text that some part has: so far as it is kept
     /// now, with these texts in front of it.
     ///
-    /// The analyst releases what is cut, and is compacted where that was something. It takes no memory. Where
-    /// nothing is past the bound, it takes no time either.
+    /// The analyst releases what is cut, and is compacted if that was something; if there is too little memory
+    /// for that it stays as large as it is. If nothing is past the bound, nothing is done.
     pub fn cut_past_bound<A: Analyst>(&self, kept: &mut Kept, analyst: &mut A)
         requires { All (λ text. IsTrue (is_among (texts_of kept.old) text)) (in_use self.now) }
         ensures cuts { CutsTo (in_use self.now) kept.old kept.new }

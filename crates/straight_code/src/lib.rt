@@ -3,7 +3,7 @@
 //! The main type is `Code`: instructions, each an And, an Or or a Not of constants, rails of inputs
 //! and earlier results, and a pair of operands for each output. The layers above use that `linearise`
 //! gives code that means its formulas, with one instruction for each operation that they reach, and
-//! that `Code::run` gives what the code means, with one step for each instruction and no memory;
+//! that `Code::run` gives what the code means, with one step counted for each instruction;
 //! `Code::run_mapped` gives the same of the states of nodes, over one array of values. A `Part` is the
 //! code of a group over the nodes of a whole circuit.
 //!
