@@ -32,7 +32,7 @@ use Rattle.circuit_texts.proofs.ReadLemmas.{read_inside}
 use Rattle.machine_parts.specs.declared.part.HeldPart.{HeldPart}
 use Rattle.machine_parts.specs.Parts.{Stands, AreApart, has_members}
 use Rattle.machine_parts.specs.Making.{held}
-use Rattle.unit_step.specs.Drafting.{started}
+use Rattle.unit_step.specs.Bodies.{started}
 use Rattle.unit_step.specs.declared.planning.Plan.{Plan}
 use Rattle.unit_step.specs.Planning.{IsPlan}
 use Rattle.machine_laws.specs.Fitting.{IsCoded, IsPartOf, HasPart, IsTextOf, FitsGraph}

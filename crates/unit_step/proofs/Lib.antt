@@ -8,6 +8,6 @@ pub mod LastingLemmas
 pub mod LastingOrder
 pub mod LeavingOrder
 pub mod UsedInTurn
-pub mod DraftLemmas
+pub mod BodyLemmas
 pub mod LastingRoused
 pub mod FinishingOrder

@@ -1,4 +1,4 @@
 pub mod Planning
 pub mod Lasting
-pub mod Drafting
+pub mod Bodies
 pub mod Waking

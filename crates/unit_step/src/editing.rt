@@ -41,7 +41,7 @@ impl Machine {
         ensures same { self.new ≡ record self.old { spare = self.new.spare } }
         ensures err { OnErr result (self.new ≡ self.old) }
     {
-        self.state.reserve(NEW_NODES)?;
+        self.body.state.reserve(NEW_NODES)?;
         Ok(())
     }
 
@@ -93,10 +93,10 @@ impl Machine {
             steps.new ≤ steps.old + 8 * touched_size graph.now change.now (groups_in self.old.groups) found }
     {
         graphs_are_wired(graph);
-        let alloc = *self.state.allocator();
-        let before = self.state.len();
+        let alloc = *self.body.state.allocator();
+        let before = self.body.state.len();
         self.add_nodes(graph.nodes())?;
-        let Some(mut groups) = mem::replace(&mut self.groups, None) else {
+        let Some(mut groups) = mem::replace(&mut self.body.groups, None) else {
             unreachable!()
         };
         let mut nodes = members_with(alloc, &groups, before, &nodes_before(alloc, change)?)?;
@@ -105,7 +105,7 @@ impl Machine {
         self.vacate_all(&nodes)?;
         self.renew_all(graph, &groups, &nodes)?;
         self.stale_parts_are_marked();
-        self.groups = Some(groups);
+        self.body.groups = Some(groups);
         Ok(())
     }
 
@@ -130,7 +130,7 @@ impl Machine {
         ensures apart { AreApart self.now.parts }
         ensures waits { (k : ℕ) → IsStale self.now.parts k → IsMarked self.now.marks k }
     {
-        self.agenda.waiting_parts_are_marked();
+        self.body.agenda.waiting_parts_are_marked();
     }
 
     // Seats a stale part for the group of this node, unless a part has it as a member.
@@ -145,7 +145,7 @@ impl Machine {
         if node >= graph.nodes() {
             return Ok(());
         }
-        if let Some(_owner) = owner_of(&self.owners, node) {
+        if let Some(_owner) = owner_of(&self.body.owners, node) {
             return Ok(());
         }
         match group_at(groups, node) {

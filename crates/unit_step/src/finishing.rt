@@ -92,7 +92,7 @@ impl Machine {
         ensures holds { OnOk result (HoldsKept kept.old (A.held analyst.old) → HoldsKept kept.new (A.held analyst.new)) }
         ensures nearly { OnErr result (HoldsKept kept.old (A.held analyst.old) → HoldsNearlyKept kept.new (A.held analyst.new)) }
     {
-        if self.agenda.none_waits() {
+        if self.body.agenda.none_waits() {
             return Ok(0);
         }
         let waking = self.waking(graph)?;
@@ -115,9 +115,13 @@ impl Machine {
         ensures analysed { A.analysed analyst.new ≡ A.analysed analyst.old }
         ensures holds { HoldsKept kept.old (A.held analyst.old) → HoldsKept kept.new (A.held analyst.new) }
     {
-        self.lasting.use_leavers(&self.parts, &self.uses, kept);
-        self.uses.cut_past_bound(kept, analyst);
-        self.lasting.renew(&self.parts, &self.uses, &self.owners);
+        self.body
+            .lasting
+            .use_leavers(&self.body.parts, &self.body.uses, kept);
+        self.body.uses.cut_past_bound(kept, analyst);
+        self.body
+            .lasting
+            .renew(&self.body.parts, &self.body.uses, &self.body.owners);
     }
 
     // What is found of the groups whose parts wait.
@@ -126,12 +130,12 @@ impl Machine {
         ensures waking { IfOk result (IsWaking graph.now self.now.parts) }
         ensures refused { IfErr result (λ fault. (fault ≡ BuildFault.NoMemory) ⊎ TellsTooLarge graph.now fault) }
     {
-        let alloc = *self.parts.allocator();
-        let Some(groups) = &self.groups else {
+        let alloc = *self.body.parts.allocator();
+        let Some(groups) = &self.body.groups else {
             unreachable!();
         };
-        let nodes = least_members(alloc, &self.parts, &self.agenda)?;
-        let slots = owners_of(alloc, &self.owners, &nodes)?;
+        let nodes = least_members(alloc, &self.body.parts, &self.body.agenda)?;
+        let slots = owners_of(alloc, &self.body.owners, &nodes)?;
         let ids = ids_at(alloc, graph, groups, &nodes)?;
         let GroupTexts { texts, maps } = texts_at(alloc, graph, groups, &ids)?;
         Ok(Waking {
@@ -153,7 +157,7 @@ impl Machine {
         ensures err { OnErr result (self.new ≡ self.old) }
     {
         graphs_are_wired(graph);
-        let alloc = *self.parts.allocator();
+        let alloc = *self.body.parts.allocator();
         let Waking {
             slots,
             texts,
@@ -164,15 +168,17 @@ impl Machine {
         let Some(needs) = needs_of(&fresh) else {
             return Err(NoMemory);
         };
-        let numbers = numbers_of(alloc, &texts, &mut self.uses)?;
-        widen_for_codes(&mut self.desk, needs.values)?;
-        let seats = self.dense.seats_for(alloc, &fresh)?;
-        self.lasting.note_all(&slots, &self.parts)?;
-        self.readers.list_all(&slots, &fresh, &self.parts)?;
-        put_texts(&slots, &numbers, &mut self.uses);
-        self.dense.put_all(&slots, seats);
-        put_in(&slots, fresh, &mut self.parts);
-        self.agenda.rouse();
+        let numbers = numbers_of(alloc, &texts, &mut self.body.uses)?;
+        widen_for_codes(&mut self.body.desk, needs.values)?;
+        let seats = self.body.dense.seats_for(alloc, &fresh)?;
+        self.body.lasting.note_all(&slots, &self.body.parts)?;
+        self.body
+            .readers
+            .list_all(&slots, &fresh, &self.body.parts)?;
+        put_texts(&slots, &numbers, &mut self.body.uses);
+        self.body.dense.put_all(&slots, seats);
+        put_in(&slots, fresh, &mut self.body.parts);
+        self.body.agenda.rouse();
         Ok(())
     }
 }

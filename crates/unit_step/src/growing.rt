@@ -13,13 +13,13 @@ impl Machine {
         ensures ok { OnOk result (self.new ≡ record self.old { state = with_new_nodes self.old.state nodes; spare = self.new.spare }) }
         ensures err { OnErr result (self.new ≡ self.old) }
     {
-        let more = nodes.saturating_sub(self.state.len());
-        self.owners.reserve(more)?;
-        self.lasting.numbers.reserve(more)?;
-        self.readers.grow(nodes)?;
-        grow(&mut self.state, nodes);
-        grow_none(&mut self.owners, nodes);
-        grow_none(&mut self.lasting.numbers, nodes);
+        let more = nodes.saturating_sub(self.body.state.len());
+        self.body.owners.reserve(more)?;
+        self.body.lasting.numbers.reserve(more)?;
+        self.body.readers.grow(nodes)?;
+        grow(&mut self.body.state, nodes);
+        grow_none(&mut self.body.owners, nodes);
+        grow_none(&mut self.body.lasting.numbers, nodes);
         Ok(())
     }
 }

@@ -19,7 +19,7 @@
 //! 1987.
 #![tactic(auto)]
 
-mod drafting;
+mod body;
 mod editing;
 mod finishing;
 mod growing;

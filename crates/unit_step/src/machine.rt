@@ -17,12 +17,12 @@ ghost use Rattle.circuit_texts.specs.Sizes.{TellsTooLarge};
 ghost use Rattle.circuit_texts.specs.Building.{Builds, IsCutOff};
 ghost use Rattle.machine_parts.specs.Parts.{HasMember, ReadsAt, AreApart, has_members};
 ghost use Rattle.machine_laws.specs.Columns.{AreSeated};
-ghost use Rattle.unit_step.specs.Drafting.{CanStart, drafted};
+ghost use Rattle.unit_step.specs.Bodies.{CanStart, of_body};
 ghost use Rattle.machine_parts.specs.Marking.{count_marked, marked_sum, instructions_of, MarksAll};
 ghost use Rattle.machine_laws.specs.Machines.{Advances, Places};
 ghost use Rattle.machine_laws.specs.Fitting.{Covers, FitsGraph};
 
-use crate::drafting::Draft;
+use crate::body::Body;
 use crate::lasting::Lasting;
 use crate::planning::plan_of;
 use analysis_cache::{Analyst, Kept};
@@ -42,25 +42,7 @@ use ternary::{Steps, Tern};
 ///
 /// A step runs the code of the marked parts alone. All its room is taken when the machine is made.
 pub struct Machine {
-    // the groups of the graph that the machine was built for
-    pub(crate) groups: Option<Groups>,
-    pub(crate) parts: Vec<HeldPart>,
-    // what a step reads of the parts
-    pub(crate) dense: DenseParts,
-    // the text of each part that has a group and code
-    pub(crate) uses: TextUses,
-    // the texts of the last build
-    pub(crate) lasting: Lasting,
-    // how many parts have a member
-    pub(crate) held: usize,
-    // at least as many as all parts have members
-    pub(crate) most: usize,
-    pub(crate) agenda: Agenda,
-    // for each node the parts that read it, and the part that it is a member of
-    pub(crate) readers: ReaderLists,
-    pub(crate) owners: Vec<Option<usize>>,
-    pub(crate) state: Vec<Tern>,
-    pub(crate) desk: Desk,
+    pub(crate) body: Body,
     pub(crate) moves: u64,
     pub(crate) placed: u64,
 }
@@ -76,10 +58,10 @@ impl Model for Machine {
 
     ghost Value = { MachineData };
 
-    ghost view = { λ m. record { groups = m.groups; parts = m.parts.items; uses = texts_used m.uses; marks = m.agenda.marks; state = m.state.items; texts = count_distinct (texts_used m.uses); last = texts_lasting m.uses.known m.lasting; moves = m.moves; placed = m.placed; spare = vec_capacity m.state - vec_len m.state } };
+    ghost view = { λ m. record { groups = m.body.groups; parts = m.body.parts.items; uses = texts_used m.body.uses; marks = m.body.agenda.marks; state = m.body.state.items; texts = count_distinct (texts_used m.body.uses); last = texts_lasting m.body.uses.known m.body.lasting; moves = m.moves; placed = m.placed; spare = vec_capacity m.body.state - vec_len m.body.state } };
 
-    ghost invariant = { λ m. IsMachine m.parts.items m.agenda.marks m.agenda.waiting (length m.state.items) m.readers m.owners.items m.uses.numbers m.held m.most (rooms m.desk)
-        × AreDense m.parts.items m.dense × AreLasting m.parts.items m.uses.numbers (length m.state.items) (length m.uses.known) m.lasting };
+    ghost invariant = { λ m. IsMachine m.body.parts.items m.body.agenda.marks m.body.agenda.waiting (length m.body.state.items) m.body.readers m.body.owners.items m.body.uses.numbers m.body.held m.body.most (rooms m.body.desk)
+        × AreDense m.body.parts.items m.body.dense × AreLasting m.body.parts.items m.body.uses.numbers (length m.body.state.items) (length m.body.uses.known) m.body.lasting };
 }
 
 impl Machine {
@@ -117,42 +99,18 @@ impl Machine {
     {
         let plan = plan_of(alloc, kept.keys(), graph, state)?;
         let fresh = kept.fill(plan.uses.known(), analyst)?;
-        let draft = Draft::of_plan(alloc, graph, plan, kept)?;
-        kept.put_first(draft.uses.known(), analyst);
-        Ok((Machine::start(draft), fresh))
+        let body = Body::of_plan(alloc, graph, plan, kept)?;
+        kept.put_first(body.uses.known(), analyst);
+        Ok((Machine::start(body), fresh))
     }
 
     // The machine that starts with what was made for it. It takes no memory.
-    fn start(draft: Draft) -> Machine
-        requires { CanStart draft }
-        ensures { result ≡ drafted draft result.spare }
+    fn start(body: Body) -> Machine
+        requires { CanStart body }
+        ensures { result ≡ of_body body result.spare }
     {
-        let Draft {
-            groups,
-            parts,
-            dense,
-            uses,
-            lasting,
-            held,
-            agenda,
-            readers,
-            owners,
-            state,
-            desk,
-        } = draft;
         Machine {
-            groups,
-            parts,
-            dense,
-            uses,
-            lasting,
-            held,
-            most: desk.changes.capacity(),
-            agenda,
-            readers,
-            owners,
-            state,
-            desk,
+            body,
             moves: 0,
             placed: 0,
         }
@@ -162,7 +120,7 @@ impl Machine {
     pub fn state(&self) -> &[Tern]
         ensures { result.now ≡ self.now.state }
     {
-        &self.state
+        &self.body.state
     }
 
     /// The state of each node, for what goes on without the machine, with its room for more.
@@ -195,6 +153,11 @@ impl Machine {
         ensures reads { (k node : ℕ) → ReadsAt self.parts k node → node < length self.state }
     {
         let Machine {
+            body,
+            moves: _moves,
+            placed: _placed,
+        } = self;
+        let Body {
             groups: _groups,
             parts,
             dense: _dense,
@@ -207,9 +170,7 @@ impl Machine {
             owners: _owners,
             state,
             desk: _desk,
-            moves: _moves,
-            placed: _placed,
-        } = self;
+        } = body;
         (parts, state)
     }
 
@@ -217,28 +178,28 @@ impl Machine {
     pub fn grouping(&self) -> Option<&Groups>
         ensures { option_map (λ groups. groups.now) result ≡ self.now.groups }
     {
-        self.groups.as_ref()
+        self.body.groups.as_ref()
     }
 
     /// How many groups it has: how many of its parts have a member.
     pub fn groups(&self) -> usize
         ensures { result ≡ count_by has_members self.now.parts }
     {
-        self.held
+        self.body.held
     }
 
     /// How many parts it has, with those that groups left which edits dissolved: these have no member.
     pub fn parts(&self) -> usize
         ensures { result ≡ length self.now.parts }
     {
-        self.parts.len()
+        self.body.parts.len()
     }
 
     /// How many distinct texts its groups have.
     pub fn texts(&self) -> usize
         ensures { result ≡ self.now.texts }
     {
-        self.uses.distinct()
+        self.body.uses.distinct()
     }
 
     /// Moves the texts that its groups had at the last build to the front of what is kept, in their order, for
@@ -251,7 +212,7 @@ impl Machine {
         ensures texts { texts_of kept.new ≡ used_texts self.now.last (texts_of kept.old) }
         ensures bound { kept.new.bound ≡ kept.old.bound }
     {
-        self.lasting.use_all(&self.uses, kept);
+        self.body.lasting.use_all(&self.body.uses, kept);
     }
 
     /// How often a step changed the state. It stays at `u64::MAX` once it is there.
@@ -272,7 +233,7 @@ impl Machine {
     pub fn marked(&self) -> usize
         ensures { result ≡ count_marked self.now.marks }
     {
-        self.agenda.marked()
+        self.body.agenda.marked()
     }
 
     /// Gives a node that is no rail this state, and marks the parts that have it as a member or read
@@ -290,10 +251,10 @@ impl Machine {
         ensures no_member { ((k : ℕ) → ¬ HasMember self.old.parts k node) → self.new.placed ≡ self.old.placed }
     {
         graphs_are_wired(graph);
-        self.state[node] = value;
-        let owner = self.owners[node];
-        mark_owner(owner, &mut self.agenda);
-        mark_all(self.readers.of(node), &mut self.agenda);
+        self.body.state[node] = value;
+        let owner = self.body.owners[node];
+        mark_owner(owner, &mut self.body.agenda);
+        mark_all(self.body.readers.of(node), &mut self.body.agenda);
         self.placed = placed_after(self.placed, owner);
     }
 
@@ -310,12 +271,12 @@ impl Machine {
     {
         let changed = advance(
             joining,
-            &self.parts,
-            &self.dense,
-            &self.readers,
-            &mut self.state,
-            &mut self.agenda,
-            &mut self.desk,
+            &self.body.parts,
+            &self.body.dense,
+            &self.body.readers,
+            &mut self.body.state,
+            &mut self.body.agenda,
+            &mut self.body.desk,
             steps,
         );
         self.moves = moves_after(self.moves, changed);

@@ -19,16 +19,16 @@ impl Machine {
         ensures ok { OnOk result (Vacates k self.old self.new) }
         ensures err { OnErr result (self.new ≡ self.old) }
     {
-        self.lasting.note(&self.parts[k])?;
-        let alloc = *self.state.allocator();
-        let gone = mem::replace(&mut self.parts[k], no_part(alloc));
-        self.dense.clear(k);
-        disown(&gone.map[..gone.members], &mut self.owners);
-        self.readers.unlist(k, &gone.reads, &self.parts);
-        self.agenda.release(k);
-        self.uses.free(k);
-        self.held -= count_one(&gone);
-        self.most -= gone.members;
+        self.body.lasting.note(&self.body.parts[k])?;
+        let alloc = *self.body.state.allocator();
+        let gone = mem::replace(&mut self.body.parts[k], no_part(alloc));
+        self.body.dense.clear(k);
+        disown(&gone.map[..gone.members], &mut self.body.owners);
+        self.body.readers.unlist(k, &gone.reads, &self.body.parts);
+        self.body.agenda.release(k);
+        self.body.uses.free(k);
+        self.body.held -= count_one(&gone);
+        self.body.most -= gone.members;
         Ok(())
     }
 
@@ -45,20 +45,20 @@ impl Machine {
         ensures spare { self.new.spare ≡ self.old.spare }
         ensures last { self.new.last ≡ self.old.last }
     {
-        let part = part_of(*self.state.allocator(), members)?;
-        let Some(most) = self.most.checked_add(members.len()) else {
+        let part = part_of(*self.body.state.allocator(), members)?;
+        let Some(most) = self.body.most.checked_add(members.len()) else {
             return Err(NoMemory);
         };
-        self.parts.reserve(1)?;
-        self.dense.make_room()?;
-        widen_for_parts(&mut self.desk, most, self.parts.len() + 1)?;
-        self.uses.add()?;
-        self.agenda.wait_more()?;
-        own(self.parts.len(), members, &mut self.owners);
-        self.parts.push_reserved(part);
-        self.dense.add_stale();
-        self.held += 1;
-        self.most = most;
+        self.body.parts.reserve(1)?;
+        self.body.dense.make_room()?;
+        widen_for_parts(&mut self.body.desk, most, self.body.parts.len() + 1)?;
+        self.body.uses.add()?;
+        self.body.agenda.wait_more()?;
+        own(self.body.parts.len(), members, &mut self.body.owners);
+        self.body.parts.push_reserved(part);
+        self.body.dense.add_stale();
+        self.body.held += 1;
+        self.body.most = most;
         Ok(())
     }
 
@@ -67,7 +67,7 @@ impl Machine {
         ensures ok { OnOk result (Clears (node ∷ []) self.old self.new) }
         ensures err { OnErr result (self.new ≡ self.old) }
     {
-        match owner_of(&self.owners, node) {
+        match owner_of(&self.body.owners, node) {
             Some(k) => self.vacate(k),
             None => Ok(()),
         }

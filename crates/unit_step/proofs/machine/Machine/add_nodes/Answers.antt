@@ -14,7 +14,7 @@ invariant_of-self-in_err-reserve-2 c =
     rw c.reserve.ensures.items (
       c.self.invariant.0,
       c.self.invariant.1,
-      AreLasting-same i.parts.items i.uses.numbers (length i.state.items) (length i.uses.known) i.lasting c.self.invariant.2 i.uses.numbers _
+      AreLasting-same i.body.parts.items i.body.uses.numbers (length i.body.state.items) (length i.body.uses.known) i.body.lasting c.self.invariant.2 i.body.uses.numbers _
           (λ k. refl) c.reserve-2.ensures.items refl,
     )
 
@@ -24,7 +24,7 @@ invariant_of-self-in_err-grow c =
     rw (c.reserve.ensures.items, c.in_err-grow.ensures.err) (
       c.self.invariant.0,
       c.self.invariant.1,
-      AreLasting-same i.parts.items i.uses.numbers (length i.state.items) (length i.uses.known) i.lasting c.self.invariant.2 i.uses.numbers _
+      AreLasting-same i.body.parts.items i.body.uses.numbers (length i.body.state.items) (length i.body.uses.known) i.body.lasting c.self.invariant.2 i.body.uses.numbers _
           (λ k. refl) c.reserve-2.ensures.items refl,
     )
 
@@ -32,42 +32,42 @@ pub invariant_of-self-2 : goal.invariant_of-self-2
 invariant_of-self-2 c =
     let i = c.self.inside in
     let nodes = c.args.nodes in
-    let count = length i.state.items in
+    let count = length i.body.state.items in
     let own = c.self.invariant.0.own.counted in
     let read = c.self.invariant.0.runs.readers_counted in
     let states : length c.grow-2.new.state.items ≡ count + (nodes - count) =
-    ap length c.grow-2.ensures.state ∙ (length-append i.state.items (replicate (nodes - count) Unk) ∙ ap (λ n. count + n) (length-replicate (nodes - count) Unk)) in
-    let before : c.reserve.new.self.items ≡ i.owners.items = c.reserve.ensures.items in
-    let owners_are : c.grow_none.new.all.items ≡ i.owners.items ++ replicate (nodes - count) None =
+    ap length c.grow-2.ensures.state ∙ (length-append i.body.state.items (replicate (nodes - count) Unk) ∙ ap (λ n. count + n) (length-replicate (nodes - count) Unk)) in
+    let before : c.reserve.new.self.items ≡ i.body.owners.items = c.reserve.ensures.items in
+    let owners_are : c.grow_none.new.all.items ≡ i.body.owners.items ++ replicate (nodes - count) None =
     c.grow_none.ensures ∙ ap (λ (list : List (Option ℕ)). list ++ replicate (nodes - length list) None) before
-    ∙ ap (λ n. i.owners.items ++ replicate (nodes - n) None) own in
+    ∙ ap (λ n. i.body.owners.items ++ replicate (nodes - n) None) own in
     let owners_count : length c.grow_none.new.all.items ≡ length c.grow-2.new.state.items =
-    ap length owners_are ∙ (length-append i.owners.items (replicate (nodes - count) None)
+    ap length owners_are ∙ (length-append i.body.owners.items (replicate (nodes - count) None)
     ∙ omega (arith, length-replicate {A = Option ℕ} (nodes - count) None, own, states)) in
-    let lasting_are : c.grow_none-2.new.all.items ≡ i.lasting.numbers.items ++ replicate (nodes - count) None =
+    let lasting_are : c.grow_none-2.new.all.items ≡ i.body.lasting.numbers.items ++ replicate (nodes - count) None =
     c.grow_none-2.ensures ∙ ap (λ (list : List (Option ℕ)). list ++ replicate (nodes - length list) None) c.reserve-2.ensures.items
-    ∙ ap (λ n. i.lasting.numbers.items ++ replicate (nodes - n) None) c.self.invariant.2.counted in
+    ∙ ap (λ n. i.body.lasting.numbers.items ++ replicate (nodes - n) None) c.self.invariant.2.counted in
     let lasting_count : length c.grow_none-2.new.all.items ≡ length c.grow-2.new.state.items =
-    ap length lasting_are ∙ (length-append i.lasting.numbers.items (replicate (nodes - count) None)
+    ap length lasting_are ∙ (length-append i.body.lasting.numbers.items (replicate (nodes - count) None)
     ∙ omega (arith, length-replicate {A = Option ℕ} (nodes - count) None, c.self.invariant.2.counted, states)) in
     let lists_count : length c.grow.new.self ≡ length c.grow-2.new.state.items =
     omega (arith, c.in_ok-grow.ensures.count, read, states) in (
-      IsMachine-grown i.parts.items i.agenda.marks i.agenda.waiting count (length c.grow-2.new.state.items) i.readers c.grow.new.self
-          i.owners.items c.grow_none.new.all.items i.uses.numbers i.held i.most (rooms i.desk) c.self.invariant.0 (omega (arith, states)) lists_count
+      IsMachine-grown i.body.parts.items i.body.agenda.marks i.body.agenda.waiting count (length c.grow-2.new.state.items) i.body.readers c.grow.new.self
+          i.body.owners.items c.grow_none.new.all.items i.body.uses.numbers i.body.held i.body.most (rooms i.body.desk) c.self.invariant.0 (omega (arith, states)) lists_count
           c.grow.ensures.same owners_count
-          (λ node. ap (λ list. slice_index_or list node None) owners_are ∙ none_more i.owners.items (nodes - count) node),
+          (λ node. ap (λ list. slice_index_or list node None) owners_are ∙ none_more i.body.owners.items (nodes - count) node),
       c.self.invariant.1,
-      AreLasting-grown i.parts.items i.uses.numbers count (length i.uses.known) i.lasting c.self.invariant.2 (length c.grow-2.new.state.items) _
+      AreLasting-grown i.body.parts.items i.body.uses.numbers count (length i.body.uses.known) i.body.lasting c.self.invariant.2 (length c.grow-2.new.state.items) _
           (omega (arith, states)) lasting_count
-          (λ node. ap (λ list. slice_index_or list node None) lasting_are ∙ none_more i.lasting.numbers.items (nodes - count) node) refl,
+          (λ node. ap (λ list. slice_index_or list node None) lasting_are ∙ none_more i.body.lasting.numbers.items (nodes - count) node) refl,
     )
 
 pub returns-clause-ok : goal.returns-clause-ok
 returns-clause-ok c =
     let i = c.self.inside in
     let nodes = c.args.nodes in
-    let count = length i.state.items in
-    let lasting_are : c.grow_none-2.new.all.items ≡ i.lasting.numbers.items ++ replicate (nodes - length i.lasting.numbers.items) None =
+    let count = length i.body.state.items in
+    let lasting_are : c.grow_none-2.new.all.items ≡ i.body.lasting.numbers.items ++ replicate (nodes - length i.body.lasting.numbers.items) None =
     c.grow_none-2.ensures ∙ ap (λ (list : List (Option ℕ)). list ++ replicate (nodes - length list) None) c.reserve-2.ensures.items in
     rw (← c.self.view_is, c.grow-2.ensures.state)
-    (rw (lasting_are, texts_numbered-grown i.uses.known i.lasting.numbers.items (nodes - length i.lasting.numbers.items)) refl)
+    (rw (lasting_are, texts_numbered-grown i.body.uses.known i.body.lasting.numbers.items (nodes - length i.body.lasting.numbers.items)) refl)

@@ -33,14 +33,14 @@ returns-in_err-fresh-clause-grown g c =
     on_err c.from_residual-in_err-fresh.result
     (IsGrown-cut_off c.args.graph.now c.args.kept.now c.fill.new.self _ _ _ _ c.known.result.now c.in_err-fresh.ensures.err)
 
-pub returns-in_err-draft-clause-cut_off : goal.returns-in_err-draft-clause-cut_off
-returns-in_err-draft-clause-cut_off g c = λ is.
+pub returns-in_err-body-clause-cut_off : goal.returns-in_err-body-clause-cut_off
+returns-in_err-body-clause-cut_off g c = λ is.
     cut_off_end c.args.graph.now c.args.kept.now c.fill.new.self _ _ _ _ c.known.result.now _ c.known.ensures
-    (fresh_in g (goal.at.returns-in_err-draft-clause-cut_off g c).In_ok-plan) c.in_ok-fresh.fresh c.in_ok-fresh.ensures.ok
+    (fresh_in g (goal.at.returns-in_err-body-clause-cut_off g c).In_ok-plan) c.in_ok-fresh.fresh c.in_ok-fresh.ensures.ok
 
-pub returns-in_err-draft-clause-grown : goal.returns-in_err-draft-clause-grown
-returns-in_err-draft-clause-grown g c =
-    on_err c.from_residual-in_err-draft.result
+pub returns-in_err-body-clause-grown : goal.returns-in_err-body-clause-grown
+returns-in_err-body-clause-grown g c =
+    on_err c.from_residual-in_err-body.result
     (IsGrown-filled c.args.graph.now c.args.kept.now c.fill.new.self _ _ _ _ c.known.result.now c.in_ok-fresh.fresh c.in_ok-fresh.ensures.ok)
 
 pub returns-clause-builds : goal.returns-clause-builds
@@ -53,7 +53,7 @@ returns-clause-builds g c =
     let held_after = g.A.Analyst.held c.fill.new.analyst in
     let plan = c.in_ok-plan.plan in
     let planned = c.in_ok-plan.ensures.plan in
-    let known_are : c.known-2.result.now ≡ plan.uses.known = c.known-2.ensures ∙ ap (λ (uses : UsesData). uses.known) c.in_ok-draft.ensures.uses in
+    let known_are : c.known-2.result.now ≡ plan.uses.known = c.known-2.ensures ∙ ap (λ (uses : UsesData). uses.known) c.in_ok-body.ensures.uses in
     let fills = subst (λ (list : List GroupTextData). FillsAll kept filled before after held_before held_after list c.in_ok-fresh.fresh) c.known.ensures
     c.in_ok-fresh.ensures.ok in
     let first = c.put_first.ensures.texts ∙ ap (λ known. kept_after filled.bound known (texts_of filled)) known_are in
@@ -63,7 +63,7 @@ returns-clause-builds g c =
     (sym c.put_first.ensures.analysed) builds
 
 pub returns-clause-fits : goal.returns-clause-fits
-returns-clause-fits g c = subst (FitsGraph c.args.graph.now) (sym c.start.ensures) (c.in_ok-draft.ensures.fits c.start.result.spare)
+returns-clause-fits g c = subst (FitsGraph c.args.graph.now) (sym c.start.ensures) (c.in_ok-body.ensures.fits c.start.result.spare)
 
 pub returns-in_err-plan-clause-nearly : goal.returns-in_err-plan-clause-nearly
 returns-in_err-plan-clause-nearly g c =
@@ -72,9 +72,9 @@ returns-in_err-plan-clause-nearly g c =
 pub returns-in_err-fresh-clause-nearly : goal.returns-in_err-fresh-clause-nearly
 returns-in_err-fresh-clause-nearly g c = on_err c.from_residual-in_err-fresh.result c.in_err-fresh.ensures.nearly
 
-pub returns-in_err-draft-clause-nearly : goal.returns-in_err-draft-clause-nearly
-returns-in_err-draft-clause-nearly g c =
-    on_err c.from_residual-in_err-draft.result (λ holds.
+pub returns-in_err-body-clause-nearly : goal.returns-in_err-body-clause-nearly
+returns-in_err-body-clause-nearly g c =
+    on_err c.from_residual-in_err-body.result (λ holds.
     HoldsNearlyKept-same c.fill.new.self (g.A.Analyst.held c.fill.new.analyst) (c.in_ok-fresh.ensures.holds holds))
 
 pub returns-clause-holds : goal.returns-clause-holds

@@ -24,12 +24,12 @@ grown g c =
     ∙ ap (λ n. record c.args.self.now { state = with_new_nodes c.args.self.now.state n; spare = c.add_nodes.new.self.spare }) c.nodes.ensures
 
 -- its states are those that are to be
-state_grown : (g : Over) (c : In-Some g) → c.self-2.inside.state.items ≡ with_new_nodes c.args.self.now.state (nodes c.args.graph.now)
+state_grown : (g : Over) (c : In-Some g) → c.self-2.inside.body.state.items ≡ with_new_nodes c.args.self.now.state (nodes c.args.graph.now)
 state_grown g c = ap (λ (m : MachineData). m.state) (grown g c)
 
 state_again : (g : Over) (c : In-Some g) →
-    with_new_nodes c.self-2.inside.state.items (nodes c.args.graph.now) ≡ with_new_nodes c.args.self.now.state (nodes c.args.graph.now)
-state_again g c = grown_again c.args.self.now.state c.self-2.inside.state.items (nodes c.args.graph.now) (state_grown g c)
+    with_new_nodes c.self-2.inside.body.state.items (nodes c.args.graph.now) ≡ with_new_nodes c.args.self.now.state (nodes c.args.graph.now)
+state_again g c = grown_again c.args.self.now.state c.self-2.inside.body.state.items (nodes c.args.graph.now) (state_grown g c)
 
 -- the groups that are regrouped are those that the machine had
 held_before : (g : Over) (c : In-Some g) → Some c.in-Some.groups ≡ c.args.self.now.groups
@@ -86,7 +86,7 @@ members_with-requires-clause-below g c = λ group node there member.
     let same : c.in-Some.groups ≡ covers.groups = cc in
     let below = member_below (undo c.args.graph.now c.args.change.now) covers.groups.groups c.in-Some.groups.groups covers.are.are
     (ap (λ (groups : GroupsData). groups.groups) same) group node there member in
-    omega (arith, below, covers.counted, c.len-before.ensures, ap (λ (m : MachineData). length m.state) c.self.view_is, c.self.inside.state.ok.0)
+    omega (arith, below, covers.counted, c.len-before.ensures, ap (λ (m : MachineData). length m.state) c.self.view_is, c.self.inside.body.state.ok.0)
 
 pub renew_all-requires-clause-counted : goal.renew_all-requires-clause-counted
 renew_all-requires-clause-counted g c =

@@ -13,7 +13,7 @@ returns-then-node-nodes-clause-ok c =
 
 pub returns-in-Some-clause-ok : goal.returns-in-Some-clause-ok
 returns-in-Some-clause-ok c =
-    let has = owner_has c.self.inside.parts.items c.args.self.now.parts (length c.self.inside.state.items) c.self.inside.owners.items c.deref.result.now
+    let has = owner_has c.self.inside.body.parts.items c.args.self.now.parts (length c.self.inside.body.state.items) c.self.inside.body.owners.items c.deref.result.now
     c.self.invariant.0.own (ap (λ (m : MachineData). m.parts) c.self.view_is) c.deref.ensures.value c.args.node c.in-Some._owner c.in-Some.ensures in
     inl (refl, inl (c.in-Some._owner, has))
 
@@ -39,7 +39,7 @@ pub returns-in-Some-group_at-clause-ok : goal.returns-in-Some-group_at-clause-ok
 returns-in-Some-group_at-clause-ok c =
     let group = c.in-Some-group_at.group.now in
     let (there, member) = found_group c.args.graph.now c.args.groups.now.groups c.requires.groups.are c.args.node group (sym c.in-Some-group_at.ensures) in
-    let ownerless = no_owner c.self.inside.parts.items c.args.self.now.parts (length c.self.inside.state.items) c.self.inside.owners.items
+    let ownerless = no_owner c.self.inside.body.parts.items c.args.self.now.parts (length c.self.inside.body.state.items) c.self.inside.body.owners.items
     c.deref.result.now c.self.invariant.0.own (ap (λ (m : MachineData). m.parts) c.self.view_is) c.deref.ensures.value c.args.node c.in_default.ensures in
     on_ok _ _ c.renew.result
     (λ renews. inr (ownerless, (group, there, member, subst (λ members. Renews members c.args.self.now c.renew.new.self) c.members.ensures renews)))

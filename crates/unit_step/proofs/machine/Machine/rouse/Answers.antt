@@ -42,7 +42,7 @@ held_parts-requires c =
     let slots = c.args.waking.slots.items in
     let parts = c.in_ok-parts_of.field-0.items in
     let of = parts_of_groups g waking.some _ _ parts (c.deref.ensures.value ∙ waking.texts) waking.maps c.in_ok-parts_of.ensures in
-    parts_counted g c.graphs_are_wired.ensures waking.groups waking.some slots i.parts.items waking.are waking.waiting parts c.args.waking.reads.items of
+    parts_counted g c.graphs_are_wired.ensures waking.groups waking.some slots i.body.parts.items waking.are waking.waiting parts c.args.waking.reads.items of
     waking.reads
 
 -- the machine covers the graph
@@ -50,30 +50,30 @@ covers_in : (c : In_ok-fresh) → Covers c.args.graph.now (the_view c.self.insid
 covers_in c = subst (Covers c.args.graph.now) (sym c.self.view_is) c.requires.covers
 
 -- what was found of the parts that wait is of the machine's parts
-waking_in : (c : In_ok-fresh) → IsWaking c.args.graph.now c.self.inside.parts.items c.args.waking
+waking_in : (c : In_ok-fresh) → IsWaking c.args.graph.now c.self.inside.body.parts.items c.args.waking
 waking_in c = subst (λ (m : MachineData). IsWaking c.args.graph.now m.parts c.args.waking) (sym c.self.view_is) c.requires.waking
 
 -- the fresh parts are those of the groups that wait
-parts_made : (c : In_ok-fresh) → AreMade c.args.graph.now (waking_in c).some c.args.waking.slots.items c.self.inside.parts.items c.in_ok-fresh.fresh.items
-    (length c.self.inside.state.items)
+parts_made : (c : In_ok-fresh) → AreMade c.args.graph.now (waking_in c).some c.args.waking.slots.items c.self.inside.body.parts.items c.in_ok-fresh.fresh.items
+    (length c.self.inside.body.state.items)
 parts_made c =
     let g = c.args.graph.now in
     let i = c.self.inside in
     let waking = waking_in c in
     let parts = c.in_ok-parts_of.field-0.items in
     let of = parts_of_groups g waking.some _ _ parts (c.deref.ensures.value ∙ waking.texts) waking.maps c.in_ok-parts_of.ensures in
-    AreMade-held g c.graphs_are_wired.ensures waking.groups waking.some c.args.waking.slots.items i.parts.items waking.are waking.waiting parts
-    c.args.waking.reads.items c.in_ok-fresh.fresh.items (length i.state.items) of waking.reads c.in_ok-fresh.ensures (covers_in c).counted
+    AreMade-held g c.graphs_are_wired.ensures waking.groups waking.some c.args.waking.slots.items i.body.parts.items waking.are waking.waiting parts
+    c.args.waking.reads.items c.in_ok-fresh.fresh.items (length i.body.state.items) of waking.reads c.in_ok-fresh.ensures (covers_in c).counted
 
 -- the texts of the last build are known under more numbers
-lasting_numbered : (c : After-numbers_of) → AreLasting c.self.inside.parts.items c.numbers_of.new.uses.numbers (length c.self.inside.state.items)
-    (length c.numbers_of.new.uses.known) c.self.inside.lasting
+lasting_numbered : (c : After-numbers_of) → AreLasting c.self.inside.body.parts.items c.numbers_of.new.uses.numbers (length c.self.inside.body.state.items)
+    (length c.numbers_of.new.uses.known) c.self.inside.body.lasting
 lasting_numbered c =
     let i = c.self.inside in
-    AreLasting-numbered i.parts.items i.uses c.numbers_of.new.uses (length i.state.items) i.lasting c.numbers_of.ensures.numbered c.self.invariant.2
+    AreLasting-numbered i.body.parts.items i.body.uses c.numbers_of.new.uses (length i.body.state.items) i.body.lasting c.numbers_of.ensures.numbered c.self.invariant.2
 
 -- a machine that only has more numbers, and noted some nodes, is as before
-left_as : (c : After-numbers_of) (noted : Lasting) → noted.numbers ≡ c.self.inside.lasting.numbers →
+left_as : (c : After-numbers_of) (noted : Lasting) → noted.numbers ≡ c.self.inside.body.lasting.numbers →
     record (the_view c.self.inside) {
       uses = texts_used c.numbers_of.new.uses;
       texts = count_distinct (texts_used c.numbers_of.new.uses);
@@ -82,7 +82,7 @@ left_as : (c : After-numbers_of) (noted : Lasting) → noted.numbers ≡ c.self.
 left_as c noted numbers_are =
     let i = c.self.inside in
     let uses = c.numbers_of.new.uses in
-    let last_is = texts_lasting-numbered i.uses uses uses.known i.lasting noted c.numbers_of.ensures.numbered refl numbers_are c.self.invariant.2.inside in
+    let last_is = texts_lasting-numbered i.body.uses uses uses.known i.body.lasting noted c.numbers_of.ensures.numbered refl numbers_are c.self.invariant.2.inside in
     same_texts_left (the_view i) (texts_used uses) (texts_lasting uses.known noted) c.numbers_of.ensures.same last_is ∙ c.self.view_is
 
 -- each text has its number
@@ -90,13 +90,13 @@ texts_numbered : (c : In_ok-numbers) → map (slice_get c.numbers_of.new.uses.kn
 texts_numbered c = c.in_ok-numbers.ensures.numbers ∙ ap (map Some) c.deref-3.ensures.value
 
 -- the machine with more room, and lists of the same readers
-machine_wider : (c : After-widen_for_codes) (lists : List (SmallVec ℕ)) → HaveSameReaders c.self.inside.readers lists →
-    IsMachine c.self.inside.parts.items c.self.inside.agenda.marks c.self.inside.agenda.waiting (length c.self.inside.state.items) lists
-    c.self.inside.owners.items c.numbers_of.new.uses.numbers c.self.inside.held c.self.inside.most (rooms c.widen_for_codes.new.desk)
+machine_wider : (c : After-widen_for_codes) (lists : List (SmallVec ℕ)) → HaveSameReaders c.self.inside.body.readers lists →
+    IsMachine c.self.inside.body.parts.items c.self.inside.body.agenda.marks c.self.inside.body.agenda.waiting (length c.self.inside.body.state.items) lists
+    c.self.inside.body.owners.items c.numbers_of.new.uses.numbers c.self.inside.body.held c.self.inside.body.most (rooms c.widen_for_codes.new.desk)
 machine_wider c lists same =
     let i = c.self.inside in
-    IsMachine-wider i.parts.items i.agenda.marks i.agenda.waiting (length i.state.items) i.readers lists i.owners.items i.uses.numbers
-    c.numbers_of.new.uses.numbers i.held i.most (rooms i.desk) (rooms c.widen_for_codes.new.desk) (omega (arith, c.widen_for_codes.ensures.more_values))
+    IsMachine-wider i.body.parts.items i.body.agenda.marks i.body.agenda.waiting (length i.body.state.items) i.body.readers lists i.body.owners.items i.body.uses.numbers
+    c.numbers_of.new.uses.numbers i.body.held i.body.most (rooms i.body.desk) (rooms c.widen_for_codes.new.desk) (omega (arith, c.widen_for_codes.ensures.more_values))
     c.widen_for_codes.ensures.changes c.widen_for_codes.ensures.done c.numbers_of.ensures.numbered.numbers same c.self.invariant.0
 
 -- the seats are those of the fresh parts
@@ -106,22 +106,22 @@ seats_of_fresh c =
     c.deref-4.ensures.value c.in_ok-seats.ensures.seats
 
 -- where nodes are noted, the texts of the last build stay known
-lasting_noted : (c : After-note_all) → AreLasting c.self.inside.parts.items c.numbers_of.new.uses.numbers (length c.self.inside.state.items)
+lasting_noted : (c : After-note_all) → AreLasting c.self.inside.body.parts.items c.numbers_of.new.uses.numbers (length c.self.inside.body.state.items)
     (length c.numbers_of.new.uses.known) c.note_all.new.self
 lasting_noted c =
     let i = c.self.inside in
     let slots = c.deref-5.result.now in
     let only = subst (λ parts. (node : ℕ) → Contains c.note_all.new.self.changed.items node →
-    Contains i.lasting.changed.items node ⊎ ((k : ℕ) × Contains slots k × BeginsAt parts k node)) c.deref-6.ensures.value c.note_all.ensures.only in
-    let more = AreLasting-numbered i.parts.items i.uses c.numbers_of.new.uses (length i.state.items) i.lasting c.numbers_of.ensures.numbered c.self.invariant.2 in
-    AreLasting-noted i.parts.items c.numbers_of.new.uses.numbers (length i.state.items) (length c.numbers_of.new.uses.known) (rooms i.desk)
-    c.self.invariant.0.runs.seated slots i.lasting c.note_all.new.self c.note_all.ensures.numbers c.note_all.ensures.stays only more
+    Contains i.body.lasting.changed.items node ⊎ ((k : ℕ) × Contains slots k × BeginsAt parts k node)) c.deref-6.ensures.value c.note_all.ensures.only in
+    let more = AreLasting-numbered i.body.parts.items i.body.uses c.numbers_of.new.uses (length i.body.state.items) i.body.lasting c.numbers_of.ensures.numbered c.self.invariant.2 in
+    AreLasting-noted i.body.parts.items c.numbers_of.new.uses.numbers (length i.body.state.items) (length c.numbers_of.new.uses.known) (rooms i.body.desk)
+    c.self.invariant.0.runs.seated slots i.body.lasting c.note_all.new.self c.note_all.ensures.numbers c.note_all.ensures.stays only more
 
 pub invariant_of-self : goal.invariant_of-self
 invariant_of-self c =
     let i = c.self.inside in (
-      IsMachine-wider i.parts.items i.agenda.marks i.agenda.waiting _ i.readers i.readers i.owners.items i.uses.numbers c.numbers_of.new.uses.numbers
-          i.held i.most (rooms i.desk) (rooms i.desk) (omega arith) refl refl c.numbers_of.ensures.numbered.numbers (HaveSameReaders-refl i.readers)
+      IsMachine-wider i.body.parts.items i.body.agenda.marks i.body.agenda.waiting _ i.body.readers i.body.readers i.body.owners.items i.body.uses.numbers c.numbers_of.new.uses.numbers
+          i.body.held i.body.most (rooms i.body.desk) (rooms i.body.desk) (omega arith) refl refl c.numbers_of.ensures.numbered.numbers (HaveSameReaders-refl i.body.readers)
           c.self.invariant.0,
       c.self.invariant.1,
       lasting_numbered (goal.at.invariant_of-self c).After-numbers_of,
@@ -129,31 +129,31 @@ invariant_of-self c =
 
 pub returns-in_err-numbers-clause-err : goal.returns-in_err-numbers-clause-err
 returns-in_err-numbers-clause-err c =
-    on_err c.from_residual-in_err-numbers.result (left_as (goal.at.returns-in_err-numbers-clause-err c).After-numbers_of c.self.inside.lasting refl)
+    on_err c.from_residual-in_err-numbers.result (left_as (goal.at.returns-in_err-numbers-clause-err c).After-numbers_of c.self.inside.body.lasting refl)
 
 pub invariant_of-self-in_err-widen_for_codes : goal.invariant_of-self-in_err-widen_for_codes
 invariant_of-self-in_err-widen_for_codes c =
     let i = c.self.inside in (
-      machine_wider (goal.at.invariant_of-self-in_err-widen_for_codes c).After-widen_for_codes i.readers (HaveSameReaders-refl i.readers),
+      machine_wider (goal.at.invariant_of-self-in_err-widen_for_codes c).After-widen_for_codes i.body.readers (HaveSameReaders-refl i.body.readers),
       c.self.invariant.1,
       lasting_numbered (goal.at.invariant_of-self-in_err-widen_for_codes c).After-numbers_of,
     )
 
 pub returns-in_err-widen_for_codes-clause-err : goal.returns-in_err-widen_for_codes-clause-err
 returns-in_err-widen_for_codes-clause-err c =
-    on_err c.from_residual-in_err-widen_for_codes.result (left_as (goal.at.returns-in_err-widen_for_codes-clause-err c).After-numbers_of c.self.inside.lasting refl)
+    on_err c.from_residual-in_err-widen_for_codes.result (left_as (goal.at.returns-in_err-widen_for_codes-clause-err c).After-numbers_of c.self.inside.body.lasting refl)
 
 pub invariant_of-self-in_err-seats : goal.invariant_of-self-in_err-seats
 invariant_of-self-in_err-seats c =
     let i = c.self.inside in (
-      machine_wider (goal.at.invariant_of-self-in_err-seats c).After-widen_for_codes i.readers (HaveSameReaders-refl i.readers),
-      c.seats_for.ensures.same i.parts.items c.self.invariant.1,
+      machine_wider (goal.at.invariant_of-self-in_err-seats c).After-widen_for_codes i.body.readers (HaveSameReaders-refl i.body.readers),
+      c.seats_for.ensures.same i.body.parts.items c.self.invariant.1,
       lasting_numbered (goal.at.invariant_of-self-in_err-seats c).After-numbers_of,
     )
 
 pub returns-in_err-seats-clause-err : goal.returns-in_err-seats-clause-err
 returns-in_err-seats-clause-err c =
-    on_err c.from_residual-in_err-seats.result (left_as (goal.at.returns-in_err-seats-clause-err c).After-numbers_of c.self.inside.lasting refl)
+    on_err c.from_residual-in_err-seats.result (left_as (goal.at.returns-in_err-seats-clause-err c).After-numbers_of c.self.inside.body.lasting refl)
 
 pub seats_for-requires : goal.seats_for-requires
 seats_for-requires c =
@@ -168,8 +168,8 @@ note_all-requires-clause-inside c =
 pub invariant_of-self-in_err-note_all : goal.invariant_of-self-in_err-note_all
 invariant_of-self-in_err-note_all c =
     let i = c.self.inside in (
-      machine_wider (goal.at.invariant_of-self-in_err-note_all c).After-widen_for_codes i.readers (HaveSameReaders-refl i.readers),
-      c.seats_for.ensures.same i.parts.items c.self.invariant.1,
+      machine_wider (goal.at.invariant_of-self-in_err-note_all c).After-widen_for_codes i.body.readers (HaveSameReaders-refl i.body.readers),
+      c.seats_for.ensures.same i.body.parts.items c.self.invariant.1,
       lasting_noted (goal.at.invariant_of-self-in_err-note_all c).After-note_all,
     )
 
@@ -200,14 +200,14 @@ list_all-requires-clause-unlisted c =
     let i = c.self.inside in
     let waking = waking_in found in
     rw c.deref-7.ensures.value
-    (unlisted c.args.graph.now (the_view i) (covers_in found) waking.groups waking.some c.args.waking.slots.items waking.waiting i.readers
+    (unlisted c.args.graph.now (the_view i) (covers_in found) waking.groups waking.some c.args.waking.slots.items waking.waiting i.body.readers
     c.self.invariant.0.runs.reads)
 
 pub invariant_of-self-in_err-list_all : goal.invariant_of-self-in_err-list_all
 invariant_of-self-in_err-list_all c =
     let i = c.self.inside in (
       machine_wider (goal.at.invariant_of-self-in_err-list_all c).After-widen_for_codes c.list_all.new.self c.in_err-list_all.ensures.err,
-      c.seats_for.ensures.same i.parts.items c.self.invariant.1,
+      c.seats_for.ensures.same i.body.parts.items c.self.invariant.1,
       lasting_noted (goal.at.invariant_of-self-in_err-list_all c).After-note_all,
     )
 
@@ -255,7 +255,7 @@ pub put_all-requires-clause-inside : goal.put_all-requires-clause-inside
 put_all-requires-clause-inside c =
     let i = c.self.inside in
     let made = parts_made (goal.at.put_all-requires-clause-inside c).In_ok-fresh in
-    let old_seats = c.seats_for.ensures.same i.parts.items c.self.invariant.1 in
+    let old_seats = c.seats_for.ensures.same i.body.parts.items c.self.invariant.1 in
     rw c.deref-12.ensures.value (λ k d inside. omega (arith, made.inside k d inside, old_seats.counted))
 
 pub put_all-requires-clause-counted : goal.put_all-requires-clause-counted
@@ -287,43 +287,43 @@ invariant_of-self-2 c =
     let numbers = c.in_ok-numbers.numbers.items in
     let numbered = texts_numbered (goal.at.invariant_of-self-2 c).In_ok-numbers in
     let new = c.put_in.new.all in
-    let puts : Puts slots fresh i.parts.items new = rw (c.deref-13.ensures.value, c.deref_mut.ensures.value) at c.put_in.ensures in
+    let puts : Puts slots fresh i.body.parts.items new = rw (c.deref-13.ensures.value, c.deref_mut.ensures.value) at c.put_in.ensures in
     let text_puts : Puts slots (map Some numbers) c.numbers_of.new.uses.numbers c.put_texts.new.uses.numbers =
     rw (c.deref-10.ensures.value, c.deref-11.ensures.value) at c.put_texts.ensures.puts in
-    let parts_now : List HeldPart = (with_items i.parts new).items in
-    let final_parts = with_items_is i.parts new (omega (arith, c.put_in.auto.all, c.deref_mut.ensures.len)) in
+    let parts_now : List HeldPart = (with_items i.body.parts new).items in
+    let final_parts = with_items_is i.body.parts new (omega (arith, c.put_in.auto.all, c.deref_mut.ensures.len)) in
     let lists_now = c.list_all.new.self in
-    let listed : ListsAll slots fresh i.readers lists_now = rw (c.deref-7.ensures.value, c.deref-8.ensures.value) at c.in_ok-list_all.ensures.ok in
+    let listed : ListsAll slots fresh i.body.readers lists_now = rw (c.deref-7.ensures.value, c.deref-8.ensures.value) at c.in_ok-list_all.ensures.ok in
     let wide = rooms c.widen_for_codes.new.desk in
     let values_room : All (IsCodeRoom wide.values) fresh =
     All-weaker (IsCodeRoom c.in-Some.needs.values) (IsCodeRoom wide.values)
     (λ part room code has. omega (arith, room code has, c.in_ok-widen_for_codes.ensures.values)) fresh
     (subst (All (IsCodeRoom c.in-Some.needs.values)) c.deref-2.ensures.value c.in-Some.ensures.values) in
-    let base = IsMachine-roused g (the_view i) covers waking.groups waking.some slots waking.waiting fresh new (length i.state.items) made puts
-    i.readers lists_now i.agenda.marks i.agenda.waiting c.rouse.new.self.waiting i.owners.items i.uses.numbers c.put_texts.new.uses.numbers
-    i.held i.most (rooms i.desk) wide listed values_room (omega (arith, c.widen_for_codes.ensures.more_values))
+    let base = IsMachine-roused g (the_view i) covers waking.groups waking.some slots waking.waiting fresh new (length i.body.state.items) made puts
+    i.body.readers lists_now i.body.agenda.marks i.body.agenda.waiting c.rouse.new.self.waiting i.body.owners.items i.body.uses.numbers c.put_texts.new.uses.numbers
+    i.body.held i.body.most (rooms i.body.desk) wide listed values_room (omega (arith, c.widen_for_codes.ensures.more_values))
     c.widen_for_codes.ensures.changes c.widen_for_codes.ensures.done c.rouse.ensures.waiting (text_puts.count ∙ ap length c.numbers_of.ensures.numbered.numbers) c.self.invariant.0 in
-    let with_parts = subst (λ (list : List HeldPart). IsMachine list i.agenda.marks c.rouse.new.self.waiting (length i.state.items) lists_now i.owners.items
-    c.put_texts.new.uses.numbers i.held i.most wide) (sym final_parts) base in
-    let old_seats = c.seats_for.ensures.same i.parts.items c.self.invariant.1 in
+    let with_parts = subst (λ (list : List HeldPart). IsMachine list i.body.agenda.marks c.rouse.new.self.waiting (length i.body.state.items) lists_now i.body.owners.items
+    c.put_texts.new.uses.numbers i.body.held i.body.most wide) (sym final_parts) base in
+    let old_seats = c.seats_for.ensures.same i.body.parts.items c.self.invariant.1 in
     let fresh_seats = seats_of_fresh (goal.at.invariant_of-self-2 c).In_ok-seats in
     let once : AreOnce c.deref-12.result.now = subst AreOnce (sym c.deref-12.ensures.value) waking.waiting.once in
-    let seat_puts = subst (λ (list : List ℕ). Puts list fresh i.parts.items new) (sym c.deref-12.ensures.value) puts in
-    let put_dense : AreDense new c.put_all.new.self = c.put_all.ensures fresh i.parts.items new once fresh_seats seat_puts old_seats in
+    let seat_puts = subst (λ (list : List ℕ). Puts list fresh i.body.parts.items new) (sym c.deref-12.ensures.value) puts in
+    let put_dense : AreDense new c.put_all.new.self = c.put_all.ensures fresh i.body.parts.items new once fresh_seats seat_puts old_seats in
     let dense = subst (λ (list : List HeldPart). AreDense list c.put_all.new.self) (sym final_parts) put_dense in
     let known = length c.numbers_of.new.uses.known in
     let are_noted = lasting_noted (goal.at.invariant_of-self-2 c).After-note_all in
-    let noted : (k node : ℕ) → Contains slots k → BeginsAt i.parts.items k node → Contains c.note_all.new.self.changed.items node =
+    let noted : (k node : ℕ) → Contains slots k → BeginsAt i.body.parts.items k node → Contains c.note_all.new.self.changed.items node =
     rw (c.deref-5.ensures.value, c.deref-6.ensures.value) at c.in_ok-note_all.ensures.all in
     let are_lasting = AreLasting-roused g (the_view i) covers waking.groups waking.some slots waking.waiting fresh made.fresh_are new puts
-    c.numbers_of.new.uses.numbers c.put_texts.new.uses.numbers (map Some numbers) text_puts (length i.state.items) known c.note_all.new.self are_noted noted made.inside in
+    c.numbers_of.new.uses.numbers c.put_texts.new.uses.numbers (map Some numbers) text_puts (length i.body.state.items) known c.note_all.new.self are_noted noted made.inside in
     let uses = c.put_texts.new.uses in
-    let count = length i.state.items in
+    let count = length i.body.state.items in
     let lasting_known = subst (λ (list : List GroupTextData). AreLasting new uses.numbers count (length list) c.note_all.new.self)
     (sym c.put_texts.ensures.known) are_lasting in
     let lasting = subst (λ (list : List HeldPart). AreLasting list uses.numbers count (length uses.known) c.note_all.new.self)
     (sym final_parts) lasting_known in (
-      subst (λ (marks : List Bool). IsMachine parts_now marks c.rouse.new.self.waiting (length i.state.items) lists_now i.owners.items c.put_texts.new.uses.numbers i.held i.most wide)
+      subst (λ (marks : List Bool). IsMachine parts_now marks c.rouse.new.self.waiting (length i.body.state.items) lists_now i.body.owners.items c.put_texts.new.uses.numbers i.body.held i.body.most wide)
           (sym c.rouse.ensures.marks) with_parts,
       dense,
       lasting,
@@ -343,25 +343,25 @@ returns-clause-rouses c =
     let texts = c.args.waking.texts.items in
     let numbered = texts_numbered (goal.at.returns-clause-rouses c).In_ok-numbers in
     let new = c.put_in.new.all in
-    let puts : Puts slots fresh i.parts.items new = rw (c.deref-13.ensures.value, c.deref_mut.ensures.value) at c.put_in.ensures in
+    let puts : Puts slots fresh i.body.parts.items new = rw (c.deref-13.ensures.value, c.deref_mut.ensures.value) at c.put_in.ensures in
     let text_puts : Puts slots (map Some numbers) c.numbers_of.new.uses.numbers c.put_texts.new.uses.numbers =
     rw (c.deref-10.ensures.value, c.deref-11.ensures.value) at c.put_texts.ensures.puts in
-    let parts_now : List HeldPart = (with_items i.parts new).items in
-    let final_parts = with_items_is i.parts new (omega (arith, c.put_in.auto.all, c.deref_mut.ensures.len)) in
+    let parts_now : List HeldPart = (with_items i.body.parts new).items in
+    let final_parts = with_items_is i.body.parts new (omega (arith, c.put_in.auto.all, c.deref_mut.ensures.len)) in
     let v = the_view i in
     let sound = subst (λ (m : MachineData). IsSound m.state) (sym c.self.view_is) c.requires.sound in
     let mid_are : texts_used c.numbers_of.new.uses ≡ v.uses = c.numbers_of.ensures.same in
-    let base = Rouses-roused g v covers waking.groups waking.some slots waking.waiting fresh new (length i.state.items) made puts
+    let base = Rouses-roused g v covers waking.groups waking.some slots waking.waiting fresh new (length i.body.state.items) made puts
     c.numbers_of.new.uses c.put_texts.new.uses numbers texts mid_are c.put_texts.ensures.known text_puts numbered waking.texts waking.fit
     c.requires.railed sound in
     let used = texts_used c.put_texts.new.uses in
     let last = texts_lasting c.put_texts.new.uses.known c.note_all.new.self in
     let last_is : last ≡ v.last =
-    texts_lasting-numbered i.uses c.numbers_of.new.uses c.put_texts.new.uses.known i.lasting c.note_all.new.self c.numbers_of.ensures.numbered
+    texts_lasting-numbered i.body.uses c.numbers_of.new.uses c.put_texts.new.uses.known i.body.lasting c.note_all.new.self c.numbers_of.ensures.numbered
     c.put_texts.ensures.known c.note_all.ensures.numbers c.self.invariant.2.inside in
     let machine : List HeldPart → List Bool → List GroupTextData → MachineData = λ list marks texts_left.
     record v { parts = list; uses = used; marks = marks; texts = count_distinct used; last = texts_left } in
-    let with_parts = subst (λ (list : List HeldPart). Rouses g v (machine list i.agenda.marks v.last)) (sym final_parts) base in
+    let with_parts = subst (λ (list : List HeldPart). Rouses g v (machine list i.body.agenda.marks v.last)) (sym final_parts) base in
     let with_marks = subst (λ (marks : List Bool). Rouses g v (machine parts_now marks v.last)) (sym c.rouse.ensures.marks) with_parts in
     let with_last = subst (λ (texts_left : List GroupTextData). Rouses g v (machine parts_now c.rouse.new.self.marks texts_left)) (sym last_is) with_marks in
     subst (λ (old : MachineData). Rouses g old (machine parts_now c.rouse.new.self.marks last)) c.self.view_is with_last

@@ -27,9 +27,9 @@ invariant_of-self-in_err-widen_for_parts c =
     let i = c.self.inside in
     let members = c.args.members.now in
     rw c.reserve.ensures.items (
-      (IsMachine-roomier i.parts.items i.agenda.marks i.agenda.waiting (length i.state.items) i.readers i.owners.items i.uses.numbers i.held i.most (rooms i.desk) c.self.invariant.0 i.uses.numbers (rooms c.widen_for_parts.new.desk) (omega arith)
+      (IsMachine-roomier i.body.parts.items i.body.agenda.marks i.body.agenda.waiting (length i.body.state.items) i.body.readers i.body.owners.items i.body.uses.numbers i.body.held i.body.most (rooms i.body.desk) c.self.invariant.0 i.body.uses.numbers (rooms c.widen_for_parts.new.desk) (omega arith)
           c.widen_for_parts.ensures.values c.widen_for_parts.ensures.changes c.widen_for_parts.ensures.parts),
-      c.make_room.ensures.same i.parts.items c.self.invariant.1,
+      c.make_room.ensures.same i.body.parts.items c.self.invariant.1,
       c.self.invariant.2,
     )
 
@@ -39,9 +39,9 @@ invariant_of-self-in_err-add c =
     let members = c.args.members.now in
     let same = ap (λ (uses : UsesData). length uses.numbers) c.in_err-add.ensures.err in
     rw c.reserve.ensures.items (
-      (IsMachine-roomier i.parts.items i.agenda.marks i.agenda.waiting (length i.state.items) i.readers i.owners.items i.uses.numbers i.held i.most (rooms i.desk) c.self.invariant.0 c.add.new.self.numbers (rooms c.widen_for_parts.new.desk)
+      (IsMachine-roomier i.body.parts.items i.body.agenda.marks i.body.agenda.waiting (length i.body.state.items) i.body.readers i.body.owners.items i.body.uses.numbers i.body.held i.body.most (rooms i.body.desk) c.self.invariant.0 c.add.new.self.numbers (rooms c.widen_for_parts.new.desk)
           (omega (arith, same)) c.widen_for_parts.ensures.values c.widen_for_parts.ensures.changes c.widen_for_parts.ensures.parts),
-      c.make_room.ensures.same i.parts.items c.self.invariant.1,
+      c.make_room.ensures.same i.body.parts.items c.self.invariant.1,
       rw (ap (λ (uses : UsesData). length uses.known) c.in_err-add.ensures.err, ap (λ (uses : UsesData). uses.numbers) c.in_err-add.ensures.err)
           c.self.invariant.2,
     )
@@ -52,11 +52,11 @@ invariant_of-self-in_err-wait_more c =
     let members = c.args.members.now in
     let more = ap length c.in_ok-add.ensures.ok in
     rw (c.reserve.ensures.items, c.in_err-wait_more.ensures.err) (
-      (IsMachine-roomier i.parts.items i.agenda.marks i.agenda.waiting (length i.state.items) i.readers i.owners.items i.uses.numbers i.held i.most (rooms i.desk) c.self.invariant.0 c.add.new.self.numbers (rooms c.widen_for_parts.new.desk)
-          (omega (arith, more, length_push i.uses.numbers None)) c.widen_for_parts.ensures.values c.widen_for_parts.ensures.changes c.widen_for_parts.ensures.parts),
-      c.make_room.ensures.same i.parts.items c.self.invariant.1,
-      rw c.add.ensures.known (AreLasting-same i.parts.items i.uses.numbers (length i.state.items) (length i.uses.known) i.lasting c.self.invariant.2
-          c.add.new.self.numbers i.lasting (numbers_read i.uses c.add.new.self c.in_ok-add.ensures.ok) refl refl),
+      (IsMachine-roomier i.body.parts.items i.body.agenda.marks i.body.agenda.waiting (length i.body.state.items) i.body.readers i.body.owners.items i.body.uses.numbers i.body.held i.body.most (rooms i.body.desk) c.self.invariant.0 c.add.new.self.numbers (rooms c.widen_for_parts.new.desk)
+          (omega (arith, more, length_push i.body.uses.numbers None)) c.widen_for_parts.ensures.values c.widen_for_parts.ensures.changes c.widen_for_parts.ensures.parts),
+      c.make_room.ensures.same i.body.parts.items c.self.invariant.1,
+      rw c.add.ensures.known (AreLasting-same i.body.parts.items i.body.uses.numbers (length i.body.state.items) (length i.body.uses.known) i.body.lasting c.self.invariant.2
+          c.add.new.self.numbers i.body.lasting (numbers_read i.body.uses c.add.new.self c.in_ok-add.ensures.ok) refl refl),
     )
 
 pub invariant_of-self-2 : goal.invariant_of-self-2
@@ -65,33 +65,33 @@ invariant_of-self-2 c =
     let members = c.args.members.now in
     let e = c.in_ok-part.part in
     let room = rooms c.widen_for_parts.new.desk in
-    let most : c.in-Some.most ≡ i.most + length members = omega (arith, c.in-Some.ensures) in
+    let most : c.in-Some.most ≡ i.body.most + length members = omega (arith, c.in-Some.ensures) in
     let parts = c.push_reserved.ensures.items ∙ ap (λ xs. xs ++ e ∷ []) c.reserve.ensures.items in
-    let count : c.len-2.result ≡ length i.parts.items = omega (arith, c.len-2.ensures, c.reserve.ensures.len, i.parts.ok.0) in
-    let before : c.len.result ≡ length i.parts.items = omega (arith, c.len.ensures, c.reserve.ensures.len, i.parts.ok.0) in
-    let owners = with_items_is i.owners c.own.new.owners (omega (arith, c.own.auto.owners, c.deref_mut.ensures.len)) in
-    let owns : Owns (length i.parts.items) members i.owners.items c.own.new.owners =
-    subst (λ n. Owns n members i.owners.items c.own.new.owners) count
+    let count : c.len-2.result ≡ length i.body.parts.items = omega (arith, c.len-2.ensures, c.reserve.ensures.len, i.body.parts.ok.0) in
+    let before : c.len.result ≡ length i.body.parts.items = omega (arith, c.len.ensures, c.reserve.ensures.len, i.body.parts.ok.0) in
+    let owners = with_items_is i.body.owners c.own.new.owners (omega (arith, c.own.auto.owners, c.deref_mut.ensures.len)) in
+    let owns : Owns (length i.body.parts.items) members i.body.owners.items c.own.new.owners =
+    subst (λ n. Owns n members i.body.owners.items c.own.new.owners) count
     (subst (λ list. Owns c.len-2.result members list c.own.new.owners) c.deref_mut.ensures.value c.own.ensures) in
     let marks = ap (λ (agenda : AgendaData). agenda.marks) c.in_ok-wait_more.ensures.ok in
     let waits = ap (λ (agenda : AgendaData). agenda.waiting) c.in_ok-wait_more.ensures.ok in
-    let waiting : length i.agenda.waiting ≡ length i.parts.items = c.wait_more.ensures.counted ∙ c.self.invariant.0.runs.counted in
-    let numbers = ap length c.in_ok-add.ensures.ok ∙ length_push i.uses.numbers None in
-    let roomier = IsMachine-roomier i.parts.items i.agenda.marks i.agenda.waiting (length i.state.items) i.readers i.owners.items i.uses.numbers i.held i.most (rooms i.desk) c.self.invariant.0 i.uses.numbers room (omega arith)
+    let waiting : length i.body.agenda.waiting ≡ length i.body.parts.items = c.wait_more.ensures.counted ∙ c.self.invariant.0.runs.counted in
+    let numbers = ap length c.in_ok-add.ensures.ok ∙ length_push i.body.uses.numbers None in
+    let roomier = IsMachine-roomier i.body.parts.items i.body.agenda.marks i.body.agenda.waiting (length i.body.state.items) i.body.readers i.body.owners.items i.body.uses.numbers i.body.held i.body.most (rooms i.body.desk) c.self.invariant.0 i.body.uses.numbers room (omega arith)
     c.widen_for_parts.ensures.values c.widen_for_parts.ensures.changes c.widen_for_parts.ensures.parts in
-    let inside : All (λ node. node < length i.state.items) members =
+    let inside : All (λ node. node < length i.body.state.items) members =
     subst (λ n. All (λ node. node < n) members) (ap (λ (m : MachineData). length m.state) (sym c.self.view_is)) c.requires.inside in
-    let free : (k node : ℕ) → Contains members node → ¬ HasMember i.parts.items k node =
+    let free : (k node : ℕ) → Contains members node → ¬ HasMember i.body.parts.items k node =
     λ k node there has. c.requires.free k node there (subst (λ list. HasMember list k node) (ap (λ (m : MachineData). m.parts) c.self.view_is) has) in
-    let kept = c.make_room.ensures.same i.parts.items c.self.invariant.1 in
-    let dense : AreDense (i.parts.items ++ e ∷ []) c.add_stale.new.self = c.add_stale.ensures i.parts.items e c.in_ok-part.ensures.code kept in
+    let kept = c.make_room.ensures.same i.body.parts.items c.self.invariant.1 in
+    let dense : AreDense (i.body.parts.items ++ e ∷ []) c.add_stale.new.self = c.add_stale.ensures i.body.parts.items e c.in_ok-part.ensures.code kept in
     rw (parts, marks, waits, owners, most) (
-      (IsMachine-seated i.parts.items i.agenda.marks i.agenda.waiting (length i.state.items) i.readers i.owners.items i.uses.numbers i.held i.most
+      (IsMachine-seated i.body.parts.items i.body.agenda.marks i.body.agenda.waiting (length i.body.state.items) i.body.readers i.body.owners.items i.body.uses.numbers i.body.held i.body.most
           room roomier members e c.in_ok-part.ensures c.requires.some inside c.requires.once free c.own.new.owners owns c.add.new.self.numbers numbers
           (omega (arith, most, c.in_ok-widen_for_parts.ensures.more_changes)) (omega (arith, before, c.in_ok-widen_for_parts.ensures.more_parts)) waiting),
       dense,
-      rw c.add.ensures.known (AreLasting-seated i.parts.items i.uses.numbers (length i.state.items) (length i.uses.known) i.lasting c.self.invariant.2
-          e c.add.new.self.numbers (numbers_read i.uses c.add.new.self c.in_ok-add.ensures.ok)),
+      rw c.add.ensures.known (AreLasting-seated i.body.parts.items i.body.uses.numbers (length i.body.state.items) (length i.body.uses.known) i.body.lasting c.self.invariant.2
+          e c.add.new.self.numbers (numbers_read i.body.uses c.add.new.self c.in_ok-add.ensures.ok)),
     )
 
 pub returns-clause-ok : goal.returns-clause-ok
@@ -103,15 +103,15 @@ returns-clause-ok c =
       is_new = c.in_ok-part.ensures;
       parts = c.push_reserved.ensures.items ∙ ap (λ xs. xs ++ e ∷ []) c.reserve.ensures.items;
       uses = λ k.
-          ap (λ (list : List (Option GroupTextData)). slice_index_or list k None) (texts_added i.uses c.add.new.self c.add.ensures.known c.in_ok-add.ensures.ok)
-          ∙ same_more GroupTextData (texts_used i.uses) k;
+          ap (λ (list : List (Option GroupTextData)). slice_index_or list k None) (texts_added i.body.uses c.add.new.self c.add.ensures.known c.in_ok-add.ensures.ok)
+          ∙ same_more GroupTextData (texts_used i.body.uses) k;
       more_uses =
-          ap length (texts_added i.uses c.add.new.self c.add.ensures.known c.in_ok-add.ensures.ok) ∙ length_push (texts_used i.uses) None;
+          ap length (texts_added i.body.uses c.add.new.self c.add.ensures.known c.in_ok-add.ensures.ok) ∙ length_push (texts_used i.body.uses) None;
       marks = ap (λ (agenda : AgendaData). agenda.marks) c.in_ok-wait_more.ensures.ok;
       rest = record {
         groups = refl;
         state = refl;
-        last = ap (λ known. texts_lasting known i.lasting) c.add.ensures.known;
+        last = ap (λ known. texts_lasting known i.body.lasting) c.add.ensures.known;
         moves = refl;
         placed = refl;
         spare = refl;

@@ -14,48 +14,48 @@ use Rattle.unit_step.proofs.machine.Machine.set_node.Goals.{After-index-owner, A
 use Rattle.unit_step.proofs.machine.Machine.set_node.Goals as goal
 
 -- the owner that was read is the node's
-owner_read : (c : After-index-owner) → c.index-owner.result.now ≡ slice_index_or c.self.inside.owners.items c.args.node None
+owner_read : (c : After-index-owner) → c.index-owner.result.now ≡ slice_index_or c.self.inside.body.owners.items c.args.node None
 owner_read c =
     let i = c.self.inside in
-    let inside : c.args.node < length i.state.items = omega (arith, c.requires.inside, ap (λ (m : MachineData). length m.state) c.self.view_is) in
-    c.index-owner.ensures ∙ get_or_default i.owners.items c.args.node c.index-owner.result.now None (omega (arith, inside, c.self.invariant.0.own.counted))
+    let inside : c.args.node < length i.body.state.items = omega (arith, c.requires.inside, ap (λ (m : MachineData). length m.state) c.self.view_is) in
+    c.index-owner.ensures ∙ get_or_default i.body.owners.items c.args.node c.index-owner.result.now None (omega (arith, inside, c.self.invariant.0.own.counted))
 
 pub mark_owner-requires : goal.mark_owner-requires
 mark_owner-requires c =
     let i = c.self.inside in
-    owner_inside i.parts.items i.agenda.marks (length i.state.items) i.owners.items c.self.invariant.0.own c.self.invariant.0.runs.counted c.args.node
+    owner_inside i.body.parts.items i.body.agenda.marks (length i.body.state.items) i.body.owners.items c.self.invariant.0.own c.self.invariant.0.runs.counted c.args.node
     c.index-owner.result.now (owner_read (goal.at.mark_owner-requires c).After-index-owner)
 
 pub mark_all-requires : goal.mark_all-requires
 mark_all-requires c = λ k there.
-    let lists : c.of.result.now ≡ readers_of c.self.inside.readers c.args.node = c.of.ensures in
+    let lists : c.of.result.now ≡ readers_of c.self.inside.body.readers c.args.node = c.of.ensures in
     let reads = c.self.invariant.0.runs.reads c.args.node k (subst (λ xs. Contains xs k) lists there) in
     omega (arith, reads.stands.inside, c.self.invariant.0.runs.counted, c.mark_owner.ensures.marks.count)
 
 -- the node is placed, whatever the count of placed members
-places : (c : After-mark_all) → c.index-owner.result.now ≡ slice_index_or c.self.inside.owners.items c.args.node None → (placed : ℕ) →
+places : (c : After-mark_all) → c.index-owner.result.now ≡ slice_index_or c.self.inside.body.owners.items c.args.node None → (placed : ℕ) →
     Places c.args.node c.args.value (the_view c.self.inside)
     (record (the_view c.self.inside) {
       marks = c.mark_all.new.agenda.marks;
-      state = slice_set c.self.inside.state.items c.args.node c.args.value;
+      state = slice_set c.self.inside.body.state.items c.args.node c.args.value;
       placed = placed;
     })
 places c owner_is placed =
     let i = c.self.inside in
-    Places-marked c.args.node c.args.value (the_view i) i.agenda.waiting i.readers i.owners.items i.uses.numbers i.held i.most (rooms i.desk)
+    Places-marked c.args.node c.args.value (the_view i) i.body.agenda.waiting i.body.readers i.body.owners.items i.body.uses.numbers i.body.held i.body.most (rooms i.body.desk)
     c.self.invariant.0 c.index-owner.result.now owner_is c.mark_owner.new.agenda.marks c.mark_all.new.agenda.marks c.mark_owner.ensures.marks
     c.of.result.now c.of.ensures c.mark_all.ensures.marks placed
 
 pub invariant_of-self : goal.invariant_of-self
 invariant_of-self c =
     let i = c.self.inside in (
-      IsMachine-again i.parts.items i.agenda.marks c.mark_all.new.agenda.marks i.agenda.waiting c.mark_all.new.agenda.waiting
-          (length i.state.items) _ i.readers i.owners.items i.uses.numbers i.held i.most (rooms i.desk) (rooms i.desk)
+      IsMachine-again i.body.parts.items i.body.agenda.marks c.mark_all.new.agenda.marks i.body.agenda.waiting c.mark_all.new.agenda.waiting
+          (length i.body.state.items) _ i.body.readers i.body.owners.items i.body.uses.numbers i.body.held i.body.most (rooms i.body.desk) (rooms i.body.desk)
           (c.mark_all.ensures.marks.count ∙ c.mark_owner.ensures.marks.count) (c.mark_all.ensures.waiting ∙ c.mark_owner.ensures.waiting)
-          (length-set i.state.items c.args.node c.args.value) refl c.self.invariant.0,
+          (length-set i.body.state.items c.args.node c.args.value) refl c.self.invariant.0,
       c.self.invariant.1,
-      subst (λ n. AreLasting i.parts.items i.uses.numbers n (length i.uses.known) i.lasting)
-          (sym (length-set i.state.items c.args.node c.args.value)) c.self.invariant.2,
+      subst (λ n. AreLasting i.body.parts.items i.body.uses.numbers n (length i.body.uses.known) i.body.lasting)
+          (sym (length-set i.body.state.items c.args.node c.args.value)) c.self.invariant.2,
     )
 
 pub returns-clause-places : goal.returns-clause-places

@@ -29,10 +29,10 @@ use_leavers-requires-clause-kept g c =
 pub cut_past_bound-requires : goal.cut_past_bound-requires
 cut_past_bound-requires g c =
     let kept = texts_of c.args.kept.now in
-    let all : All (λ text. is_among kept text ≡ true) (some_texts (texts_used c.self.inside.uses)) =
+    let all : All (λ text. is_among kept text ≡ true) (some_texts (texts_used c.self.inside.body.uses)) =
     subst (λ (m : MachineData). All (λ text. is_among kept text ≡ true) (some_texts m.uses)) (sym c.self.view_is) c.requires.used in
     let leaves = c.use_leavers.ensures.uses in
-    in_use-kept c.self.inside.uses leaves.leavers kept (texts_of c.use_leavers.new.kept) all leaves.used
+    in_use-kept c.self.inside.body.uses leaves.leavers kept (texts_of c.use_leavers.new.kept) all leaves.used
 
 pub renew-requires-clause-apart : goal.renew-requires-clause-apart
 renew-requires-clause-apart g c = subst AreApart (sym c.deref-2.ensures.value) c.self.invariant.0.runs.apart
@@ -46,10 +46,10 @@ in_order parts read uses count lasting is are none =
 
 -- so they are afterwards
 order_now : (g : Over) (c : After-renew g) →
-    AreInOrder c.self.inside.parts.items (texts_used c.self.inside.uses) (texts_lasting c.self.inside.uses.known c.renew.new.self)
+    AreInOrder c.self.inside.body.parts.items (texts_used c.self.inside.body.uses) (texts_lasting c.self.inside.body.uses.known c.renew.new.self)
 order_now g c =
     let i = c.self.inside in
-    in_order i.parts.items c.deref-2.result.now i.uses (length c.deref-3.result.now) c.renew.new.self c.deref-2.ensures.value c.renew.ensures.lasting
+    in_order i.body.parts.items c.deref-2.result.now i.body.uses (length c.deref-3.result.now) c.renew.new.self c.deref-2.ensures.value c.renew.ensures.lasting
     c.renew.ensures.none
 
 pub returns-clause-order : goal.returns-clause-order
@@ -69,19 +69,19 @@ present_same parts uses marks waiting count lists owners held most room machine 
     (λ k past. text_of_part uses.known uses.numbers k ∙ ap (text_at uses.known) (past_none k past))
 
 present_now : (g : Over) (c : After-renew g) →
-    AreSame (texts_lasting c.self.inside.uses.known c.renew.new.self) (some_texts (texts_used c.self.inside.uses))
+    AreSame (texts_lasting c.self.inside.body.uses.known c.renew.new.self) (some_texts (texts_used c.self.inside.body.uses))
 present_now g c =
     let i = c.self.inside in
-    present_same i.parts.items i.uses i.agenda.marks i.agenda.waiting (length i.state.items) i.readers i.owners.items i.held i.most (rooms i.desk)
-    c.args.self.now (texts_lasting i.uses.known c.renew.new.self) c.self.invariant.0 c.self.invariant.2.beyond
+    present_same i.body.parts.items i.body.uses i.body.agenda.marks i.body.agenda.waiting (length i.body.state.items) i.body.readers i.body.owners.items i.body.held i.body.most (rooms i.body.desk)
+    c.args.self.now (texts_lasting i.body.uses.known c.renew.new.self) c.self.invariant.0 c.self.invariant.2.beyond
     (ap (λ (m : MachineData). m.parts) (sym c.self.view_is)) (ap (λ (m : MachineData). m.uses) (sym c.self.view_is)) c.requires.textless (order_now g c)
 
 pub returns-clause-left : goal.returns-clause-left
 returns-clause-left g c =
     let i = c.self.inside in
-    let present = texts_lasting i.uses.known c.renew.new.self in
-    let left : IsLeft c.args.kept.now.bound (texts_lasting i.uses.known i.lasting) (texts_of c.args.kept.now) present (texts_of c.cut_past_bound.new.kept) =
-    IsLeft-settled i.parts.items i.uses (length i.state.items) i.lasting c.self.invariant.2 present
+    let present = texts_lasting i.body.uses.known c.renew.new.self in
+    let left : IsLeft c.args.kept.now.bound (texts_lasting i.body.uses.known i.body.lasting) (texts_of c.args.kept.now) present (texts_of c.cut_past_bound.new.kept) =
+    IsLeft-settled i.body.parts.items i.body.uses (length i.body.state.items) i.body.lasting c.self.invariant.2 present
     (present_now g (goal.at.returns-clause-left g c).After-renew) c.args.kept.now c.use_leavers.new.kept c.cut_past_bound.new.kept
     c.use_leavers.ensures.uses c.use_leavers.ensures.bound c.cut_past_bound.ensures.cuts in
     subst (λ (m : MachineData). IsLeft c.args.kept.now.bound m.last (texts_of c.args.kept.now) present (texts_of c.cut_past_bound.new.kept))
@@ -90,7 +90,7 @@ returns-clause-left g c =
 pub returns-clause-there : goal.returns-clause-there
 returns-clause-there g c =
     let i = c.self.inside in
-    present-kept i.parts.items i.uses (length i.state.items) i.lasting c.self.invariant.2 (texts_lasting i.uses.known c.renew.new.self)
+    present-kept i.body.parts.items i.body.uses (length i.body.state.items) i.body.lasting c.self.invariant.2 (texts_lasting i.body.uses.known c.renew.new.self)
     (present_now g (goal.at.returns-clause-there g c).After-renew) c.args.kept.now c.use_leavers.new.kept c.cut_past_bound.new.kept
     c.use_leavers.ensures.uses c.use_leavers.ensures.bound c.cut_past_bound.ensures.cuts
 

@@ -23,13 +23,13 @@ invariant_of-self g c =
     let i = c.self.inside in
     let n = c.advance-changed.new.state in
     let step = c.advance-changed.ensures in
-    let final = with_items_is i.state n (omega (arith, c.advance-changed.auto.state, c.deref_mut.ensures.len)) in
+    let final = with_items_is i.body.state n (omega (arith, c.advance-changed.auto.state, c.deref_mut.ensures.len)) in
     let nodes = ap length final ∙ (c.advance-changed.auto.state ∙ ap length c.deref_mut.ensures.value) in (
-      IsMachine-again i.parts.items i.agenda.marks c.advance-changed.new.agenda.marks i.agenda.waiting c.advance-changed.new.agenda.waiting
-          (length i.state.items) _ i.readers i.owners.items i.uses.numbers i.held i.most (rooms i.desk) (rooms c.advance-changed.new.desk)
+      IsMachine-again i.body.parts.items i.body.agenda.marks c.advance-changed.new.agenda.marks i.body.agenda.waiting c.advance-changed.new.agenda.waiting
+          (length i.body.state.items) _ i.body.readers i.body.owners.items i.body.uses.numbers i.body.held i.body.most (rooms i.body.desk) (rooms c.advance-changed.new.desk)
           step.marks.count step.waiting nodes step.rooms c.self.invariant.0,
       c.self.invariant.1,
-      subst (λ n. AreLasting i.parts.items i.uses.numbers n (length i.uses.known) i.lasting) (sym nodes) c.self.invariant.2,
+      subst (λ n. AreLasting i.body.parts.items i.body.uses.numbers n (length i.body.uses.known) i.body.lasting) (sym nodes) c.self.invariant.2,
     )
 
 pub returns-clause-advances : goal.returns-clause-advances
@@ -37,18 +37,18 @@ returns-clause-advances g c =
     let i = c.self.inside in
     let joining = c.args.joining in
     let n = c.advance-changed.new.state in
-    let marks = i.agenda.marks in
+    let marks = i.body.agenda.marks in
     let new_marks = c.advance-changed.new.agenda.marks in
     let parts = c.deref.result.now in
     let old = c.deref_mut.result.now in
     let step = c.advance-changed.ensures in
-    let final = with_items_is i.state n (omega (arith, c.advance-changed.auto.state, c.deref_mut.ensures.len)) in
+    let final = with_items_is i.body.state n (omega (arith, c.advance-changed.auto.state, c.deref_mut.ensures.len)) in
     rw (← c.self.view_is) (record {
-      moves = subst (Moves joining i.parts.items marks i.state.items) (sym final)
-          (subst (λ state. Moves joining i.parts.items marks state n) c.deref_mut.ensures.value
+      moves = subst (Moves joining i.body.parts.items marks i.body.state.items) (sym final)
+          (subst (λ state. Moves joining i.body.parts.items marks state n) c.deref_mut.ensures.value
           (subst (λ list. Moves joining list marks old n) c.deref.ensures.value step.moves));
-      marks = subst (λ state. Remarks joining i.parts.items marks i.state.items state new_marks) (sym final)
-          (subst (λ state. Remarks joining i.parts.items marks state n new_marks) c.deref_mut.ensures.value
+      marks = subst (λ state. Remarks joining i.body.parts.items marks i.body.state.items state new_marks) (sym final)
+          (subst (λ state. Remarks joining i.body.parts.items marks state n new_marks) c.deref_mut.ensures.value
           (subst (λ list. Remarks joining list marks old n new_marks) c.deref.ensures.value step.marks));
       groups = refl;
       parts = refl;
@@ -63,15 +63,15 @@ pub returns-clause-ticks : goal.returns-clause-ticks
 returns-clause-ticks g c =
     let i = c.self.inside in
     rw (← c.self.view_is)
-    (subst (λ parts. c.advance-changed.new.steps ≤ c.args.steps.now + marked_sum instructions_of parts i.agenda.marks)
+    (subst (λ parts. c.advance-changed.new.steps ≤ c.args.steps.now + marked_sum instructions_of parts i.body.agenda.marks)
     c.deref.ensures.value c.advance-changed.ensures.steps)
 
 -- what holds of the states that were handed in, and of those that came back, holds of the machine's
 states_are : (g : Over) (c : After-advance-changed g) (P : List Tern → List Tern → Type 0) → P c.deref_mut.result.now c.advance-changed.new.state →
-    P c.self.inside.state.items (with_items c.self.inside.state c.advance-changed.new.state).items
+    P c.self.inside.body.state.items (with_items c.self.inside.body.state c.advance-changed.new.state).items
 states_are g c P holds =
-    let final = with_items_is c.self.inside.state c.advance-changed.new.state (omega (arith, c.advance-changed.auto.state, c.deref_mut.ensures.len)) in
-    subst (P c.self.inside.state.items) (sym final) (subst (λ state. P state c.advance-changed.new.state) c.deref_mut.ensures.value holds)
+    let final = with_items_is c.self.inside.body.state c.advance-changed.new.state (omega (arith, c.advance-changed.auto.state, c.deref_mut.ensures.len)) in
+    subst (P c.self.inside.body.state.items) (sym final) (subst (λ state. P state c.advance-changed.new.state) c.deref_mut.ensures.value holds)
 
 pub returns-clause-unknown : goal.returns-clause-unknown
 returns-clause-unknown g c =

@@ -10,15 +10,15 @@ use Rattle.machine_parts.specs.Readers.{readers_of}
 use Rattle.unit_step.proofs.machine.Machine.taken_apart.Goals as goal
 
 pub returns-clause-seated : goal.returns-clause-seated
-returns-clause-seated c = rw (← c.self.view_is) (rooms c.self.inside.desk, c.self.invariant.0.runs.seated)
+returns-clause-seated c = rw (← c.self.view_is) (rooms c.self.inside.body.desk, c.self.invariant.0.runs.seated)
 
 pub returns-clause-apart : goal.returns-clause-apart
 returns-clause-apart c = rw (← c.self.view_is) c.self.invariant.0.runs.apart
 
 pub returns-clause-reads : goal.returns-clause-reads
 returns-clause-reads c =
-    let lists = c.self.inside.readers in
-    let inside_all : (k node : ℕ) → ReadsAt c.self.inside.parts.items k node → node < length c.self.inside.state.items = λ k node reads.
+    let lists = c.self.inside.body.readers in
+    let inside_all : (k node : ℕ) → ReadsAt c.self.inside.body.parts.items k node → node < length c.self.inside.body.state.items = λ k node reads.
     let there = c.self.invariant.0.runs.readers node k reads in
     elim (cases_lt node (length lists)) [
       | inl inside ↦ omega (arith, inside, c.self.invariant.0.runs.readers_counted)

@@ -21,41 +21,41 @@ use Rattle.unit_step.proofs.machine.Machine.vacate.Goals.{After-replace-gone}
 use Rattle.unit_step.proofs.machine.Machine.vacate.Goals as goal
 
 -- the part that was taken out is the one with this number
-gone_read : (c : After-replace-gone) → c.replace-gone.result ≡ get_or c.self.inside.parts.items c.args.k c.replace-gone.result
+gone_read : (c : After-replace-gone) → c.replace-gone.result ≡ get_or c.self.inside.body.parts.items c.args.k c.replace-gone.result
 gone_read c =
-    c.replace-gone.ensures.value ∙ (c.index_mut.ensures.value ∙ ap (get_or c.self.inside.parts.items c.args.k) (sym c.replace-gone.ensures.value))
+    c.replace-gone.ensures.value ∙ (c.index_mut.ensures.value ∙ ap (get_or c.self.inside.body.parts.items c.args.k) (sym c.replace-gone.ensures.value))
 
-gone_stands : (c : After-replace-gone) → Stands c.self.inside.parts.items c.args.k c.replace-gone.result
+gone_stands : (c : After-replace-gone) → Stands c.self.inside.body.parts.items c.args.k c.replace-gone.result
 gone_stands c = record {
   inside = omega (arith, c.requires, ap (λ (m : MachineData). length m.parts) c.self.view_is);
   here = sym (gone_read c);
 }
 
-gone_seat : (c : After-replace-gone) → IsSeated (length c.self.inside.state.items) (rooms c.self.inside.desk) c.replace-gone.result
+gone_seat : (c : After-replace-gone) → IsSeated (length c.self.inside.body.state.items) (rooms c.self.inside.body.desk) c.replace-gone.result
 gone_seat c =
     let i = c.self.inside in
-    seat_of i.parts.items i.agenda.marks i.agenda.waiting (length i.state.items) i.readers i.owners.items i.uses.numbers i.held i.most
-    (rooms i.desk) c.self.invariant.0 c.args.k c.replace-gone.result (gone_stands c)
+    seat_of i.body.parts.items i.body.agenda.marks i.body.agenda.waiting (length i.body.state.items) i.body.readers i.body.owners.items i.body.uses.numbers i.body.held i.body.most
+    (rooms i.body.desk) c.self.invariant.0 c.args.k c.replace-gone.result (gone_stands c)
 
 pub disown-requires : goal.disown-requires
 disown-requires c =
     let i = c.self.inside in
     let seat = gone_seat (goal.at.disown-requires c).After-replace-gone in
-    rw (c.deref.ensures.value, c.deref_mut.ensures.value, c.self.invariant.0.own.counted) (members_there (length i.state.items) c.replace-gone.result seat.below)
+    rw (c.deref.ensures.value, c.deref_mut.ensures.value, c.self.invariant.0.own.counted) (members_there (length i.body.state.items) c.replace-gone.result seat.below)
 
 pub unlist-requires : goal.unlist-requires
 unlist-requires c =
     let i = c.self.inside in
     rw (c.deref-2.ensures.value, c.self.invariant.0.runs.readers_counted)
-    (reads_there i.parts.items i.agenda.marks i.agenda.waiting (length i.state.items) i.readers i.owners.items i.uses.numbers i.held i.most
-    (rooms i.desk) c.self.invariant.0 c.args.k c.replace-gone.result (gone_stands (goal.at.unlist-requires c).After-replace-gone))
+    (reads_there i.body.parts.items i.body.agenda.marks i.body.agenda.waiting (length i.body.state.items) i.body.readers i.body.owners.items i.body.uses.numbers i.body.held i.body.most
+    (rooms i.body.desk) c.self.invariant.0 c.args.k c.replace-gone.result (gone_stands (goal.at.unlist-requires c).After-replace-gone))
 
 pub invariant_of-self : goal.invariant_of-self
 invariant_of-self c =
     let i = c.self.inside in (
       c.self.invariant.0,
       c.self.invariant.1,
-      AreLasting-same i.parts.items i.uses.numbers (length i.state.items) (length i.uses.known) i.lasting c.self.invariant.2 i.uses.numbers
+      AreLasting-same i.body.parts.items i.body.uses.numbers (length i.body.state.items) (length i.body.uses.known) i.body.lasting c.self.invariant.2 i.body.uses.numbers
           c.note.new.self (λ k. refl) (ap (λ (list : Vec (Option ℕ) Global). list.items) c.note.ensures.numbers) c.in_err-note.ensures.err,
     )
 
@@ -71,27 +71,27 @@ invariant_of-self-2 c =
     let inside = stands.inside in
     let e = c.replace-gone.new.dest in
     let vacant : IsVacant e = subst IsVacant (sym c.replace-gone.ensures.after) c.no_part.ensures in
-    let owners = with_items_is i.owners c.disown.new.owners (omega (arith, c.disown.auto.owners, c.deref_mut.ensures.len)) in
-    let disowns : Disowns (take gone.members gone.map.items) i.owners.items c.disown.new.owners =
-    subst (λ list. Disowns (take gone.members list) i.owners.items c.disown.new.owners) c.deref.ensures.value
+    let owners = with_items_is i.body.owners c.disown.new.owners (omega (arith, c.disown.auto.owners, c.deref_mut.ensures.len)) in
+    let disowns : Disowns (take gone.members gone.map.items) i.body.owners.items c.disown.new.owners =
+    subst (λ list. Disowns (take gone.members list) i.body.owners.items c.disown.new.owners) c.deref.ensures.value
     (subst (λ list. Disowns (take gone.members c.deref.result.now) list c.disown.new.owners) c.deref_mut.ensures.value c.disown.ensures) in
-    let unlists : Unlists k gone.reads.items i.readers c.unlist.new.self =
-    subst (λ list. Unlists k list i.readers c.unlist.new.self) c.deref-2.ensures.value c.unlist.ensures in
-    let some : gone.members ≤ sum_by members_of i.parts.items =
-    subst (λ (part : HeldPart). part.members ≤ sum_by members_of i.parts.items) (sym read) (get_or-le-sum_by members_of i.parts.items k gone inside) in
-    let one : one_of gone ≤ count_by has_members i.parts.items =
-    subst (λ (part : HeldPart). one_of part ≤ count_by has_members i.parts.items) (sym read) (get_or-le-sum_by one_of i.parts.items k gone inside) in
-    let held : i.held - c.count_one.result + one_of gone ≡ i.held = omega (arith, one, c.count_one.ensures, c.self.invariant.0.number) in
-    let most : i.most - gone.members + gone.members ≡ i.most = omega (arith, some, c.self.invariant.0.most_members) in
-    let dense : AreDense (slice_set i.parts.items k e) c.clear.new.self = c.clear.ensures i.parts.items e vacant.code c.self.invariant.1 in
-    let noted : c.note.new.self.changed.items ≡ i.lasting.changed.items ++ starts_of gone =
-    c.in_ok-note.ensures.ok ∙ ap (λ part. i.lasting.changed.items ++ starts_of part)
-    (c.index.ensures ∙ get_or_default i.parts.items k c.index.result.now gone inside ∙ sym read) in
-    let lasting = AreLasting-vacated i.parts.items i.uses.numbers (length i.state.items) (length i.uses.known) i.lasting c.self.invariant.2 k
+    let unlists : Unlists k gone.reads.items i.body.readers c.unlist.new.self =
+    subst (λ list. Unlists k list i.body.readers c.unlist.new.self) c.deref-2.ensures.value c.unlist.ensures in
+    let some : gone.members ≤ sum_by members_of i.body.parts.items =
+    subst (λ (part : HeldPart). part.members ≤ sum_by members_of i.body.parts.items) (sym read) (get_or-le-sum_by members_of i.body.parts.items k gone inside) in
+    let one : one_of gone ≤ count_by has_members i.body.parts.items =
+    subst (λ (part : HeldPart). one_of part ≤ count_by has_members i.body.parts.items) (sym read) (get_or-le-sum_by one_of i.body.parts.items k gone inside) in
+    let held : i.body.held - c.count_one.result + one_of gone ≡ i.body.held = omega (arith, one, c.count_one.ensures, c.self.invariant.0.number) in
+    let most : i.body.most - gone.members + gone.members ≡ i.body.most = omega (arith, some, c.self.invariant.0.most_members) in
+    let dense : AreDense (slice_set i.body.parts.items k e) c.clear.new.self = c.clear.ensures i.body.parts.items e vacant.code c.self.invariant.1 in
+    let noted : c.note.new.self.changed.items ≡ i.body.lasting.changed.items ++ starts_of gone =
+    c.in_ok-note.ensures.ok ∙ ap (λ part. i.body.lasting.changed.items ++ starts_of part)
+    (c.index.ensures ∙ get_or_default i.body.parts.items k c.index.result.now gone inside ∙ sym read) in
+    let lasting = AreLasting-vacated i.body.parts.items i.body.uses.numbers (length i.body.state.items) (length i.body.uses.known) i.body.lasting c.self.invariant.2 k
     gone stands seat.below e vacant c.note.new.self c.note.ensures.numbers noted in (
       rw (owners, c.release.ensures.marks, c.release.ensures.waiting, c.free.ensures.numbers)
-          (IsMachine-vacated i.parts.items i.agenda.marks i.agenda.waiting (length i.state.items) i.readers i.owners.items i.uses.numbers i.held i.most
-          (rooms i.desk) c.self.invariant.0 k gone stands e vacant c.unlist.new.self c.disown.new.owners disowns unlists _ _ held most),
+          (IsMachine-vacated i.body.parts.items i.body.agenda.marks i.body.agenda.waiting (length i.body.state.items) i.body.readers i.body.owners.items i.body.uses.numbers i.body.held i.body.most
+          (rooms i.body.desk) c.self.invariant.0 k gone stands e vacant c.unlist.new.self c.disown.new.owners disowns unlists _ _ held most),
       dense,
       rw (c.free.ensures.numbers, c.free.ensures.known) lasting,
     )
@@ -105,14 +105,14 @@ returns-clause-ok c =
       part = e;
       none = vacant;
       parts = refl;
-      uses = texts_freed i.uses c.free.new.self c.args.k c.free.ensures.known c.free.ensures.numbers;
+      uses = texts_freed i.body.uses c.free.new.self c.args.k c.free.ensures.known c.free.ensures.numbers;
       marks = c.release.ensures.marks;
       rest = record {
         groups = refl;
         state = refl;
         last =
             ap (λ known. texts_lasting known c.note.new.self) c.free.ensures.known
-            ∙ ap (λ (list : Vec (Option ℕ) Global). texts_numbered i.uses.known list.items) c.note.ensures.numbers;
+            ∙ ap (λ (list : Vec (Option ℕ) Global). texts_numbered i.body.uses.known list.items) c.note.ensures.numbers;
         moves = refl;
         placed = refl;
         spare = refl;

@@ -10,7 +10,7 @@ use Rattle.unit_step.proofs.machine.Machine.vacate_owner.Goals as goal
 -- the part that was found has the node
 has : (c : In-Some) → HasMember c.args.self.now.parts c.in-Some.k c.args.node
 has c =
-    owner_has c.self.inside.parts.items c.args.self.now.parts (length c.self.inside.state.items) c.self.inside.owners.items c.deref.result.now
+    owner_has c.self.inside.body.parts.items c.args.self.now.parts (length c.self.inside.body.state.items) c.self.inside.body.owners.items c.deref.result.now
     c.self.invariant.0.own (ap (λ (m : MachineData). m.parts) c.self.view_is) c.deref.ensures.value c.args.node c.in-Some.k c.in-Some.ensures
 
 pub vacate-requires : goal.vacate-requires
@@ -25,5 +25,5 @@ returns-in-Some-clause-ok c =
 pub returns-in-None-clause-ok : goal.returns-in-None-clause-ok
 returns-in-None-clause-ok c =
     Clears-none c.args.node c.args.self.now
-    (no_owner c.self.inside.parts.items c.args.self.now.parts (length c.self.inside.state.items) c.self.inside.owners.items c.deref.result.now
+    (no_owner c.self.inside.body.parts.items c.args.self.now.parts (length c.self.inside.body.state.items) c.self.inside.body.owners.items c.deref.result.now
     c.self.invariant.0.own (ap (λ (m : MachineData). m.parts) c.self.view_is) c.deref.ensures.value c.args.node c.in-None.ensures)

@@ -26,13 +26,13 @@ covers_in : (c : In_ok-nodes) → Covers c.args.graph.now (the_view c.self.insid
 covers_in c = subst (Covers c.args.graph.now) (sym c.self.view_is) c.requires.covers
 
 -- the nodes are the first ones of the stale parts
-nodes_all : (c : In_ok-nodes) (k : ℕ) → IsStale c.self.inside.parts.items k → Contains c.in_ok-nodes.nodes.items (first_node c.self.inside.parts.items k)
+nodes_all : (c : In_ok-nodes) (k : ℕ) → IsStale c.self.inside.body.parts.items k → Contains c.in_ok-nodes.nodes.items (first_node c.self.inside.body.parts.items k)
 nodes_all c k stale =
     subst (λ parts. Contains c.in_ok-nodes.nodes.items (first_node parts k)) c.deref.ensures.value
     (c.in_ok-nodes.ensures.all k (c.self.invariant.0.runs.stale k stale))
 
 nodes_only : (c : In_ok-nodes) (node : ℕ) → Contains c.in_ok-nodes.nodes.items node →
-    (k : ℕ) × IsStale c.self.inside.parts.items k × (first_node c.self.inside.parts.items k ≡ node)
+    (k : ℕ) × IsStale c.self.inside.body.parts.items k × (first_node c.self.inside.body.parts.items k ≡ node)
 nodes_only c node there =
     let (k, waits, first) = c.in_ok-nodes.ensures.only node there in
     (k, c.self.invariant.0.runs.waits k waits, subst (λ parts. first_node parts k ≡ node) c.deref.ensures.value first)
@@ -46,17 +46,17 @@ groups_are c =
 -- the groups whose parts wait
 abbrev some_in : In_ok-nodes → List Group
 some_in c =
-    waiting_groups c.args.graph.now (the_view c.self.inside) (covers_in c) _ c.self.inside.owners.items c.self.invariant.0.own c.in_ok-nodes.nodes.items
+    waiting_groups c.args.graph.now (the_view c.self.inside) (covers_in c) _ c.self.inside.body.owners.items c.self.invariant.0.own c.in_ok-nodes.nodes.items
     c.in_ok-nodes.ensures.ascending (nodes_all c) (nodes_only c)
 
 -- each node's owner is the part that waits
-slots_found : (c : In_ok-slots) → map Some c.in_ok-slots.slots.items ≡ map (λ node. slice_index_or c.self.inside.owners.items node None) c.in_ok-nodes.nodes.items
+slots_found : (c : In_ok-slots) → map Some c.in_ok-slots.slots.items ≡ map (λ node. slice_index_or c.self.inside.body.owners.items node None) c.in_ok-nodes.nodes.items
 slots_found c = rw (c.deref-2.ensures.value, c.deref-3.ensures.value) at c.in_ok-slots.ensures
 
-found : (c : In_ok-nodes) (slots : List ℕ) → map Some slots ≡ map (λ node. slice_index_or c.self.inside.owners.items node None) c.in_ok-nodes.nodes.items →
-    AreWaiting c.args.graph.now c.self.inside.parts.items (covers_in c).groups.groups (some_in c) slots
+found : (c : In_ok-nodes) (slots : List ℕ) → map Some slots ≡ map (λ node. slice_index_or c.self.inside.body.owners.items node None) c.in_ok-nodes.nodes.items →
+    AreWaiting c.args.graph.now c.self.inside.body.parts.items (covers_in c).groups.groups (some_in c) slots
 found c slots slots_are =
-    AreWaiting-found c.args.graph.now (the_view c.self.inside) (covers_in c) _ c.self.inside.owners.items c.self.invariant.0.own c.in_ok-nodes.nodes.items
+    AreWaiting-found c.args.graph.now (the_view c.self.inside) (covers_in c) _ c.self.inside.body.owners.items c.self.invariant.0.own c.in_ok-nodes.nodes.items
     c.in_ok-nodes.ensures.ascending (nodes_all c) (nodes_only c) slots slots_are
 
 ids_found : (c : In_ok-ids) → map (λ (id : GroupId). id.node) c.in_ok-ids.ids.items ≡ c.in_ok-nodes.nodes.items
@@ -68,7 +68,7 @@ chosen_are : (c : In_ok-nodes) (ids read : List GroupId) → read ≡ ids → ma
 chosen_are c ids read read_is are =
     ap (λ (held : GroupsData). chosen held.groups read) (groups_are c)
     ∙ (ap (chosen (covers_in c).groups.groups) read_is
-    ∙ chosen_waiting c.args.graph.now (the_view c.self.inside) (covers_in c) _ c.self.inside.owners.items c.self.invariant.0.own c.in_ok-nodes.nodes.items
+    ∙ chosen_waiting c.args.graph.now (the_view c.self.inside) (covers_in c) _ c.self.inside.body.owners.items c.self.invariant.0.own c.in_ok-nodes.nodes.items
     c.in_ok-nodes.ensures.ascending (nodes_all c) (nodes_only c) ids are)
 
 pub owners_of-requires : goal.owners_of-requires
@@ -76,7 +76,7 @@ owners_of-requires c =
     let begin = (goal.at.owners_of-requires c).In_ok-nodes in
     record {
       owned = rw (c.deref-2.ensures.value, c.deref-3.ensures.value)
-          (nodes_owned c.args.graph.now _ (covers_in begin) _ c.self.inside.owners.items c.self.invariant.0.own c.in_ok-nodes.nodes.items
+          (nodes_owned c.args.graph.now _ (covers_in begin) _ c.self.inside.body.owners.items c.self.invariant.0.own c.in_ok-nodes.nodes.items
           c.in_ok-nodes.ensures.ascending (nodes_all begin) (nodes_only begin));
     }
 
@@ -84,7 +84,7 @@ pub ids_at-requires-clause-ids : goal.ids_at-requires-clause-ids
 ids_at-requires-clause-ids c =
     let begin = (goal.at.ids_at-requires-clause-ids c).In_ok-nodes in
     let nodes = c.in_ok-nodes.nodes.items in
-    let are = nodes_are_ids c.args.graph.now _ (covers_in begin) _ c.self.inside.owners.items c.self.invariant.0.own nodes c.in_ok-nodes.ensures.ascending
+    let are = nodes_are_ids c.args.graph.now _ (covers_in begin) _ c.self.inside.body.owners.items c.self.invariant.0.own nodes c.in_ok-nodes.ensures.ascending
     (nodes_all begin) (nodes_only begin) in
     let there : All (IsId c.in-Some.groups.groups) nodes = subst (λ (held : GroupsData). All (IsId held.groups) nodes) (sym (groups_are begin)) are in
     subst (All (IsId c.in-Some.groups.groups)) (sym c.deref-4.ensures.value) there
@@ -120,7 +120,7 @@ returns-clause-waking c =
       maps = c.in_ok-texts.field-0.maps;
       reads = c.in_ok-reads_at.field-0;
     } in
-    let waking : IsWaking g i.parts.items made = record {
+    let waking : IsWaking g i.body.parts.items made = record {
       groups = covers.groups.groups;
       are = covers.are.are;
       some = some_in begin;

@@ -1,7 +1,7 @@
--- A machine before it starts.
+-- What a machine is made of.
 use Rattle.std.specs.Prelude.{◌≡◌, ℕ, true, length, replicate, ◌-◌, List, Option}
 use Rattle.kept_parts.specs.Uses.{texts_used, count_distinct}
-use Rattle.unit_step.specs.declared.drafting.Draft.{Draft}
+use Rattle.unit_step.specs.declared.body.Body.{Body}
 use Rattle.machine_laws.specs.Machines.{MachineData}
 use Rattle.part_steps.specs.Desks.{rooms}
 use Rattle.machine_parts.specs.Running.{IsMachine}
@@ -28,15 +28,15 @@ started groups parts state uses last spare = record {
   spare = spare;
 }
 
--- all that was made is of the draft's parts, which are all marked: a machine can start with it
-pub record CanStart (draft : Draft) : Type 0 where
-  pub marked : draft.agenda.marks ≡ replicate (length draft.parts.items) true
-  pub runs : IsMachine draft.parts.items draft.agenda.marks draft.agenda.waiting (length draft.state.items) draft.readers draft.owners.items
-      draft.uses.numbers draft.held (rooms draft.desk).changes (rooms draft.desk)
-  pub dense : AreDense draft.parts.items draft.dense
-  pub lasting : AreLasting draft.parts.items draft.uses.numbers (length draft.state.items) (length draft.uses.known) draft.lasting
+-- all that was made is of the body's parts, which are all marked: a machine can start with it
+pub record CanStart (body : Body) : Type 0 where
+  pub marked : body.agenda.marks ≡ replicate (length body.parts.items) true
+  pub runs : IsMachine body.parts.items body.agenda.marks body.agenda.waiting (length body.state.items) body.readers body.owners.items
+      body.uses.numbers body.held body.most (rooms body.desk)
+  pub dense : AreDense body.parts.items body.dense
+  pub lasting : AreLasting body.parts.items body.uses.numbers (length body.state.items) (length body.uses.known) body.lasting
 
 -- the machine that starts so, with room for so many nodes more
-abbrev pub drafted : Draft → ℕ → MachineData
-drafted draft spare =
-    started draft.groups draft.parts.items draft.state.items (texts_used draft.uses) (texts_lasting draft.uses.known draft.lasting) spare
+abbrev pub of_body : Body → ℕ → MachineData
+of_body body spare =
+    started body.groups body.parts.items body.state.items (texts_used body.uses) (texts_lasting body.uses.known body.lasting) spare

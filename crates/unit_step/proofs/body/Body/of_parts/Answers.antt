@@ -10,7 +10,7 @@ use Rattle.part_steps.specs.Dense.{AreDense, HasInputs, HaveCodes}
 use Rattle.unit_step.specs.Lasting.{AreLasting}
 use Rattle.unit_step.proofs.LastingOrder.{AreInOrder-lasting}
 use Rattle.machine_parts.proofs.MakingLemmas.{IsMachine-started}
-use Rattle.unit_step.proofs.drafting.Draft.of_parts.Goals as goal
+use Rattle.unit_step.proofs.body.Body.of_parts.Goals as goal
 
 pub all_owners-requires-clause-apart : goal.all_owners-requires-clause-apart
 all_owners-requires-clause-apart c = subst AreApart (sym c.deref-3.ensures.value) c.requires.apart
@@ -47,7 +47,7 @@ returns-clause-starts c =
     let dense = subst (λ list. AreDense list c.in_ok-dense.dense) c.deref-5.ensures.value c.in_ok-dense.ensures in
     record {
       marked = marks;
-      runs = rw (marks, waits)
+      runs = rw (marks, waits, c.capacity.ensures)
           (IsMachine-started parts nodes lists owners c.args.uses.numbers c.count_held-held.result room.changes room c.requires.formed c.requires.apart
           (c.in_ok-readers.ensures.count ∙ nodes_are) readers reads own (omega (arith, c.requires.numbered)) number refl fits);
       dense = dense;

@@ -2,7 +2,7 @@
 use Rattle.std.proofs.Common.{◌≡◌, ◌≤◌, length, take, vec_len}
 use Rattle.std.specs.Prelude.{vec_capacity}
 use Rattle.part_steps.specs.Dense.{HaveCodes, ArePlaces, AreSeatsOf}
-use Rattle.unit_step.proofs.drafting.dense_of.Given as goal
+use Rattle.unit_step.proofs.body.dense_of.Given as goal
 
 abbrev pub invariant-loop-k : goal.invariant-loop-k
 invariant-loop-k l = record {

@@ -1,4 +1,4 @@
--- A draft of a plan's parts: the machine that starts so fits the graph, and the texts of the graph's groups are those of its last build.
+-- The body of a plan's parts: the machine that starts so fits the graph, and the texts of the graph's groups are those of its last build.
 use Rattle.std.proofs.Common.{◌≡◌, ℕ, zero, suc, List, [], ◌∷◌, length, map, Some, Result, Ok, Err, IfOk, Vec, Global, refl, sym, subst, ◌∙◌, ap}
 use Rattle.std.specs.Prelude.{Option, zip, slice_get}
 use Rattle.std.specs.List.{AllZip}
@@ -14,9 +14,9 @@ use Rattle.circuit_texts.proofs.MemberLemmas.{AreMembers-from_groups}
 use Rattle.kept_parts.specs.Uses.{UsesData, texts_used}
 use Rattle.machine_parts.specs.declared.part.HeldPart.{HeldPart}
 use Rattle.unit_step.specs.declared.planning.Plan.{Plan}
-use Rattle.unit_step.specs.declared.drafting.Draft.{Draft}
+use Rattle.unit_step.specs.declared.body.Body.{Body}
 use Rattle.machine_parts.specs.Making.{held}
-use Rattle.unit_step.specs.Drafting.{started, drafted}
+use Rattle.unit_step.specs.Bodies.{started, of_body}
 use Rattle.unit_step.specs.Planning.{IsPlan}
 use Rattle.machine_laws.specs.Fitting.{FitsGraph}
 use Rattle.machine_laws.specs.Beginnings.{AreInOrder, HasLast}
@@ -63,30 +63,30 @@ FitsGraph-planned g plan is_plan counted railed sound parts of all all_are last 
     (FitsGraph-started g groups (map held (zip parts reads)) fresh plan.groups refl is_plan.are is_plan.fit apart plan.state.items counted railed sound
     (texts_used plan.uses) is_plan.texts last spare)
 
--- the machine that starts with a draft of these parts, in this state and with these texts
-pub drafted-of : (groups : Option GroupsData) (parts : Vec HeldPart Global) (state : Vec Tern Global) (uses : UsesData) (draft : Draft) →
-    draft.groups ≡ groups → draft.parts ≡ parts → draft.state ≡ state → draft.uses ≡ uses → (spare : ℕ) →
-    drafted draft spare ≡ started groups parts.items state.items (texts_used uses) (texts_lasting uses.known draft.lasting) spare
-drafted-of groups parts state uses draft groups_are parts_are state_is uses_are spare = λ i.
-    started (groups_are i) (parts_are i).items (state_is i).items (texts_used (uses_are i)) (texts_lasting (uses_are i).known draft.lasting) spare
+-- the machine that starts with a body of these parts, in this state and with these texts
+pub of_body-of : (groups : Option GroupsData) (parts : Vec HeldPart Global) (state : Vec Tern Global) (uses : UsesData) (body : Body) →
+    body.groups ≡ groups → body.parts ≡ parts → body.state ≡ state → body.uses ≡ uses → (spare : ℕ) →
+    of_body body spare ≡ started groups parts.items state.items (texts_used uses) (texts_lasting uses.known body.lasting) spare
+of_body-of groups parts state uses body groups_are parts_are state_is uses_are spare = λ i.
+    started (groups_are i) (parts_are i).items (state_is i).items (texts_used (uses_are i)) (texts_lasting (uses_are i).known body.lasting) spare
 
 module _ (g : GraphData) (groups : Option GroupsData) (parts : Vec HeldPart Global) (state : Vec Tern Global) (uses : UsesData)
     (fits : (last : List GroupTextData) (spare : ℕ) → FitsGraph g (started groups parts.items state.items (texts_used uses) last spare)) where
-  -- so it does with a draft of them
-  pub FitsGraph-drafted : (result : Result Draft NoMemory) → IfOk result (λ draft. draft.groups ≡ groups) → IfOk result (λ draft. draft.parts ≡ parts) →
-      IfOk result (λ draft. draft.state ≡ state) → IfOk result (λ draft. draft.uses ≡ uses) →
-      IfOk result (λ draft. (spare : ℕ) → FitsGraph g (drafted draft spare))
-  FitsGraph-drafted (Ok draft) groups_are parts_are state_is uses_are = λ spare.
-      subst (FitsGraph g) (sym (drafted-of groups parts state uses draft groups_are parts_are state_is uses_are spare))
-      (fits (texts_lasting uses.known draft.lasting) spare)
-  FitsGraph-drafted (Err fault) groups_are parts_are state_is uses_are = tt
+  -- so it does with a body of them
+  pub FitsGraph-of_body : (result : Result Body NoMemory) → IfOk result (λ body. body.groups ≡ groups) → IfOk result (λ body. body.parts ≡ parts) →
+      IfOk result (λ body. body.state ≡ state) → IfOk result (λ body. body.uses ≡ uses) →
+      IfOk result (λ body. (spare : ℕ) → FitsGraph g (of_body body spare))
+  FitsGraph-of_body (Ok body) groups_are parts_are state_is uses_are = λ spare.
+      subst (FitsGraph g) (sym (of_body-of groups parts state uses body groups_are parts_are state_is uses_are spare))
+      (fits (texts_lasting uses.known body.lasting) spare)
+  FitsGraph-of_body (Err fault) groups_are parts_are state_is uses_are = tt
 
   -- and the last texts are those of the groups
-  pub HasLast-drafted : (result : Result Draft NoMemory) → IfOk result (λ draft. draft.uses ≡ uses) →
-      IfOk result (λ draft. AreInOrder parts.items (texts_used uses) (texts_lasting uses.known draft.lasting)) →
-      IfOk result (λ draft. HasLast g (texts_lasting draft.uses.known draft.lasting))
-  HasLast-drafted (Ok draft) uses_are order =
-      let last = texts_lasting uses.known draft.lasting in
-      subst (λ (one : UsesData). HasLast g (texts_lasting one.known draft.lasting)) (sym uses_are)
+  pub HasLast-of_body : (result : Result Body NoMemory) → IfOk result (λ body. body.uses ≡ uses) →
+      IfOk result (λ body. AreInOrder parts.items (texts_used uses) (texts_lasting uses.known body.lasting)) →
+      IfOk result (λ body. HasLast g (texts_lasting body.uses.known body.lasting))
+  HasLast-of_body (Ok body) uses_are order =
+      let last = texts_lasting uses.known body.lasting in
+      subst (λ (one : UsesData). HasLast g (texts_lasting one.known body.lasting)) (sym uses_are)
       (HasLast-order g (started groups parts.items state.items (texts_used uses) last 0) (fits last 0) last order)
-  HasLast-drafted (Err fault) uses_are order = tt
+  HasLast-of_body (Err fault) uses_are order = tt

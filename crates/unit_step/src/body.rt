@@ -1,4 +1,4 @@
-//! A machine before it starts.
+//! What a machine is made of.
 ghost use Rattle.std.specs.Prelude.{◌≡◌, ℕ, ◌<◌, length, All, IsTrue, IfOk};
 ghost use Rattle.path_meaning.specs.Graphs.{nodes};
 ghost use Rattle.path_meaning.specs.Rails.{IsRailed, IsSound};
@@ -11,7 +11,7 @@ ghost use Rattle.unit_step.specs.Planning.{IsPlan};
 ghost use Rattle.machine_laws.specs.Fitting.{FitsGraph};
 ghost use Rattle.machine_laws.specs.Beginnings.{AreInOrder, HasLast};
 ghost use Rattle.unit_step.specs.Lasting.{texts_lasting};
-ghost use Rattle.unit_step.specs.Drafting.{CanStart, drafted};
+ghost use Rattle.unit_step.specs.Bodies.{CanStart, of_body};
 ghost use Rattle.part_steps.specs.Dense.{AreDense, HasInputs, HaveCodes};
 
 use crate::lasting::Lasting;
@@ -27,41 +27,49 @@ use path_meaning::{Graph, graphs_are_wired};
 use std::alloc::Global;
 use ternary::{NoMemory, Tern};
 
-// What a machine starts with. All that takes memory is taken, so what is left of a build can't fail, and may
-// move and cut what is kept.
+// What a machine is made of, but for its counts. All that takes memory is taken when it is made, so what is left of
+// a build can't fail, and may move and cut what is kept.
 #[derive(Drop)]
-pub(crate) struct Draft {
+pub(crate) struct Body {
+    // the groups of the graph that the machine was built for
     pub(crate) groups: Option<Groups>,
     pub(crate) parts: Vec<HeldPart>,
+    // what a step reads of the parts
     pub(crate) dense: DenseParts,
+    // the text of each part that has a group and code
     pub(crate) uses: TextUses,
+    // the texts of the last build
     pub(crate) lasting: Lasting,
+    // how many parts have a member
     pub(crate) held: usize,
+    // at least as many as all parts have members
+    pub(crate) most: usize,
     pub(crate) agenda: Agenda,
+    // for each node the parts that read it, and the part that it is a member of
     pub(crate) readers: ReaderLists,
     pub(crate) owners: Vec<Option<usize>>,
     pub(crate) state: Vec<Tern>,
     pub(crate) desk: Desk,
 }
 
-impl Draft {
-    // The draft of a plan whose texts are kept.
+impl Body {
+    // The body of a plan whose texts are kept.
     pub(crate) fn of_plan(
         alloc: Global,
         graph: &Graph,
         plan: Plan,
         kept: &Kept,
-    ) -> Result<Draft, NoMemory>
+    ) -> Result<Body, NoMemory>
         requires plan { IsPlan graph.now plan.state.items plan }
         requires kept { All (λ text. IsTrue (is_among (texts_of kept.now) text)) plan.uses.known }
         requires counted { length plan.state.items ≡ nodes graph.now }
         requires railed { IsRailed graph.now }
         requires sound { IsSound plan.state.items }
         ensures starts { IfOk result CanStart }
-        ensures fits { IfOk result (λ draft. (spare : ℕ) → FitsGraph graph.now (drafted draft spare)) }
-        ensures last { IfOk result (λ draft. HasLast graph.now (texts_lasting draft.uses.known draft.lasting)) }
-        ensures state { IfOk result (λ draft. draft.state ≡ plan.state) }
-        ensures uses { IfOk result (λ draft. draft.uses ≡ plan.uses) }
+        ensures fits { IfOk result (λ body. (spare : ℕ) → FitsGraph graph.now (of_body body spare)) }
+        ensures last { IfOk result (λ body. HasLast graph.now (texts_lasting body.uses.known body.lasting)) }
+        ensures state { IfOk result (λ body. body.state ≡ plan.state) }
+        ensures uses { IfOk result (λ body. body.uses ≡ plan.uses) }
     {
         graphs_are_wired(graph);
         let Plan {
@@ -73,28 +81,28 @@ impl Draft {
         } = plan;
         let parts = parts_by_number(alloc, kept, &uses, maps)?;
         let held = held_parts(alloc, parts, reads)?;
-        Draft::of_parts(alloc, Some(groups), held, state, uses)
+        Body::of_parts(alloc, Some(groups), held, state, uses)
     }
 
-    // The draft of these parts, which have code, in this state.
+    // The body of these parts, which have code, in this state.
     pub(crate) fn of_parts(
         alloc: Global,
         groups: Option<Groups>,
         parts: Vec<HeldPart>,
         state: Vec<Tern>,
         uses: TextUses,
-    ) -> Result<Draft, NoMemory>
+    ) -> Result<Body, NoMemory>
         requires formed { All (IsFormed (length state.items)) parts.items }
         requires apart { AreApart parts.items }
         requires reads { All (λ part. All (λ node. node < length state.items) part.reads.items) parts.items }
         requires numbered { length uses.numbers ≡ length parts.items }
         requires coded { HaveCodes uses.numbers parts.items }
         ensures starts { IfOk result CanStart }
-        ensures groups { IfOk result (λ draft. draft.groups ≡ groups) }
-        ensures parts { IfOk result (λ draft. draft.parts ≡ parts) }
-        ensures state { IfOk result (λ draft. draft.state ≡ state) }
-        ensures uses { IfOk result (λ draft. draft.uses ≡ uses) }
-        ensures order { IfOk result (λ draft. AreInOrder parts.items (texts_used uses) (texts_lasting uses.known draft.lasting)) }
+        ensures groups { IfOk result (λ body. body.groups ≡ groups) }
+        ensures parts { IfOk result (λ body. body.parts ≡ parts) }
+        ensures state { IfOk result (λ body. body.state ≡ state) }
+        ensures uses { IfOk result (λ body. body.uses ≡ uses) }
+        ensures order { IfOk result (λ body. AreInOrder parts.items (texts_used uses) (texts_lasting uses.known body.lasting)) }
     {
         let nodes = state.len();
         let held = count_held(&parts);
@@ -104,13 +112,14 @@ impl Draft {
         let desk = desk_for(alloc, &parts)?;
         let dense = dense_of(alloc, &parts, &uses)?;
         let lasting = Lasting::of_parts(alloc, &parts, &uses, nodes)?;
-        Ok(Draft {
+        Ok(Body {
             groups,
             parts,
             dense,
             uses,
             lasting,
             held,
+            most: desk.changes.capacity(),
             agenda,
             readers,
             owners,

@@ -10,13 +10,13 @@ use Rattle.circuit_texts.specs.Reading.{AreReads}
 use Rattle.circuit_texts.proofs.MemberLemmas.{AreMembers-from_groups}
 use Rattle.kept_parts.specs.Uses.{texts_used}
 use Rattle.kept_parts.proofs.GroupParts.{parts_of_groups, parts_fit}
-use Rattle.unit_step.specs.Drafting.{started}
+use Rattle.unit_step.specs.Bodies.{started}
 use Rattle.machine_laws.specs.Fitting.{FitsGraph}
 use Rattle.machine_parts.proofs.MakingLemmas.{formed_parts, apart_parts, reads_inside, held_count}
 use Rattle.unit_step.proofs.BuildLemmas.{lists_inside, numbers_counted, all_numbered}
-use Rattle.unit_step.proofs.DraftLemmas.{HaveCodes-held, FitsGraph-planned, FitsGraph-drafted, HasLast-drafted}
-use Rattle.unit_step.proofs.drafting.Draft.of_plan.Goals.{In_ok-parts, In_ok-held}
-use Rattle.unit_step.proofs.drafting.Draft.of_plan.Goals as goal
+use Rattle.unit_step.proofs.BodyLemmas.{HaveCodes-held, FitsGraph-planned, FitsGraph-of_body, HasLast-of_body}
+use Rattle.unit_step.proofs.body.Body.of_plan.Goals.{In_ok-parts, In_ok-held}
+use Rattle.unit_step.proofs.body.Body.of_plan.Goals as goal
 
 pub parts_by_number-requires-clause-maps : goal.parts_by_number-requires-clause-maps
 parts_by_number-requires-clause-maps c =
@@ -74,12 +74,12 @@ of_parts-requires c =
 pub returns-clause-fits : goal.returns-clause-fits
 returns-clause-fits c =
     let at = goal.at.returns-clause-fits c in
-    FitsGraph-drafted c.args.graph.now (Some c.args.plan.groups) c.in_ok-held.held c.args.plan.state c.args.plan.uses
+    FitsGraph-of_body c.args.graph.now (Some c.args.plan.groups) c.in_ok-held.held c.args.plan.state c.args.plan.uses
     (fits at.In_ok-held (of_groups at.In_ok-parts)) c.of_parts.result c.of_parts.ensures.groups c.of_parts.ensures.parts c.of_parts.ensures.state
     c.of_parts.ensures.uses
 
 pub returns-clause-last : goal.returns-clause-last
 returns-clause-last c =
     let at = goal.at.returns-clause-last c in
-    HasLast-drafted c.args.graph.now (Some c.args.plan.groups) c.in_ok-held.held c.args.plan.state c.args.plan.uses
+    HasLast-of_body c.args.graph.now (Some c.args.plan.groups) c.in_ok-held.held c.args.plan.state c.args.plan.uses
     (fits at.In_ok-held (of_groups at.In_ok-parts)) c.of_parts.result c.of_parts.ensures.uses c.of_parts.ensures.order

@@ -6,7 +6,7 @@ use Rattle.std.proofs.lemmas.Option.{slice_get_read}
 use Rattle.part_steps.specs.declared.dense.Seat.{Seat}
 use Rattle.part_steps.specs.Dense.{HaveCodes, ArePlaces, IsPartNumbered, AreDense}
 use Rattle.part_steps.proofs.DenseLemmas.{AreSeatsOf-more, AreSeatsOf-push, numbered_part}
-use Rattle.unit_step.proofs.drafting.dense_of.Goals as goal
+use Rattle.unit_step.proofs.body.dense_of.Goals as goal
 
 pub loop-k-preserved : goal.loop-k-preserved
 loop-k-preserved c =
