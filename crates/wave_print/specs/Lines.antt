@@ -31,6 +31,10 @@ expect_line_of name want got n =
     codes "expect " ++ name ++ codes "=" ++ (letter want ∷ []) ++ codes " got " ++ (letter got ∷ [])
     ++ codes " after " ++ decimal n ++ codes "\n"
 
+-- the start of a column's line: `<number> `
+abbrev pub column_start_of : ℕ → List ℕ
+column_start_of number = decimal number ++ codes " "
+
 -- the check line: `ok nodes <nodes> switches <switches> names <names>`
 abbrev pub check_line_of : ℕ → ℕ → ℕ → List ℕ
 check_line_of nodes switches names =

@@ -1,6 +1,6 @@
 ghost use Rattle.std.specs.Prelude.{◌≡◌, ◌+◌, ◌≤◌, ◌++◌, length, map, codes, decimal};
 ghost use Rattle.ternary.specs.Tern.{letter};
-ghost use Rattle.wave_print.specs.Lines.{mark_of, values_of, wave_line_of, report_line_of, expect_line_of, check_line_of, text_number_of, group_start_of, circuit_of, waves_of, states_of, summary_line_of};
+ghost use Rattle.wave_print.specs.Lines.{mark_of, values_of, wave_line_of, report_line_of, expect_line_of, column_start_of, check_line_of, text_number_of, group_start_of, circuit_of, waves_of, states_of, summary_line_of};
 
 use crate::line_buf::LineBuf;
 use itoa::Buffer;
@@ -39,6 +39,9 @@ pub const REPORT_LINE_ROOM: usize = 300;
 
 /// Room for any expect line, beyond that for its name.
 pub const EXPECT_LINE_ROOM: usize = 60;
+
+/// Room for the start of any column's line.
+pub const COLUMN_ROOM: usize = 21;
 
 /// Room for any check line.
 pub const CHECK_LINE_ROOM: usize = 300;
@@ -105,6 +108,17 @@ pub fn expect_line(out: &mut LineBuf, name: &[u8], want: Tern, got: Tern, n: u64
     out.push(got.letter());
     append_count(out, b" after ", n);
     out.append(b"\n");
+}
+
+/// Appends the start of a column's line, the column's number and a blank.
+pub fn column_start(out: &mut LineBuf, number: u64)
+    requires room { COLUMN_ROOM ≤ out.old.spare }
+    ensures bytes { out.new.bytes ≡ out.old.bytes ++ column_start_of number }
+    ensures spare { out.new.spare + length (column_start_of number) ≡ out.old.spare }
+    ensures short { length (column_start_of number) ≤ COLUMN_ROOM }
+{
+    append_number(out, number);
+    out.append(b" ");
 }
 
 /// Appends the check line `ok nodes <nodes> switches <switches> names <names>` and LF.
