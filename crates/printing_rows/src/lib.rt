@@ -1,4 +1,4 @@
-//! What is read and written, as tests of ports.
+//! What is read and written, as tests of ports, and of lines that are told.
 //!
 //! They show what no clause says: how many calls a port gets before and after a fault, and that the real
 //! ports answer. That each line that is written is the right one to the byte is a clause of its writer, and
@@ -7,3 +7,5 @@
 
 #[cfg(test)]
 mod ports;
+#[cfg(test)]
+mod told;

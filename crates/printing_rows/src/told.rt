@@ -1,0 +1,57 @@
+use port_edge::HonestSink;
+use std::test::Fail;
+use ternary::Tern;
+use told_lines::{Line, Lines, Met, Printer};
+use wave_print::{FaultCode, FaultPlace};
+
+#[test]
+fn each_kind_of_line_is_printed_with_its_column(rt: HostRuntime) -> Result<(), Fail> {
+    let printer = Printer::new(rt.alloc(), HonestSink::new(rt.alloc()), true)?;
+    let mut out = Met {
+        inner: printer,
+        missed: false,
+    };
+    out.reserve(400)?;
+    out.tell(
+        0,
+        Line::Wave {
+            n: 7,
+            k: 2,
+            mark: true,
+            values: &[Tern::One, Tern::Unk],
+        },
+    )?;
+    assert!(rt; !out.missed);
+    out.tell(
+        9,
+        Line::Unmet {
+            name: b"q",
+            want: Tern::One,
+            got: Tern::Zero,
+            n: 7,
+        },
+    )?;
+    out.tell(
+        63,
+        Line::Reported {
+            groups: 3,
+            texts: 2,
+            fresh: 1,
+        },
+    )?;
+    out.tell(
+        0,
+        Line::Refused {
+            place: FaultPlace::Script(4),
+            code: FaultCode::G1GroupNodes,
+            name: b"s1",
+            count: 201,
+        },
+    )?;
+    assert!(rt; out.missed);
+    let sink = out.inner.into_sink();
+    let text =
+        "1 7 2* 1X\n10 expect q=1 got 0 after 7\n64 groups 3 texts 2 new 1\nscript line 4: G1 GroupNodes s1 201\n";
+    assert_eq!(rt; sink.written(), text.as_bytes());
+    Ok(())
+}

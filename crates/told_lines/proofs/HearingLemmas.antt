@@ -1,0 +1,61 @@
+-- Lines that are told one after the other: what of them was heard so far, and the rows of columns that are left.
+use Rattle.std.proofs.Common.{◌≡◌, ℕ, suc, ◌+◌, ◌-◌, ◌<◌, arith, List, [], ◌∷◌, ◌++◌, refl, sym, ap, subst, ◌∙◌, append-nil, append_assoc}
+use Rattle.std.specs.Prelude.{Result, Ok, Err, OnOk, OnErr}
+use Rattle.told_lines.specs.Lines.{Line, Told}
+use Rattle.told_lines.specs.Hearing.{hear_all, HearsPart, Hears, SoFar, of_column, row_from}
+
+-- a front and the rest are heard one after the other
+pub hear_all-append : {H : Type 0} (hear : H → Told → H) (before : H) (front rest : List Told) →
+    hear_all hear before (front ++ rest) ≡ hear_all hear (hear_all hear before front) rest
+hear_all-append hear before [] rest = refl
+hear_all-append hear before (line ∷ front) rest = hear_all-append hear (hear before line) front rest
+
+-- one line was heard, or a part of it
+pub one_heard : {H E : Type 0} (hear : H → Told → H) (part : H → Told → H → Type 0) (before after : H) (line : Told) (result : Result (Unit {0}) E) →
+    OnOk result (after ≡ hear before line) → OnErr result (part before line after) → Hears hear part before after (line ∷ []) result
+one_heard hear part before after line (Ok _) ok err = ok
+one_heard hear part before after line (Err fault) ok err = record { front = []; next = line; rest = []; split = refl; heard = err }
+
+-- none was heard yet
+pub so_far-start : {H : Type 0} (hear : H → Told → H) (start : H) (all : List Told) → SoFar hear start start all all
+so_far-start hear start all = record { done = []; split = refl; heard = refl }
+
+-- a piece more was heard
+pub so_far-more : {H : Type 0} (hear : H → Told → H) (start now after : H) (all left piece rest : List Told) → left ≡ piece ++ rest →
+    SoFar hear start now all left → after ≡ hear_all hear now piece → SoFar hear start after all rest
+so_far-more hear start now after all left piece rest parted before heard = record {
+  done = before.done ++ piece;
+  split = before.split ∙ ap (λ (lines : List Told). before.done ++ lines) parted ∙ sym (append_assoc before.done piece rest);
+  heard = heard ∙ ap (λ h. hear_all hear h piece) before.heard ∙ sym (hear_all-append hear start before.done piece);
+}
+
+-- all was heard
+pub so_far-end : {H : Type 0} (hear : H → Told → H) (start now : H) (all : List Told) → SoFar hear start now all [] → now ≡ hear_all hear start all
+so_far-end hear start now all before =
+    before.heard ∙ ap (λ (lines : List Told). hear_all hear start lines) (sym (append-nil before.done) ∙ sym before.split)
+
+-- of a piece more a part was heard
+pub so_far-stopped : {H : Type 0} (hear : H → Told → H) (part : H → Told → H → Type 0) (start now after : H) (all left piece rest : List Told) →
+    left ≡ piece ++ rest → SoFar hear start now all left → HearsPart hear part now after piece → HearsPart hear part start after all
+so_far-stopped hear part start now after all left piece rest parted before stopped = record {
+  front = before.done ++ stopped.front;
+  next = stopped.next;
+  rest = stopped.rest ++ rest;
+  split = before.split ∙ ap (λ (lines : List Told). before.done ++ lines) (parted ∙ ap (λ (lines : List Told). lines ++ rest) stopped.split
+      ∙ append_assoc stopped.front (stopped.next ∷ stopped.rest) rest)
+      ∙ sym (append_assoc before.done stopped.front (stopped.next ∷ (stopped.rest ++ rest)));
+  heard = subst (λ h. part h stopped.next after)
+      (ap (λ h. hear_all hear h stopped.front) before.heard ∙ sym (hear_all-append hear start before.done stopped.front)) stopped.heard;
+}
+
+-- a column's lines and others are told one after the other
+pub of_column-append : (column : ℕ) (lines more : List Line) → of_column column (lines ++ more) ≡ of_column column lines ++ of_column column more
+of_column-append column [] more = refl
+of_column-append column (line ∷ lines) more = ap (λ (rest : List Told). record { column = column; line = line } ∷ rest) (of_column-append column lines more)
+
+-- what is left of a row from a column on is that column's lines, and what is left from the next one on
+pub row_from-next : (lines : ℕ → List Line) (column count : ℕ) → column < count →
+    row_from lines column (count - column) ≡ of_column column (lines column) ++ row_from lines (column + 1) (count - (column + 1))
+row_from-next lines column count inside =
+    let more : count - column ≡ suc (count - (column + 1)) = omega (arith, inside) in
+    ap (row_from lines column) more

@@ -1,0 +1,40 @@
+-- What lines that were told come to, by what one line more does.
+use Rattle.std.specs.Prelude.{◌≡◌, ℕ, zero, suc, ◌+◌, List, [], ◌∷◌, ◌++◌, map, Result, Ok, Err}
+use Rattle.told_lines.specs.Lines.{Line, Told}
+
+-- after these lines, one after the other
+abbrev pub hear_all : {H : Type 0} → (H → Told → H) → H → List Told → H
+hear_all hear before [] = before
+hear_all hear before (told ∷ others) = hear_all hear (hear before told) others
+
+-- a part of these lines was heard, from the start: a front of them, and of the next one a part, or nothing
+pub record HearsPart {H : Type 0} (hear : H → Told → H) (part : H → Told → H → Type 0) (before after : H) (lines : List Told) : Type 0 where
+  pub front : List Told
+  pub next : Told
+  pub rest : List Told
+  pub split : lines ≡ front ++ next ∷ rest
+  pub heard : part (hear_all hear before front) next after
+
+-- these lines were heard, or at a fault a part of them
+abbrev pub Hears : {H E : Type 0} → (H → Told → H) → (H → Told → H → Type 0) → H → H → List Told → Result (Unit {0}) E → Type 0
+Hears hear part before after lines (Ok _) = after ≡ hear_all hear before lines
+Hears hear part before after lines (Err fault) = HearsPart hear part before after lines
+
+-- the lines of a column
+abbrev pub of_column : ℕ → List Line → List Told
+of_column column lines = map (λ line. record { column = column; line = line }) lines
+
+-- the lines of so many columns from this one on, in order
+abbrev pub row_from : (ℕ → List Line) → ℕ → ℕ → List Told
+row_from lines column zero = []
+row_from lines column (suc count) = of_column column (lines column) ++ row_from lines (column + 1) count
+
+-- a row: the lines of the first columns, so many, in order
+abbrev pub row_of : (ℕ → List Line) → ℕ → List Told
+row_of lines count = row_from lines 0 count
+
+-- of all these lines those were heard that stand before what is left
+pub record SoFar {H : Type 0} (hear : H → Told → H) (start now : H) (all left : List Told) : Type 0 where
+  pub done : List Told
+  pub split : all ≡ done ++ left
+  pub heard : now ≡ hear_all hear start done

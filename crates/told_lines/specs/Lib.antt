@@ -1,0 +1,7 @@
+pub mod Lines
+pub mod Hearing
+pub mod Printing
+pub mod Meeting
+pub mod Noting
+pub mod Sums
+pub mod Laws

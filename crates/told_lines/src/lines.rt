@@ -1,0 +1,84 @@
+//! A line as a value, and the trait of those who hear lines.
+
+ghost use Rattle.std.specs.Prelude.{◌≡◌, ℕ, ◌≤◌, OnOk, OnErr};
+ghost use Rattle.port_edge.specs.Ports.{faults_after, refusals_after};
+
+use port_edge::PortFault;
+use ternary::{NoMemory, Tern};
+use wave_print::{FaultCode, FaultPlace};
+
+/// A line that is told.
+#[derive(Clone, Copy)]
+pub enum Line<'a> {
+    /// A waveform line: its number, how many steps changed something, whether a joining step did, and the
+    /// watched nodes' states.
+    Wave {
+        n: u64,
+        k: u64,
+        mark: bool,
+        values: &'a [Tern],
+    },
+    /// An expectation that isn't met: the name, the wanted state, the present one, and the number of waveform
+    /// lines so far.
+    Unmet {
+        name: &'a [u8],
+        want: Tern,
+        got: Tern,
+        n: u64,
+    },
+    /// A report: how many groups and distinct texts there are, and how many texts were analysed since the last
+    /// report.
+    Reported {
+        groups: u64,
+        texts: u64,
+        fresh: u64,
+    },
+    /// A refusal: its place and its code, and for a group that is too large its name and its size.
+    Refused {
+        place: FaultPlace,
+        code: FaultCode,
+        name: &'a [u8],
+        count: u64,
+    },
+}
+
+/// Who hears lines, each with the column that it is of, counted from 0.
+///
+/// Contracts see what was heard so far, and what a line more does to it; at a fault a part of the line was
+/// heard, or nothing. Two counts are as a sink's. Room for a line is taken before it is told, and it stays:
+/// so a hearer that writes lacks no memory of its own once it has its room.
+pub trait Lines {
+    ghost use Rattle.told_lines.specs.Lines.{Told, IsShort, room_of, line_seen};
+
+    ghost Heard: { Type 0 };
+
+    ghost heard: { Self → Self.Heard };
+
+    ghost hear: { Self.Heard → Told → Self.Heard };
+
+    ghost part: { Self.Heard → Told → Self.Heard → Type 0 };
+
+    ghost room: { Self → ℕ };
+
+    ghost faults: { Self → ℕ };
+
+    ghost refusals: { Self → ℕ };
+
+    /// Takes room for lines of at most so many bytes. No room that was there is lost.
+    fn reserve(&mut self, bytes: usize) -> Result<(), NoMemory>
+        ensures ok { OnOk result (bytes ≤ room self.new) }
+        ensures room { room self.old ≤ room self.new }
+        ensures heard { heard self.new ≡ heard self.old }
+        ensures faults { faults self.new ≡ faults self.old }
+        ensures refusals { refusals self.new ≡ refusals self.old };
+
+    /// Hears a line of a column.
+    fn tell(&mut self, column: u32, line: Line) -> Result<(), PortFault>
+        requires room { room_of (line_seen line) ≤ room self.old }
+        requires short { IsShort (line_seen line) }
+        ensures room { room self.new ≡ room self.old }
+        ensures ok { OnOk result (heard self.new ≡ hear (heard self.old) (record { column = column; line = line_seen line.entry })) }
+        ensures part { OnErr result (part (heard self.old) (record { column = column; line = line_seen line.entry }) (heard self.new)) }
+        ensures faults { faults self.new ≡ faults_after (faults self.old) result }
+        ensures refusals { refusals self.new ≡ refusals_after (refusals self.old) result };
+}

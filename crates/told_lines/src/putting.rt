@@ -1,0 +1,63 @@
+//! The text of a line, in room that is there.
+
+ghost use Rattle.std.specs.Prelude.{◌≡◌, ◌≤◌, ◌+◌, ◌++◌, length};
+ghost use Rattle.wave_print.specs.declared.lines.TheConstants.{COLUMN_ROOM};
+ghost use Rattle.told_lines.specs.Lines.{IsShort, room_of, line_seen, line_text};
+ghost use Rattle.told_lines.specs.Printing.{printed, start_of};
+
+use crate::lines::Line;
+use wave_print::{
+    COLUMN_ROOM, LineBuf, column_start, expect_line, fault_line, report_line, wave_line,
+};
+
+/// Puts the line of a column, with the column's number before it or without.
+pub(crate) fn put_told(out: &mut LineBuf, numbered: bool, column: u32, line: Line)
+    requires room { room_of (line_seen line) ≤ out.old.spare }
+    requires short { IsShort (line_seen line) }
+    ensures bytes { out.new.bytes ≡ out.old.bytes ++ printed numbered (record { column = column; line = line_seen line.entry }) }
+    ensures spare { out.new.spare + length (printed numbered (record { column = column; line = line_seen line.entry })) ≡ out.old.spare }
+{
+    if numbered {
+        put_start(out, column, line);
+    }
+    put_line(out, line);
+}
+
+// Puts what stands before a column's line.
+fn put_start(out: &mut LineBuf, column: u32, line: Line)
+    requires room { COLUMN_ROOM ≤ out.old.spare }
+    ensures bytes { out.new.bytes ≡ out.old.bytes ++ start_of column (line_seen line.entry) }
+    ensures spare { out.new.spare + length (start_of column (line_seen line.entry)) ≡ out.old.spare }
+    ensures short { length (start_of column (line_seen line.entry)) ≤ COLUMN_ROOM }
+{
+    match line {
+        Line::Wave { .. } | Line::Unmet { .. } | Line::Reported { .. } => {
+            column_start(out, u64::from(column) + 1)
+        }
+        Line::Refused { .. } => {}
+    }
+}
+
+// Puts the text of a line.
+fn put_line(out: &mut LineBuf, line: Line)
+    requires room { room_of (line_seen line) ≤ out.old.spare + COLUMN_ROOM }
+    requires short { IsShort (line_seen line) }
+    ensures bytes { out.new.bytes ≡ out.old.bytes ++ line_text (line_seen line.entry) }
+    ensures spare { out.new.spare + length (line_text (line_seen line.entry)) ≡ out.old.spare }
+{
+    match line {
+        Line::Wave { n, k, mark, values } => wave_line(out, n, k, mark, values),
+        Line::Unmet { name, want, got, n } => expect_line(out, name, want, got, n),
+        Line::Reported {
+            groups,
+            texts,
+            fresh,
+        } => report_line(out, groups, texts, fresh),
+        Line::Refused {
+            place,
+            code,
+            name,
+            count,
+        } => fault_line(out, place, code, name, count),
+    }
+}
