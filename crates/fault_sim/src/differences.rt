@@ -41,8 +41,8 @@ fn first_difference(strong: bool, good: &Rows, bad: &Rows) -> Option<(u64, usize
     None
 }
 
-// The first entry at which the values of a row differ.
-fn first_in_row(strong: bool, good: &[Tern], bad: &[Tern]) -> Option<usize>
+/// The first entry at which the values of a row differ, strongly or weakly, if they do.
+pub fn first_in_row(strong: bool, good: &[Tern], bad: &[Tern]) -> Option<usize>
     ensures { MatchOption result (AreAlikeRows strong good.now bad.now) (DifferFirstAt strong good.now bad.now) }
 {
     good.iter()

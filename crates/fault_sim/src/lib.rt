@@ -36,7 +36,7 @@ mod verdicts;
 
 pub use bench::{Bench, judge};
 pub use commands::{fault_commands, stuck_node};
-pub use differences::verdict;
+pub use differences::{first_in_row, verdict};
 pub use fault::{Fault, ListFault, read_fault};
 pub use masks::{masked, read_masked};
 pub use rows::read_rows;
