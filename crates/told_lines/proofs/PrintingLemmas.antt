@@ -59,6 +59,22 @@ pub text-plain : (column : ℕ) (lines : List Line) → text_printed false (of_c
 text-plain column [] = refl
 text-plain column (line ∷ lines) = ap (λ (text : List ℕ). line_text line ++ text) (text-plain column lines)
 
+-- after a column's lines without numbers their text was written
+pub plain-all : (page : Page) (column : ℕ) (lines : List Line) → page.numbered ≡ false →
+    (hear_all print page (of_column column lines)).written ≡ append_known page.written (text_of lines)
+plain-all page column lines plain =
+    written-all page (of_column column lines)
+    ∙ ap (λ (numbered : Bool). append_known page.written (text_printed numbered (of_column column lines))) plain
+    ∙ ap (append_known page.written) (text-plain column lines)
+
+-- and where a part of them was heard, a part of their text
+pub plain-part : (page after : Page) (column : ℕ) (lines : List Line) → page.numbered ≡ false →
+    HearsPart print PrintsPart page after (of_column column lines) → WritesPart page.written after.written (text_of lines)
+plain-part page after column lines plain is =
+    subst (WritesPart page.written after.written)
+    (ap (λ (numbered : Bool). text_printed numbered (of_column column lines)) plain ∙ text-plain column lines)
+    (written-part page after (of_column column lines) is)
+
 -- so a printer writes lines
 pub lines_printed : LinesArePrinted
 lines_printed = record { all = written-all; plain = text-plain }

@@ -1,6 +1,6 @@
 //! A line as a value, and the trait of those who hear lines.
 
-ghost use Rattle.std.specs.Prelude.{◌≡◌, ℕ, ◌≤◌, OnOk, OnErr};
+ghost use Rattle.std.specs.Prelude.{◌≡◌, ℕ, ◌≤◌, IsOk, OnOk, OnErr};
 ghost use Rattle.port_edge.specs.Ports.{faults_after, refusals_after};
 
 use port_edge::PortFault;
@@ -64,9 +64,11 @@ pub trait Lines {
 
     ghost refusals: { Self → ℕ };
 
-    /// Takes room for lines of at most so many bytes. No room that was there is lost.
+    /// Takes room for lines of at most so many bytes. No room that was there is lost, and where there is
+    /// enough it takes no memory.
     fn reserve(&mut self, bytes: usize) -> Result<(), NoMemory>
         ensures ok { OnOk result (bytes ≤ room self.new) }
+        ensures enough { bytes ≤ room self.old → IsOk result }
         ensures room { room self.old ≤ room self.new }
         ensures heard { heard self.new ≡ heard self.old }
         ensures faults { faults self.new ≡ faults self.old }
