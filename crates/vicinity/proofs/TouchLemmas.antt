@@ -1,0 +1,175 @@
+-- What a change touches: the ends of the switches that change with it, and with one change after the other.
+use Rattle.std.proofs.Common.{◌≡◌, ◌≢◌, ℕ, ◌+◌, ◌<◌, inl, inr, ◌⊎◌, Bool, false, List, [], ◌∷◌, ◌++◌, length, take, drop, get_or, Some, refl, sym, ap, ◌∙◌, subst, arith}
+use Rattle.std.specs.Prelude.{Contains, slice_set}
+use Rattle.std.proofs.lemmas.Bool.{cases_eq}
+use Rattle.std.proofs.lemmas.List.{length-set, get_or-set_same, get_or-set_other, take_more, take-append-drop}
+use Rattle.std.proofs.lemmas.List.Elements.{Contains-get_or, Contains-push, Contains-push_cases, Contains-append_left}
+use Rattle.vicinity.specs.LiveLists.{HasGate}
+use Rattle.ternary.specs.declared.tern.Tern.{Tern}
+use Rattle.ternary.specs.declared.tern.Tern.TheVariants.{Zero}
+use Rattle.path_meaning.specs.declared.switching.Switch.{Switch}
+use Rattle.path_meaning.specs.declared.switching.SwitchState.{SwitchState}
+use Rattle.path_meaning.specs.declared.switching.SwitchState.TheVariants.{Open, Closed, Unknown}
+use Rattle.path_meaning.specs.contracts.switching.SwitchStatePartialEq.TheImpl as states
+use Rattle.path_meaning.specs.Switching.{state_at, state_by, switch_state_at}
+use Rattle.path_meaning.specs.Graphs.{GraphData, place_at}
+use Rattle.path_meaning.specs.Path.{Joins}
+use Rattle.part_words.specs.declared.change.Change.{Change}
+use Rattle.vicinity.specs.NodeSets.{NodeSetData}
+use Rattle.vicinity.specs.Flooding.{Wakes}
+use Rattle.vicinity.specs.Stepping.{TurnsAt, IsTaken, Touches}
+use Rattle.vicinity.proofs.FloodLemmas.{Wakes-then}
+
+-- what a test of two states of switches tells apart differs
+pub apart_states : (a b : SwitchState) → states.eq-value.it a b ≡ false → a ≢ b
+apart_states a b test same = let wrong : states.eq-value.it b b ≡ false = subst (λ s. states.eq-value.it s b ≡ false) same test in absurd (itself b wrong)
+  where
+    itself : (s : SwitchState) → ¬ (states.eq-value.it s s ≡ false)
+    itself Open wrong = absurd (cc)
+    itself Closed wrong = absurd (cc)
+    itself Unknown wrong = absurd (cc)
+
+-- two states of switches are one or differ
+pub one_or_apart : (a b : SwitchState) → (a ≡ b) ⊎ (a ≢ b)
+one_or_apart Open Open = inl refl
+one_or_apart Closed Closed = inl refl
+one_or_apart Unknown Unknown = inl refl
+one_or_apart Open Closed = inr (λ e. absurd (cc))
+one_or_apart Open Unknown = inr (λ e. absurd (cc))
+one_or_apart Closed Open = inr (λ e. absurd (cc))
+one_or_apart Closed Unknown = inr (λ e. absurd (cc))
+one_or_apart Unknown Open = inr (λ e. absurd (cc))
+one_or_apart Unknown Closed = inr (λ e. absurd (cc))
+
+-- both ends of a switch that changes
+pub Wakes-turns : (g : GraphData) (was now : Tern) (place : ℕ) (switch : Switch) → place_at g.places place ≡ Some switch →
+    state_by switch.kind now ≢ state_by switch.kind was → (old mid new : NodeSetData) → Wakes g (λ n. n ≡ switch.a) old mid →
+    Wakes g (λ n. n ≡ switch.b) mid new → Wakes g (TurnsAt g was now place) old new
+Wakes-turns g was now place switch stands differs old mid new first next =
+    Wakes-then g (λ n. n ≡ switch.a) (λ n. n ≡ switch.b) (TurnsAt g was now place) old mid new first next
+    (λ node turns.
+    let same : turns.switch ≡ switch = cc (turns.at_place, stands) in
+    let joins : Joins switch node turns.other = subst (λ (s : Switch). Joins s node turns.other) same turns.joins in
+    elim joins [ inl ends ↦ inl (sym ends.0) | inr ends ↦ inr (sym ends.0) ])
+    (λ node is. record { switch = switch; at_place = stands; other = switch.b; joins = inl (sym is, refl); changed = differs })
+    (λ node is. record { switch = switch; at_place = stands; other = switch.a; joins = inr (sym is, refl); changed = differs })
+
+-- one place more
+pub Wakes-each : (g : GraphData) (Leads : ℕ → ℕ → Type 0) (places : List ℕ) (i : ℕ) → i < length places → (old mid new : NodeSetData) →
+    Wakes g (λ other. (place : ℕ) × Contains (take i places) place × Leads place other) old mid → Wakes g (Leads (get_or places i 0)) mid new →
+    Wakes g (λ other. (place : ℕ) × Contains (take (i + 1) places) place × Leads place other) old new
+Wakes-each g Leads places i inside old mid new first next =
+    let more = take_more places i 0 inside in
+    let last : Contains (take (i + 1) places) (get_or places i 0) = rw more (Contains-push (take i places) (get_or places i 0)) in
+    Wakes-then g (λ other. (place : ℕ) × Contains (take i places) place × Leads place other) (Leads (get_or places i 0))
+    (λ other. (place : ℕ) × Contains (take (i + 1) places) place × Leads place other) old mid new first next
+    (λ other any. elim (Contains-push_cases (take i places) (get_or places i 0) any.0 (rw more at any.1)) [
+      | inl before ↦ inl (any.0, before, any.2)
+      | inr same ↦ inr (subst (λ p. Leads p other) (sym same) any.2)
+    ])
+    (λ other this. (this.0, rw more (Contains-append_left (take i places) (get_or places i 0 ∷ []) this.0 this.1), this.2))
+    (λ other that. (get_or places i 0, last, that))
+
+-- one change touches what it stirs
+pub Touches-one : (g : GraphData) (old : List Tern) (node : ℕ) (was value : Tern) (places : List ℕ) (before after : NodeSetData) →
+    ((place : ℕ) → HasGate g place node → Contains places place) → node < length old → was ≡ state_at old node →
+    Wakes g (λ n. (place : ℕ) × Contains places place × TurnsAt g was value place n) before after →
+    Touches g old (slice_set old node value) before.inside after.inside
+Touches-one g old node was value places before after gated inside is wakes = record {
+  count = wakes.count;
+  stays = wakes.stays;
+  all = λ n storage changes.
+      let switch = changes.switch in
+      elim (cases_eq switch.gate node) [
+        | inl same ↦
+            let now : state_at (slice_set old node value) switch.gate ≡ value =
+            ap (state_at (slice_set old node value)) same ∙ get_or-set_same old node value Zero inside in
+            let then_ : state_at old switch.gate ≡ was = ap (state_at old) same ∙ sym is in
+            wakes.all n (
+              changes.place,
+              gated changes.place (record { switch = switch; at_place = changes.at_place; gated = same }),
+              record {
+                switch = switch;
+                at_place = changes.at_place;
+                other = changes.other;
+                joins = changes.joins;
+                changed = λ e. changes.changed (ap (state_by switch.kind) now ∙ (e ∙ ap (state_by switch.kind) (sym then_)));
+              },
+            ) storage
+        | inr other ↦
+            absurd (changes.changed (ap (state_by switch.kind) (get_or-set_other old node switch.gate value Zero other)))
+      ];
+}
+
+-- what two changes stir, one of them does
+pub Touches-then : (g : GraphData) (old mid new : List Tern) (before between after : List Bool) → Touches g old mid before between →
+    Touches g mid new between after → Touches g old new before after
+Touches-then g old mid new before between after first next = record {
+  count = next.count ∙ first.count;
+  stays = λ node is. next.stays node (first.stays node is);
+  all = λ node storage changes.
+      let switch = changes.switch in
+      elim (one_or_apart (switch_state_at mid switch) (switch_state_at old switch)) [
+        | inl same ↦ next.all node storage (record {
+          place = changes.place;
+          switch = switch;
+          at_place = changes.at_place;
+          other = changes.other;
+          joins = changes.joins;
+          changed = λ e. changes.changed (e ∙ same);
+        })
+        | inr differs ↦ next.stays node (first.all node storage (record {
+          place = changes.place;
+          switch = switch;
+          at_place = changes.at_place;
+          other = changes.other;
+          joins = changes.joins;
+          changed = differs;
+        }))
+      ];
+}
+
+-- nothing changes, nothing is touched
+pub Touches-none : (g : GraphData) (state : List Tern) (touched : List Bool) → Touches g state state touched touched
+Touches-none g state touched = record {
+  count = refl;
+  stays = λ node is. is;
+  all = λ node storage changes. absurd (changes.changed refl);
+}
+
+-- what a front of a list contains, the list contains
+pub Contains-front : {X : Type 0} (xs : List X) (i : ℕ) (x : X) → Contains (take i xs) x → Contains xs x
+Contains-front xs i x there = subst (λ ys. Contains ys x) (take-append-drop i xs) (Contains-append_left (take i xs) (drop i xs) x there)
+
+-- one change more is written
+pub IsTaken-more : (changes : List Change) (i : ℕ) (d : Change) (old mid : List Tern) → i < length changes → (get_or changes i d).node < length old →
+    ((one two : Change) → Contains changes one → Contains changes two → one.node ≡ two.node → one.value ≡ two.value) →
+    IsTaken (take i changes) old mid →
+    IsTaken (take (i + 1) changes) old (slice_set mid (get_or changes i d).node (get_or changes i d).value)
+IsTaken-more changes i d old mid inside node_inside agreed so_far =
+    let change : Change = get_or changes i d in
+    let longer : take (i + 1) changes ≡ take i changes ++ change ∷ [] = take_more changes i d inside in
+    let here : Contains changes change = Contains-get_or changes i d inside in
+    let in_mid : change.node < length mid = omega (arith, so_far.count, node_inside) in
+    rw longer (record {
+      count = length-set mid change.node change.value ∙ so_far.count;
+      taken = λ one there.
+          elim (cases_eq one.node change.node) [
+            | inl same ↦
+                let value : one.value ≡ change.value =
+                elim (Contains-push_cases (take i changes) change one there) [
+                  | inl before ↦ agreed one change (Contains-front changes i one before) here same
+                  | inr equal ↦ ap (λ (c : Change). c.value) (sym equal)
+                ] in
+                ap (state_at (slice_set mid change.node change.value)) same ∙ (get_or-set_same mid change.node change.value Zero in_mid ∙ sym value)
+            | inr other ↦
+                get_or-set_other mid change.node one.node change.value Zero other ∙ elim (Contains-push_cases (take i changes) change one there) [
+                  | inl before ↦ so_far.taken one before
+                  | inr equal ↦ absurd (other (ap (λ (c : Change). c.node) (sym equal)))
+                ]
+          ];
+      stays = λ node none.
+          let other : node ≢ change.node = λ e. none change (Contains-push (take i changes) change) (sym e) in
+          get_or-set_other mid change.node node change.value Zero other
+          ∙ so_far.stays node (λ one before. none one (Contains-append_left (take i changes) (change ∷ []) one before));
+    })

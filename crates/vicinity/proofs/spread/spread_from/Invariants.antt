@@ -1,0 +1,13 @@
+-- Entries rose over the places so far, over which nothing more comes of the strength.
+use Rattle.std.proofs.Common.{◌≡◌, ℕ, ◌+◌, ◌≤◌, take}
+use Rattle.std.specs.Prelude.{Contains}
+use Rattle.vicinity.specs.Spreading.{Raises, IsSpreadOver, owed}
+use Rattle.vicinity.proofs.spread.spread_from.Given as goal
+
+abbrev pub invariant-loop-place : goal.invariant-loop-place
+invariant-loop-place g l = record {
+  raises : Raises l.pass l.graph l.state l.awake.inside l.fn.left.inside l.left.inside l.fn.table l.table;
+  over : (place : ℕ) → Contains (take l.place-index l.place-items) place → IsSpreadOver l.pass l.graph l.state l.awake.inside l.floor l.table l.node l.strength place;
+  owed : owed l.lists l.awake.inside l.table l.left.inside ≤ owed l.lists l.awake.inside l.fn.table l.fn.left.inside;
+  steps : l.steps ≡ l.fn.steps + 1 + l.place-index;
+}

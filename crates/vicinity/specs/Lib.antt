@@ -1,0 +1,14 @@
+pub mod Vicinities
+pub mod Touching
+pub mod Laws
+pub mod NodeSets
+pub mod Lists
+pub mod Arms
+pub mod LiveLists
+pub mod Turning
+pub mod Flooding
+pub mod Entries
+pub mod Sources
+pub mod Spreading
+pub mod Evaluating
+pub mod Stepping

@@ -1,0 +1,83 @@
+//! The switches at a node that aren't open.
+ghost use Rattle.std.specs.Prelude.{◌≡◌, ◌≢◌, ℕ, ◌<◌, ◌≤◌, length, None, IfSome};
+ghost use Rattle.path_meaning.specs.Graphs.{nodes, place_at, FitsPlace};
+ghost use Rattle.path_meaning.specs.Path.{Joins};
+ghost use Rattle.machine_parts.specs.Marking.{AreOnce};
+ghost use Rattle.vicinity.specs.Lists.{places_of};
+ghost use Rattle.vicinity.specs.Arms.{IsArm, LeadsTo};
+
+use crate::live_list::LiveList;
+use path_meaning::{Graph, Switch, SwitchState, switch_state};
+use smallvec::SmallVec;
+use ternary::Tern;
+
+/// The places at a node: most nodes have few.
+pub type Places = SmallVec<usize, 4>;
+
+/// A switch at a node that isn't open: the node at its other end, its level, and whether it is closed.
+#[derive(Clone, Copy)]
+pub struct Arm {
+    pub other: usize,
+    pub level: u8,
+    pub closed: bool,
+}
+
+/// The places in front at a node, each once; past the last list there are none.
+pub(crate) fn listed(lists: &[LiveList], node: usize) -> &[usize]
+    ensures value { result.now ≡ places_of lists.now node }
+    ensures once { AreOnce result.now }
+{
+    match lists.get(node) {
+        Some(list) => list.live(),
+        None => &[],
+    }
+}
+
+/// What the switch at a place, if it has an end at the node and isn't open, leads to.
+pub(crate) fn arm_at(graph: &Graph, state: &[Tern], place: usize, node: usize) -> Option<Arm>
+    requires { length state.now ≡ nodes graph.now }
+    ensures arm { IfSome result (IsArm graph.now state.now place node) }
+    ensures other { (other : ℕ) → LeadsTo graph.now state.now place node other → IfSome result (λ arm. arm.other ≡ other) }
+    ensures some { (other : ℕ) → LeadsTo graph.now state.now place node other → result ≢ None }
+    ensures within { IfSome result (λ arm. arm.other < nodes graph.now) }
+    ensures low { IfSome result (λ arm. arm.level ≤ 15) }
+{
+    let switch = switch_there(graph, place)?;
+    let other = other_end(switch, node)?;
+    let does = switch_state(switch.kind, state[switch.gate]);
+    if does == SwitchState::Open {
+        return None;
+    }
+    Some(Arm {
+        other,
+        level: switch.level,
+        closed: does == SwitchState::Closed,
+    })
+}
+
+/// What stands at a place; past the last place nothing does.
+pub(crate) fn switch_there(graph: &Graph, place: usize) -> Option<Switch>
+    ensures value { result ≡ place_at graph.now.places place }
+    ensures fits { FitsPlace (nodes graph.now) result }
+{
+    if place < graph.places() {
+        graph.switch_at(place)
+    } else {
+        None
+    }
+}
+
+/// The node at the other end of a switch that has an end at this node, if it has one.
+fn other_end(switch: Switch, node: usize) -> Option<usize>
+    ensures joined { IfSome result (Joins switch node) }
+    ensures all { (other : ℕ) → Joins switch node other → IfSome result (λ end. end ≡ other) }
+    ensures some { (other : ℕ) → Joins switch node other → result ≢ None }
+{
+    if switch.a == node {
+        Some(switch.b)
+    } else if switch.b == node {
+        Some(switch.a)
+    } else {
+        None
+    }
+}
