@@ -90,7 +90,7 @@ module _ (g : GraphData) (wired : IsWired g) (old new : List Tern) (In : ℕ →
         definite = rw same at hop.definite;
       }
 
-  -- where a definite path stands in the set, one that is as strong leads there under the other state
+  -- if a definite path stands in the set, one that is as strong leads there under the other state
   surely_stays : (hops : List ℕ) (here there : Stand) → Leads g old here hops there → here.node < nodes g → here.strength ≤ INPUT_LEVEL →
       there.definite ≡ true → In there.node → (In here.node → IsReachedSurely g new here.node here.strength) →
       IsReachedSurely g new there.node there.strength

@@ -86,7 +86,7 @@ AddsEnds-same live place switch old new same adds = record {
   );
 }
 
--- where a place was put at one end, it isn't at the other yet
+-- if a place was put at one end, it isn't at the other yet
 pub fresh_still : (live : Bool) (place : ℕ) (switch : Switch) (old mid : List LiveListData) → AddsAt live place switch.a old mid → switch.b ≢ switch.a →
     ((node : ℕ) → ¬ Contains (all_at old node) place) → ¬ Contains (all_at mid switch.b) place
 fresh_still live place switch old mid adds apart fresh there = elim ((adds.all switch.b place).0 there) [

@@ -25,7 +25,7 @@ live_stands g state place switch stands live =
     get_or-map (live_place state) g.places place None None (place_inside g.places place switch stands)
     ∙ (ap (live_place state) stands ∙ ap (λ (test : Bool). if test then Some switch else None) live)
 
--- where a switch is left it stood, and it isn't open
+-- a switch that is left stood there, and isn't open
 left_live : (state : List Tern) (stands : Option Switch) (switch : Switch) → live_place state stands ≡ Some switch →
     (stands ≡ Some switch) × (is_live (switch_state_at state switch) ≡ true)
 left_live state None switch left = absurd (cc)

@@ -15,7 +15,7 @@ use Rattle.vicinity.specs.Lists.{LiveListData, LiveListsData, places_of, all_at}
 use Rattle.vicinity.specs.Arms.{LeadsTo}
 use Rattle.vicinity.specs.LiveLists.{HasEnd, AreListsOf, TurnsAtNode, IsLiveBy, ComesLive, TurnsGate}
 
--- nothing turns where the node isn't the switch's gate, or no switch stands there, or it stays open or not
+-- nothing turns if the node isn't the switch's gate, or no switch stands there, or it stays open or not
 pub TurnsGate-none : (g : GraphData) (gate : ℕ) (was now : Tern) (place : ℕ) (lists : List LiveListData) →
     ((switch : Switch) → place_at g.places place ≡ Some switch → switch.gate ≡ gate → is_live (state_by switch.kind now) ≡ is_live (state_by switch.kind was)) →
     TurnsGate g gate was now (λ q. q ≡ place) lists lists

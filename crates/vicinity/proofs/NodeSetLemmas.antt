@@ -57,6 +57,6 @@ IsNodeSet-less inside list capacity node set =
       room = omega (arith, set.room, length-set inside node false);
     }
 
--- where there is no list, no node is in the set
+-- if there is no list, no node is in the set
 pub IsNodeSet-none : (inside : List Bool) (capacity : ℕ) → IsNodeSet inside [] capacity → (node : ℕ) → ¬ IsIn inside node
 IsNodeSet-none inside capacity set node is = absurd (omega (arith, (set.listed node is).1))

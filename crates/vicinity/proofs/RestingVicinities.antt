@@ -1,4 +1,4 @@
--- A set of storage nodes rests that no live switch leads out of, where its nodes took their steady states and no switch and no input node at
+-- A set of storage nodes rests that no live switch leads out of, if its nodes took their steady states and no switch and no input node at
 -- its edge changed.
 -- The same paths are unblocked before and after. A root within that sets a rail reaches itself, so it has the rail afterwards too; what sets a
 -- rail afterwards had it from a root that reaches on. A root at the edge stays.

@@ -154,7 +154,7 @@ vicinity_stays g old new vicinity is stay =
       switches_ascending = is.switches_ascending;
     }
 
--- and it rests where its members responded
+-- and it rests if its members responded
 pub unstirred_rest : UnstirredVicinitiesRest
 unstirred_rest g vicinity old new wired is responded calm =
     let In : ℕ → Type 0 = Contains vicinity.members in

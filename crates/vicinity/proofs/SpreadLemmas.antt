@@ -31,7 +31,7 @@ sum_below-less f h (suc n) node less most within at =
       | inr other ↦ omega (arith, most n, sum_below-less f h n node less most (omega (arith, within)) at)
     ]
 
--- what a test lets through is no greater where it is no greater
+-- what a test lets through is no greater if it is no greater
 pub when_most : (test : Bool) (a b : ℕ) → a ≤ b → (if test then a else 0) ≤ (if test then b else 0)
 when_most true a b most = most
 when_most false a b most = omega arith
@@ -52,7 +52,7 @@ module _ (lists : List LiveListData) (inside : List Bool) (old new : List ℕ) (
       owed lists inside new left_too ≤ owed lists inside old left
   owed-most fewer = sum_below-most after before (length inside) (term_most fewer)
 
--- an entry that rises has fewer looks, even where its node is left
+-- an entry that rises has fewer looks, even if its node is left
 raised_looks : (old new : ℕ) (left : Bool) → old < new → new ≤ 16 → looks new true ≤ looks old left
 raised_looks old new true more high = omega arith
 raised_looks old new false more high = omega arith

@@ -140,7 +140,7 @@ module _ (g : GraphData) (state : List Tern) where
       own_high One t some = omega (arith, (some_level (may_one t) INPUT_LEVEL some).1)
       own_high Zero t some = omega (arith, (some_level (may_zero t) INPUT_LEVEL some).1)
 
--- a pass crosses the switch of an arm where the arm says so
+-- a pass crosses the switch of an arm if the arm says so
 pub crosses_arm : (pass : Pass) (switch : SwitchState) (closed : Bool) → is_live switch ≡ true → closed ≡ is_closed switch → is_crossed pass closed ≡ true →
     crosses pass switch ≡ true
 crosses_arm Sure switch closed live is cross = sym is ∙ cross
@@ -160,7 +160,7 @@ pub HasEdge-more : (pass : Pass) (g : GraphData) (state : List Tern) (node floor
 HasEdge-more pass g state node floor low high place more has = λ other switch stands joins input cross above.
     omega (arith, has other switch stands joins input cross above)
 
--- the greater of two entries is what a path brings where both are
+-- the greater of two entries is what a path brings if both are
 pub way_max : (pass : Pass) (g : GraphData) (state : List Tern) (node one two most : ℕ) → most ≡ max one two →
     (0 < one → IsWay pass g state node one) → (0 < two → IsWay pass g state node two) → 0 < most → IsWay pass g state node most
 way_max pass g state node one two most is first second positive =

@@ -35,7 +35,7 @@ UnstirredVicinitiesRest =
     Responded g old new vicinity.members → ((node : ℕ) → Contains vicinity.members node → ¬ IsStirred g old new node) →
     IsVicinity g new vicinity × Rests g new vicinity.members
 
--- where each stirred member of a group is touched, and each that touched nodes left asleep took its steady state, the members that are asleep
+-- if each stirred member of a group is touched, and each that touched nodes left asleep took its steady state, the members that are asleep
 -- afterwards rest
 abbrev pub AsleepMembersRest : Type 0
 AsleepMembersRest =

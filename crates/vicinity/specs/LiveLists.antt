@@ -49,12 +49,12 @@ pub record TurnsAtNode (live : Bool) (place node : ℕ) (old new : List LiveList
   pub kept : (n q : ℕ) → (q ≢ place) ⊎ (live ≡ true) → Contains (places_of old n) q → Contains (places_of new n) q
   pub only : (n q : ℕ) → Contains (places_of new n) q → Contains (places_of old n) q ⊎ ((n ≡ node) × (q ≡ place) × (live ≡ true))
 
--- the switch at the place isn't open where its gate has this state, if this node is its gate
+-- if this node is the gate of the switch at the place, the switch isn't open under this state of it
 abbrev pub IsLiveBy : GraphData → ℕ → Tern → ℕ → Type 0
 IsLiveBy g gate now place =
     (switch : Switch) → place_at g.places place ≡ Some switch → switch.gate ≡ gate → is_live (state_by switch.kind now) ≡ true
 
--- the switch at the place has an end at the node, has this gate, and isn't open where its gate has this state
+-- the switch at the place has an end at the node and this gate, under whose state it isn't open
 pub record ComesLive (g : GraphData) (gate : ℕ) (now : Tern) (place node : ℕ) : Type 0 where
   pub switch : Switch
   pub at_place : place_at g.places place ≡ Some switch
@@ -63,8 +63,8 @@ pub record ComesLive (g : GraphData) (gate : ℕ) (now : Tern) (place node : ℕ
   pub joins : Joins switch node other
   pub live : is_live (state_by switch.kind now) ≡ true
 
--- these places are listed in front where this node, as their gate, makes their switches conduct, and behind where it opens them; others stay.
--- The gate went from the one state to the other.
+-- of these places those came to the front whose switches this gate made conduct, and those left it whose switches it opened; all others stay in
+-- front or behind. The gate went from the one state to the other.
 pub record TurnsGate (g : GraphData) (gate : ℕ) (was now : Tern) (These : ℕ → Type 0) (old new : List LiveListData) : Type 0 where
   pub count : length new ≡ length old
   pub all : (n q : ℕ) → Contains (all_at new n) q ↔ Contains (all_at old n) q

@@ -13,7 +13,7 @@ use Rattle.vicinity.specs.NodeSets.{IsIn}
 use Rattle.vicinity.specs.Touching.{SwitchChanges, RestsAsleep}
 use Rattle.part_words.specs.Noting.{after}
 
--- the switch at the place has an end at the node, and another state where its gate has the one state than where it has the other
+-- the switch at the place has an end at the node, and it isn't in the same state under the two states of its gate
 pub record TurnsAt (g : GraphData) (was now : Tern) (place node : ℕ) : Type 0 where
   pub switch : Switch
   pub at_place : place_at g.places place ≡ Some switch
@@ -38,13 +38,13 @@ abbrev pub MembersMove : Bool → GraphData → Group → List Tern → List Ter
 MembersMove joining g group old new =
     (node : ℕ) → Contains group.members node → (value : Tern) × IsResponse g old node value × (state_at new node ≡ after joining (state_at old node) value)
 
--- where the members that were asleep rested, all members move, and those that are asleep afterwards rest
+-- if the members that were asleep rested, all members move, and those that are asleep afterwards rest
 abbrev pub StepsGroup : Bool → GraphData → List Tern → List Tern → List ℕ → List ℕ → Type 0
 StepsGroup joining g old new before touched =
     (group : Group) → IsGroup g group → RestsAsleep g old group.members before →
     MembersMove joining g group old new × RestsAsleep g new group.members touched
 
--- where the members that were asleep rested, those that are asleep afterwards rest
+-- if the members that were asleep rested, those that are asleep afterwards rest
 abbrev pub PlacesGroup : GraphData → List Tern → List Tern → List ℕ → List ℕ → Type 0
 PlacesGroup g old new before touched =
     (group : Group) → IsGroup g group → RestsAsleep g old group.members before → RestsAsleep g new group.members touched

@@ -1,4 +1,4 @@
--- Touched nodes: where the steady states may have changed since they were taken.
+-- Touched nodes: the vicinities of all others have the steady states that they took.
 -- After Bryant, "A Switch-Level Model and Simulator for MOS Digital Systems", 1984.
 use Rattle.std.specs.Prelude.{◌≡◌, ◌≢◌, ℕ, ◌⊎◌, List, Contains, Some}
 use Rattle.ternary.specs.declared.tern.Tern.{Tern}
@@ -28,11 +28,11 @@ pub record EdgeChanges (g : GraphData) (old new : List Tern) (node : ℕ) : Type
   pub input : level_of g other ≡ INPUT_LEVEL
   pub changed : state_at new other ≢ state_at old other
 
--- a change of the state stirs a node where a switch at it changes, or an input node that such a switch joins with it
+-- a change of the state stirs a node if a switch at it changes, or an input node that such a switch joins with it
 abbrev pub IsStirred : GraphData → List Tern → List Tern → ℕ → Type 0
 IsStirred g old new node = SwitchChanges g old new node ⊎ EdgeChanges g old new node
 
--- a node is awake where one of the touched nodes is near it: the vicinity of that one is its own
+-- a node is awake if one of the touched nodes is near it: the vicinity of that one is its own
 abbrev pub IsAwake : GraphData → List Tern → List ℕ → ℕ → Type 0
 IsAwake g state touched node = (one : ℕ) × Contains touched one × AreNear g state one node
 

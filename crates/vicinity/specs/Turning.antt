@@ -8,7 +8,7 @@ pub record IsInFront (list : List ℕ) (border place : ℕ) : Type 0 where
   pub inside : k < length list
   pub here : slice_index list k ≡ place
 
--- the place came to the front or left it; all other places are where they were, in front or behind
+-- the place came to the front or left it; all other places stay in front or behind
 pub record Turns (live : Bool) (place : ℕ) (old : List ℕ) (old_border : ℕ) (new : List ℕ) (border : ℕ) : Type 0 where
   pub count : length new ≡ length old
   pub within : border ≤ length new

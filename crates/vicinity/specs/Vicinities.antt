@@ -16,7 +16,7 @@ live_place state (Some switch) = if is_live (switch_state_at state switch) then 
 abbrev pub live_graph : GraphData → List Tern → GraphData
 live_graph g state = record { levels = g.levels; places = map (live_place state) g.places }
 
--- two storage nodes are near each other where they are linked in the graph without its open switches
+-- two storage nodes are near each other if they are linked in the graph without its open switches
 abbrev pub AreNear : GraphData → List Tern → ℕ → ℕ → Type 0
 AreNear g state = AreLinked (live_graph g state)
 

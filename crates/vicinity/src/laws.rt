@@ -2,7 +2,7 @@ ghost use Rattle.vicinity.specs.Laws.{UnblockedPathsStayInOneVicinity, OpenSwitc
 
 /// An unblocked path stays in one vicinity, but for its root.
 ///
-/// `vicinity`: all storage nodes on it are near each other, its root too where it is one. `open`: a node
+/// `vicinity`: all storage nodes on it are near each other, its root too if it is one. `open`: a node
 /// has the same steady state without the open switches. `group`: near nodes are in one group.
 ///
 /// After Bryant, "A Switch-Level Model and Simulator for MOS Digital Systems", 1984.
@@ -12,7 +12,7 @@ pub fn unblocked_paths_stay_in_one_vicinity()
     ensures group { NearNodesAreLinked }
 {}
 
-/// A vicinity rests where its members took their steady states, and no switch at them and no input node at
+/// A vicinity rests if its members took their steady states, and no switch at them and no input node at
 /// its edge changed.
 ///
 /// After Bryant, "A Switch-Level Model and Simulator for MOS Digital Systems", 1984.

@@ -7,8 +7,8 @@
 //! at its edge changes. So a group of any size needs no text and no code. `LiveLists` has the switches at each
 //! node, those in front that aren't open, and `NodeSet` the nodes that a change touched. [`step_awake`] floods
 //! from these to what is near them, finds the steady states there, writes what changes, and touches the ends of
-//! the switches that turn by it; [`place_awake`] does so for a node that gets a state from outside. Neither takes
-//! memory.
+//! the switches that turn by it; [`place_awake`] writes a state that a node gets from outside, and touches what that
+//! stirs. Neither takes memory.
 //!
 //! The layer above uses the contract of `step_awake`: each member of a group takes its steady state, or in a
 //! joining step the join with it, and what no touched node is near rests afterwards. The looks that it takes are

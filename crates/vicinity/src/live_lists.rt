@@ -90,7 +90,7 @@ impl LiveLists {
     }
 }
 
-// Lists all places, where none is listed.
+// Lists all places of a graph, none of which is listed yet.
 fn list_all(
     graph: &Graph,
     state: &[Tern],

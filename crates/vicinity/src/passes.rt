@@ -52,7 +52,7 @@ pub(crate) fn run_pass<L: Ledger>(
     spread(pass, graph, lists, state, awake, floor, table, left, steps);
 }
 
-// A node starts with what is its own and what comes from input nodes, and is left to look from where that is something.
+// A node starts with what is its own and what comes from input nodes, and is left to look from if that is something.
 fn start_at<L: Ledger>(
     pass: Pass,
     graph: &Graph,

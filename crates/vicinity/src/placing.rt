@@ -13,8 +13,8 @@ use crate::touching::take_state;
 use path_meaning::{Graph, graphs_are_wired};
 use ternary::Tern;
 
-/// Gives a node this state: it is touched if it is a storage node, else the storage nodes next to it are; and so are the
-/// ends of the switches that change with it. It takes no memory.
+/// Gives a node this state. The storage nodes next to it are touched, itself too if it is one, and so are the ends of the
+/// switches that change with it. It takes no memory.
 pub fn place_awake(
     graph: &Graph,
     lists: &mut LiveLists,

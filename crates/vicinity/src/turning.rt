@@ -66,7 +66,7 @@ pub(crate) fn spot_of(list: &[usize], hint: usize, place: usize) -> Option<usize
     list.iter().position(|one| *one == place)
 }
 
-// Whether a switch of this kind isn't open where its gate has this state.
+// Whether a switch of this kind isn't open if its gate has this state.
 pub(crate) fn conducts(kind: SwitchKind, gate: Tern) -> bool
     ensures { result ≡ is_live (state_by kind gate) }
 {

@@ -1,4 +1,4 @@
--- Where no arm leads to a node, nothing comes.
+-- If no arm leads to a node, nothing comes.
 use Rattle.vicinity.proofs.FloodLemmas.{Wakes-none}
 use Rattle.vicinity.proofs.flood.look.Goals as goal
 

@@ -1,4 +1,4 @@
--- Where no arm leads to a node nothing comes; and what comes over one is what a path brings.
+-- If no arm leads to a node nothing comes; and what comes over one is what a path brings.
 use Rattle.std.proofs.Common.{◌≡◌, min, inl, inr, sym, ◌∙◌, subst, arith}
 use Rattle.strength_order.specs.declared.TheConstants.{INPUT_LEVEL}
 use Rattle.path_meaning.specs.Switching.{state_at}

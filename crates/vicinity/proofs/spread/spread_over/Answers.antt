@@ -1,4 +1,4 @@
--- Where no arm leads to a node nothing rises; else one entry may.
+-- If no arm leads to a node nothing rises; else one entry may.
 use Rattle.std.proofs.Common.{◌≡◌, ◌<◌, ◌≤◌, min, sym, ◌∙◌, subst, arith}
 use Rattle.std.specs.Prelude.{slice_index}
 use Rattle.vicinity.specs.Arms.{LeadsTo}
