@@ -17,6 +17,7 @@ ghost use Rattle.circuit_files.specs.Decks.{deck_meant};
 use line_words::MOST_FILE_BYTES;
 use netlist::Circuit;
 use port_edge::{Files, read_front};
+use refusal_words::card_at;
 use run_ends::Stop;
 use sim_read::{NetFault, NetRefusal, Reader};
 use spice_cards::{DeckFault, DeckWhat};
@@ -50,11 +51,13 @@ pub fn read_file<F: Files>(alloc: Global, files: &mut F, name: &str) -> Result<V
 /// Reads the netlist with this name: its circuit, or the refusal of its first refused line.
 ///
 /// Each piece of the file is let go once it is read. A refusal is answered after the file was read
-/// to its end, or to the first byte too many.
+/// to its end, or to the first byte too many. The refused line is put behind what `refused` holds, as far as
+/// there is memory; no clause says so.
 pub fn read_circuit<F: Files>(
     alloc: Global,
     files: &mut F,
     name: &str,
+    refused: &mut Vec<u8>,
 ) -> Result<Result<Circuit, NetRefusal>, Stop>
     ensures means { IfOk result (λ meaning.
         IfSome (F.holds files.old) (λ holds. netlist_of (holds name.now) ≡ meaning)) }
@@ -70,7 +73,13 @@ pub fn read_circuit<F: Files>(
 {
     let mut reader = Reader::new(alloc, files.keys())?;
     feed_file(alloc, files, name, &mut reader)?;
+    keep(reader.refused_line(), refused);
     finish(reader)
+}
+
+// Puts a refused line behind what is held, as far as there is memory.
+fn keep(line: &[u8], refused: &mut Vec<u8>) {
+    let _ = refused.extend_from_slice(line);
 }
 
 /// Where a deck is refused, and why.
@@ -84,12 +93,14 @@ pub struct DeckRefusal {
 
 /// Reads the deck with this name: its circuit, or its first refusal.
 ///
-/// A refusal is answered after the file was read to its end, or to the first byte too many.
+/// A refusal is answered after the file was read to its end, or to the first byte too many. The refused card is put
+/// behind what `refused` holds, as far as there is memory; no clause says so.
 #[tactic(auto, using(crate::proofs::FeedingLemmas::memory_no_write, crate::proofs::FeedingLemmas::read_whole, crate::proofs::FeedingLemmas::started_whole))]
 pub fn read_deck_file<F: Files>(
     alloc: Global,
     files: &mut F,
     name: &str,
+    refused: &mut Vec<u8>,
 ) -> Result<Result<Circuit, DeckRefusal>, Stop>
     ensures means { IfOk result (λ meaning.
         IfSome (F.holds files.old) (λ holds. circuit_of (holds name.now) ≡ deck_meant meaning)) }
@@ -104,14 +115,15 @@ pub fn read_deck_file<F: Files>(
     ensures no_write { IfErr result (λ stop. stop ≢ Stop.Write) }
 {
     let text = read_file(alloc, files, name)?;
-    deck_in(alloc, files.keys(), &text)
+    deck_in(alloc, files.keys(), &text, refused)
 }
 
-// The circuit of a deck's text, or its refusal.
+// The circuit of a deck's text, or its refusal; the refused card is put behind what is held.
 fn deck_in(
     alloc: Global,
     keys: TableKeys,
     text: &[u8],
+    refused: &mut Vec<u8>,
 ) -> Result<Result<Circuit, DeckRefusal>, Stop>
     ensures means { IfOk result (λ meaning. circuit_of text.now ≡ deck_meant meaning) }
     ensures circuit { IfOk result (λ meaning. IfOk meaning IsCircuit) }
@@ -120,8 +132,18 @@ fn deck_in(
 {
     match read_deck(alloc, keys, text) {
         Ok(circuit) => Ok(Ok(circuit)),
-        Err(DeckFault::At { line, what }) => Ok(Err(DeckRefusal { line, what })),
+        Err(DeckFault::At { line, what }) => {
+            keep_card(alloc, text, line, refused);
+            Ok(Err(DeckRefusal { line, what }))
+        }
         Err(DeckFault::NoMemory) => Err(Stop::Memory),
+    }
+}
+
+// Puts the card that begins on the line with this number behind what is held, as far as there is memory.
+fn keep_card(alloc: Global, text: &[u8], number: u64, refused: &mut Vec<u8>) {
+    if let Ok(card) = card_at(alloc, text, number) {
+        keep(&card, refused);
     }
 }
 

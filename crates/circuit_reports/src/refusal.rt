@@ -6,15 +6,22 @@ ghost use Rattle.run_ends.specs.Ends.{IsTold};
 ghost use Rattle.run_ends.specs.Stops.{faults_written, IsRefusedOnce};
 
 use crate::codes::net_code;
-use port_edge::{Sink, send};
-use run_ends::{End, Stop, refuse};
+use port_edge::{NotedFile, Sink, send};
+use refusal_words::{card_word, net_word};
+use run_ends::{End, Stop, note_cure, refuse};
 use sim_read::NetRefusal;
-use spice_cards::{DeckWhat, deck_line};
+use spice_cards::{DeckWhat, cause_text, deck_line};
 use std::alloc::Global;
 use wave_print::FaultPlace;
 
-/// Writes the line of a netlist's refusal.
-pub fn refuse_net<S: Sink>(alloc: Global, refusal: NetRefusal, out: &mut S) -> Result<End, Stop>
+/// Writes the line of a netlist's refusal. The cure is noted besides, with a word of the refused line, which is
+/// passed for that alone.
+pub fn refuse_net<S: Sink>(
+    alloc: Global,
+    refusal: NetRefusal,
+    line: &[u8],
+    out: &mut S,
+) -> Result<End, Stop>
     ensures told { IsTold (IsNetRefusal refusal) (S.written out.old) (S.written out.new) result }
     ensures no_read { IfErr result (λ stop. stop ≢ Stop.Read) }
     ensures write { S.faults out.new ≡ faults_written (S.faults out.old) result }
@@ -22,11 +29,49 @@ pub fn refuse_net<S: Sink>(alloc: Global, refusal: NetRefusal, out: &mut S) -> R
 {
     let place = FaultPlace::Net(refusal.line);
     let code = net_code(refusal.what);
-    refuse(alloc, place, code, End::NetRefused, out)
+    refuse(
+        alloc,
+        place,
+        code,
+        net_word(code, line),
+        End::NetRefused,
+        out,
+    )
 }
 
-/// Writes the line of a deck's refusal, by the number of the refused line and why it is refused.
+/// Writes the line of a deck's refusal, by the number of the refused line and why it is refused. The cure is noted
+/// besides, with a word of the refused card, which is passed for that alone.
 pub fn refuse_deck<S: Sink>(
+    alloc: Global,
+    line: u64,
+    what: DeckWhat,
+    card: &[u8],
+    out: &mut S,
+) -> Result<End, Stop>
+    ensures told { IsTold (IsDeckRefusal line what) (S.written out.old) (S.written out.new) result }
+    ensures no_read { IfErr result (λ stop. stop ≢ Stop.Read) }
+    ensures write { S.faults out.new ≡ faults_written (S.faults out.old) result }
+    ensures refused { IsRefusedOnce (S.refusals out.old) (S.refusals out.new) result }
+{
+    match write_deck_refusal(alloc, line, what, out) {
+        Ok(end) => {
+            let word = card_word(what, card);
+            note_cure(
+                alloc,
+                NotedFile::Circuit,
+                Some(line),
+                cause_text(what),
+                word,
+                out,
+            );
+            Ok(end)
+        }
+        Err(stop) => Err(stop),
+    }
+}
+
+// Writes the line of a deck's refusal.
+fn write_deck_refusal<S: Sink>(
     alloc: Global,
     line: u64,
     what: DeckWhat,

@@ -19,7 +19,9 @@
 //! well, 1 where an expectation wasn't met, 2 for words that are no command line and for a NODE that
 //! isn't in use, 3 and 4 for a refused line of the netlist or the deck, or of the script or the list, 5 and
 //! 6 where reading or writing failed, and 7 for want of memory. For 2 standard error has the forms of all
-//! requests, or a line where it is NODE that isn't in use; for 5, 6 and 7 it has a line that says more.
+//! requests, or a line where it is NODE that isn't in use; for 3 and 4 a line with the file's name, the
+//! number of the refused line, its code and the cure, as `help_texts` has it; for 5, 6 and 7 a line that says
+//! more. No clause speaks of standard error.
 //!
 //! `answer_over` makes that call, over any opener of files and any outlet, and has its clauses for all of them;
 //! `main` hands it the files of the system and standard output.
@@ -97,7 +99,7 @@ fn answer_over<O: Open + Drop, W: Outlet, A: Analyst>(
     rt: &HostRuntime,
     words: &[String],
     files: &mut FilesOver<O>,
-    out: &mut SinkOver<Told<'_, W>>,
+    out: &mut SinkOver<Told<'_, '_, W>>,
     analyst: &mut A,
 ) -> Status
     ensures answer { IfSome (O.holds files.old.opener) (λ holds. IsAnswered (names_of words.now) holds

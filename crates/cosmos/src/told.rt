@@ -1,19 +1,21 @@
-//! An outlet that tells on standard error how far a long list is.
+//! An outlet that tells on standard error what it is given to note, and how far a long list is.
 
 ghost use Rattle.std.specs.Prelude.{◌≡◌};
 
-use port_edge::Outlet;
+use port_edge::{NotedFile, Outlet};
 use std::io::{self, IsTerminal};
 
 // After how many lines the next word is told.
 const STRIDE: u64 = 100;
 
-/// An outlet over another, which took what that took. Under `faults` it tells how many faults were judged,
-/// where standard error is a terminal and standard output, whose lines would say it, is none.
+/// An outlet over another, which took what that took. A note is told behind the name that the words have for
+/// its file. Under `faults` it tells how many faults were judged, where standard error is a terminal and
+/// standard output, whose lines would say it, is none.
 #[derive(Drop)]
-pub(crate) struct Told<'a, W: Outlet> {
+pub(crate) struct Told<'r, 'w, W: Outlet> {
     inner: W,
-    rt: &'a HostRuntime,
+    rt: &'r HostRuntime,
+    words: &'w [String],
     progress: Progress,
 }
 
@@ -24,19 +26,17 @@ struct Progress {
     lines: u64,
 }
 
-impl<'a, W: Outlet> Told<'a, W> {
+impl<'r, 'w, W: Outlet> Told<'r, 'w, W> {
     /// This outlet in a run with these words.
-    pub(crate) fn over(inner: W, rt: &'a HostRuntime, words: &[String]) -> Told<'a, W>
+    pub(crate) fn over(inner: W, rt: &'r HostRuntime, words: &'w [String]) -> Told<'r, 'w, W>
         ensures { result.inner ≡ inner }
     {
-        let is_long = match words.first() {
-            Some(word) => word.as_str() == "faults",
-            None => false,
-        };
+        let is_long = begins(words, "faults");
         let is_told = is_long && rt.stderr().is_terminal() && !rt.stdout().is_terminal();
         Told {
             inner,
             rt,
+            words,
             progress: Progress { is_told, lines: 0 },
         }
     }
@@ -49,19 +49,48 @@ impl<'a, W: Outlet> Told<'a, W> {
     }
 }
 
-impl<W: Outlet> Outlet for Told<'_, W> {
+impl<W: Outlet> Outlet for Told<'_, '_, W> {
     ghost contents = { λ told. W.contents told.inner };
 
     fn write(&mut self, bytes: &[u8]) -> io::Result<usize> {
         let count = self.inner.write(bytes)?;
-        self.progress.note(self.rt, &bytes[..count]);
+        self.progress.count(self.rt, &bytes[..count]);
         Ok(count)
+    }
+
+    fn note(&mut self, file: NotedFile, text: &[u8]) {
+        if let (Some(name), Ok(text)) = (named(self.words, file), str::from_utf8(text)) {
+            let _ = eprintln!(self.rt; "{name}{text}");
+        }
+    }
+}
+
+// The name that words have for a file, if they name it: of a sample they name none.
+fn named(words: &[String], file: NotedFile) -> Option<&str> {
+    if begins(words, "large") {
+        return None;
+    }
+    let place = match file {
+        NotedFile::Circuit => 1,
+        NotedFile::Script if begins(words, "batch") => 3,
+        NotedFile::Script => 2,
+        NotedFile::List => 3,
+    };
+    let name = words.get(place)?;
+    Some(name.as_str())
+}
+
+// Whether the words begin with this one.
+fn begins(words: &[String], command: &str) -> bool {
+    match words.first() {
+        Some(word) => word.as_str() == command,
+        None => false,
     }
 }
 
 impl Progress {
     // Counts the lines of what was taken, and tells each hundredth.
-    fn note(&mut self, rt: &HostRuntime, taken: &[u8]) {
+    fn count(&mut self, rt: &HostRuntime, taken: &[u8]) {
         if !self.is_told {
             return;
         }

@@ -68,6 +68,8 @@ use table_keys::TableKeys;
 /// of a port that fails none follows: after a fault of reading nothing was written, and after a fault
 /// of writing, or want of memory, what was written is a front of the text that the words have.
 ///
+/// What is noted of a refusal besides, for a human, is no part of what is written, and no clause says what it is.
+///
 /// Tables whose entries come from the files are hashed with the keys that the files have.
 pub fn run<F: Files, S: Sink, A: Analyst>(
     alloc: Global,
@@ -194,9 +196,10 @@ fn answer_about<F: Files, S: Sink, A: Analyst>(
     ensures refused { IsRefusedOnce (S.refusals out.old) (S.refusals out.new) result }
     ensures untouched { IsUntouched out.old out.new result }
 {
-    match read_circuit(alloc, files, net)? {
+    let mut refused = Vec::new(alloc);
+    match read_circuit(alloc, files, net, &mut refused)? {
         Ok(circuit) => answer_in(alloc, circuit, question, files, out, analyst),
-        Err(refusal) => refuse_net(alloc, refusal, out),
+        Err(refusal) => refuse_net(alloc, refusal, &refused, out),
     }
 }
 
@@ -225,12 +228,13 @@ fn simulate_deck<F: Files, S: Sink, A: Analyst>(
     ensures refused { IsRefusedOnce (S.refusals out.old) (S.refusals out.new) result }
     ensures untouched { IsUntouched out.old out.new result }
 {
-    match read_deck_file(alloc, files, deck)? {
+    let mut refused = Vec::new(alloc);
+    match read_deck_file(alloc, files, deck, &mut refused)? {
         Ok(circuit) => {
             let purpose = Purpose::Lines;
             run_script(alloc, circuit, script, purpose, files, out, analyst)
         }
-        Err(refusal) => refuse_deck(alloc, refusal.line, refusal.what, out),
+        Err(refusal) => refuse_deck(alloc, refusal.line, refusal.what, &refused, out),
     }
 }
 

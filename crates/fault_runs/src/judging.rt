@@ -21,6 +21,7 @@ use fault_sim::{Trace, Verdict};
 use group_analysis::Analyst;
 use netlist::Circuit;
 use port_edge::{Sink, send};
+use refusal_words::list_word;
 use run_ends::{End, Stop, refuse};
 use script_meaning::Halt;
 use script_run::refuse_halt;
@@ -55,7 +56,8 @@ pub fn judge_faults<S: Sink, A: Analyst>(
         Ok(faults) => judge_listed(alloc, circuit, script, &faults, out, analyst),
         Err(refusal) => {
             let place = FaultPlace::List(refusal.line);
-            refuse(alloc, place, refusal.code, End::ScriptRefused, out)
+            let word = list_word(refusal.code, list, refusal.line);
+            refuse(alloc, place, refusal.code, word, End::ScriptRefused, out)
         }
     }
 }
@@ -111,7 +113,7 @@ fn judge_from<S: Sink, A: Analyst>(
     let (good, halt) = run_under(alloc, &mut session, circuit, script, None, analyst)?;
     match halt {
         Halt::End => judge_beside(alloc, circuit, script, session, &good, faults, out, analyst),
-        _ => refuse_halt(alloc, session.circuit(), halt, out),
+        _ => refuse_halt(alloc, session.circuit(), halt, script, 1, out),
     }
 }
 

@@ -36,6 +36,7 @@ Examples, from the folder of the README:
 
 Exit status: 0; 1 an expectation isn't met; 2 a bad command line or NODE; 3 NET
 or DECK refused; 4 SCRIPT or LIST refused; 5 reading; 6 writing; 7 no memory.
+For 3 and 4 standard error has the refused line's number, its code and a cure.
 Documents: README.md, and in docs/ USING.md, FORMATS.md, MODEL.md and others.
 ";
 

@@ -37,7 +37,10 @@ pub fn run_batch<S: Sink, A: Analyst>(
     let halt = obey_batch(alloc, session, text, out, analyst)?;
     match halt {
         Halt::End => Ok(End::Done),
-        _ => refuse_halt(alloc, session.circuit(), halt, out),
+        _ => {
+            let columns = session.lanes() as usize;
+            refuse_halt(alloc, session.circuit(), halt, text, columns, out)
+        }
     }
 }
 

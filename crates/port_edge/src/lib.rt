@@ -7,6 +7,8 @@
 //! `MemSink` tell everything too; their calls are numbered, those of some numbers fail, and each moves a few
 //! bytes at most. `DropSink` takes every piece and keeps nothing.
 //!
+//! A sink may be given a note besides, for a human, which is no part of what is written.
+//!
 //! `SinkOver` and `FilesOver` are ports over any `Outlet`, and over anything that can `Open` inlets by name:
 //! they tell what these tell, and meet all clauses whatever they are over. So what a program adds to a port is
 //! an outlet or an opener, inside of it. `Writer` and `Reader` make an outlet and an inlet of what the standard
@@ -51,7 +53,7 @@ pub use mem_files::MemFiles;
 pub use mem_outer::{MemInlet, MemOpener};
 pub use mem_sink::MemSink;
 pub use outer::{Inlet, Open, Outlet};
-pub use ports::{Files, PortFault, Sink};
+pub use ports::{Files, NotedFile, PortFault, Sink};
 pub use reading::read_front;
 pub use real_ports::{
     HostFiles, Reader, RealFiles, RealOutlet, RealSink, Writer, real_files, real_outlet, real_sink,

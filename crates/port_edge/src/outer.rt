@@ -1,7 +1,8 @@
 //! What the generic ports are made over: outlets, inlets, and what opens inlets by name.
-ghost use Rattle.std.specs.Prelude.{ℕ, ◌≤◌, List, Option, length, IfOk};
+ghost use Rattle.std.specs.Prelude.{◌≡◌, ℕ, ◌≤◌, List, Option, length, IfOk};
 ghost use Rattle.port_edge.specs.Ports.{Opens, Reads, Writes};
 
+use crate::ports::NotedFile;
 use std::io;
 
 /// What takes bytes in order.
@@ -16,6 +17,13 @@ pub trait Outlet {
     fn write(&mut self, bytes: &[u8]) -> io::Result<usize>
         ensures bound { IfOk result (λ n. n ≤ length bytes.now) }
         ensures bytes { Writes (contents self.old) (contents self.new) result bytes.now };
+
+    /// Notes for a human what a file has, by a text that follows the file's name.
+    ///
+    /// A note is none of the bytes that are taken, and may be passed over: nothing else is said of it.
+    fn note(&mut self, _file: NotedFile, _text: &[u8])
+        ensures { contents self.new ≡ contents self.old }
+    {}
 }
 
 /// What gives bytes in order.

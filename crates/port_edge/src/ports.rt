@@ -33,6 +33,19 @@ impl<T: Drop> From<AllocFailed<T>> for PortFault {
     }
 }
 
+/// A file that a note is about, by what it holds.
+#[derive(Clone, Copy, Debug, PartialEq, Eq)]
+pub enum NotedFile {
+    /// The netlist, or the deck.
+    Circuit,
+
+    /// The script.
+    Script,
+
+    /// The list of faults.
+    List,
+}
+
 /// Files that are read by name, one at a time.
 ///
 /// Contracts see what each name holds, which no call changes; what is left of the started file; the list of
@@ -102,4 +115,13 @@ pub trait Sink {
         ensures bytes { Writes (written self.old) (written self.new) result piece.now }
         ensures cause { faults self.new ≡ faults_after (faults self.old) result }
         ensures memory { refusals self.new ≡ refusals_after (refusals self.old) result };
+
+    /// Notes for a human what a file has, by a text that follows the file's name.
+    ///
+    /// A note is no part of what is written, and may be passed over: nothing else is said of it.
+    fn note(&mut self, _file: NotedFile, _text: &[u8])
+        ensures bytes { written self.new ≡ written self.old }
+        ensures cause { faults self.new ≡ faults self.old }
+        ensures memory { refusals self.new ≡ refusals self.old }
+    {}
 }

@@ -3,7 +3,7 @@ ghost use Rattle.std.specs.Prelude.{◌≡◌};
 ghost use Rattle.port_edge.specs.OuterPorts.{sink_counted};
 
 use crate::outer::Outlet;
-use crate::ports::{PortFault, Sink};
+use crate::ports::{NotedFile, PortFault, Sink};
 use std::io;
 use std::io::ErrorKind;
 use std::marker::Model;
@@ -89,5 +89,9 @@ impl<W: Outlet> Sink for SinkOver<W> {
             Ok(count) => Ok(count),
             Err(error) => Err(self.fault(error)),
         }
+    }
+
+    fn note(&mut self, file: NotedFile, text: &[u8]) {
+        self.outlet.note(file, text);
     }
 }

@@ -1,4 +1,4 @@
-//! The lines of refusals.
+//! The lines of refusals, and the notes of their cures.
 
 ghost use Rattle.std.specs.Prelude.{◌≡◌, ◌≢◌, ◌⊎◌, Err, IfOk, IfErr};
 ghost use Rattle.circuit_texts.specs.Sizes.{TellsTooLarge};
@@ -6,18 +6,20 @@ ghost use Rattle.run_ends.specs.Answers.{IsRefusal, IsRefusalFor, IsTooLarge};
 ghost use Rattle.run_ends.specs.Ends.{IsTold, status_of};
 ghost use Rattle.run_ends.specs.Stops.{faults_written, IsRefusedOnce};
 
+use crate::notes::note_cure;
 use crate::stop::{End, Stop};
 use circuit_texts::BuildFault;
 use netlist::Circuit;
-use port_edge::{Sink, send};
+use port_edge::{NotedFile, Sink, send};
 use std::alloc::Global;
 use wave_print::{FAULT_LINE_ROOM, FaultCode, FaultPlace, LineBuf, fault_line};
 
-/// Writes the line of a refusal, and ends the run so.
+/// Writes the line of a refusal, and ends the run so. The cure is noted besides, with the word that it is about.
 pub fn refuse<S: Sink>(
     alloc: Global,
     place: FaultPlace,
     code: FaultCode,
+    word: &[u8],
     end: End,
     out: &mut S,
 ) -> Result<End, Stop>
@@ -28,11 +30,55 @@ pub fn refuse<S: Sink>(
     ensures write { S.faults out.new ≡ faults_written (S.faults out.old) result }
     ensures refused { IsRefusedOnce (S.refusals out.old) (S.refusals out.new) result }
 {
-    refuse_named(alloc, place, code, b"", 0, end, out)
+    refuse_named(alloc, place, code, b"", 0, word, end, out)
+}
+
+// Writes the line of a refusal that tells of a node by its name, and a count, and notes the cure with this word.
+fn refuse_named<S: Sink>(
+    alloc: Global,
+    place: FaultPlace,
+    code: FaultCode,
+    name: &[u8],
+    count: u64,
+    word: &[u8],
+    end: End,
+    out: &mut S,
+) -> Result<End, Stop>
+    ensures told { IsTold
+        (IsRefusalFor place (record { code = code; name = name.now; count = count }) (status_of end))
+        (S.written out.old) (S.written out.new) result }
+    ensures same { IfOk result (λ ended. ended ≡ end) }
+    ensures no_read { IfErr result (λ stop. stop ≢ Stop.Read) }
+    ensures write { S.faults out.new ≡ faults_written (S.faults out.old) result }
+    ensures refused { IsRefusedOnce (S.refusals out.old) (S.refusals out.new) result }
+{
+    match write_refusal(alloc, place, code, name, count, end, out) {
+        Ok(ended) => {
+            note_at(alloc, place, code, word, out);
+            Ok(ended)
+        }
+        Err(stop) => Err(stop),
+    }
+}
+
+// Notes the cure of a refusal at a place of a file; at a node that is asked for there is no file.
+fn note_at<S: Sink>(alloc: Global, place: FaultPlace, code: FaultCode, word: &[u8], out: &mut S)
+    ensures bytes { S.written out.new ≡ S.written out.old }
+    ensures cause { S.faults out.new ≡ S.faults out.old }
+    ensures memory { S.refusals out.new ≡ S.refusals out.old }
+{
+    let (file, line) = match place {
+        FaultPlace::Net(line) => (NotedFile::Circuit, Some(line)),
+        FaultPlace::NetWhole => (NotedFile::Circuit, None),
+        FaultPlace::Script(line) => (NotedFile::Script, Some(line)),
+        FaultPlace::List(line) => (NotedFile::List, Some(line)),
+        FaultPlace::Node => return,
+    };
+    note_cure(alloc, file, line, code.text(), word, out);
 }
 
 // Writes the line of a refusal that tells of a node by its name, and a count.
-fn refuse_named<S: Sink>(
+fn write_refusal<S: Sink>(
     alloc: Global,
     place: FaultPlace,
     code: FaultCode,
@@ -58,7 +104,7 @@ fn refuse_named<S: Sink>(
 }
 
 /// Writes the line of the first group of a circuit that is too large, and ends the run so; want of memory
-/// stops it.
+/// stops it. The cure is noted besides, with the name of the group.
 pub fn refuse_size<S: Sink>(
     alloc: Global,
     place: FaultPlace,
@@ -80,12 +126,12 @@ pub fn refuse_size<S: Sink>(
         BuildFault::GroupNodes { node, count } => {
             let name = circuit.name_of(node);
             let code = FaultCode::G1GroupNodes;
-            refuse_named(alloc, place, code, name, count, end, out)
+            refuse_named(alloc, place, code, name, count, name, end, out)
         }
         BuildFault::GroupSwitches { node, count } => {
             let name = circuit.name_of(node);
             let code = FaultCode::G2GroupSwitches;
-            refuse_named(alloc, place, code, name, count, end, out)
+            refuse_named(alloc, place, code, name, count, name, end, out)
         }
         BuildFault::NoMemory => Err(Stop::Memory),
     }

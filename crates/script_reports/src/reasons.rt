@@ -49,7 +49,7 @@ pub fn explain<S: Sink, A: Analyst>(
 {
     let mut session = Session::new(alloc, circuit)?;
     let halt = run_unwritten(alloc, &mut session, text, analyst)?;
-    explain_at(alloc, &session, halt, name, out)
+    explain_at(alloc, &session, halt, text, name, out)
 }
 
 // Runs the lines of a script, whose text is dropped.
@@ -75,6 +75,7 @@ fn explain_at<S: Sink>(
     alloc: Global,
     session: &Session,
     halt: Halt,
+    text: &[u8],
     name: &str,
     out: &mut S,
 ) -> Result<End, Stop>
@@ -87,7 +88,7 @@ fn explain_at<S: Sink>(
 {
     match halt {
         Halt::End => explain_name(alloc, session, name, out),
-        _ => refuse_halt(alloc, session.circuit(), halt, out),
+        _ => refuse_halt(alloc, session.circuit(), halt, text, 1, out),
     }
 }
 
@@ -108,7 +109,7 @@ fn explain_name<S: Sink>(
         Some(node) => write_reasons(alloc, session, node, out),
         None => {
             let code = FaultCode::E1UnknownNode;
-            refuse(alloc, FaultPlace::Node, code, End::Usage, out)
+            refuse(alloc, FaultPlace::Node, code, &[], End::Usage, out)
         }
     }
 }

@@ -46,7 +46,7 @@ pub fn sum_up<S: Sink, A: Analyst>(
 {
     match sample_circuit(alloc, keys, sample)? {
         Ok(circuit) => sum_up_in(alloc, circuit, sample, out, analyst),
-        Err(refusal) => refuse_net(alloc, refusal, out),
+        Err(refusal) => refuse_net(alloc, refusal, &[], out),
     }
 }
 
@@ -133,7 +133,7 @@ fn sum_up_lines<S: Sink, A: Analyst>(
         Halt::End => write_summary(alloc, summary, out),
         Halt::Refused(line, code) => {
             let place = FaultPlace::Script(line);
-            refuse(alloc, place, code, End::ScriptRefused, out)
+            refuse(alloc, place, code, &[], End::ScriptRefused, out)
         }
         Halt::TooLarge(line, fault) => {
             let place = FaultPlace::Script(line);

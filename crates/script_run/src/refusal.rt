@@ -7,16 +7,22 @@ ghost use Rattle.script_meaning.specs.Halts.{IsCutShort, TellsCutShort};
 
 use netlist::Circuit;
 use port_edge::Sink;
+use refusal_words::script_word;
 use run_ends::{End, Stop, refuse, refuse_size};
 use script_meaning::Halt;
 use std::alloc::Global;
 use wave_print::FaultPlace;
 
 /// Writes the line of the refusal at which the lines of a script ended in a circuit, and ends the run so.
+///
+/// The cure is noted besides, with a word of the refused line. For that alone the script's text is passed, and how
+/// many columns it is for.
 pub fn refuse_halt<S: Sink>(
     alloc: Global,
     circuit: &Circuit,
     halt: Halt,
+    text: &[u8],
+    columns: usize,
     out: &mut S,
 ) -> Result<End, Stop>
     requires { IsCutShort circuit.now halt }
@@ -29,7 +35,8 @@ pub fn refuse_halt<S: Sink>(
         Halt::End => unreachable!(),
         Halt::Refused(line, code) => {
             let place = FaultPlace::Script(line);
-            refuse(alloc, place, code, End::ScriptRefused, out)
+            let word = script_word(code, text, line, circuit, columns);
+            refuse(alloc, place, code, word, End::ScriptRefused, out)
         }
         Halt::TooLarge(line, size) => {
             let place = FaultPlace::Script(line);

@@ -46,7 +46,7 @@ pub fn run_lines<S: Sink, A: Analyst>(
     let halt = obey_lines(alloc, session, text, None, out, analyst)?;
     match halt {
         Halt::End => Ok(end_of(session)),
-        _ => refuse_halt(alloc, session.circuit(), halt, out),
+        _ => refuse_halt(alloc, session.circuit(), halt, text, 1, out),
     }
 }
 

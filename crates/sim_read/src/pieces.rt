@@ -28,8 +28,8 @@ pub const MOST_HELD: usize = 65_538;
 /// It stands for the text that the pieces are, one after the other, wherever they fall. It holds
 /// what the lines before gave, the sums of their capacitances by name included, and at most
 /// `MOST_HELD` bytes of the line that hasn't ended, or the refusal of the text's first refused
-/// line. Each byte is looked at for LF once, and copied once at most; after a refusal a piece is
-/// only counted.
+/// line, and that line. Each byte is looked at for LF once, and copied once at most, those of a
+/// refused line twice; after a refusal a piece is only counted.
 #[derive(Drop)]
 pub struct Reader {
     draft: Draft,
@@ -39,6 +39,8 @@ pub struct Reader {
     bytes: usize,
     held: Vec<u8>,
     fault: Option<NetFault>,
+    // The first refused line that an LF ended, as far as there was memory.
+    refused: Vec<u8>,
 }
 
 impl Model for Reader {
@@ -76,6 +78,7 @@ impl Reader {
             bytes: 0,
             held: Vec::new(alloc),
             fault: None,
+            refused: Vec::new(alloc),
         })
     }
 
@@ -129,6 +132,16 @@ impl Reader {
         self.held.len()
     }
 
+    /// The line that is refused, if the text is refused as it stands: the first one that was refused,
+    /// or else the one that hasn't ended. For want of memory there are no bytes; no clause says what
+    /// line it is.
+    pub fn refused_line(&self) -> &[u8] {
+        match self.fault {
+            Some(_) => &self.refused,
+            None => &self.held,
+        }
+    }
+
     // Reads the lines that end in the piece, and holds what is left of it.
     fn take(&mut self, piece: &[u8]) -> Result<(), NoMemory>
         ensures { OnOk result (GoesOn self.old self.new piece.now) }
@@ -159,6 +172,7 @@ impl Reader {
         self.append(part)?;
         self.ended += 1;
         let read = read_held(&mut self.draft, self.ended, &self.held);
+        keep_refused(&read, &self.held, &mut self.refused);
         self.held.clear();
         self.fault = read?;
         Ok(())
@@ -233,6 +247,13 @@ fn read_held(draft: &mut Draft, number: u64, held: &[u8]) -> Result<Option<NetFa
             what,
         }))),
         Err(LineStop::NoMemory) => Err(NoMemory),
+    }
+}
+
+// Keeps a line that was read, if it is refused, as far as there is memory.
+fn keep_refused(read: &Result<Option<NetFault>, NoMemory>, line: &[u8], refused: &mut Vec<u8>) {
+    if let Ok(Some(_)) = read {
+        let _ = refused.extend_from_slice(line);
     }
 }
 

@@ -4,7 +4,7 @@
 //! together with that of `folded`: they give `cards_of` of the text, what its cards say in the order of
 //! its lines, or the refusal of the first line that has one. A line's refusals stand in the order of
 //! `DeckWhat`; those of the expansion, which a layer above finds, come behind. `deck_line` is the line
-//! that is printed for either.
+//! that is printed for either, and `cause_text` its code.
 //!
 //! ```text
 //! let text = folded(alloc, b"two gates\n.subckt inv a y\nm1 y a 0 0 n\n.ends\nx1 in out inv\n")?;
@@ -46,6 +46,6 @@ pub use deck::{Deck, Subcircuit, folded, read_cards};
 pub use fault::{DeckFault, DeckWhat};
 pub use laws::limits_are_as_stated;
 pub use parts::{Part, Parts};
-pub use report::deck_line;
+pub use report::{cause_text, deck_line};
 pub use sorts::{PartSort, Strength};
 pub use words::Words;

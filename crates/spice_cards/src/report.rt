@@ -21,8 +21,8 @@ pub fn deck_line(alloc: Global, line: u64, what: DeckWhat) -> Result<Vec<u8>, No
     Ok(text)
 }
 
-// The code and the name of a cause.
-fn cause_text(what: DeckWhat) -> &'static [u8]
+/// The code and the name of a cause, as `P5 NoSubckt`.
+pub fn cause_text(what: DeckWhat) -> &'static [u8]
     ensures { result.now ≡ spec.cause_text what }
 {
     match what {
