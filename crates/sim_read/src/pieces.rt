@@ -118,7 +118,12 @@ impl Reader {
         if self.held.is_empty() {
             return finish_draft(self.draft);
         }
-        match read_held(&mut self.draft, self.ended + 1, &self.held)? {
+        match read_held(
+            &mut self.draft,
+            self.ended + 1,
+            &self.held,
+            &mut self.refused,
+        )? {
             Some(fault) => Err(fault),
             None => finish_draft(self.draft),
         }
@@ -171,8 +176,7 @@ impl Reader {
         }
         self.append(part)?;
         self.ended += 1;
-        let read = read_held(&mut self.draft, self.ended, &self.held);
-        keep_refused(&read, &self.held, &mut self.refused);
+        let read = read_held(&mut self.draft, self.ended, &self.held, &mut self.refused);
         self.held.clear();
         self.fault = read?;
         Ok(())
@@ -233,8 +237,14 @@ impl Reader {
     }
 }
 
-// Reads a line that was held, with this number, into the draft: its refusal, where it has one.
-fn read_held(draft: &mut Draft, number: u64, held: &[u8]) -> Result<Option<NetFault>, NoMemory>
+// Reads a line that was held, with this number, into the draft: its refusal, where it has one. A refused line is kept,
+// as far as there is memory.
+fn read_held(
+    draft: &mut Draft,
+    number: u64,
+    held: &[u8],
+    refused: &mut Vec<u8>,
+) -> Result<Option<NetFault>, NoMemory>
     requires { all_added draft.old.sums + 2 * MOST_THOUSANDTHS < 2 ^ 64 }
     ensures reads { IfOk result (λ fault.
         IsRead (line_meaning None draft.old (number, without_return held.now)) number draft.new fault) }
@@ -242,18 +252,11 @@ fn read_held(draft: &mut Draft, number: u64, held: &[u8]) -> Result<Option<NetFa
 {
     match read_line(draft, number, line_words::without_return(held)) {
         Ok(()) => Ok(None),
-        Err(LineStop::Refused(what)) => Ok(Some(NetFault::Refused(NetRefusal {
-            line: number,
-            what,
-        }))),
+        Err(LineStop::Refused(what)) => {
+            let _ = refused.extend_from_slice(held);
+            Ok(Some(NetFault::Refused(NetRefusal { line: number, what })))
+        }
         Err(LineStop::NoMemory) => Err(NoMemory),
-    }
-}
-
-// Keeps a line that was read, if it is refused, as far as there is memory.
-fn keep_refused(read: &Result<Option<NetFault>, NoMemory>, line: &[u8], refused: &mut Vec<u8>) {
-    if let Ok(Some(_)) = read {
-        let _ = refused.extend_from_slice(line);
     }
 }
 
