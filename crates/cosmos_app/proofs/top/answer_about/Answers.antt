@@ -39,16 +39,16 @@ returns-in-Ok-clause-whole g c =
     c.in_ok-circuit.ensures.holds c.in_ok-circuit.ensures.whole after)
     c.answer_in.ensures.whole
 
-pub returns-in-Err-clause-told : goal.returns-in-Err-clause-told
-returns-in-Err-clause-told g c =
+pub returns-clause-told : goal.returns-clause-told
+returns-clause-told g c =
     told_refusal (g.F.Files.holds c.args.files.now) (question_seen c.args.question) c.args.net.now c.in-Err.refusal (g.S.Sink.written c.args.out.now)
     (g.S.Sink.written c.refuse_net.new.out)
     (g.A.Analyst.analysed c.args.analyst.now) c.refuse_net.result
     (means_as (g.F.Files.holds c.args.files.now) c.args.net.now _ (Err c.in-Err.refusal) c.in-Err.is c.in_ok-circuit.ensures.means)
     c.refuse_net.ensures.told
 
-pub returns-in-Err-clause-whole : goal.returns-in-Err-clause-whole
-returns-in-Err-clause-whole g c =
+pub returns-clause-whole : goal.returns-clause-whole
+returns-clause-whole g c =
     at_ok c.refuse_net.result
     (whole_refused (g.F.Files.holds c.args.files.now) c.args.net.now (question_seen c.args.question) c.in-Err.refusal
     (g.F.Files.taken c.args.files.now) (g.F.Files.taken c.read_circuit.new.files)
@@ -64,14 +64,14 @@ pub returns-in-Ok-clause-read : goal.returns-in-Ok-clause-read
 returns-in-Ok-clause-read g c =
     c.answer_in.ensures.read ∙ ap (λ n. faults_read n c.answer_in.result) c.in_ok-circuit.ensures.read
 
-pub returns-in-Err-clause-started : goal.returns-in-Err-clause-started
-returns-in-Err-clause-started g c =
+pub returns-clause-started : goal.returns-clause-started
+returns-clause-started g c =
     inl (inr c.in_ok-circuit.ensures.started)
 
-pub returns-in-Err-clause-read : goal.returns-in-Err-clause-read
-returns-in-Err-clause-read g c =
+pub returns-clause-read : goal.returns-clause-read
+returns-clause-read g c =
     c.in_ok-circuit.ensures.read ∙ read_none (g.F.Files.faults c.args.files.now) c.refuse_net.result c.refuse_net.ensures.no_read
 
-pub returns-in-Err-clause-untouched : goal.returns-in-Err-clause-untouched
-returns-in-Err-clause-untouched g c =
+pub returns-clause-untouched : goal.returns-clause-untouched
+returns-clause-untouched g c =
     untouched_none c.args.out.now c.refuse_net.new.out c.refuse_net.result c.refuse_net.ensures.no_read

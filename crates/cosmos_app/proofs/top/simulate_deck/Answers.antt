@@ -31,23 +31,23 @@ returns-in-Ok-clause-whole g c =
     c.in_ok-circuit.ensures.holds c.in_ok-circuit.ensures.whole after)
     c.run_script.ensures.whole
 
-pub returns-in-Err-clause-told : goal.returns-in-Err-clause-told
-returns-in-Err-clause-told g c =
+pub returns-clause-told : goal.returns-clause-told
+returns-clause-told g c =
     told_deck_refusal (g.F.Files.holds c.args.files.now) c.args.deck.now c.args.script.now c.in-Err.refusal.line c.in-Err.refusal.what
     (g.S.Sink.written c.args.out.now) (g.S.Sink.written c.refuse_deck.new.out) (g.A.Analyst.analysed c.args.analyst.now) c.refuse_deck.result
     (deck_means_as (g.F.Files.holds c.args.files.now) c.args.deck.now _ (Err c.in-Err.refusal) c.in-Err.is c.in_ok-circuit.ensures.means)
     c.refuse_deck.ensures.told
 
-pub returns-in-Err-clause-whole : goal.returns-in-Err-clause-whole
-returns-in-Err-clause-whole g c =
+pub returns-clause-whole : goal.returns-clause-whole
+returns-clause-whole g c =
     at_ok c.refuse_deck.result
     (whole_refused_deck (g.F.Files.holds c.args.files.now) c.args.deck.now c.args.script.now (At c.in-Err.refusal.line c.in-Err.refusal.what)
     (g.F.Files.taken c.args.files.now) (g.F.Files.taken c.read_deck_file.new.files)
     (deck_means_as (g.F.Files.holds c.args.files.now) c.args.deck.now _ (Err c.in-Err.refusal) c.in-Err.is c.in_ok-circuit.ensures.means)
     c.in_ok-circuit.ensures.whole)
 
-pub returns-in-Err-clause-started : goal.returns-in-Err-clause-started
-returns-in-Err-clause-started g c =
+pub returns-clause-started : goal.returns-clause-started
+returns-clause-started g c =
     inl (inr c.in_ok-circuit.ensures.started)
 
 pub returns-in-Ok-clause-taken : goal.returns-in-Ok-clause-taken
