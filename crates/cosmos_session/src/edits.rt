@@ -1,22 +1,114 @@
-//! Edits of the circuit's transistors.
+//! Edits of the circuit.
 
-ghost use Rattle.std.specs.Prelude.{◌≡◌, OnOk, OnErr};
-ghost use Rattle.netlist.specs.Edits.{answer_of, with_place};
-ghost use Rattle.script_lang.specs.declared.command.Command.TheVariants as asked;
+ghost use Rattle.std.specs.Prelude.{◌≡◌, ◌<◌, ◌≤◌, All, OnOk, OnErr};
+ghost use Rattle.path_meaning.specs.Graphs.{nodes};
+ghost use Rattle.path_meaning.specs.declared.TheConstants.{RAILS};
+ghost use Rattle.netlist.specs.Names.{node_of};
+ghost use Rattle.netlist.specs.Edits.{answer_of, node_named, with_input, with_place};
+ghost use Rattle.script_lang.specs.declared.command.Command.TheVariants as family;
+ghost use Rattle.script_lang.specs.declared.command.Edit.TheVariants as asked;
+ghost use Rattle.session_meaning.specs.Refusals as refusal;
+ghost use Rattle.session_meaning.specs.Effects as effect;
 ghost use Rattle.session_meaning.specs.Machines.{EditsMachine};
 ghost use Rattle.session_meaning.specs.Outcomes.{Quietly};
-ghost use Rattle.session_meaning.specs.Switches.{place_after, edit_fault, command_of};
+ghost use Rattle.session_meaning.specs.Switches.{place_after, edit_fault, edit_of};
 
-use crate::regrouping::{change_at, change_of};
+use crate::refusals;
+use crate::regrouping::{change_at, change_of, change_of_level};
 use crate::session::Session;
-use netlist::{Circuit, EditFault, usual_strength};
+use netlist::{Circuit, EditFault, RAILS, usual_strength};
 use path_meaning::SwitchKind;
-use script_lang::Name;
-use session_meaning::{ApplyFault, SwitchEdit};
+use script_lang::{Edit, Name, NameList};
+use session_meaning::{ApplyFault, Refusal, SwitchEdit};
 
 impl Session {
-    /// `add`: adds a transistor; each node that its names make is X.
-    pub(crate) fn add(
+    /// Does an edit.
+    pub(crate) fn edit(&mut self, edit: &Edit) -> Result<(), ApplyFault>
+        ensures quiet { Quietly self.old (family.Edit edit.now) self.new result }
+        ensures machine { OnOk result (EditsMachine self.old self.new) }
+    {
+        match edit {
+            Edit::Input(names) => self.input(names),
+            Edit::Store(name, size) => self.store(name, *size),
+            Edit::Add {
+                kind,
+                gate,
+                source,
+                drain,
+                strength,
+            } => self.add(*kind, gate, source, drain, *strength),
+            Edit::Del(number) => self.edit_switch(*number, SwitchEdit::Removal),
+            Edit::Strength(number, strength) => {
+                self.edit_switch(*number, SwitchEdit::Strength(*strength))
+            }
+            Edit::Kind(number, kind) => self.edit_switch(*number, SwitchEdit::Kind(*kind)),
+            Edit::Wire {
+                number,
+                gate,
+                source,
+                drain,
+            } => self.rewire(*number, gate, source, drain),
+        }
+    }
+
+    // `input`: makes the named nodes input nodes.
+    fn input(&mut self, names: &NameList) -> Result<(), ApplyFault>
+        ensures quiet { Quietly self.old (family.Edit (asked.Input names.now)) self.new result }
+        ensures machine { OnOk result (EditsMachine self.old self.new) }
+    {
+        if let Some(refusal) = refusals::input_refusal(&self.circuit, names.items()) {
+            return Err(ApplyFault::Refused(refusal));
+        }
+        self.make_inputs(names.items());
+        Ok(())
+    }
+
+    // Makes these named nodes, which are in use and no rails, input nodes.
+    fn make_inputs(&mut self, names: &[Name])
+        requires { All (λ name. refusal.rail_refusal (node_of self.old.core.circuit.names name) ≡ None) names.now }
+        ensures made { self.new.core ≡ record self.old.core { circuit = effect.with_inputs self.old.core.circuit names.now } }
+        ensures machine { EditsMachine self.old self.new }
+    {
+        for name in names {
+            self.make_input(name.items());
+        }
+    }
+
+    // Makes a named node, which is in use and no rail, an input node.
+    fn make_input(&mut self, name: &[u8])
+        requires { refusal.rail_refusal (node_of self.old.core.circuit.names name.now) ≡ None }
+        ensures made { self.new.core ≡ record self.old.core { circuit = with_input self.old.core.circuit (node_named self.old.core.circuit name.now) } }
+        ensures machine { EditsMachine self.old self.new }
+    {
+        let node = found_past_rails(&self.circuit, name);
+        let change = change_of_level(self.circuit.graph(), node);
+        put_input(&mut self.circuit, node);
+        self.stage
+            .edit(self.alloc, self.circuit.graph(), &change, &mut self.kept);
+    }
+
+    // `store`: makes the named node a storage node of this size.
+    fn store(&mut self, name: &Name, size: u64) -> Result<(), ApplyFault>
+        ensures quiet { Quietly self.old (family.Edit (asked.Store name.now size)) self.new result }
+        ensures machine { OnOk result (EditsMachine self.old self.new) }
+    {
+        let Some(node) = self.circuit.find(name.items()) else {
+            return Err(ApplyFault::Refused(Refusal::UnknownNode));
+        };
+        let change = change_of_level(self.circuit.graph(), node);
+        match self.circuit.make_store(node, size) {
+            Ok(()) => {
+                self.stage
+                    .edit(self.alloc, self.circuit.graph(), &change, &mut self.kept);
+                Ok(())
+            }
+            Err(_) if node < RAILS => Err(ApplyFault::Refused(Refusal::Rail)),
+            Err(_) => Err(ApplyFault::Refused(Refusal::BadSize)),
+        }
+    }
+
+    // `add`: adds a transistor; each node that its names make is X.
+    fn add(
         &mut self,
         kind: SwitchKind,
         gate: &Name,
@@ -24,7 +116,7 @@ impl Session {
         drain: &Name,
         strength: Option<u64>,
     ) -> Result<(), ApplyFault>
-        ensures quiet { Quietly self.old (asked.Add kind gate.now source.now drain.now strength) self.new result }
+        ensures quiet { Quietly self.old (family.Edit (asked.Add kind gate.now source.now drain.now strength)) self.new result }
         ensures machine { OnOk result (EditsMachine self.old self.new) }
     {
         let strength = strength.unwrap_or(usual_strength(kind));
@@ -41,33 +133,9 @@ impl Session {
         }
     }
 
-    /// `del`: removes the transistor with this number.
-    pub(crate) fn del(&mut self, number: u64) -> Result<(), ApplyFault>
-        ensures quiet { Quietly self.old (asked.Del number) self.new result }
-        ensures machine { OnOk result (EditsMachine self.old self.new) }
-    {
-        self.edit_switch(number, SwitchEdit::Removal)
-    }
-
-    /// `strength`: sets the strength of the transistor with this number.
-    pub(crate) fn set_strength(&mut self, number: u64, strength: u64) -> Result<(), ApplyFault>
-        ensures quiet { Quietly self.old (asked.Strength number strength) self.new result }
-        ensures machine { OnOk result (EditsMachine self.old self.new) }
-    {
-        self.edit_switch(number, SwitchEdit::Strength(strength))
-    }
-
-    /// `type`: sets the kind of the transistor with this number.
-    pub(crate) fn set_kind(&mut self, number: u64, kind: SwitchKind) -> Result<(), ApplyFault>
-        ensures quiet { Quietly self.old (asked.Kind number kind) self.new result }
-        ensures machine { OnOk result (EditsMachine self.old self.new) }
-    {
-        self.edit_switch(number, SwitchEdit::Kind(kind))
-    }
-
     // Does an edit of the transistor with this number that leaves its terminals.
     fn edit_switch(&mut self, number: u64, edit: SwitchEdit) -> Result<(), ApplyFault>
-        ensures quiet { Quietly self.old (command_of number edit) self.new result }
+        ensures quiet { Quietly self.old (family.Edit (edit_of number edit)) self.new result }
         ensures machine { OnOk result (EditsMachine self.old self.new) }
     {
         let change = change_of(self.circuit.graph(), number);
@@ -81,16 +149,16 @@ impl Session {
         }
     }
 
-    /// `wire`: sets the terminals of the transistor with this number; each node that the names make is
-    /// X.
-    pub(crate) fn rewire(
+    // `wire`: sets the terminals of the transistor with this number; each node that the names make is
+    // X.
+    fn rewire(
         &mut self,
         number: u64,
         gate: &Name,
         source: &Name,
         drain: &Name,
     ) -> Result<(), ApplyFault>
-        ensures quiet { Quietly self.old (asked.Wire number gate.now source.now drain.now) self.new result }
+        ensures quiet { Quietly self.old (family.Edit (asked.Wire number gate.now source.now drain.now)) self.new result }
         ensures machine { OnOk result (EditsMachine self.old self.new) }
     {
         self.stage.reserve()?;
@@ -105,6 +173,25 @@ impl Session {
             Err(fault) => Err(ApplyFault::of_edit(fault)),
         }
     }
+}
+
+// The node of a name, which is in use and no rail's.
+fn found_past_rails(circuit: &Circuit, name: &[u8]) -> usize
+    requires { refusal.rail_refusal (node_of circuit.now.names name.now) ≡ None }
+    ensures node { result ≡ node_named circuit.now name.now }
+    ensures past { RAILS ≤ result }
+    ensures within { result < nodes circuit.now.graph }
+{
+    circuit.find(name).unwrap()
+}
+
+// Makes a node, which is no rail, an input node.
+fn put_input(circuit: &mut Circuit, node: usize)
+    requires within { node < nodes circuit.old.graph }
+    requires past { RAILS ≤ node }
+    ensures { circuit.new ≡ with_input circuit.old node }
+{
+    let _made = circuit.make_input(node);
 }
 
 // Does an edit of a circuit's transistor with this number.

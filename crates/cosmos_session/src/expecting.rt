@@ -1,9 +1,10 @@
-//! Expectations, and the lines of those that aren't met.
+//! The commands that tell of what is there: expectations, and the lines of those that aren't met.
 
 ghost use Rattle.std.specs.Prelude.{◌≡◌, ◌++◌, List, [], ◌∷◌, is_some, true, All, IfOk};
 ghost use Rattle.group_text.specs.Texts.{GroupTextData};
 ghost use Rattle.netlist.specs.Names.{node_of};
-ghost use Rattle.script_lang.specs.declared.command.Command.TheVariants as asked;
+ghost use Rattle.script_lang.specs.declared.command.Command.TheVariants as family;
+ghost use Rattle.script_lang.specs.declared.command.Tell.TheVariants as asked;
 ghost use Rattle.session_meaning.specs.Effects as effect;
 ghost use Rattle.session_meaning.specs.Lines.{text_of};
 ghost use Rattle.session_meaning.specs.Sinks.{faults_applied};
@@ -13,19 +14,27 @@ use crate::refusals;
 use crate::session::Session;
 use crate::waves::send_text;
 use port_edge::Sink;
-use script_lang::{AssignList, Name};
+use script_lang::{AssignList, Name, Tell};
 use session_meaning::ApplyFault;
 use ternary::{NoMemory, Tern};
 use wave_print::{EXPECT_LINE_ROOM, LineBuf, expect_line};
 
 impl Session {
-    /// `expect`: a line for each node that isn't in the wanted state.
-    pub(crate) fn expect<S: Sink>(
-        &mut self,
-        list: &AssignList,
-        out: &mut S,
-    ) -> Result<(), ApplyFault>
-        ensures obeys { (texts : List GroupTextData) → Obeys self.old (asked.Expect list.now) self.new (S.written out.old) (S.written out.new)
+    /// Tells of what is there. Nothing is analysed for it, whatever was before.
+    pub(crate) fn tell<S: Sink>(&mut self, tell: &Tell, out: &mut S) -> Result<(), ApplyFault>
+        ensures obeys { (texts : List GroupTextData) → Obeys self.old (family.Tell tell.now) self.new (S.written out.old) (S.written out.new)
+            texts texts (S.refusals out.old) (S.refusals out.new) result }
+        ensures faults { S.faults out.new ≡ faults_applied (S.faults out.old) result }
+        ensures machine { self.new.machine ≡ self.old.machine }
+    {
+        match tell {
+            Tell::Expect(list) => self.expect(list, out),
+        }
+    }
+
+    // `expect`: a line for each node that isn't in the wanted state.
+    fn expect<S: Sink>(&mut self, list: &AssignList, out: &mut S) -> Result<(), ApplyFault>
+        ensures obeys { (texts : List GroupTextData) → Obeys self.old (family.Tell (asked.Expect list.now)) self.new (S.written out.old) (S.written out.new)
             texts texts (S.refusals out.old) (S.refusals out.new) result }
         ensures faults { S.faults out.new ≡ faults_applied (S.faults out.old) result }
         ensures machine { self.new.machine ≡ self.old.machine }

@@ -23,13 +23,14 @@
 
 mod edits;
 mod expecting;
+mod giving;
 mod moving;
 mod preparing;
-mod quiet;
 mod refusals;
 mod regrouping;
 mod reporting;
 mod session;
+mod setting;
 mod stage;
 mod stepping;
 mod waves;

@@ -3,7 +3,8 @@
 ghost use Rattle.std.specs.Prelude.{◌≡◌, ◌≤◌, List, OnOk};
 ghost use Rattle.group_text.specs.Texts.{GroupTextData};
 ghost use Rattle.circuit_texts.specs.Building.{HasTexts};
-ghost use Rattle.script_lang.specs.declared.command.Command.TheVariants as asked;
+ghost use Rattle.script_lang.specs.declared.command.Command.TheVariants as family;
+ghost use Rattle.script_lang.specs.declared.command.Run.TheVariants as asked;
 ghost use Rattle.session_meaning.specs.Machines.{BuildsMachine, IsBuilt};
 ghost use Rattle.session_meaning.specs.Stages.{IsReportPut};
 ghost use Rattle.session_meaning.specs.Sinks.{faults_applied};
@@ -24,7 +25,7 @@ impl Session {
         analyst: &mut A,
         out: &mut S,
     ) -> Result<(), ApplyFault>
-        ensures obeys { Obeys self.old asked.Report self.new (S.written out.old) (S.written out.new)
+        ensures obeys { Obeys self.old (family.Run asked.Report) self.new (S.written out.old) (S.written out.new)
             (A.analysed analyst.old) (A.analysed analyst.new) (S.refusals out.old) (S.refusals out.new) result }
         ensures faults { S.faults out.new ≡ faults_applied (S.faults out.old) result }
         ensures machine { OnOk result (BuildsMachine self.old self.new) }

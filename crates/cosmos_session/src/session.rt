@@ -194,35 +194,11 @@ impl Session {
         ensures machine { OnOk result (IsMachineAfter self.old command.now self.new) }
     {
         match command {
-            Command::Input(names) => self.input(names),
-            Command::Store(name, size) => self.store(name, *size),
-            Command::Set(list) => self.set(list),
-            Command::Charge(list) => self.charge(list),
-            Command::Watch(names) => self.watch(names),
-            Command::Limit(number) => self.set_limit(*number),
-            Command::Step => self.step(analyst, out),
-            Command::Phase => self.phase(analyst, out),
-            Command::Clock(list) => self.set_clocks(list),
-            Command::Cycle(times) => self.cycle(*times, analyst, out),
-            Command::Expect(list) => self.expect(list, out),
-            Command::Add {
-                kind,
-                gate,
-                source,
-                drain,
-                strength,
-            } => self.add(*kind, gate, source, drain, *strength),
-            Command::Del(number) => self.del(*number),
-            Command::Strength(number, strength) => self.set_strength(*number, *strength),
-            Command::Kind(number, kind) => self.set_kind(*number, *kind),
-            Command::Wire {
-                number,
-                gate,
-                source,
-                drain,
-            } => self.rewire(*number, gate, source, drain),
-            Command::Report => self.report(analyst, out),
-            Command::Keep(number) => self.set_bound(*number),
+            Command::Edit(edit) => self.edit(edit),
+            Command::Give(give) => self.give(give),
+            Command::Setup(setup) => self.set_up(setup),
+            Command::Run(run) => self.run(run, analyst, out),
+            Command::Tell(tell) => self.tell(tell, out),
         }
     }
 }

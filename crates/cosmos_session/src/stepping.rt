@@ -1,15 +1,16 @@
-//! Unit steps, phases and cycles, and their waveform lines.
+//! The commands that have the circuit built: unit steps, phases and cycles, and their waveform lines.
 
 ghost use Rattle.std.specs.Prelude.{◌≡◌, ◌<◌, ◌≤◌, [], ◌∷◌, length, slice_set, All, IfErr, IfSome, OnOk};
 ghost use Rattle.std.specs.List.{range_with_len};
 ghost use Rattle.path_meaning.specs.Graphs.{level_of};
 ghost use Rattle.path_meaning.specs.Switching.{state_at};
 ghost use Rattle.path_meaning.specs.declared.TheConstants.{RAILS};
-ghost use Rattle.script_lang.specs.declared.command.Command.TheVariants as asked;
-ghost use Rattle.script_lang.specs.Forms.{IsTimes};
+ghost use Rattle.script_lang.specs.declared.command.Command.TheVariants as family;
+ghost use Rattle.script_lang.specs.declared.command.Run.TheVariants as asked;
+ghost use Rattle.script_lang.specs.Forms.{IsFormedRun, IsTimes};
 ghost use Rattle.session_meaning.specs.Sessions.{places_of, IsReady};
 ghost use Rattle.session_meaning.specs.Effects as effect;
-ghost use Rattle.session_meaning.specs.Machines.{IsBuilt, StepsMachine, SettlesMachine};
+ghost use Rattle.session_meaning.specs.Machines.{IsBuilt, RunsMachine, StepsMachine, SettlesMachine};
 ghost use Rattle.session_meaning.specs.Stages.{IsStepSent, IsUnitStepDone, IsSettled, PhaseMoves, BeatsMove, BeatsMoveOn, PutsIn, TicksIn, StaysPut, SameSetup};
 ghost use Rattle.session_meaning.specs.Sinks.{IsSinkFault, faults_applied, refusals_sent};
 ghost use Rattle.session_meaning.specs.Outcomes.{Obeys, TakesBeats, IsPhaseSent, Sent};
@@ -22,17 +23,35 @@ use analysis_cache::Analyst;
 use oscillation_x::Settled;
 use path_meaning::{Graph, graphs_are_wired};
 use port_edge::Sink;
+use script_lang::Run;
 use session_meaning::{ApplyFault, Clock, places_of};
 use strength_order::INPUT_LEVEL;
 
 impl Session {
-    /// `step`: one unit step, and its waveform line.
-    pub(crate) fn step<A: Analyst, S: Sink>(
+    /// Has the circuit built, and does what the command says.
+    pub(crate) fn run<A: Analyst, S: Sink>(
         &mut self,
+        run: &Run,
         analyst: &mut A,
         out: &mut S,
     ) -> Result<(), ApplyFault>
-        ensures obeys { Obeys self.old asked.Step self.new (S.written out.old) (S.written out.new)
+        requires { IsFormedRun run.now }
+        ensures obeys { Obeys self.old (family.Run run.now) self.new (S.written out.old) (S.written out.new)
+            (A.analysed analyst.old) (A.analysed analyst.new) (S.refusals out.old) (S.refusals out.new) result }
+        ensures faults { S.faults out.new ≡ faults_applied (S.faults out.old) result }
+        ensures machine { OnOk result (RunsMachine self.old run.now self.new) }
+    {
+        match run {
+            Run::Step => self.step(analyst, out),
+            Run::Phase => self.phase(analyst, out),
+            Run::Cycle(times) => self.cycle(*times, analyst, out),
+            Run::Report => self.report(analyst, out),
+        }
+    }
+
+    // `step`: one unit step, and its waveform line.
+    fn step<A: Analyst, S: Sink>(&mut self, analyst: &mut A, out: &mut S) -> Result<(), ApplyFault>
+        ensures obeys { Obeys self.old (family.Run asked.Step) self.new (S.written out.old) (S.written out.new)
             (A.analysed analyst.old) (A.analysed analyst.new) (S.refusals out.old) (S.refusals out.new) result }
         ensures faults { S.faults out.new ≡ faults_applied (S.faults out.old) result }
         ensures machine { OnOk result (StepsMachine self.old self.new) }
@@ -42,14 +61,10 @@ impl Session {
         self.step_and_send(&mut room, out)
     }
 
-    /// `phase`: unit steps until nothing changes, past the limit joining ones, and a waveform line.
+    // `phase`: unit steps until nothing changes, past the limit joining ones, and a waveform line.
     #[tactic(auto, using(session_meaning::proofs::OutcomeLemmas::on_ok, session_meaning::proofs::MoveLemmas::phase_readied))]
-    pub(crate) fn phase<A: Analyst, S: Sink>(
-        &mut self,
-        analyst: &mut A,
-        out: &mut S,
-    ) -> Result<(), ApplyFault>
-        ensures obeys { Obeys self.old asked.Phase self.new (S.written out.old) (S.written out.new)
+    fn phase<A: Analyst, S: Sink>(&mut self, analyst: &mut A, out: &mut S) -> Result<(), ApplyFault>
+        ensures obeys { Obeys self.old (family.Run asked.Phase) self.new (S.written out.old) (S.written out.new)
             (A.analysed analyst.old) (A.analysed analyst.new) (S.refusals out.old) (S.refusals out.new) result }
         ensures faults { S.faults out.new ≡ faults_applied (S.faults out.old) result }
         ensures machine { OnOk result (SettlesMachine self.old asked.Phase self.new) }
@@ -59,16 +74,16 @@ impl Session {
         self.settle_and_send(&mut room, out)
     }
 
-    /// `cycle`: so many times, for each place of the clocks in order, sets their nodes and does what
-    /// a phase does.
-    pub(crate) fn cycle<A: Analyst, S: Sink>(
+    // `cycle`: so many times, for each place of the clocks in order, sets their nodes and does what
+    // a phase does.
+    fn cycle<A: Analyst, S: Sink>(
         &mut self,
         times: u64,
         analyst: &mut A,
         out: &mut S,
     ) -> Result<(), ApplyFault>
         requires { IsTimes times }
-        ensures obeys { Obeys self.old (asked.Cycle times) self.new (S.written out.old) (S.written out.new)
+        ensures obeys { Obeys self.old (family.Run (asked.Cycle times)) self.new (S.written out.old) (S.written out.new)
             (A.analysed analyst.old) (A.analysed analyst.new) (S.refusals out.old) (S.refusals out.new) result }
         ensures faults { S.faults out.new ≡ faults_applied (S.faults out.old) result }
         ensures machine { OnOk result (SettlesMachine self.old (asked.Cycle times) self.new) }

@@ -14,13 +14,15 @@ use Rattle.netlist.specs.Edits.{node_named, switch_numbered, with_input, without
 use Rattle.netlist.specs.declared.fault.EditFault.TheVariants as edit
 use Rattle.group_text.specs.Texts.{GroupTextData}
 use Rattle.script_lang.specs.declared.command.Command.{Command}
-use Rattle.script_lang.specs.declared.command.Command.TheVariants.{Input, Set, Del, Kind}
+use Rattle.script_lang.specs.declared.command.Command.TheVariants as family
+use Rattle.script_lang.specs.declared.command.Edit.TheVariants.{Input, Del, Kind}
+use Rattle.script_lang.specs.declared.command.Give.TheVariants.{Set}
 use Rattle.session_meaning.specs.declared.fault.ApplyFault.{ApplyFault}
 use Rattle.session_meaning.specs.declared.fault.ApplyFault.TheVariants as apply
 use Rattle.session_meaning.specs.declared.fault.Refusal.TheVariants as refusal
 use Rattle.session_meaning.specs.Sessions.{SessionData, HeldSession, IsReady}
 use Rattle.session_meaning.specs.Refusals.{refusal_of, or_else, rail_refusal, set_refusal, edit_refusal, is_input}
-use Rattle.session_meaning.specs.Effects.{assigned}
+use Rattle.session_meaning.specs.Effects.{assigned, with_circuit}
 use Rattle.session_meaning.specs.Preparing.{BuildsIf}
 use Rattle.session_meaning.specs.Sinks.{faults_with, faults_applied}
 use Rattle.session_meaning.specs.Lines.{text_of}
@@ -37,13 +39,13 @@ use Rattle.fault_meaning.specs.Runnings.{IsQuiet, AreAllowed}
 
 pub quiet_commands : (c : CircuitData) (fault : Fault) → All IsQuiet (commands_of c fault)
 quiet_commands c (Open number) =
-    All-cons IsQuiet (Del number) [] (record { still = refl; silent = λ old new lines effect. effect.1 }) (All-nil IsQuiet)
+    All-cons IsQuiet (family.Edit (Del number)) [] (record { still = refl; silent = λ old new lines effect. effect.1 }) (All-nil IsQuiet)
 quiet_commands c (Closed number) =
-    All-cons IsQuiet (Kind number Always) [] (record { still = refl; silent = λ old new lines effect. effect.1 }) (All-nil IsQuiet)
+    All-cons IsQuiet (family.Edit (Kind number Always)) [] (record { still = refl; silent = λ old new lines effect. effect.1 }) (All-nil IsQuiet)
 quiet_commands c (Stuck node state) =
     let item : List ℕ × Tern = (called c node, state) in
-    All-cons IsQuiet (Input (called c node ∷ [])) (Set (item ∷ []) ∷ []) (record { still = refl; silent = λ old new lines effect. effect.1 })
-    (All-cons IsQuiet (Set (item ∷ [])) [] (record { still = refl; silent = λ old new lines effect. effect.1 }) (All-nil IsQuiet))
+    All-cons IsQuiet (family.Edit (Input (called c node ∷ []))) (family.Give (Set (item ∷ [])) ∷ []) (record { still = refl; silent = λ old new lines effect. effect.1 })
+    (All-cons IsQuiet (family.Give (Set (item ∷ []))) [] (record { still = refl; silent = λ old new lines effect. effect.1 }) (All-nil IsQuiet))
 
 -- what is done for a quiet command is its effect alone
 pub quiet_done : (old new : HeldSession) (command : Command) (before after : Option (List ℕ)) (asked told : List GroupTextData) → IsQuiet command →
@@ -155,7 +157,7 @@ allowed_commands c kept (Stuck node state) is faulty =
     let found = called_found c node is faulty.0 faulty.1 in (
       input_allowed c name node faulty.0 found,
       λ mid does. (
-        subst (λ (session : SessionData). refusal_of session (Set ((name, state) ∷ [])) ≡ None) (sym does.effect.0)
+        subst (λ (session : SessionData). refusal_of session (family.Give (Set ((name, state) ∷ []))) ≡ None) (sym does.effect.0)
             (set_allowed c name node faulty.0 faulty.1 found),
         λ last more. tt,
       ),
@@ -183,38 +185,38 @@ pub has_start : (c : CircuitData) (kept : List GroupTextData) (fault : Option Fa
 has_start c kept None is faulty = record { start = start_with c kept; begins = refl; ready = ready-start_with c kept is }
 has_start c kept (Some (Open number)) is faulty =
     let old = start_with c kept in
-    let new : SessionData = record old { circuit = without_switch c number } in
-    let does : Does old (Del number) new [] = record {
+    let new : SessionData = with_circuit old (without_switch c number) in
+    let does : Does old (family.Edit (Del number)) new [] = record {
       allowed = there_edited (is_some (switch_numbered c number)) faulty;
       lines = [];
       effect = (refl, refl);
       text_is = refl;
     } in
-    record { start = new; begins = (new, does, refl); ready = one_done c kept (Del number) new is does }
+    record { start = new; begins = (new, does, refl); ready = one_done c kept (family.Edit (Del number)) new is does }
 has_start c kept (Some (Closed number)) is faulty =
     let old = start_with c kept in
-    let new : SessionData = record old { circuit = with_kind c number Always } in
-    let does : Does old (Kind number Always) new [] = record {
+    let new : SessionData = with_circuit old (with_kind c number Always) in
+    let does : Does old (family.Edit (Kind number Always)) new [] = record {
       allowed = there_edited (is_some (switch_numbered c number)) faulty;
       lines = [];
       effect = (refl, refl);
       text_is = refl;
     } in
-    record { start = new; begins = (new, does, refl); ready = one_done c kept (Kind number Always) new is does }
+    record { start = new; begins = (new, does, refl); ready = one_done c kept (family.Edit (Kind number Always)) new is does }
 has_start c kept (Some (Stuck node state)) is faulty =
     let old = start_with c kept in
     let name = called c node in
     let found = called_found c node is faulty.0 faulty.1 in
-    let mid : SessionData = record old { circuit = with_input c (node_named c name) } in
+    let mid : SessionData = with_circuit old (with_input c (node_named c name)) in
     let item : List ℕ × Tern = (name, state) in
     let new : SessionData = record mid { state = assigned mid.circuit mid.state (item ∷ []) } in
-    let inputs : Does old (Input (name ∷ [])) mid [] = record {
+    let inputs : Does old (family.Edit (Input (name ∷ []))) mid [] = record {
       allowed = input_allowed c name node faulty.0 found;
       lines = [];
       effect = (refl, refl);
       text_is = refl;
     } in
-    let sets : Does mid (Set (item ∷ [])) new [] = record {
+    let sets : Does mid (family.Give (Set (item ∷ []))) new [] = record {
       allowed = set_allowed c name node faulty.0 faulty.1 found;
       lines = [];
       effect = (refl, refl);
@@ -223,5 +225,5 @@ has_start c kept (Some (Stuck node state)) is faulty =
     record {
       start = new;
       begins = (mid, inputs, (new, sets, refl));
-      ready = ready-does mid new (Set (item ∷ [])) [] (one_done c kept (Input (name ∷ [])) mid is inputs) sets;
+      ready = ready-does mid new (family.Give (Set (item ∷ []))) [] (one_done c kept (family.Edit (Input (name ∷ []))) mid is inputs) sets;
     }

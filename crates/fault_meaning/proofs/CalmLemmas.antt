@@ -1,8 +1,7 @@
 -- Once the circuit is built, calm lines have nothing analysed, and leave what is kept.
 -- The plan: a build puts the present texts in front of what is kept, where a further build finds them; and no effect of a calm command
 -- changes the circuit, the bound or what is kept. While a node is stuck a line stays calm, and one that builds still builds.
-use Rattle.std.proofs.Common.{◌≡◌, ℕ, Bool, true, false, not, inl, inr, List, [], ◌∷◌, ◌++◌, filter, map, All, Option, Some, None, Result, Ok, Err, refl, sym, ap, subst, ◌∙◌}
-use Rattle.std.specs.Prelude.{if◌then◌else◌}
+use Rattle.std.proofs.Common.{◌≡◌, ℕ, Bool, true, false, inl, inr, List, [], ◌∷◌, ◌++◌, All, Option, Some, None, option_map, Result, Ok, Err, refl, sym, ap, subst, ◌∙◌}
 use Rattle.std.proofs.lemmas.List.Elements.{All-head, All-tail}
 use Rattle.ternary.specs.declared.tern.Tern.{Tern}
 use Rattle.netlist.specs.Circuits.{CircuitData}
@@ -12,20 +11,24 @@ use Rattle.group_analysis.specs.Using.{kept_after}
 use Rattle.analysis_cache.proofs.SettleLemmas.{none_is_new_again, kept_after-again}
 use Rattle.circuit_texts.specs.Building.{HasTexts}
 use Rattle.script_lang.specs.declared.command.Command.{Command}
-use Rattle.script_lang.specs.declared.command.Command.TheVariants.{Input, Store, Set, Charge, Watch, Limit, Step, Phase, Clock, Cycle, Expect, Add, Del, Strength, Kind, Wire, Report, Keep}
+use Rattle.script_lang.specs.declared.command.Command.TheVariants as family
+use Rattle.script_lang.specs.declared.command.Setup.{Setup}
+use Rattle.script_lang.specs.declared.command.Setup.TheVariants.{Watch, Limit, Clock, Keep}
+use Rattle.script_lang.specs.declared.command.Run.{Run}
+use Rattle.script_lang.specs.declared.command.Run.TheVariants.{Step, Phase, Cycle, Report}
 use Rattle.script_lang.specs.declared.command.ScriptFault.{ScriptFault}
 use Rattle.script_lang.specs.Commands.{reading_of}
 use Rattle.session_meaning.specs.Sessions.{SessionData, HeldSession, places_of}
 use Rattle.session_meaning.specs.Preparing.{IsBuild, BuildsIf, builds}
 use Rattle.session_meaning.specs.Lines.{Line}
-use Rattle.session_meaning.specs.Effects.{Effect, AreBeats, places_in}
+use Rattle.session_meaning.specs.Effects.{Effect, RunEffect, AreBeats, setup_after, places_in}
 use Rattle.session_meaning.specs.Outcomes.{Performs}
 use Rattle.session_meaning.proofs.UniqueBuilds.{HasTexts-unique}
 use Rattle.script_meaning.specs.Runs.{Outcome, Runs, ends, passes, obeys, refuses}
 use Rattle.script_meaning.specs.declared.turn.Turn.TheVariants.{Accepted}
 use Rattle.script_meaning.specs.Turns.{TakesTurn}
-use Rattle.fault_sim.specs.Masks.{is_stuck, state_for, charge_left, masked_of, masked_reading_by, masked_reading}
-use Rattle.fault_meaning.specs.Early.{unsettles, IsCalm, IsBuilding}
+use Rattle.fault_sim.specs.Masks.{masked_edit, masked_give, masked_setup, masked_of, masked_reading_by, masked_reading}
+use Rattle.fault_meaning.specs.Early.{sets_bound, unsettles, IsCalm, IsBuilding}
 use Rattle.fault_meaning.proofs.OnceLemmas.{beats_leave, beats_bound, beats_kept}
 
 -- ---- builds
@@ -63,32 +66,31 @@ leaves_by : (old new next : SessionData) → new ≡ next → LeavesBuilt old ne
 leaves_by old new next same left = subst (LeavesBuilt old) (sym same) left
 
 -- so it is after the effect of a command that doesn't unsettle them
-effect_leaves : (old new : SessionData) (command : Command) (lines : List Line) → unsettles command ≡ false → Effect old command new lines →
-    LeavesBuilt old new
-effect_leaves old new (Input names) lines calm effect = absurd (cc)
-effect_leaves old new (Store name size) lines calm effect = absurd (cc)
-effect_leaves old new (Set list) lines calm effect = leaves_by old new _ effect.0 (record { circuit = refl; bound = refl; kept = refl })
-effect_leaves old new (Charge list) lines calm effect = leaves_by old new _ effect.0 (record { circuit = refl; bound = refl; kept = refl })
-effect_leaves old new (Watch names) lines calm effect = leaves_by old new _ effect.0 (record { circuit = refl; bound = refl; kept = refl })
-effect_leaves old new (Limit number) lines calm effect = leaves_by old new _ effect.0 (record { circuit = refl; bound = refl; kept = refl })
-effect_leaves old new Step lines calm effect = leaves_by old new _ effect.moved (record { circuit = refl; bound = refl; kept = refl })
-effect_leaves old new Phase lines calm effect = leaves_by old new _ effect.moved (record { circuit = refl; bound = refl; kept = refl })
-effect_leaves old new (Clock list) lines calm effect = leaves_by old new _ effect.0 (record { circuit = refl; bound = refl; kept = refl })
-effect_leaves old new (Cycle times) lines calm effect =
+set_leaves : (old : SessionData) (setup : Setup) → sets_bound setup ≡ false → LeavesBuilt old (setup_after old setup)
+set_leaves old (Watch names) calm = record { circuit = refl; bound = refl; kept = refl }
+set_leaves old (Limit number) calm = record { circuit = refl; bound = refl; kept = refl }
+set_leaves old (Clock list) calm = record { circuit = refl; bound = refl; kept = refl }
+set_leaves old (Keep number) calm = absurd (cc)
+
+run_leaves : (old new : SessionData) (run : Run) (lines : List Line) → RunEffect old run new lines → LeavesBuilt old new
+run_leaves old new Step lines effect = leaves_by old new _ effect.moved (record { circuit = refl; bound = refl; kept = refl })
+run_leaves old new Phase lines effect = leaves_by old new _ effect.moved (record { circuit = refl; bound = refl; kept = refl })
+run_leaves old new (Cycle times) lines effect =
     let places = places_in (places_of old.clocks) times in
     record {
       circuit = beats_circuit places old new lines effect;
       bound = beats_bound places old new lines effect;
       kept = beats_kept places old new lines effect;
     }
-effect_leaves old new (Expect list) lines calm effect = leaves_by old new _ effect.0 (record { circuit = refl; bound = refl; kept = refl })
-effect_leaves old new (Add kind gate source drain strength) lines calm effect = absurd (cc)
-effect_leaves old new (Del number) lines calm effect = absurd (cc)
-effect_leaves old new (Strength number strength) lines calm effect = absurd (cc)
-effect_leaves old new (Kind number kind) lines calm effect = absurd (cc)
-effect_leaves old new (Wire number gate source drain) lines calm effect = absurd (cc)
-effect_leaves old new Report lines calm effect = leaves_by old new _ effect.moved (record { circuit = refl; bound = refl; kept = refl })
-effect_leaves old new (Keep number) lines calm effect = absurd (cc)
+run_leaves old new Report lines effect = leaves_by old new _ effect.moved (record { circuit = refl; bound = refl; kept = refl })
+
+effect_leaves : (old new : SessionData) (command : Command) (lines : List Line) → unsettles command ≡ false → Effect old command new lines →
+    LeavesBuilt old new
+effect_leaves old new (family.Edit edit) lines calm effect = absurd (cc)
+effect_leaves old new (family.Give give) lines calm effect = leaves_by old new _ effect.0 (record { circuit = refl; bound = refl; kept = refl })
+effect_leaves old new (family.Setup setup) lines calm effect = leaves_by old new _ effect.0 (set_leaves old setup calm)
+effect_leaves old new (family.Run run) lines calm effect = run_leaves old new run lines effect
+effect_leaves old new (family.Tell tell) lines calm effect = leaves_by old new _ effect.0 (record { circuit = refl; bound = refl; kept = refl })
 
 left_current : (old new : SessionData) → LeavesBuilt old new → IsCurrent old → IsCurrent new
 left_current old new left current = record {
@@ -103,24 +105,8 @@ left_current old new left current = record {
 
 -- a command that builds unsettles nothing
 building_calm : (command : Command) → builds command ≡ true → unsettles command ≡ false
-building_calm (Input names) building = absurd (cc)
-building_calm (Store name size) building = absurd (cc)
-building_calm (Set list) building = refl
-building_calm (Charge list) building = refl
-building_calm (Watch names) building = refl
-building_calm (Limit number) building = refl
-building_calm Step building = refl
-building_calm Phase building = refl
-building_calm (Clock list) building = refl
-building_calm (Cycle times) building = refl
-building_calm (Expect list) building = refl
-building_calm (Add kind gate source drain strength) building = absurd (cc)
-building_calm (Del number) building = absurd (cc)
-building_calm (Strength number strength) building = absurd (cc)
-building_calm (Kind number kind) building = absurd (cc)
-building_calm (Wire number gate source drain) building = absurd (cc)
-building_calm Report building = refl
-building_calm (Keep number) building = absurd (cc)
+building_calm (family.Run run) building = refl
+building_calm other building = absurd (cc)
 
 -- so a line that builds is calm
 pub building_line : (line : List ℕ) → IsBuilding line → IsCalm line
@@ -170,38 +156,26 @@ performs_calm old new command text texts current calm performs =
 
 -- ---- while a node is stuck
 
+-- what is left of a command has its family
+masked_setup_bound : (c : CircuitData) (stuck : Option (ℕ × Tern)) (setup : Setup) → sets_bound (masked_setup c stuck setup) ≡ sets_bound setup
+masked_setup_bound c stuck (Clock list) = refl
+masked_setup_bound c stuck setup = refl
+
+in_family : {X : Type 0} (whole : X → Command) (left : Option X) (masked : Command) → option_map whole left ≡ Some masked → (x : X) × (masked ≡ whole x)
+in_family whole None masked is = absurd (cc)
+in_family whole (Some x) masked is = (x, cc)
+
 -- a command unsettles what is built where it did so before
 masked_calm : (c : CircuitData) (stuck : Option (ℕ × Tern)) (command masked : Command) → masked_of c stuck command ≡ Some masked →
     unsettles masked ≡ unsettles command
-masked_calm c stuck (Input names) masked is = let e : masked ≡ Input names = cc in ap unsettles e
-masked_calm c stuck (Store name size) masked is = by (is_stuck c stuck name) is
-  where
-    by : (here : Bool) → (if here then None else Some (Store name size)) ≡ Some masked → unsettles masked ≡ true
-    by true same = absurd (cc)
-    by false same = let e : masked ≡ Store name size = cc in ap unsettles e
-masked_calm c stuck (Set list) masked is =
-    let e : masked ≡ Set (map (λ item. (item.0, state_for c stuck item.0 item.1)) list) = cc in ap unsettles e
-masked_calm c stuck (Charge list) masked is = by (filter (λ item. not (is_stuck c stuck item.0)) list) is
-  where
-    by : (left : List (List ℕ × Tern)) → charge_left left ≡ Some masked → unsettles masked ≡ false
-    by [] same = absurd (cc)
-    by (item ∷ items) same = let e : masked ≡ Charge (item ∷ items) = cc in ap unsettles e
-masked_calm c stuck (Watch names) masked is = let e : masked ≡ Watch names = cc in ap unsettles e
-masked_calm c stuck (Limit count) masked is = let e : masked ≡ Limit count = cc in ap unsettles e
-masked_calm c stuck Step masked is = let e : masked ≡ Step = cc in ap unsettles e
-masked_calm c stuck Phase masked is = let e : masked ≡ Phase = cc in ap unsettles e
-masked_calm c stuck (Clock list) masked is =
-    let e : masked ≡ Clock (map (λ item. (item.0, map (state_for c stuck item.0) item.1)) list) = cc in ap unsettles e
-masked_calm c stuck (Cycle times) masked is = let e : masked ≡ Cycle times = cc in ap unsettles e
-masked_calm c stuck (Expect list) masked is = let e : masked ≡ Expect list = cc in ap unsettles e
-masked_calm c stuck (Add kind gate source drain strength) masked is =
-    let e : masked ≡ Add kind gate source drain strength = cc in ap unsettles e
-masked_calm c stuck (Del place) masked is = let e : masked ≡ Del place = cc in ap unsettles e
-masked_calm c stuck (Strength place strength) masked is = let e : masked ≡ Strength place strength = cc in ap unsettles e
-masked_calm c stuck (Kind place kind) masked is = let e : masked ≡ Kind place kind = cc in ap unsettles e
-masked_calm c stuck (Wire place gate source drain) masked is = let e : masked ≡ Wire place gate source drain = cc in ap unsettles e
-masked_calm c stuck Report masked is = let e : masked ≡ Report = cc in ap unsettles e
-masked_calm c stuck (Keep bound) masked is = let e : masked ≡ Keep bound = cc in ap unsettles e
+masked_calm c stuck (family.Edit edit) masked is =
+    ap unsettles (in_family family.Edit (masked_edit c stuck edit) masked is).1
+masked_calm c stuck (family.Give give) masked is =
+    ap unsettles (in_family family.Give (masked_give c stuck give) masked is).1
+masked_calm c stuck (family.Setup setup) masked is =
+    let e : masked ≡ family.Setup (masked_setup c stuck setup) = cc in ap unsettles e ∙ masked_setup_bound c stuck setup
+masked_calm c stuck (family.Run run) masked is = let e : masked ≡ family.Run run = cc in ap unsettles e
+masked_calm c stuck (family.Tell tell) masked is = let e : masked ≡ family.Tell tell = cc in ap unsettles e
 
 -- what a calm line asks for is calm
 asked_calm : (c : CircuitData) (stuck : Option (ℕ × Tern)) (line : List ℕ) (command : Command) → IsCalm line →
@@ -218,24 +192,8 @@ asked_calm c stuck line command calm asked = by (reading_of line) refl asked
 
 -- a command that builds stays as it is
 masked_building : (c : CircuitData) (stuck : Option (ℕ × Tern)) (command : Command) → builds command ≡ true → masked_of c stuck command ≡ Some command
-masked_building c stuck (Input names) building = absurd (cc)
-masked_building c stuck (Store name size) building = absurd (cc)
-masked_building c stuck (Set list) building = absurd (cc)
-masked_building c stuck (Charge list) building = absurd (cc)
-masked_building c stuck (Watch names) building = absurd (cc)
-masked_building c stuck (Limit number) building = absurd (cc)
-masked_building c stuck Step building = refl
-masked_building c stuck Phase building = refl
-masked_building c stuck (Clock list) building = absurd (cc)
-masked_building c stuck (Cycle times) building = refl
-masked_building c stuck (Expect list) building = absurd (cc)
-masked_building c stuck (Add kind gate source drain strength) building = absurd (cc)
-masked_building c stuck (Del number) building = absurd (cc)
-masked_building c stuck (Strength number strength) building = absurd (cc)
-masked_building c stuck (Kind number kind) building = absurd (cc)
-masked_building c stuck (Wire number gate source drain) building = absurd (cc)
-masked_building c stuck Report building = refl
-masked_building c stuck (Keep number) building = absurd (cc)
+masked_building c stuck (family.Run run) building = refl
+masked_building c stuck other building = absurd (cc)
 
 -- so a line that builds asks for its command still
 asked_building : (c : CircuitData) (stuck : Option (ℕ × Tern)) (line : List ℕ) (is : IsBuilding line) →

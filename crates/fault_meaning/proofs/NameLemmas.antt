@@ -10,11 +10,17 @@ use Rattle.netlist.specs.Circuits.{CircuitData, called}
 use Rattle.netlist.specs.Edits.{node_named}
 use Rattle.group_text.specs.Texts.{GroupTextData}
 use Rattle.script_lang.specs.declared.command.Command.{Command}
-use Rattle.script_lang.specs.declared.command.Command.TheVariants.{Input, Store, Set, Charge, Watch, Limit, Step, Phase, Clock, Cycle, Expect, Add, Del, Strength, Kind, Wire, Report, Keep}
+use Rattle.script_lang.specs.declared.command.Command.TheVariants as family
+use Rattle.script_lang.specs.declared.command.Setup.{Setup}
+use Rattle.script_lang.specs.declared.command.Setup.TheVariants.{Watch, Limit, Clock, Keep}
+use Rattle.script_lang.specs.declared.command.Run.{Run}
+use Rattle.script_lang.specs.declared.command.Run.TheVariants.{Step, Phase, Cycle, Report}
+use Rattle.script_lang.specs.declared.command.Tell.{Tell}
+use Rattle.script_lang.specs.declared.command.Tell.TheVariants.{Expect}
 use Rattle.session_meaning.specs.Sessions.{SessionData, places_of}
 use Rattle.session_meaning.specs.Preparing.{BuildsIf, builds}
 use Rattle.session_meaning.specs.Lines.{Line, Wave, Unmet, Reported}
-use Rattle.session_meaning.specs.Effects.{Effect, IsPhase, AreBeats, with_beat, places_in, wave_by, is_state, unmet_line, unmet_lines}
+use Rattle.session_meaning.specs.Effects.{Effect, RunEffect, IsPhase, AreBeats, setup_after, told_by, with_beat, places_in, wave_by, is_state, unmet_line, unmet_lines}
 use Rattle.session_meaning.specs.Outcomes.{Performs}
 use Rattle.script_meaning.specs.Runs.{Reading, Outcome, Runs, ends, passes, obeys, refuses}
 use Rattle.fault_sim.specs.declared.fault.Fault.{Fault}
@@ -100,46 +106,45 @@ unmet_fitting most session list = All-filter_map (FitsIn most) (unmet_line sessi
     each item (Unmet name want got n) is = tt
     each item (Reported groups texts new) is = tt
 
-effect_fitting : (old new : SessionData) (command : Command) (lines : List Line) → Effect old command new lines → AreFitting old new lines
-effect_fitting old new (Input names) lines effect = still_fitting old new lines (ap (λ (session : SessionData). session.watched) effect.0) effect.1
-effect_fitting old new (Store name size) lines effect = still_fitting old new lines (ap (λ (session : SessionData). session.watched) effect.0) effect.1
-effect_fitting old new (Set list) lines effect = still_fitting old new lines (ap (λ (session : SessionData). session.watched) effect.0) effect.1
-effect_fitting old new (Charge list) lines effect = still_fitting old new lines (ap (λ (session : SessionData). session.watched) effect.0) effect.1
-effect_fitting old new (Watch names) lines effect =
+set_fitting : (old new : SessionData) (setup : Setup) (lines : List Line) → new ≡ setup_after old setup → lines ≡ [] → AreFitting old new lines
+set_fitting old new (Watch names) lines same none =
     let long : length new.watched ≡ length (old.watched ++ map (node_named old.circuit) names) =
-    ap (λ (session : SessionData). length session.watched) effect.0 in
+    ap (λ (session : SessionData). length session.watched) same in
     record {
       grows = omega (arith, long, length-append old.watched (map (node_named old.circuit) names));
-      fit = subst (All (FitsIn (length new.watched))) (sym effect.1) (All-nil (FitsIn (length new.watched)));
+      fit = subst (All (FitsIn (length new.watched))) (sym none) (All-nil (FitsIn (length new.watched)));
     }
-effect_fitting old new (Limit number) lines effect = still_fitting old new lines (ap (λ (session : SessionData). session.watched) effect.0) effect.1
-effect_fitting old new Step lines effect =
+set_fitting old new (Limit number) lines same none = still_fitting old new lines (ap (λ (session : SessionData). session.watched) same) none
+set_fitting old new (Clock list) lines same none = still_fitting old new lines (ap (λ (session : SessionData). session.watched) same) none
+set_fitting old new (Keep number) lines same none = still_fitting old new lines (ap (λ (session : SessionData). session.watched) same) none
+
+run_fitting : (old new : SessionData) (run : Run) (lines : List Line) → RunEffect old run new lines → AreFitting old new lines
+run_fitting old new Step lines effect =
     wave_fitting old new lines 1 false (ap (λ (session : SessionData). session.watched) effect.moved) effect.wrote
-effect_fitting old new Phase lines effect = phase_fitting old new lines effect
-effect_fitting old new (Clock list) lines effect = still_fitting old new lines (ap (λ (session : SessionData). session.watched) effect.0) effect.1
-effect_fitting old new (Cycle times) lines effect = beats_fitting (places_in (places_of old.clocks) times) old new lines effect
-effect_fitting old new (Expect list) lines effect =
-    let long : length new.watched ≡ length old.watched = ap (λ (session : SessionData). length session.watched) effect.0 in
-    record {
-      grows = omega (arith, long);
-      fit = subst (All (FitsIn (length new.watched))) (sym effect.1) (unmet_fitting (length new.watched) old list);
-    }
-effect_fitting old new (Add kind gate source drain strength) lines effect =
-    still_fitting old new lines (ap (λ (session : SessionData). session.watched) effect.0) effect.1
-effect_fitting old new (Del number) lines effect = still_fitting old new lines (ap (λ (session : SessionData). session.watched) effect.0) effect.1
-effect_fitting old new (Strength number strength) lines effect =
-    still_fitting old new lines (ap (λ (session : SessionData). session.watched) effect.0) effect.1
-effect_fitting old new (Kind number kind) lines effect = still_fitting old new lines (ap (λ (session : SessionData). session.watched) effect.0) effect.1
-effect_fitting old new (Wire number gate source drain) lines effect =
-    still_fitting old new lines (ap (λ (session : SessionData). session.watched) effect.0) effect.1
-effect_fitting old new Report lines effect =
+run_fitting old new Phase lines effect = phase_fitting old new lines effect
+run_fitting old new (Cycle times) lines effect = beats_fitting (places_in (places_of old.clocks) times) old new lines effect
+run_fitting old new Report lines effect =
     let long : length new.watched ≡ length old.watched = ap (λ (session : SessionData). length session.watched) effect.moved in
     record {
       grows = omega (arith, long);
       fit = subst (All (FitsIn (length new.watched))) (sym effect.wrote)
           (All-cons (FitsIn (length new.watched)) _ [] tt (All-nil (FitsIn (length new.watched))));
     }
-effect_fitting old new (Keep number) lines effect = still_fitting old new lines (ap (λ (session : SessionData). session.watched) effect.0) effect.1
+
+told_fitting : (most : ℕ) (session : SessionData) (tell : Tell) → All (FitsIn most) (told_by session tell)
+told_fitting most session (Expect list) = unmet_fitting most session list
+
+effect_fitting : (old new : SessionData) (command : Command) (lines : List Line) → Effect old command new lines → AreFitting old new lines
+effect_fitting old new (family.Edit edit) lines effect = still_fitting old new lines (ap (λ (session : SessionData). session.watched) effect.0) effect.1
+effect_fitting old new (family.Give give) lines effect = still_fitting old new lines (ap (λ (session : SessionData). session.watched) effect.0) effect.1
+effect_fitting old new (family.Setup setup) lines effect = set_fitting old new setup lines effect.0 effect.1
+effect_fitting old new (family.Run run) lines effect = run_fitting old new run lines effect
+effect_fitting old new (family.Tell tell) lines effect =
+    let long : length new.watched ≡ length old.watched = ap (λ (session : SessionData). length session.watched) effect.0 in
+    record {
+      grows = omega (arith, long);
+      fit = subst (All (FitsIn (length new.watched))) (sym effect.1) (told_fitting (length new.watched) old tell);
+    }
 
 built_watched : (does : Bool) (old mid : SessionData) (texts : List GroupTextData) → BuildsIf does old mid texts → mid.watched ≡ old.watched
 built_watched true old mid texts build = ap (λ (session : SessionData). session.watched) build.used

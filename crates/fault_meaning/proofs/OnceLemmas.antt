@@ -1,8 +1,7 @@
 -- No text of a group is analysed twice for a list of faults.
 -- The plan: a build has no text analysed that is kept, and without a bound keeps what it has analysed; no command lets go of what is kept, and
 -- none but `keep` sets a bound; and each run goes on from what the last one keeps.
-use Rattle.std.proofs.Common.{◌≡◌, ◌≢◌, ℕ, ◌⊎◌, inl, inr, Bool, true, false, not, ◌||◌, List, [], ◌∷◌, ◌++◌, filter, All, Option, Some, None, Result, Ok, Err, refl, sym, ap, subst, ◌∙◌, append_assoc, append-nil, true≢false}
-use Rattle.std.specs.Prelude.{if◌then◌else◌}
+use Rattle.std.proofs.Common.{◌≡◌, ◌≢◌, ℕ, ◌⊎◌, inl, inr, Bool, true, false, ◌||◌, List, [], ◌∷◌, ◌++◌, All, Option, Some, None, option_map, Result, Ok, Err, refl, sym, ap, subst, ◌∙◌, append_assoc, append-nil, true≢false}
 use Rattle.std.specs.List.{IsDistinct}
 use Rattle.std.proofs.lemmas.List.Elements.{All-nil, All-cons, All-head, All-tail}
 use Rattle.std.proofs.lemmas.List.Folds.{list_any-append}
@@ -19,20 +18,28 @@ use Rattle.group_analysis.specs.Using.{used_texts, kept_after}
 use Rattle.analysis_cache.proofs.NewTextLemmas.{new_texts-new, new_texts-known, is_among-kept}
 use Rattle.analysis_cache.proofs.UseLemmas.{is_among-used}
 use Rattle.script_lang.specs.declared.command.Command.{Command}
-use Rattle.script_lang.specs.declared.command.Command.TheVariants.{Input, Store, Set, Charge, Watch, Limit, Step, Phase, Clock, Cycle, Expect, Add, Del, Strength, Kind, Wire, Report, Keep}
+use Rattle.script_lang.specs.declared.command.Command.TheVariants as family
+use Rattle.script_lang.specs.declared.command.Edit.{Edit}
+use Rattle.script_lang.specs.declared.command.Edit.TheVariants.{Input, Del, Kind}
+use Rattle.script_lang.specs.declared.command.Give.{Give}
+use Rattle.script_lang.specs.declared.command.Give.TheVariants.{Set}
+use Rattle.script_lang.specs.declared.command.Setup.{Setup}
+use Rattle.script_lang.specs.declared.command.Setup.TheVariants.{Watch, Limit, Clock, Keep}
+use Rattle.script_lang.specs.declared.command.Run.{Run}
+use Rattle.script_lang.specs.declared.command.Run.TheVariants.{Step, Phase, Cycle, Report}
 use Rattle.script_lang.specs.declared.command.ScriptFault.{ScriptFault}
 use Rattle.script_lang.specs.Commands.{reading_of}
 use Rattle.session_meaning.specs.Sessions.{SessionData, places_of}
 use Rattle.session_meaning.specs.Preparing.{BuildsIf, builds}
 use Rattle.session_meaning.specs.Lines.{Line}
-use Rattle.session_meaning.specs.Effects.{Effect, IsPhase, AreBeats, with_beat, places_in}
+use Rattle.session_meaning.specs.Effects.{Effect, RunEffect, IsPhase, AreBeats, setup_after, with_beat, places_in}
 use Rattle.session_meaning.specs.Outcomes.{Performs}
 use Rattle.run_ends.specs.Answers.{Answer}
 use Rattle.script_meaning.specs.Runs.{Outcome, Runs, ends, passes, obeys, refuses}
 use Rattle.fault_sim.specs.declared.fault.Fault.{Fault}
 use Rattle.fault_sim.specs.declared.fault.Fault.TheVariants.{Open, Closed, Stuck}
 use Rattle.fault_sim.specs.declared.trace.Trace.{Trace}
-use Rattle.fault_sim.specs.Masks.{is_stuck, charge_left, masked_of, masked_reading_by, masked_reading}
+use Rattle.fault_sim.specs.Masks.{masked_edit, masked_give, masked_of, masked_reading_by, masked_reading}
 use Rattle.fault_meaning.specs.declared.listed.ListedFault.{ListedFault}
 use Rattle.fault_meaning.specs.declared.listed.ListRefusal.{ListRefusal}
 use Rattle.fault_meaning.specs.Lists.{faults_in}
@@ -144,8 +151,13 @@ both_new kept some mid more new first second = record {
 
 -- ---- a command
 
-phase_keeps : (old new : SessionData) (lines : List Line) → IsPhase old new lines → new.kept ≡ old.kept
-phase_keeps old new lines phase = ap (λ (session : SessionData). session.kept) phase.moved
+-- the command isn't `keep`
+abbrev Never : Command → Type 0
+Never command = (number : ℕ) → command ≢ family.Setup (Keep number)
+
+keeps_by : (old new next : SessionData) → new ≡ next → (next.kept ≡ old.kept) × (next.bound ≡ old.bound) → (new.kept ≡ old.kept) × (new.bound ≡ old.bound)
+keeps_by old new next same keeps =
+    (ap (λ (session : SessionData). session.kept) same ∙ keeps.0, ap (λ (session : SessionData). session.bound) same ∙ keeps.1)
 
 -- what each phase leaves, all phases leave
 pub beats_leave : {T : Type 0} (seen : SessionData → T) →
@@ -161,48 +173,43 @@ beats_bound = beats_leave (λ session. session.bound) (λ place old new lines ph
 pub beats_kept : (places : List ℕ) (old new : SessionData) (lines : List Line) → AreBeats old places new lines → new.kept ≡ old.kept
 beats_kept = beats_leave (λ session. session.kept) (λ place old new lines phase. ap (λ (session : SessionData). session.kept) phase.moved)
 
+-- no command that has the circuit built lets go of what is kept, adds to it or sets a bound
+run_keeps : (old new : SessionData) (run : Run) (lines : List Line) → RunEffect old run new lines → (new.kept ≡ old.kept) × (new.bound ≡ old.bound)
+run_keeps old new Step lines effect = keeps_by old new _ effect.moved (refl, refl)
+run_keeps old new Phase lines effect = keeps_by old new _ effect.moved (refl, refl)
+run_keeps old new (Cycle times) lines effect =
+    let places = places_in (places_of old.clocks) times in (beats_kept places old new lines effect, beats_bound places old new lines effect)
+run_keeps old new Report lines effect = keeps_by old new _ effect.moved (refl, refl)
+
+-- nor does one that sets what others go by let go of it, or add to it
+set_keeps : (old : SessionData) (setup : Setup) → (setup_after old setup).kept ≡ old.kept
+set_keeps old (Watch names) = refl
+set_keeps old (Limit number) = refl
+set_keeps old (Clock list) = refl
+set_keeps old (Keep number) = refl
+
+-- and `keep` alone sets a bound
+set_unbound : (old : SessionData) (setup : Setup) → ((number : ℕ) → family.Setup setup ≢ family.Setup (Keep number)) → (setup_after old setup).bound ≡ old.bound
+set_unbound old (Watch names) never = refl
+set_unbound old (Limit number) never = refl
+set_unbound old (Clock list) never = refl
+set_unbound old (Keep number) never = absurd (never number refl)
+
 -- no effect lets go of what is kept, or adds to it
 effect_keeps : (old new : SessionData) (command : Command) (lines : List Line) → Effect old command new lines → new.kept ≡ old.kept
-effect_keeps old new (Input names) lines effect = ap (λ (session : SessionData). session.kept) effect.0
-effect_keeps old new (Store name size) lines effect = ap (λ (session : SessionData). session.kept) effect.0
-effect_keeps old new (Set list) lines effect = ap (λ (session : SessionData). session.kept) effect.0
-effect_keeps old new (Charge list) lines effect = ap (λ (session : SessionData). session.kept) effect.0
-effect_keeps old new (Watch names) lines effect = ap (λ (session : SessionData). session.kept) effect.0
-effect_keeps old new (Limit number) lines effect = ap (λ (session : SessionData). session.kept) effect.0
-effect_keeps old new Step lines effect = ap (λ (session : SessionData). session.kept) effect.moved
-effect_keeps old new Phase lines effect = phase_keeps old new lines effect
-effect_keeps old new (Clock list) lines effect = ap (λ (session : SessionData). session.kept) effect.0
-effect_keeps old new (Cycle times) lines effect = beats_kept (places_in (places_of old.clocks) times) old new lines effect
-effect_keeps old new (Expect list) lines effect = ap (λ (session : SessionData). session.kept) effect.0
-effect_keeps old new (Add kind gate source drain strength) lines effect = ap (λ (session : SessionData). session.kept) effect.0
-effect_keeps old new (Del number) lines effect = ap (λ (session : SessionData). session.kept) effect.0
-effect_keeps old new (Strength number strength) lines effect = ap (λ (session : SessionData). session.kept) effect.0
-effect_keeps old new (Kind number kind) lines effect = ap (λ (session : SessionData). session.kept) effect.0
-effect_keeps old new (Wire number gate source drain) lines effect = ap (λ (session : SessionData). session.kept) effect.0
-effect_keeps old new Report lines effect = ap (λ (session : SessionData). session.kept) effect.moved
-effect_keeps old new (Keep number) lines effect = ap (λ (session : SessionData). session.kept) effect.0
+effect_keeps old new (family.Edit edit) lines effect = ap (λ (session : SessionData). session.kept) effect.0
+effect_keeps old new (family.Give give) lines effect = ap (λ (session : SessionData). session.kept) effect.0
+effect_keeps old new (family.Setup setup) lines effect = ap (λ (session : SessionData). session.kept) effect.0 ∙ set_keeps old setup
+effect_keeps old new (family.Run run) lines effect = (run_keeps old new run lines effect).0
+effect_keeps old new (family.Tell tell) lines effect = ap (λ (session : SessionData). session.kept) effect.0
 
 -- no other command sets a bound
-effect_unbound : (old new : SessionData) (command : Command) (lines : List Line) → ((number : ℕ) → command ≢ Keep number) →
-    Effect old command new lines → new.bound ≡ old.bound
-effect_unbound old new (Input names) lines never effect = ap (λ (session : SessionData). session.bound) effect.0
-effect_unbound old new (Store name size) lines never effect = ap (λ (session : SessionData). session.bound) effect.0
-effect_unbound old new (Set list) lines never effect = ap (λ (session : SessionData). session.bound) effect.0
-effect_unbound old new (Charge list) lines never effect = ap (λ (session : SessionData). session.bound) effect.0
-effect_unbound old new (Watch names) lines never effect = ap (λ (session : SessionData). session.bound) effect.0
-effect_unbound old new (Limit number) lines never effect = ap (λ (session : SessionData). session.bound) effect.0
-effect_unbound old new Step lines never effect = ap (λ (session : SessionData). session.bound) effect.moved
-effect_unbound old new Phase lines never effect = ap (λ (session : SessionData). session.bound) effect.moved
-effect_unbound old new (Clock list) lines never effect = ap (λ (session : SessionData). session.bound) effect.0
-effect_unbound old new (Cycle times) lines never effect = beats_bound (places_in (places_of old.clocks) times) old new lines effect
-effect_unbound old new (Expect list) lines never effect = ap (λ (session : SessionData). session.bound) effect.0
-effect_unbound old new (Add kind gate source drain strength) lines never effect = ap (λ (session : SessionData). session.bound) effect.0
-effect_unbound old new (Del number) lines never effect = ap (λ (session : SessionData). session.bound) effect.0
-effect_unbound old new (Strength number strength) lines never effect = ap (λ (session : SessionData). session.bound) effect.0
-effect_unbound old new (Kind number kind) lines never effect = ap (λ (session : SessionData). session.bound) effect.0
-effect_unbound old new (Wire number gate source drain) lines never effect = ap (λ (session : SessionData). session.bound) effect.0
-effect_unbound old new Report lines never effect = ap (λ (session : SessionData). session.bound) effect.moved
-effect_unbound old new (Keep number) lines never effect = absurd (never number refl)
+effect_unbound : (old new : SessionData) (command : Command) (lines : List Line) → Never command → Effect old command new lines → new.bound ≡ old.bound
+effect_unbound old new (family.Edit edit) lines never effect = ap (λ (session : SessionData). session.bound) effect.0
+effect_unbound old new (family.Give give) lines never effect = ap (λ (session : SessionData). session.bound) effect.0
+effect_unbound old new (family.Setup setup) lines never effect = ap (λ (session : SessionData). session.bound) effect.0 ∙ set_unbound old setup never
+effect_unbound old new (family.Run run) lines never effect = (run_keeps old new run lines effect).1
+effect_unbound old new (family.Tell tell) lines never effect = ap (λ (session : SessionData). session.bound) effect.0
 
 prepares_once : (does : Bool) (old mid : SessionData) (texts : List GroupTextData) → old.bound ≡ None → BuildsIf does old mid texts →
     IsOnce old.kept texts mid.kept
@@ -225,7 +232,7 @@ prepares_unbound true old mid texts build = ap (λ (session : SessionData). sess
 prepares_unbound false old mid texts still = ap (λ (session : SessionData). session.bound) still.0
 
 performs_once : (old new : SessionData) (command : Command) (text : List ℕ) (texts : List GroupTextData) → old.bound ≡ None →
-    ((number : ℕ) → command ≢ Keep number) → Performs old command new text texts → IsOnce old.kept texts new.kept × (new.bound ≡ None)
+    Never command → Performs old command new text texts → IsOnce old.kept texts new.kept × (new.bound ≡ None)
 performs_once old new command text texts free never performs =
     let built = prepares_once (builds command) old performs.mid texts free performs.prepares in
     let same = effect_keeps performs.mid new command performs.does.lines performs.does.effect in (
@@ -237,38 +244,28 @@ performs_once old new command text texts free never performs =
 -- ---- the commands of a script that asks for no bound
 
 -- a command under a stuck node asks for a bound only where it did before
-masked_never : (c : CircuitData) (stuck : Option (ℕ × Tern)) (command masked : Command) → ((number : ℕ) → command ≢ Keep number) →
-    masked_of c stuck command ≡ Some masked → (number : ℕ) → masked ≢ Keep number
-masked_never c stuck (Input names) masked never is number same = absurd cc
-masked_never c stuck (Store name size) masked never is number same = by (is_stuck c stuck name) is
+masked_never : (c : CircuitData) (stuck : Option (ℕ × Tern)) (command masked : Command) → Never command → masked_of c stuck command ≡ Some masked →
+    Never masked
+masked_never c stuck (family.Edit edit) masked never is number same = by (masked_edit c stuck edit) is
   where
-    by : (here : Bool) → (if here then None else Some (Store name size)) ≡ Some masked → ⊥
-    by true is = cc
-    by false is = cc
-masked_never c stuck (Set list) masked never is number same = absurd cc
-masked_never c stuck (Charge list) masked never is number same = by (filter (λ item. not (is_stuck c stuck item.0)) list) is
+    by : (left : Option Edit) → option_map family.Edit left ≡ Some masked → ⊥
+    by None is = cc
+    by (Some edit) is = cc
+masked_never c stuck (family.Give give) masked never is number same = by (masked_give c stuck give) is
   where
-    by : (left : List (List ℕ × Tern)) → charge_left left ≡ Some masked → ⊥
-    by [] is = cc
-    by (item ∷ items) is = cc
-masked_never c stuck (Watch names) masked never is number same = absurd cc
-masked_never c stuck (Limit count) masked never is number same = absurd cc
-masked_never c stuck Step masked never is number same = absurd cc
-masked_never c stuck Phase masked never is number same = absurd cc
-masked_never c stuck (Clock list) masked never is number same = absurd cc
-masked_never c stuck (Cycle times) masked never is number same = absurd cc
-masked_never c stuck (Expect list) masked never is number same = absurd cc
-masked_never c stuck (Add kind gate source drain strength) masked never is number same = absurd cc
-masked_never c stuck (Del place) masked never is number same = absurd cc
-masked_never c stuck (Strength place strength) masked never is number same = absurd cc
-masked_never c stuck (Kind place kind) masked never is number same = absurd cc
-masked_never c stuck (Wire place gate source drain) masked never is number same = absurd cc
-masked_never c stuck Report masked never is number same = absurd cc
-masked_never c stuck (Keep bound) masked never is number same = absurd (never bound refl)
+    by : (left : Option Give) → option_map family.Give left ≡ Some masked → ⊥
+    by None is = cc
+    by (Some give) is = cc
+masked_never c stuck (family.Setup (Clock list)) masked never is number same = absurd cc
+masked_never c stuck (family.Setup (Watch names)) masked never is number same = absurd cc
+masked_never c stuck (family.Setup (Limit count)) masked never is number same = absurd cc
+masked_never c stuck (family.Setup (Keep bound)) masked never is number same = absurd (never bound refl)
+masked_never c stuck (family.Run run) masked never is number same = absurd cc
+masked_never c stuck (family.Tell tell) masked never is number same = absurd cc
 
 -- so does a line
 asked_never : (c : CircuitData) (stuck : Option (ℕ × Tern)) (read : Result (Option Command) ScriptFault) (command : Command) →
-    ((number : ℕ) → read ≢ Ok (Some (Keep number))) → masked_reading_by c stuck read ≡ Ok (Some command) → (number : ℕ) → command ≢ Keep number
+    ((number : ℕ) → read ≢ Ok (Some (family.Setup (Keep number)))) → masked_reading_by c stuck read ≡ Ok (Some command) → Never command
 asked_never c stuck (Ok None) command never asked number = absurd cc
 asked_never c stuck (Ok (Some plain)) command never asked number =
     let is : masked_of c stuck plain ≡ Some command = cc in
@@ -292,16 +289,13 @@ runs_once stuck cut _ _ _ free never (refuses session line lines cause is) = non
 
 -- ---- the commands of a fault
 
-abbrev Never : Command → Type 0
-Never command = (number : ℕ) → command ≢ Keep number
-
 commands_never : (c : CircuitData) (fault : Option Fault) → All Never (commands_under c fault)
 commands_never c None = All-nil Never
-commands_never c (Some (Open place)) = All-cons Never (Del place) [] (λ number same. cc) (All-nil Never)
-commands_never c (Some (Closed place)) = All-cons Never (Kind place Always) [] (λ number same. cc) (All-nil Never)
+commands_never c (Some (Open place)) = All-cons Never (family.Edit (Del place)) [] (λ number same. cc) (All-nil Never)
+commands_never c (Some (Closed place)) = All-cons Never (family.Edit (Kind place Always)) [] (λ number same. cc) (All-nil Never)
 commands_never c (Some (Stuck node state)) =
-    All-cons Never (Input (called c node ∷ [])) (Set ((called c node, state) ∷ []) ∷ []) (λ number same. cc)
-    (All-cons Never (Set ((called c node, state) ∷ [])) [] (λ number same. cc) (All-nil Never))
+    All-cons Never (family.Edit (Input (called c node ∷ []))) (family.Give (Set ((called c node, state) ∷ [])) ∷ []) (λ number same. cc)
+    (All-cons Never (family.Give (Set ((called c node, state) ∷ []))) [] (λ number same. cc) (All-nil Never))
 
 done_keeps : (commands : List Command) (old new : SessionData) → All Never commands → AreDone old commands new →
     (new.kept ≡ old.kept) × (new.bound ≡ old.bound)

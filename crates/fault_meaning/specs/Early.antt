@@ -5,7 +5,9 @@ use Rattle.line_words.specs.Files.{cut_line, lines_in}
 use Rattle.line_words.specs.Lines.{lines_of}
 use Rattle.group_text.specs.Texts.{GroupTextData}
 use Rattle.script_lang.specs.declared.command.Command.{Command}
-use Rattle.script_lang.specs.declared.command.Command.TheVariants.{Keep}
+use Rattle.script_lang.specs.declared.command.Command.TheVariants as family
+use Rattle.script_lang.specs.declared.command.Setup.{Setup}
+use Rattle.script_lang.specs.declared.command.Setup.TheVariants.{Keep}
 use Rattle.script_lang.specs.Commands.{reading_of}
 use Rattle.session_meaning.specs.Sessions.{SessionData}
 use Rattle.session_meaning.specs.Machines.{edits}
@@ -23,9 +25,14 @@ use Rattle.fault_meaning.specs.declared.bearing.Bearing.TheVariants.{Unsettles, 
 use Rattle.fault_meaning.specs.Traces.{Shows}
 use Rattle.fault_meaning.specs.Judging.{is_detected}
 
+-- it is `keep`
+abbrev pub sets_bound : Setup → Bool
+sets_bound (Keep number) = true
+sets_bound other = false
+
 -- after the command a build may have other texts analysed, or keep others: it edits the circuit, or is `keep`
 abbrev pub unsettles : Command → Bool
-unsettles (Keep number) = true
+unsettles (family.Setup setup) = sets_bound setup
 unsettles command = edits command
 
 -- the line is no such command

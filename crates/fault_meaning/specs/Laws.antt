@@ -5,7 +5,8 @@ use Rattle.ternary.specs.declared.tern.Tern.{Tern}
 use Rattle.line_words.specs.Files.{lines_in}
 use Rattle.netlist.specs.Circuits.{CircuitData}
 use Rattle.group_text.specs.Texts.{GroupTextData}
-use Rattle.script_lang.specs.declared.command.Command.TheVariants.{Keep}
+use Rattle.script_lang.specs.declared.command.Command.TheVariants as family
+use Rattle.script_lang.specs.declared.command.Setup.TheVariants.{Keep}
 use Rattle.script_lang.specs.Commands.{reading_of}
 use Rattle.run_ends.specs.Answers.{Answer}
 use Rattle.fault_sim.specs.declared.fault.Fault.{Fault}
@@ -15,7 +16,7 @@ use Rattle.fault_meaning.specs.Judging.{AreJudgedFaults}
 
 -- the line asks for no bound on what is kept
 abbrev pub AsksNoBound : ℕ × List ℕ → Type 0
-AsksNoBound line = (number : ℕ) → reading_of line.1 ≢ Ok (Some (Keep number))
+AsksNoBound line = (number : ℕ) → reading_of line.1 ≢ Ok (Some (family.Setup (Keep number)))
 
 -- no line of the script does
 abbrev pub NeverKeeps : List ℕ → Type 0

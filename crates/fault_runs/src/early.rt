@@ -16,7 +16,7 @@ use group_analysis::Analyst;
 use line_words::{cut_line, front, lines};
 use netlist::Circuit;
 use port_edge::HonestSink;
-use script_lang::{Command, ScriptFault, read_command};
+use script_lang::{Command, ScriptFault, Setup, read_command};
 use script_meaning::Turn;
 use script_run::run_line;
 use std::alloc::Global;
@@ -67,15 +67,13 @@ fn command_bearing(command: &Command) -> Bearing
     ensures { spec.CommandBears command.now result }
 {
     match command {
-        Command::Input(_) | Command::Store(_, _) => Bearing::Unsettles,
-        Command::Set(_) | Command::Charge(_) => Bearing::Stays,
-        Command::Watch(_) | Command::Limit(_) => Bearing::Stays,
-        Command::Step | Command::Phase | Command::Cycle(_) => Bearing::Builds,
-        Command::Clock(_) | Command::Expect(_) => Bearing::Stays,
-        Command::Add { .. } | Command::Del(_) | Command::Wire { .. } => Bearing::Unsettles,
-        Command::Strength(_, _) | Command::Kind(_, _) => Bearing::Unsettles,
-        Command::Report => Bearing::Builds,
-        Command::Keep(_) => Bearing::Unsettles,
+        Command::Edit(_) => Bearing::Unsettles,
+        Command::Setup(Setup::Keep(_)) => Bearing::Unsettles,
+        Command::Setup(Setup::Watch(_)) => Bearing::Stays,
+        Command::Setup(Setup::Limit(_)) => Bearing::Stays,
+        Command::Setup(Setup::Clock(_)) => Bearing::Stays,
+        Command::Run(_) => Bearing::Builds,
+        Command::Give(_) | Command::Tell(_) => Bearing::Stays,
     }
 }
 

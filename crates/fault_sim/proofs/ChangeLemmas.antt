@@ -6,7 +6,9 @@ use Rattle.path_meaning.specs.declared.switching.SwitchKind.TheVariants.{Always}
 use Rattle.netlist.specs.Circuits.{CircuitData, HasVisibleNames, called}
 use Rattle.line_words.specs.Visible.{IsVisibleName}
 use Rattle.script_lang.specs.declared.command.Command.{Command}
-use Rattle.script_lang.specs.declared.command.Command.TheVariants.{Input, Set, Del, Kind}
+use Rattle.script_lang.specs.declared.command.Command.TheVariants as family
+use Rattle.script_lang.specs.declared.command.Edit.TheVariants.{Input, Del, Kind}
+use Rattle.script_lang.specs.declared.command.Give.TheVariants.{Set}
 use Rattle.script_lang.specs.Forms.{IsFormed}
 use Rattle.fault_sim.specs.declared.fault.Fault.{Fault}
 use Rattle.fault_sim.specs.declared.fault.Fault.TheVariants.{Open, Closed, Stuck}
@@ -15,14 +17,14 @@ use Rattle.fault_sim.specs.Changes.{commands_of, commands_in}
 
 -- each command that a fault stands for is well formed
 pub commands_of-formed : (c : CircuitData) (fault : Fault) → IsFault c fault → HasVisibleNames c → All IsFormed (commands_of c fault)
-commands_of-formed c (Open number) is visible = All-cons IsFormed (Del number) [] tt (All-nil IsFormed)
-commands_of-formed c (Closed number) is visible = All-cons IsFormed (Kind number Always) [] tt (All-nil IsFormed)
+commands_of-formed c (Open number) is visible = All-cons IsFormed (family.Edit (Del number)) [] tt (All-nil IsFormed)
+commands_of-formed c (Closed number) is visible = All-cons IsFormed (family.Edit (Kind number Always)) [] tt (All-nil IsFormed)
 commands_of-formed c (Stuck node state) is visible =
     let named : IsVisibleName (called c node) = visible node is.1 in
     let item : List ℕ × Tern = (called c node, state) in
-    All-cons IsFormed (Input (called c node ∷ [])) (Set (item ∷ []) ∷ [])
+    All-cons IsFormed (family.Edit (Input (called c node ∷ []))) (family.Give (Set (item ∷ [])) ∷ [])
     (omega arith, All-cons IsVisibleName (called c node) [] named (All-nil IsVisibleName))
-    (All-cons IsFormed (Set (item ∷ [])) []
+    (All-cons IsFormed (family.Give (Set (item ∷ []))) []
     (omega arith, All-cons (λ (i : List ℕ × Tern). IsVisibleName i.0) item [] named (All-nil (λ (i : List ℕ × Tern). IsVisibleName i.0)))
     (All-nil IsFormed))
 

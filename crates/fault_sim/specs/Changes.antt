@@ -4,16 +4,19 @@ use Rattle.ternary.specs.declared.tern.Tern.{Tern}
 use Rattle.path_meaning.specs.declared.switching.SwitchKind.TheVariants.{Always}
 use Rattle.netlist.specs.Circuits.{CircuitData, called}
 use Rattle.script_lang.specs.declared.command.Command.{Command}
-use Rattle.script_lang.specs.declared.command.Command.TheVariants.{Input, Set, Del, Kind}
+use Rattle.script_lang.specs.declared.command.Command.TheVariants as family
+use Rattle.script_lang.specs.declared.command.Edit.TheVariants.{Input, Del, Kind}
+use Rattle.script_lang.specs.declared.command.Give.TheVariants.{Set}
 use Rattle.fault_sim.specs.declared.fault.Fault.{Fault}
 use Rattle.fault_sim.specs.declared.fault.Fault.TheVariants.{Open, Closed, Stuck}
 
 -- the commands of a fault, in order: an open transistor is removed, a closed one becomes a depletion transistor, and a node that is stuck
 -- becomes an input node and is set to its state
 abbrev pub commands_of : CircuitData → Fault → List Command
-commands_of c (Open number) = Del number ∷ []
-commands_of c (Closed number) = Kind number Always ∷ []
-commands_of c (Stuck node state) = Input (called c node ∷ []) ∷ Set ((called c node, state) ∷ []) ∷ []
+commands_of c (Open number) = family.Edit (Del number) ∷ []
+commands_of c (Closed number) = family.Edit (Kind number Always) ∷ []
+commands_of c (Stuck node state) =
+    family.Edit (Input (called c node ∷ [])) ∷ family.Give (Set ((called c node, state) ∷ [])) ∷ []
 
 -- one command, and perhaps another
 abbrev pub commands_in : Command × Option Command → List Command

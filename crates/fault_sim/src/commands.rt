@@ -1,6 +1,8 @@
 //! The commands that put a fault into a circuit.
 ghost use Rattle.std.specs.Prelude.{◌≡◌, [], ◌∷◌, All, IfOk};
-ghost use Rattle.script_lang.specs.declared.command.Command.TheVariants as command;
+ghost use Rattle.script_lang.specs.declared.command.Command.TheVariants as family;
+ghost use Rattle.script_lang.specs.declared.command.Edit.TheVariants.{Input};
+ghost use Rattle.script_lang.specs.declared.command.Give.TheVariants.{Set};
 ghost use Rattle.netlist.specs.Circuits.{HasVisibleNames};
 ghost use Rattle.script_lang.specs.Forms.{IsFormed};
 ghost use Rattle.fault_sim.specs.Changes.{commands_of, commands_in, stuck_by};
@@ -9,7 +11,7 @@ ghost use Rattle.fault_sim.specs.Faults.{IsFault};
 use crate::fault::Fault;
 use netlist::Circuit;
 use path_meaning::SwitchKind;
-use script_lang::{AssignList, Command, Name, NameList};
+use script_lang::{AssignList, Command, Edit, Give, Name, NameList};
 use std::alloc::Global;
 use ternary::{NoMemory, Tern};
 
@@ -38,8 +40,11 @@ fn commands_by_kind(
     ensures { IfOk result (λ given. commands_in given ≡ commands_of circuit.now fault) }
 {
     match fault {
-        Fault::Open(number) => Ok((Command::Del(number), None)),
-        Fault::Closed(number) => Ok((Command::Kind(number, SwitchKind::Always), None)),
+        Fault::Open(number) => Ok((Command::Edit(Edit::Del(number)), None)),
+        Fault::Closed(number) => {
+            let closing = Edit::Kind(number, SwitchKind::Always);
+            Ok((Command::Edit(closing), None))
+        }
         Fault::Stuck(node, state) => {
             let given = stuck_commands(alloc, circuit.name_of(node), state)?;
             Ok((given.0, Some(given.1)))
@@ -60,11 +65,14 @@ pub fn stuck_node(fault: Fault) -> Option<(usize, Tern)>
 // The commands that make the node of a name an input node and set it.
 fn stuck_commands(alloc: Global, name: &[u8], state: Tern) -> Result<(Command, Command), NoMemory>
     ensures { IfOk result (λ given. given
-        ≡ (command.Input (name.now ∷ []), command.Set ((name.now, state) ∷ []))) }
+        ≡ (family.Edit (Input (name.now ∷ [])), family.Give (Set ((name.now, state) ∷ [])))) }
 {
     let mut names = NameList::new(alloc);
     names.push(Name::from_slice(alloc, name)?)?;
     let mut list = AssignList::new(alloc);
     list.push((Name::from_slice(alloc, name)?, state))?;
-    Ok((Command::Input(names), Command::Set(list)))
+    Ok((
+        Command::Edit(Edit::Input(names)),
+        Command::Give(Give::Set(list)),
+    ))
 }

@@ -17,7 +17,7 @@
 //!
 //! ```text
 //! read_fault(&circuit, b"zero a")        is Ok(Some(Fault::Stuck(2, Tern::Zero)))
-//! masked(alloc, &set_a_to_1, &circuit, Some((2, Tern::Zero)))
+//! masked(alloc, set_a_to_1, &circuit, Some((2, Tern::Zero)))
 //!                                        is Ok(Some(set a=0)): the node stays as it is
 //! verdict(&good, &bad)                   is Verdict::Detected { row: 2, entry: 0 }
 //! ```

@@ -1,12 +1,14 @@
 //! Commands under a node that is stuck.
 ghost use Rattle.std.specs.Prelude.{◌≡◌, ◌⊎◌, Err, Ok, not, map, filter, IfErr, IfOk, IfSome};
-ghost use Rattle.script_lang.specs.declared.command.Command.TheVariants as command;
+ghost use Rattle.script_lang.specs.declared.command.Edit.TheVariants as edited;
+ghost use Rattle.script_lang.specs.declared.command.Give.TheVariants as given;
 ghost use Rattle.script_lang.specs.Forms.{IsFormed};
-ghost use Rattle.fault_sim.specs.Masks.{charge_left, is_stuck, masked_of, masked_reading, state_for};
+ghost use Rattle.fault_sim.specs.Masks as spec;
+ghost use Rattle.fault_sim.specs.Masks.{is_stuck, masked_of, masked_reading, state_for};
 
 use netlist::Circuit;
 use script_lang::{
-    AssignList, ClockList, Command, Name, NameList, ScriptFault, StateList, read_command,
+    AssignList, ClockList, Command, Edit, Give, Name, ScriptFault, Setup, StateList, read_command,
 };
 use std::alloc::Global;
 use ternary::{NoMemory, Tern};
@@ -20,19 +22,19 @@ use ternary::{NoMemory, Tern};
 /// words stay.
 pub fn masked(
     alloc: Global,
-    command: &Command,
+    command: Command,
     circuit: &Circuit,
     stuck: Option<(usize, Tern)>,
 ) -> Result<Option<Command>, NoMemory>
-    ensures value { IfOk result (λ left. left ≡ masked_of circuit.now stuck command.now) }
-    ensures formed { IsFormed command.now → IfOk result (λ left. IfSome left IsFormed) }
+    ensures value { IfOk result (λ left. left ≡ masked_of circuit.now stuck command) }
+    ensures formed { IsFormed command → IfOk result (λ left. IfSome left IsFormed) }
 {
     let mask = Mask {
         alloc,
         circuit,
         stuck,
     };
-    masked_by_kind(&mask, command)
+    masked_by_family(&mask, command)
 }
 
 // What commands are masked for.
@@ -43,66 +45,16 @@ struct Mask<'a> {
     stuck: Option<(usize, Tern)>,
 }
 
-// The command under a mask, command by command.
-fn masked_by_kind(mask: &Mask<'_>, command: &Command) -> Result<Option<Command>, NoMemory>
-    ensures { IfOk result (λ left. left ≡ masked_of mask.now.circuit.now mask.now.stuck command.now) }
+// The command under a mask, family by family.
+fn masked_by_family(mask: &Mask<'_>, command: Command) -> Result<Option<Command>, NoMemory>
+    ensures { IfOk result (λ left. left ≡ masked_of mask.now.circuit.now mask.now.stuck command) }
 {
     match command {
-        Command::Input(names) => Ok(Some(Command::Input(copied_names(mask.alloc, names)?))),
-        Command::Store(name, size) => masked_store(mask, name, *size),
-        Command::Set(list) => {
-            let list = masked_assignments(mask, list)?;
-            Ok(Some(Command::Set(list)))
-        }
-        Command::Charge(list) => masked_charge(mask, list),
-        Command::Watch(names) => Ok(Some(Command::Watch(copied_names(mask.alloc, names)?))),
-        Command::Limit(number) => Ok(Some(Command::Limit(*number))),
-        Command::Step => Ok(Some(Command::Step)),
-        Command::Phase => Ok(Some(Command::Phase)),
-        Command::Clock(list) => {
-            let list = masked_clocks(mask, list)?;
-            Ok(Some(Command::Clock(list)))
-        }
-        Command::Cycle(number) => Ok(Some(Command::Cycle(*number))),
-        Command::Expect(list) => {
-            let list = copied_assignments(mask, list)?;
-            Ok(Some(Command::Expect(list)))
-        }
-        Command::Add {
-            kind,
-            gate,
-            source,
-            drain,
-            strength,
-        } => {
-            let names = copied_terminals(mask.alloc, gate, source, drain)?;
-            Ok(Some(Command::Add {
-                kind: *kind,
-                gate: names.0,
-                source: names.1,
-                drain: names.2,
-                strength: *strength,
-            }))
-        }
-        Command::Del(number) => Ok(Some(Command::Del(*number))),
-        Command::Strength(number, strength) => Ok(Some(Command::Strength(*number, *strength))),
-        Command::Kind(number, kind) => Ok(Some(Command::Kind(*number, *kind))),
-        Command::Wire {
-            number,
-            gate,
-            source,
-            drain,
-        } => {
-            let names = copied_terminals(mask.alloc, gate, source, drain)?;
-            Ok(Some(Command::Wire {
-                number: *number,
-                gate: names.0,
-                source: names.1,
-                drain: names.2,
-            }))
-        }
-        Command::Report => Ok(Some(Command::Report)),
-        Command::Keep(number) => Ok(Some(Command::Keep(*number))),
+        Command::Edit(edit) => Ok(masked_edit(mask, edit).map(Command::Edit)),
+        Command::Give(give) => Ok(masked_give(mask, give)?.map(Command::Give)),
+        Command::Setup(setup) => Ok(Some(Command::Setup(masked_setup(mask, setup)?))),
+        Command::Run(run) => Ok(Some(Command::Run(run))),
+        Command::Tell(tell) => Ok(Some(Command::Tell(tell))),
     }
 }
 
@@ -122,33 +74,69 @@ pub fn read_masked(
     match stuck {
         None => read_command(alloc, bytes),
         Some(_) => match read_command(alloc, bytes)? {
-            Some(command) => Ok(masked(alloc, &command, circuit, stuck)?),
+            Some(command) => Ok(masked(alloc, command, circuit, stuck)?),
             None => Ok(None),
         },
     }
 }
 
+// An edit, unless it is `store` of the stuck node.
+fn masked_edit(mask: &Mask<'_>, edit: Edit) -> Option<Edit>
+    ensures { result ≡ spec.masked_edit mask.now.circuit.now mask.now.stuck edit }
+{
+    match edit {
+        Edit::Store(name, size) => masked_store(mask, name, size),
+        edit => Some(edit),
+    }
+}
+
 // `store`, unless it is of the stuck node.
-fn masked_store(mask: &Mask<'_>, name: &Name, size: u64) -> Result<Option<Command>, NoMemory>
-    ensures { IfOk result (λ left. left
-        ≡ masked_of mask.now.circuit.now mask.now.stuck (command.Store name.now size)) }
+fn masked_store(mask: &Mask<'_>, name: Name, size: u64) -> Option<Edit>
+    ensures { result ≡ spec.masked_edit mask.now.circuit.now mask.now.stuck (edited.Store name size) }
 {
     if names_stuck(mask, name.items()) {
-        return Ok(None);
+        None
+    } else {
+        Some(Edit::Store(name, size))
     }
-    Ok(Some(Command::Store(Name::from_slice(mask.alloc, name.items())?, size)))
+}
+
+// States that are given, with the stuck node at its own.
+fn masked_give(mask: &Mask<'_>, give: Give) -> Result<Option<Give>, NoMemory>
+    ensures { IfOk result (λ left. left ≡ spec.masked_give mask.now.circuit.now mask.now.stuck give) }
+{
+    match give {
+        Give::Set(list) => {
+            let list = masked_assignments(mask, &list)?;
+            Ok(Some(Give::Set(list)))
+        }
+        Give::Charge(list) => masked_charge(mask, &list),
+    }
+}
+
+// What is set for later commands, where clocks give the stuck node its own state.
+fn masked_setup(mask: &Mask<'_>, setup: Setup) -> Result<Setup, NoMemory>
+    ensures { IfOk result (λ left. left ≡ spec.masked_setup mask.now.circuit.now mask.now.stuck setup) }
+{
+    match setup {
+        Setup::Clock(list) => {
+            let list = masked_clocks(mask, &list)?;
+            Ok(Setup::Clock(list))
+        }
+        setup => Ok(setup),
+    }
 }
 
 // `charge` without the words that name the stuck node, unless no word is left.
-fn masked_charge(mask: &Mask<'_>, list: &AssignList) -> Result<Option<Command>, NoMemory>
+fn masked_charge(mask: &Mask<'_>, list: &AssignList) -> Result<Option<Give>, NoMemory>
     ensures { IfOk result (λ left. left
-        ≡ masked_of mask.now.circuit.now mask.now.stuck (command.Charge list.now)) }
+        ≡ spec.masked_give mask.now.circuit.now mask.now.stuck (given.Charge list.now)) }
 {
     let list = others(mask, list)?;
     if list.items().is_empty() {
         Ok(None)
     } else {
-        Ok(Some(Command::Charge(list)))
+        Ok(Some(Give::Charge(list)))
     }
 }
 
@@ -177,18 +165,6 @@ fn masked_assignments(mask: &Mask<'_>, list: &AssignList) -> Result<AssignList, 
         left.push((Name::from_slice(mask.alloc, name.items())?, state))?;
     }
     Ok(left)
-}
-
-// The same assignments.
-fn copied_assignments(mask: &Mask<'_>, list: &AssignList) -> Result<AssignList, NoMemory>
-    ensures { IfOk result (λ copy. copy ≡ list.now) }
-{
-    let unstuck = Mask {
-        alloc: mask.alloc,
-        circuit: mask.circuit,
-        stuck: None,
-    };
-    masked_assignments(&unstuck, list)
 }
 
 // The clocks, with the stuck node given the state at which it is stuck each time.
@@ -234,30 +210,4 @@ fn names_stuck(mask: &Mask<'_>, name: &[u8]) -> bool
         Some(at) => mask.circuit.find(name).is_some_and(|node| node == at.0),
         None => false,
     }
-}
-
-// The same names.
-fn copied_names(alloc: Global, names: &NameList) -> Result<NameList, NoMemory>
-    ensures { IfOk result (λ copy. copy ≡ names.now) }
-{
-    let mut copy = NameList::new(alloc);
-    for name in names.items() {
-        copy.push(Name::from_slice(alloc, name.items())?)?;
-    }
-    Ok(copy)
-}
-
-// The same names of a transistor's terminals.
-fn copied_terminals(
-    alloc: Global,
-    gate: &Name,
-    source: &Name,
-    drain: &Name,
-) -> Result<(Name, Name, Name), NoMemory>
-    ensures { IfOk result (λ names. names ≡ (gate.now, source.now, drain.now)) }
-{
-    let gate = Name::from_slice(alloc, gate.items())?;
-    let source = Name::from_slice(alloc, source.items())?;
-    let drain = Name::from_slice(alloc, drain.items())?;
-    Ok((gate, source, drain))
 }

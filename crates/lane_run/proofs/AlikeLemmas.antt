@@ -1,17 +1,22 @@
 -- Columns that are alike: they differ in their states alone. Commands keep them alike, and tell equally many lines in each.
-use Rattle.std.proofs.Common.{◌≡◌, ℕ, Bool, true, false, List, [], ◌∷◌, ◌++◌, length, map, sym, ap, subst, ◌∙◌}
+use Rattle.std.proofs.Common.{◌≡◌, ℕ, Bool, true, false, List, [], ◌∷◌, length, refl, sym, ap, subst, ◌∙◌}
 use Rattle.netlist.specs.Circuits.{CircuitData}
 use Rattle.group_text.specs.Texts.{GroupTextData}
 use Rattle.circuit_texts.specs.Building.{HasTexts}
-use Rattle.netlist.specs.Edits.{node_named, with_store, with_transistor, without_switch, with_strength, with_kind, with_wires}
+use Rattle.script_lang.specs.declared.command.Command.TheVariants as family
+use Rattle.script_lang.specs.declared.command.Setup.{Setup}
+use Rattle.script_lang.specs.declared.command.Setup.TheVariants.{Watch, Limit, Clock, Keep}
+use Rattle.script_lang.specs.declared.command.Run.{Run}
+use Rattle.script_lang.specs.declared.command.Run.TheVariants.{Step, Phase, Cycle, Report}
 use Rattle.lane_script.specs.declared.command.LaneCommand.{LaneCommand}
-use Rattle.lane_script.specs.declared.command.LaneCommand.TheVariants.{Input, Store, Set, Charge, Watch, Limit, Step, Phase, Clock, Cycle, Add, Del, Strength, Kind, Wire}
+use Rattle.lane_script.specs.declared.command.LaneCommand.TheVariants.{Values, Shared}
 use Rattle.lane_script.specs.Commands.{in_column}
+use Rattle.lane_script.specs.Forms.{IsFormed}
 use Rattle.session_meaning.specs.Sessions.{SessionData, places_of}
-use Rattle.session_meaning.specs.Refusals.{refusal_of, strength_for}
+use Rattle.session_meaning.specs.Refusals.{refusal_of}
 use Rattle.session_meaning.specs.Preparing.{with_present, BuildsIf}
 use Rattle.session_meaning.specs.Lines.{Line}
-use Rattle.session_meaning.specs.Effects.{Effect, AreBeats, one_more, places_in, with_inputs, clock_of}
+use Rattle.session_meaning.specs.Effects.{Effect, RunEffect, AreBeats, circuit_after, setup_after, one_more, places_in}
 use Rattle.session_meaning.proofs.UniqueBuilds.{HasTexts-unique}
 use Rattle.lane_session.proofs.RefusalLemmas.{refused_alike}
 use Rattle.lane_session.proofs.BeatLemmas.{length-beats}
@@ -48,41 +53,39 @@ beats_count [] session new lines (same, none) = ap less_states same
 beats_count (place ∷ places) session new lines (mid, front, back, phase, beats, whole) =
     beats_count places mid new back beats ∙ ap (λ (s : SessionData). counted_on places (less_states s)) phase.moved
 
--- effects keep sessions alike
-pub alike-effect : (command : LaneCommand) (lane other : ℕ) (one two after later : SessionData) (lines more : List Line) → AreAlike one two →
-    Effect one (in_column lane command) after lines → Effect two (in_column other command) later more → AreAlike after later
-alike-effect (Input names) lane other one two after later lines more alike first second =
-    kept_alike (λ s. record s { circuit = with_inputs s.circuit names }) one two after later alike (ap less_states first.0) (ap less_states second.0)
-alike-effect (Store name size) lane other one two after later lines more alike first second =
-    kept_alike (λ s. record s { circuit = with_store s.circuit (node_named s.circuit name) size }) one two after later alike (ap less_states first.0) (ap less_states second.0)
-alike-effect (Set list) lane other one two after later lines more alike first second =
-    kept_alike (λ s. s) one two after later alike (ap less_states first.0) (ap less_states second.0)
-alike-effect (Charge list) lane other one two after later lines more alike first second =
-    kept_alike (λ s. s) one two after later alike (ap less_states first.0) (ap less_states second.0)
-alike-effect (Watch names) lane other one two after later lines more alike first second =
-    kept_alike (λ s. record s { watched = s.watched ++ map (node_named s.circuit) names }) one two after later alike (ap less_states first.0) (ap less_states second.0)
-alike-effect (Limit number) lane other one two after later lines more alike first second =
-    kept_alike (λ s. record s { limit = number }) one two after later alike (ap less_states first.0) (ap less_states second.0)
-alike-effect Step lane other one two after later lines more alike first second =
+-- what is set for later commands is set beside the states
+set_less : (session : SessionData) (setup : Setup) → less_states (setup_after session setup) ≡ setup_after (less_states session) setup
+set_less session (Watch names) = refl
+set_less session (Limit number) = refl
+set_less session (Clock list) = refl
+set_less session (Keep number) = refl
+
+-- steps and reports keep sessions alike
+alike-run : (run : Run) (one two after later : SessionData) (lines more : List Line) → AreAlike one two → RunEffect one run after lines →
+    RunEffect two run later more → AreAlike after later
+alike-run Step one two after later lines more alike first second =
     kept_alike counted one two after later alike (ap less_states first.moved) (ap less_states second.moved)
-alike-effect Phase lane other one two after later lines more alike first second =
+alike-run Phase one two after later lines more alike first second =
     kept_alike counted one two after later alike (ap less_states first.moved) (ap less_states second.moved)
-alike-effect (Clock list) lane other one two after later lines more alike first second =
-    kept_alike (λ s. record s { clocks = map (clock_of s.circuit) list }) one two after later alike (ap less_states first.0) (ap less_states second.0)
-alike-effect (Cycle times) lane other one two after later lines more alike first second =
+alike-run (Cycle times) one two after later lines more alike first second =
     kept_alike (λ s. counted_on (places_in (places_of s.clocks) times) s) one two after later alike
     (beats_count (places_in (places_of one.clocks) times) one after lines first) (beats_count (places_in (places_of two.clocks) times) two later more second)
-alike-effect (Add kind gate source drain strength) lane other one two after later lines more alike first second =
-    kept_alike (λ s. record s { circuit = with_transistor s.circuit kind (strength_for kind strength) gate source drain }) one two after later alike
-    (ap less_states first.0) (ap less_states second.0)
-alike-effect (Del number) lane other one two after later lines more alike first second =
-    kept_alike (λ s. record s { circuit = without_switch s.circuit number }) one two after later alike (ap less_states first.0) (ap less_states second.0)
-alike-effect (Strength number strength) lane other one two after later lines more alike first second =
-    kept_alike (λ s. record s { circuit = with_strength s.circuit number strength }) one two after later alike (ap less_states first.0) (ap less_states second.0)
-alike-effect (Kind number kind) lane other one two after later lines more alike first second =
-    kept_alike (λ s. record s { circuit = with_kind s.circuit number kind }) one two after later alike (ap less_states first.0) (ap less_states second.0)
-alike-effect (Wire number gate source drain) lane other one two after later lines more alike first second =
-    kept_alike (λ s. record s { circuit = with_wires s.circuit number gate source drain }) one two after later alike (ap less_states first.0) (ap less_states second.0)
+alike-run Report one two after later lines more alike first second =
+    kept_alike (λ s. record s { fresh = 0 }) one two after later alike (ap less_states first.moved) (ap less_states second.moved)
+
+-- and so do all effects
+pub alike-effect : (lanes : ℕ) (command : LaneCommand) → IsFormed lanes command → (lane other : ℕ) (one two after later : SessionData) (lines more : List Line) →
+    AreAlike one two → Effect one (in_column lane command) after lines → Effect two (in_column other command) later more → AreAlike after later
+alike-effect lanes (Values kind list) formed lane other one two after later lines more alike first second =
+    kept_alike (λ s. s) one two after later alike (ap less_states first.0) (ap less_states second.0)
+alike-effect lanes (Shared (family.Edit edit)) formed lane other one two after later lines more alike first second =
+    kept_alike (λ s. record s { circuit = circuit_after s.circuit edit }) one two after later alike (ap less_states first.0) (ap less_states second.0)
+alike-effect lanes (Shared (family.Give give)) formed lane other one two after later lines more alike first second = absurd (formed.1)
+alike-effect lanes (Shared (family.Setup setup)) formed lane other one two after later lines more alike first second =
+    kept_alike (λ s. setup_after s setup) one two after later alike (ap less_states first.0 ∙ set_less one setup) (ap less_states second.0 ∙ set_less two setup)
+alike-effect lanes (Shared (family.Run run)) formed lane other one two after later lines more alike first second =
+    alike-run run one two after later lines more alike first second
+alike-effect lanes (Shared (family.Tell tell)) formed lane other one two after later lines more alike first second = absurd (formed.1)
 
 -- so do builds, since the texts of one circuit are present
 pub alike-built : (building : Bool) (one two mid then : SessionData) (texts others : List GroupTextData) → AreAlike one two →
@@ -104,37 +107,27 @@ alike-refused one two command lane other alike =
     ∙ refused_alike one two.state one.limit one.count one.missed one.bound one.kept one.fresh command other lane
 
 -- how many lines a command tells, by the number of places of the clocks
-abbrev pub lines_told : LaneCommand → ℕ → ℕ
-lines_told (Input names) places = 0
-lines_told (Store name size) places = 0
-lines_told (Set list) places = 0
-lines_told (Charge list) places = 0
-lines_told (Watch names) places = 0
-lines_told (Limit number) places = 0
-lines_told Step places = 1
-lines_told Phase places = 1
-lines_told (Clock list) places = 0
-lines_told (Cycle times) places = length (places_in places times)
-lines_told (Add kind gate source drain strength) places = 0
-lines_told (Del number) places = 0
-lines_told (Strength number strength) places = 0
-lines_told (Kind number kind) places = 0
-lines_told (Wire number gate source drain) places = 0
+abbrev run_lines : Run → ℕ → ℕ
+run_lines Step places = 1
+run_lines Phase places = 1
+run_lines (Cycle times) places = length (places_in places times)
+run_lines Report places = 1
 
-pub length-effect : (command : LaneCommand) (lane : ℕ) (old new : SessionData) (lines : List Line) → Effect old (in_column lane command) new lines →
-    length lines ≡ lines_told command (places_of old.clocks)
-length-effect (Input names) lane old new lines effect = ap length effect.1
-length-effect (Store name size) lane old new lines effect = ap length effect.1
-length-effect (Set list) lane old new lines effect = ap length effect.1
-length-effect (Charge list) lane old new lines effect = ap length effect.1
-length-effect (Watch names) lane old new lines effect = ap length effect.1
-length-effect (Limit number) lane old new lines effect = ap length effect.1
-length-effect Step lane old new lines effect = ap length effect.wrote
-length-effect Phase lane old new lines effect = ap length effect.wrote
-length-effect (Clock list) lane old new lines effect = ap length effect.1
-length-effect (Cycle times) lane old new lines effect = length-beats (places_in (places_of old.clocks) times) old new lines effect
-length-effect (Add kind gate source drain strength) lane old new lines effect = ap length effect.1
-length-effect (Del number) lane old new lines effect = ap length effect.1
-length-effect (Strength number strength) lane old new lines effect = ap length effect.1
-length-effect (Kind number kind) lane old new lines effect = ap length effect.1
-length-effect (Wire number gate source drain) lane old new lines effect = ap length effect.1
+abbrev pub lines_told : LaneCommand → ℕ → ℕ
+lines_told (Shared (family.Run run)) places = run_lines run places
+lines_told command places = 0
+
+length-run : (run : Run) (old new : SessionData) (lines : List Line) → RunEffect old run new lines → length lines ≡ run_lines run (places_of old.clocks)
+length-run Step old new lines effect = ap length effect.wrote
+length-run Phase old new lines effect = ap length effect.wrote
+length-run (Cycle times) old new lines effect = length-beats (places_in (places_of old.clocks) times) old new lines effect
+length-run Report old new lines effect = ap length effect.wrote
+
+pub length-effect : (lanes : ℕ) (command : LaneCommand) → IsFormed lanes command → (lane : ℕ) (old new : SessionData) (lines : List Line) →
+    Effect old (in_column lane command) new lines → length lines ≡ lines_told command (places_of old.clocks)
+length-effect lanes (Values kind list) formed lane old new lines effect = ap length effect.1
+length-effect lanes (Shared (family.Edit edit)) formed lane old new lines effect = ap length effect.1
+length-effect lanes (Shared (family.Give give)) formed lane old new lines effect = ap length effect.1
+length-effect lanes (Shared (family.Setup setup)) formed lane old new lines effect = ap length effect.1
+length-effect lanes (Shared (family.Run run)) formed lane old new lines effect = length-run run old new lines effect
+length-effect lanes (Shared (family.Tell tell)) formed lane old new lines effect = absurd (formed.1)

@@ -74,7 +74,7 @@ module _ (lanes : ℕ) (columns : ℕ → SessionData) (are : AreReady lanes col
         };
         lines_are = refl;
       };
-      counted = length-effect command lane performs.mid new performs.does.lines performs.does.effect
+      counted = length-effect lanes command formed lane performs.mid new performs.does.lines performs.does.effect
           ∙ ap (λ clocks. lines_told command (places_of clocks))
           (same_clocks (builds (in_column lane command)) (columns lane) performs.mid texts performs.prepares
           ∙ ap (λ (s : SessionData). s.clocks) (beside (columns 0) (columns lane) (are.alike lane inside)));
@@ -152,14 +152,14 @@ module _ (lanes : ℕ) (columns : ℕ → SessionData) (are : AreReady lanes col
       by None true is does (inr large) = all_large large.0 (same_refusal None is) (λ lane. builds_alike command lane 0 ∙ does) large.1
 
 -- what is performed in columns that are alike and ready leaves them so
-pub ready_together : (lanes : ℕ) (columns new : ℕ → SessionData) (command : LaneCommand) (text : List ℕ) (texts : List GroupTextData) → AreReady lanes columns →
+pub ready_together : (lanes : ℕ) (columns new : ℕ → SessionData) (command : LaneCommand) → IsFormed lanes command → (text : List ℕ) (texts : List GroupTextData) → AreReady lanes columns →
     PerformsTogether lanes columns command new text texts → AreReady lanes new
-ready_together lanes columns new command text texts are performs = record {
+ready_together lanes columns new command formed text texts are performs = record {
   some = are.some;
   alike = λ lane inside.
       let first = (performs.each 0 are.some).performs in
       let other = (performs.each lane inside).performs in
-      alike-effect command 0 lane first.mid other.mid (new 0) (new lane) first.does.lines other.does.lines
+      alike-effect lanes command formed 0 lane first.mid other.mid (new 0) (new lane) first.does.lines other.does.lines
       (alike-built (builds (in_column 0 command)) (columns 0) (columns lane) first.mid other.mid texts texts (are.alike lane inside) first.prepares
       (subst (λ (does : Bool). BuildsIf does (columns lane) other.mid texts) (builds_alike command lane 0) other.prepares))
       first.does.effect other.does.effect;

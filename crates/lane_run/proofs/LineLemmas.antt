@@ -9,15 +9,16 @@ use Rattle.line_words.specs.declared.line_check.LineFault.TheVariants as of_line
 use Rattle.line_words.specs.LineFaults.{line_fault, is_comment}
 use Rattle.line_words.specs.Words.{words_of}
 use Rattle.script_lang.specs.declared.command.Command.{Command}
-use Rattle.script_lang.specs.declared.command.Command.TheVariants as plain
+use Rattle.script_lang.specs.declared.command.Give.{Give}
+use Rattle.script_lang.specs.declared.command.Give.TheVariants as plain
 use Rattle.script_lang.specs.declared.command.ScriptFault.{ScriptFault}
 use Rattle.script_lang.specs.declared.command.ScriptFault.TheVariants as fault
 use Rattle.script_lang.specs.Commands.{reading_of}
-use Rattle.script_lang.specs.Forms as form
 use Rattle.script_lang.specs.Parts.{all_of}
 use Rattle.script_lang.proofs.ReadingLemmas.{reading-named, reading-formed}
 use Rattle.lane_script.specs.declared.command.LaneCommand.{LaneCommand}
-use Rattle.lane_script.specs.declared.command.LaneCommand.TheVariants.{Input, Store, Set, Charge, Watch, Limit, Step, Phase, Clock, Cycle, Add, Del, Strength, Kind, Wire}
+use Rattle.lane_script.specs.declared.command.LaneCommand.TheVariants.{Values, Shared}
+use Rattle.lane_script.specs.declared.command.ValueCommand.TheVariants as value
 use Rattle.lane_script.specs.Columns.{column_reading, column_reading_by, column_reading_of, is_left_out}
 use Rattle.lane_script.specs.Commands.{in_column, IsShared}
 use Rattle.lane_script.specs.Forms.{AreLaneValues, IsFormed}
@@ -30,32 +31,6 @@ pub data LineReads (lanes : ℕ) (line : List ℕ) : Type 0 where
   idles : ((lane : ℕ) → lane < lanes → column_reading_of lanes lane line ≡ Ok None) → LineReads lanes line
   commands : (command : LaneCommand) → IsFormed lanes command → ((lane : ℕ) → lane < lanes → column_reading_of lanes lane line ≡ Ok (Some (in_column lane command))) →
       LineReads lanes line
-
--- a command that is given to all columns alike
-record Shares (lanes : ℕ) (made : Command) : Type 0 where
-  pub command : LaneCommand
-  pub formed : IsFormed lanes command
-  pub same : (lane : ℕ) → in_column lane command ≡ made
-
-shares : (lanes : ℕ) (made : Command) → IsShared made → form.IsFormed made → Shares lanes made
-shares lanes (plain.Input names) is formed = record { command = Input names; formed = formed; same = λ lane. refl }
-shares lanes (plain.Store name size) is formed = record { command = Store name size; formed = formed; same = λ lane. refl }
-shares lanes (plain.Watch names) is formed = record { command = Watch names; formed = formed; same = λ lane. refl }
-shares lanes (plain.Limit number) is formed = record { command = Limit number; formed = formed; same = λ lane. refl }
-shares lanes plain.Step is formed = record { command = Step; formed = formed; same = λ lane. refl }
-shares lanes plain.Phase is formed = record { command = Phase; formed = formed; same = λ lane. refl }
-shares lanes (plain.Clock list) is formed = record { command = Clock list; formed = formed; same = λ lane. refl }
-shares lanes (plain.Cycle number) is formed = record { command = Cycle number; formed = formed; same = λ lane. refl }
-shares lanes (plain.Add kind gate source drain strength) is formed = record { command = Add kind gate source drain strength; formed = formed; same = λ lane. refl }
-shares lanes (plain.Del number) is formed = record { command = Del number; formed = formed; same = λ lane. refl }
-shares lanes (plain.Strength number strength) is formed = record { command = Strength number strength; formed = formed; same = λ lane. refl }
-shares lanes (plain.Kind number kind) is formed = record { command = Kind number kind; formed = formed; same = λ lane. refl }
-shares lanes (plain.Wire number gate source drain) is formed = record { command = Wire number gate source drain; formed = formed; same = λ lane. refl }
-shares lanes (plain.Set list) is formed = absurd is
-shares lanes (plain.Charge list) is formed = absurd is
-shares lanes (plain.Expect list) is formed = absurd is
-shares lanes plain.Report is formed = absurd is
-shares lanes (plain.Keep number) is formed = absurd is
 
 -- values that aren't given have a cause
 given-named : (lanes : ℕ) (words : List (List ℕ)) (what : ScriptFault) → values_given lanes words ≡ Err what → what ≢ fault.NoMemory
@@ -72,13 +47,12 @@ module _ (lanes : ℕ) (line : List ℕ) where
       (read : Result (Option Command) ScriptFault) → reading_of line ≡ read → LineReads lanes line
   shared_reads same shared (Ok None) is = idles (λ lane inside. same lane ∙ is)
   shared_reads same shared (Ok (Some made)) is =
-      let given = shares lanes made (shared made is) (reading-formed line made is) in
-      commands given.command given.formed (λ lane inside. same lane ∙ is ∙ ap (λ (command : Command). Ok (Some command)) (sym (given.same lane)))
+      commands (Shared made) (reading-formed line made is, shared made is) (λ lane inside. same lane ∙ is)
   shared_reads same shared (Err what) is = fails what (λ want. reading-named line (is ∙ ap Err want)) (λ lane inside. same lane ∙ is)
 
   module _ (word : List ℕ) (rest : List (List ℕ)) (sound : line_fault line ≡ None) (other : is_comment line ≡ false) (cut : words_of line ≡ word ∷ rest) where
     -- a line with values, whose first word asks for this
-    values_read : (asked : List (List ℕ × Tern) → Command) →
+    values_read : (asked : List (List ℕ × Tern) → Give) →
         ((lane : ℕ) → lane < lanes → column_reading lanes lane (word ∷ rest) ≡ values_asked asked lane (values_given lanes rest)) →
         ((list : List (List ℕ × List Tern)) → AreLaneValues lanes list →
         ((lane : ℕ) → lane < lanes → column_reading_of lanes lane line ≡ values_asked asked lane (Ok list)) → LineReads lanes line) →
@@ -94,10 +68,10 @@ module _ (lanes : ℕ) (line : List ℕ) where
     word_reads : (set charge out : Bool) → bytes_eq word (codes "set") ≡ set → bytes_eq word (codes "charge") ≡ charge → is_left_out word ≡ out → LineReads lanes line
     word_reads true charge out is_set is_charge is_out =
         values_read plain.Set (λ lane inside. set_words lanes lane word rest inside ((bytes_eq-Decides word (codes "set")).0 is_set))
-        (λ list formed reads. commands (Set list) formed reads) (values_given lanes rest) refl
+        (λ list formed reads. commands (Values value.Set list) formed reads) (values_given lanes rest) refl
     word_reads false true out is_set is_charge is_out =
         values_read plain.Charge (λ lane inside. charge_words lanes lane word rest inside ((bytes_eq-Decides word (codes "charge")).0 is_charge))
-        (λ list formed reads. commands (Charge list) formed reads) (values_given lanes rest) refl
+        (λ list formed reads. commands (Values value.Charge list) formed reads) (values_given lanes rest) refl
     word_reads false false true is_set is_charge is_out =
         fails fault.BadCommand (λ same. cc) (λ lane inside. line_words lanes line word rest sound other cut lane ∙ out_words lanes lane word rest is_out)
     word_reads false false false is_set is_charge is_out =

@@ -116,7 +116,7 @@ module _ (lanes : ℕ) (cut : Option ℕ) where
               too_large (in_column lane command) fault (asks.each lane inside) (allowed lane inside) (building lane)
               (subst (λ (c : CircuitData). TellsTooLarge c.graph fault) same first) (subst (λ (c : CircuitData). size_cause c fault ≡ Some caused.0) same caused.1))
           | all_performed new text texts performs ↦
-              let rest = goes new (ready_together lanes columns new command text texts are performs) in
+              let rest = goes new (ready_together lanes columns new command asks.formed text texts are performs) in
               record {
                 text = text ++ rest.text;
                 texts = texts ++ rest.texts;
@@ -253,7 +253,7 @@ module _ (cut : Option ℕ) (start : ℕ → SessionData) (all : List (ℕ × Li
             (subst (λ (texts : List GroupTextData). RunsTogether now.lanes cut start all (come.text ++ (accepts.text ++ rest)) texts last) (sym (append_assoc come.texts accepts.texts others))
             (come.goes_on (accepts.text ++ rest) (accepts.texts ++ others) last
             (together-obeyed now.lanes cut (session_in now) line left rest others last (session_in new) follows.command accepts.text accepts.texts follows.asks accepts.performs runs)));
-        ready = ready_together now.lanes (session_in now) (session_in new) follows.command accepts.text accepts.texts come.ready accepts.performs;
+        ready = ready_together now.lanes (session_in now) (session_in new) follows.command follows.asks.formed accepts.text accepts.texts come.ready accepts.performs;
       }
 
   -- past a line that is accepted
@@ -335,7 +335,7 @@ module _ (cut : Option ℕ) (start : ℕ → SessionData) (all : List (ℕ × Li
   halts_stop new more further stop (inr starts) =
       let begins = starts.begins in
       let rest = outcome_exists now.lanes cut left begins.end
-      (ready_together now.lanes (session_in now) begins.end starts.command begins.text begins.texts come.ready begins.performs) in
+      (ready_together now.lanes (session_in now) begins.end starts.command starts.asks.formed begins.text begins.texts come.ready begins.performs) in
       breaks_in begins.text rest.text (begins.texts ++ rest.texts) rest.last
       (together-obeyed now.lanes cut (session_in now) line left rest.text rest.texts rest.last begins.end starts.command begins.text begins.texts starts.asks begins.performs rest.runs)
       more (inr begins.written)

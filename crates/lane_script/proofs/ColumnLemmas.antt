@@ -1,5 +1,5 @@
 -- A line in its columns: what it asks for, or why it is refused, is found for all columns at once.
-use Rattle.std.proofs.Common.{◌≡◌, ℕ, ◌<◌, Bool, true, false, ◌||◌, List, [], ◌∷◌, length, map, All, Option, Some, None, Result, Ok, Err, refl, sym, ap, ◌∙◌, subst, ◌⊎◌, inl, inr, arith, if◌then◌else◌, eqb-true}
+use Rattle.std.proofs.Common.{◌≡◌, ℕ, ◌<◌, Bool, true, false, ◌||◌, List, [], ◌∷◌, length, map, All, Option, Some, None, IfSome, option_map, Result, Ok, Err, refl, sym, ap, ◌∙◌, subst, ◌⊎◌, inl, inr, arith, if◌then◌else◌, eqb-true}
 use Rattle.std.specs.Prelude.{codes, bytes_eq, ◌==◌}
 use Rattle.std.specs.Option.{option_and_then}
 use Rattle.std.proofs.lemmas.Slice.Eq.{bytes_eq-Decides}
@@ -12,19 +12,23 @@ use Rattle.line_words.specs.Visible.{IsVisibleName}
 use Rattle.line_words.specs.Words.{words_of}
 use Rattle.line_words.proofs.VisibleLemmas.{words_of-visible}
 use Rattle.script_lang.specs.declared.command.Command.{Command}
-use Rattle.script_lang.specs.declared.command.Command.TheVariants as plain
+use Rattle.script_lang.specs.declared.command.Command.TheVariants as family
+use Rattle.script_lang.specs.declared.command.Give.{Give}
+use Rattle.script_lang.specs.declared.command.Give.TheVariants as plain
 use Rattle.script_lang.specs.declared.command.ScriptFault.{ScriptFault}
 use Rattle.script_lang.specs.declared.command.ScriptFault.TheVariants as fault
 use Rattle.script_lang.specs.Parts.{all_of, beats_of}
 use Rattle.script_lang.specs.Commands.{assignments_given, commanded, reading_by, reading_of, reading_of_words, some_command}
+use Rattle.script_lang.specs.Forms as form
 use Rattle.script_lang.proofs.FormLemmas.{all_given, given_some, named_beats}
 use Rattle.lane_script.specs.declared.command.ValueCommand.{ValueCommand}
 use Rattle.lane_script.specs.declared.command.ValueCommand.TheVariants as value
+use Rattle.lane_script.specs.declared.command.LaneCommand.TheVariants.{Shared}
 use Rattle.lane_script.specs.declared.reader.Sort.{Sort}
 use Rattle.lane_script.specs.declared.reader.Sort.TheVariants as sort
 use Rattle.lane_script.specs.Columns.{column_reading, column_reading_by, column_reading_of, is_left_out, word_in, words_in}
-use Rattle.lane_script.specs.Commands.{plain_of, IsShared}
-use Rattle.lane_script.specs.Forms.{AreLaneValues, IsLaneValue}
+use Rattle.lane_script.specs.Commands.{in_column, plain_of, IsShared}
+use Rattle.lane_script.specs.Forms.{AreLaneValues, IsFormed, IsLaneValue}
 use Rattle.lane_script.specs.Values.{are_fit, lane_value_of, sort_of, values_given}
 use Rattle.lane_script.specs.Laws.{ColumnsAreRefusedAlike, ColumnsPassAlike}
 use Rattle.lane_script.proofs.ValueLemmas.{given_in, given_in_column}
@@ -41,8 +45,8 @@ column_words lanes lane line sound other =
 -- ---- words
 
 -- what values ask for in a column
-abbrev pub values_asked : (List (List ℕ × Tern) → Command) → ℕ → Result (List (List ℕ × List Tern)) ScriptFault → Result (Option Command) ScriptFault
-values_asked command lane given = some_command (commanded command (given_in lane given))
+abbrev pub values_asked : (List (List ℕ × Tern) → Give) → ℕ → Result (List (List ℕ × List Tern)) ScriptFault → Result (Option Command) ScriptFault
+values_asked give lane given = some_command (commanded family.Give (commanded give (given_in lane given)))
 
 -- the verb of a command that gives values
 abbrev pub verb_of_values : ValueCommand → List ℕ
@@ -54,10 +58,10 @@ pub valued_words : (command : ValueCommand) (lanes lane : ℕ) (word : List ℕ)
     column_reading lanes lane (word ∷ words) ≡ values_asked (plain_of command) lane (values_given lanes words)
 valued_words command lanes lane word words inside is =
     ap (λ (verb : List ℕ). column_reading lanes lane (verb ∷ words)) is ∙ by command
-    ∙ ap (λ given. some_command (commanded (plain_of command) given)) (given_in_column lanes lane words inside)
+    ∙ ap (λ given. some_command (commanded family.Give (commanded (plain_of command) given))) (given_in_column lanes lane words inside)
   where
     by : (command : ValueCommand) → column_reading lanes lane (verb_of_values command ∷ words)
-        ≡ some_command (commanded (plain_of command) (assignments_given (map (word_in lanes lane) words)))
+        ≡ some_command (commanded family.Give (commanded (plain_of command) (assignments_given (map (word_in lanes lane) words))))
     by value.Set = refl
     by value.Charge = refl
 
@@ -169,6 +173,17 @@ module _ (lanes : ℕ) (line word : List ℕ) (rest : List (List ℕ)) (sound : 
   shared_command kind made is =
       shared_words word rest made (other_sort word kind) (sym (other_words lanes 0 word rest (other_sort word kind)) ∙ sym (line_words 0) ∙ shared_line kind 0 ∙ is)
 
+  -- so columns are given what is read of it
+  pub shared_asked : sort_of word ≡ sort.Shared → (read : Option Command) → reading_of line ≡ Ok read → (lane : ℕ) →
+      column_reading_of lanes lane line ≡ Ok (option_map (in_column lane) (option_map Shared read))
+  shared_asked kind None is lane = shared_line kind lane ∙ is
+  shared_asked kind (Some made) is lane = shared_line kind lane ∙ is
+
+  pub shared_formed : sort_of word ≡ sort.Shared → (read : Option Command) → reading_of line ≡ Ok read → IfSome read form.IsFormed →
+      IfSome (option_map Shared read) (IsFormed lanes)
+  shared_formed kind None is formed = tt
+  shared_formed kind (Some made) is formed = (formed, shared_command kind made is)
+
 -- ---- columns are alike
 
 -- the answer of two columns is the same refusal, or both are no refusals and ask for something or both for nothing
@@ -182,10 +197,10 @@ same-alike (Err fault) = refl
 same-alike (Ok None) = refl
 same-alike (Ok (Some command)) = tt
 
-asked-alike : (command : List (List ℕ × Tern) → Command) (lane other : ℕ) (given : Result (List (List ℕ × List Tern)) ScriptFault) →
-    AreAlike (values_asked command lane given) (values_asked command other given)
-asked-alike command lane other (Ok list) = tt
-asked-alike command lane other (Err fault) = refl
+asked-alike : (give : List (List ℕ × Tern) → Give) (lane other : ℕ) (given : Result (List (List ℕ × List Tern)) ScriptFault) →
+    AreAlike (values_asked give lane given) (values_asked give other given)
+asked-alike give lane other (Ok list) = tt
+asked-alike give lane other (Err fault) = refl
 
 words-alike : (lanes lane other : ℕ) (words : List (List ℕ)) → lane < lanes → other < lanes →
     AreAlike (column_reading lanes lane words) (column_reading lanes other words)

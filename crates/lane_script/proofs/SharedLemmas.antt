@@ -3,13 +3,19 @@ use Rattle.std.proofs.Common.{◌≡◌, ℕ, Bool, true, false, List, ◌∷◌
 use Rattle.std.specs.Prelude.{codes, bytes_eq}
 use Rattle.std.proofs.lemmas.Slice.Eq.{bytes_eq-Decides}
 use Rattle.script_lang.specs.declared.command.Command.{Command}
-use Rattle.script_lang.specs.declared.command.Command.TheVariants as plain
-use Rattle.script_lang.specs.Commands.{reading_of_words, word_of}
+use Rattle.script_lang.specs.declared.command.Command.TheVariants as family
+use Rattle.script_lang.specs.declared.command.Give.TheVariants.{Set, Charge}
+use Rattle.script_lang.specs.declared.command.Setup.{Setup}
+use Rattle.script_lang.specs.declared.command.Setup.TheVariants.{Watch, Limit, Clock, Keep}
+use Rattle.script_lang.specs.declared.command.Run.{Run}
+use Rattle.script_lang.specs.declared.command.Run.TheVariants.{Step, Phase, Cycle, Report}
+use Rattle.script_lang.specs.declared.command.Tell.TheVariants.{Expect}
+use Rattle.script_lang.specs.Commands.{reading_of_words, word_of, word_of_run, word_of_setup}
 use Rattle.script_lang.proofs.VerbLemmas.{first_word}
 use Rattle.lane_script.specs.declared.command.ValueCommand.TheVariants as value
 use Rattle.lane_script.specs.declared.reader.Sort.TheVariants as sort
 use Rattle.lane_script.specs.Columns.{is_left_out}
-use Rattle.lane_script.specs.Commands.{IsShared}
+use Rattle.lane_script.specs.Commands.{IsShared, IsSharedRun, IsSharedSetup}
 use Rattle.lane_script.specs.Values.{sort_of}
 
 -- what the word of such a command isn't
@@ -40,22 +46,22 @@ left_out word text is out other = let yes : is_left_out word ≡ true = ap is_le
 pub shared_words : (word : List ℕ) (words : List (List ℕ)) (made : Command) → IsOther word → reading_of_words (word ∷ words) ≡ Ok (Some made) → IsShared made
 shared_words word words made other is = by made (first_word word words made is)
   where
+    setup_shared : (setup : Setup) → word ≡ word_of_setup setup → IsSharedSetup setup
+    setup_shared (Watch names) is = tt
+    setup_shared (Limit number) is = tt
+    setup_shared (Clock list) is = tt
+    setup_shared (Keep number) is = left_out word (codes "keep") is refl other.out
+
+    run_shared : (run : Run) → word ≡ word_of_run run → IsSharedRun run
+    run_shared Step is = tt
+    run_shared Phase is = tt
+    run_shared (Cycle number) is = tt
+    run_shared Report is = left_out word (codes "report") is refl other.out
+
     by : (command : Command) → word ≡ word_of command → IsShared command
-    by (plain.Set list) is = not_itself (codes "set") (ap (λ (text : List ℕ). bytes_eq text (codes "set")) (sym is) ∙ other.set)
-    by (plain.Charge list) is = not_itself (codes "charge") (ap (λ (text : List ℕ). bytes_eq text (codes "charge")) (sym is) ∙ other.charge)
-    by (plain.Expect list) is = left_out word (codes "expect") is refl other.out
-    by plain.Report is = left_out word (codes "report") is refl other.out
-    by (plain.Keep number) is = left_out word (codes "keep") is refl other.out
-    by (plain.Input names) is = tt
-    by (plain.Store name size) is = tt
-    by (plain.Watch names) is = tt
-    by (plain.Limit number) is = tt
-    by plain.Step is = tt
-    by plain.Phase is = tt
-    by (plain.Clock list) is = tt
-    by (plain.Cycle number) is = tt
-    by (plain.Add kind gate source drain strength) is = tt
-    by (plain.Del number) is = tt
-    by (plain.Strength number strength) is = tt
-    by (plain.Kind number kind) is = tt
-    by (plain.Wire number gate source drain) is = tt
+    by (family.Edit edit) is = tt
+    by (family.Give (Set list)) is = not_itself (codes "set") (ap (λ (text : List ℕ). bytes_eq text (codes "set")) (sym is) ∙ other.set)
+    by (family.Give (Charge list)) is = not_itself (codes "charge") (ap (λ (text : List ℕ). bytes_eq text (codes "charge")) (sym is) ∙ other.charge)
+    by (family.Setup setup) is = setup_shared setup is
+    by (family.Run run) is = run_shared run is
+    by (family.Tell (Expect list)) is = left_out word (codes "expect") is refl other.out

@@ -7,7 +7,7 @@
 //! whose values are the column's letters. `in_column` is what a column is given of a command.
 //!
 //! ```text
-//! read_lane_command(alloc, b"set a=01X b=1", 3)   is a Set: [a [Zero, One, Unk], b [One]]
+//! read_lane_command(alloc, b"set a=01X b=1", 3)   is Values(Set, [a [Zero, One, Unk], b [One]])
 //! read_lane_command(alloc, b"set a=01", 3)        is Err(ScriptFault::BadValue)
 //! read_lane_command(alloc, b"expect a=1", 3)      is Err(ScriptFault::BadCommand)
 //! ```
@@ -19,6 +19,6 @@ mod command;
 mod laws;
 mod reader;
 
-pub use command::LaneCommand;
+pub use command::{LaneCommand, ValueCommand};
 pub use laws::columns_are_refused_alike;
 pub use reader::read_lane_command;

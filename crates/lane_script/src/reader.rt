@@ -6,7 +6,7 @@ ghost use Rattle.lane_script.specs.Commands.{in_column};
 ghost use Rattle.lane_script.specs.Forms.{IsFormed};
 ghost use Rattle.lane_script.specs.Values.{sort_of, lane_value_of, values_given};
 
-use crate::command::{LaneCommand, ValueCommand, shared, valued};
+use crate::command::{LaneCommand, ValueCommand};
 use line_words::{LineFault, Words, check_line, is_comment, words};
 use script_lang::{ClockList, Name, ScriptFault, StateList, beats, read_command};
 use std::alloc::Global;
@@ -44,10 +44,10 @@ pub fn read_lane_command(
     match sort_of(verb) {
         Sort::Valued(command) => {
             let list = read_values(alloc, words, lanes)??;
-            Ok(Some(valued(command, list)))
+            Ok(Some(LaneCommand::Values(command, list)))
         }
         Sort::LeftOut => Err(ScriptFault::BadCommand),
-        Sort::Shared => Ok(read_command(alloc, bytes)?.map(shared)),
+        Sort::Shared => Ok(read_command(alloc, bytes)?.map(LaneCommand::Shared)),
     }
 }
 

@@ -6,7 +6,8 @@ use Rattle.ternary.specs.declared.tern.Tern.{Tern}
 use Rattle.line_words.specs.Visible.{IsVisibleName}
 use Rattle.script_lang.specs.Forms as form
 use Rattle.lane_script.specs.declared.command.LaneCommand.{LaneCommand}
-use Rattle.lane_script.specs.declared.command.LaneCommand.TheVariants.{Set, Charge}
+use Rattle.lane_script.specs.declared.command.LaneCommand.TheVariants.{Values, Shared}
+use Rattle.lane_script.specs.declared.command.ValueCommand.TheVariants as value
 use Rattle.lane_script.specs.Commands.{in_column, value_in}
 use Rattle.lane_script.specs.Forms.{IsFormed, AreLaneValues, IsLaneValue}
 
@@ -19,6 +20,6 @@ values_formed lanes lane list (some, each) = (
 )
 
 pub formed_in : (lanes lane : ℕ) (command : LaneCommand) → IsFormed lanes command → form.IsFormed (in_column lane command)
-formed_in lanes lane (Set list) formed = values_formed lanes lane list formed
-formed_in lanes lane (Charge list) formed = values_formed lanes lane list formed
-formed_in lanes lane other formed = formed
+formed_in lanes lane (Values value.Set list) formed = values_formed lanes lane list formed
+formed_in lanes lane (Values value.Charge list) formed = values_formed lanes lane list formed
+formed_in lanes lane (Shared command) formed = formed.0

@@ -23,28 +23,30 @@ use Rattle.lane_machine.specs.Columns.{LaneData, FitsInLanes}
 use Rattle.lane_machine.specs.Building.{HasBuilt, IsCutInColumns}
 use Rattle.script_lang.specs.declared.command.Command.{Command}
 use Rattle.lane_script.specs.declared.command.LaneCommand.{LaneCommand}
-use Rattle.lane_script.specs.declared.command.LaneCommand.TheVariants.{Set, Charge}
+use Rattle.lane_script.specs.declared.command.LaneCommand.TheVariants.{Values, Shared}
+use Rattle.lane_script.specs.declared.command.ValueCommand.{ValueCommand}
 use Rattle.lane_script.specs.Commands.{in_column, value_in}
 use Rattle.session_meaning.specs.declared.fault.ApplyFault.{ApplyFault}
 use Rattle.session_meaning.specs.declared.fault.ApplyFault.TheVariants.{Refused, GroupNodes, GroupSwitches, WriteFault, NoMemory}
 use Rattle.session_meaning.specs.Sessions.{SessionData, ClockData, IsSession}
 use Rattle.session_meaning.specs.Refusals.{refusal_of}
+use Rattle.session_meaning.specs.Machines.{edits}
 use Rattle.session_meaning.specs.Preparing.{fault_of_build}
 use Rattle.session_meaning.specs.Effects.{Effect, assigned, states_with, one_more}
 use Rattle.session_meaning.proofs.StateLemmas.{length-states_with, length-settles, sound-states_with, sound-step, sound-settles}
 use Rattle.lane_session.specs.LaneSessions.{session_in, Stands}
-use Rattle.lane_session.specs.Stages.{HeldLanes, StageData, states_in, SameStates, IsSoundState, StandFirst, Serves, FitsIn, MovesTogether, KeepsFit, ReadiedTogether, ReadiesTogether, TooLargeTogether, StepTaken, AreSettled, BeatPut, with_columns, one_column, AreInside, Shares, QuietlyTogether, is_edit}
+use Rattle.lane_session.specs.Stages.{HeldLanes, StageData, states_in, SameStates, IsSoundState, StandFirst, Serves, FitsIn, MovesTogether, KeepsFit, ReadiedTogether, ReadiesTogether, TooLargeTogether, StepTaken, AreSettled, BeatPut, with_columns, one_column, AreInside, Shares, QuietlyTogether}
 use Rattle.lane_session.proofs.EditLemmas.{edit_does}
 use Rattle.lane_session.proofs.BuildLemmas.{length-used_more}
-use Rattle.lane_session.proofs.SharedLemmas.{effect-edit, effect-set, effect-charge, refusal-shared}
+use Rattle.lane_session.proofs.SharedLemmas.{effect-edit, effect-values, refusal-shared}
 use Rattle.lane_session.proofs.ColumnStates.{data_of, AreSound-same, sound_after, done_quietly}
 
 -- ---- edits
 
 -- an edit was done for all columns
 module _ (plain after : SessionData) (is : IsSession plain) (stage mid new : StageData) (clocks : List ClockData) (limit : ℕ) (kept : List GroupTextData) (count : ℕ)
-    (inside : AreInside plain stage clocks limit kept) (command : LaneCommand) (edit : is_edit command ≡ true)
-    (shares : (refusal_of plain (in_column 0 command) ≡ None) × Effect plain (in_column 0 command) after [])
+    (inside : AreInside plain stage clocks limit kept) (command : Command) (edit : edits command ≡ true)
+    (shares : (refusal_of plain command ≡ None) × Effect plain command after [])
     (same : SameStates stage mid) (lanes : new.lanes ≡ mid.lanes)
     (grown : (lane : ℕ) → lane < mid.lanes →
     states_in new lane ≡ states_in mid lane ++ replicate (nodes after.circuit.graph - length (states_in mid lane)) Unk) where
@@ -57,20 +59,20 @@ module _ (plain after : SessionData) (is : IsSession plain) (stage mid new : Sta
       grown lane was ∙ ap (λ (state : List Tern). with_new_nodes state (nodes after.circuit.graph)) (same.each lane within)
 
   edited_effect : (lane : ℕ) → lane < stage.lanes →
-      Effect (session_in (data_of plain stage count kept) lane) (in_column lane command) (session_in (data_of after new count kept) lane) []
+      Effect (session_in (data_of plain stage count kept) lane) command (session_in (data_of after new count kept) lane) []
   edited_effect lane within =
-      subst (λ (state : List Tern). Effect (one_column plain (states_in stage lane) count kept) (in_column lane command) (one_column after state count kept) [])
+      subst (λ (state : List Tern). Effect (one_column plain (states_in stage lane) count kept) command (one_column after state count kept) [])
       (sym (edited_states lane within))
-      (effect-edit plain after (states_in stage lane) count kept lane command edit (inside.sound lane within).counted shares.1)
+      (effect-edit plain after (states_in stage lane) count kept lane command edit shares.1)
 
-  pub edit_quietly : QuietlyTogether (data_of plain stage count kept) command (data_of after new count kept) (Ok tt)
-  edit_quietly = done_quietly plain is stage clocks limit kept count inside after new command all_lanes shares.0 edited_effect
+  pub edit_quietly : QuietlyTogether (data_of plain stage count kept) (Shared command) (data_of after new count kept) (Ok tt)
+  edit_quietly = done_quietly plain is stage clocks limit kept count inside after new (Shared command) all_lanes shares.0 edited_effect
 
   pub edit_inside : new.machine ≡ None → AreInside after new clocks limit kept
   edit_inside none = record {
     clocks_are = inside.clocks_are ∙ sym (edit_does plain after command edit shares.1).clocks;
     limit_is = inside.limit_is ∙ sym (edit_does plain after command edit shares.1).limit;
-    sound = sound_after plain is stage clocks limit kept count inside after new command all_lanes shares.0 edited_effect;
+    sound = sound_after plain is stage clocks limit kept count inside after new (Shared command) all_lanes shares.0 edited_effect;
     machine = subst (λ (found : Option LaneData). IfSome found (Serves after.circuit.graph kept)) (sym none) tt;
   }
 
@@ -84,52 +86,35 @@ serves_still g kept (Some machine) new (next, there, fits) serves =
 
 -- values were given to all columns
 module _ (plain after : SessionData) (is : IsSession plain) (stage new : StageData) (clocks : List ClockData) (limit : ℕ) (kept : List GroupTextData) (count : ℕ)
-    (inside : AreInside plain stage clocks limit kept) (command : LaneCommand) (list : List (List ℕ × List Tern))
-    (values : (command ≡ Set list) ⊎ (command ≡ Charge list)) (shares : (refusal_of plain (in_column 0 command) ≡ None) × Effect plain (in_column 0 command) after [])
+    (inside : AreInside plain stage clocks limit kept) (kind : ValueCommand) (list : List (List ℕ × List Tern))
+    (shares : (refusal_of plain (in_column 0 (Values kind list)) ≡ None) × Effect plain (in_column 0 (Values kind list)) after [])
     (lanes : new.lanes ≡ stage.lanes)
     (states : (lane : ℕ) → lane < stage.lanes → states_in new lane ≡ assigned after.circuit (states_in stage lane) (map (value_in lane) list)) where
   -- the plain session has other states at most
   shared_is : (state : List Tern) × (after ≡ record plain { state = state })
-  shared_is = by values
-    where
-      by : (command ≡ Set list) ⊎ (command ≡ Charge list) → (state : List Tern) × (after ≡ record plain { state = state })
-      by (inl set) = (_, (subst (λ (c : LaneCommand). Effect plain (in_column 0 c) after []) set shares.1).0)
-      by (inr charge) = (_, (subst (λ (c : LaneCommand). Effect plain (in_column 0 c) after []) charge shares.1).0)
+  shared_is = (_, shares.1.0)
 
   circuit_is : after.circuit ≡ plain.circuit
   circuit_is = ap (λ (s : SessionData). s.circuit) shared_is.1
 
-  -- what a column comes to by such a command
-  abbrev Given : ℕ → LaneCommand → Type 0
-  Given lane c =
-      Effect (one_column plain (states_in stage lane) count kept) (in_column lane c)
+  given : (lane : ℕ) → Effect (one_column plain (states_in stage lane) count kept) (in_column lane (Values kind list))
       (one_column after (assigned plain.circuit (states_in stage lane) (map (value_in lane) list)) count kept) []
-
-  given : (lane : ℕ) → Given lane command
-  given lane = by values
-    where
-      by : (command ≡ Set list) ⊎ (command ≡ Charge list) → Given lane command
-      by (inl set) =
-          subst (Given lane) (sym set)
-          (effect-set plain after (states_in stage lane) count kept lane list (subst (λ (c : LaneCommand). Effect plain (in_column 0 c) after []) set shares.1))
-      by (inr charge) =
-          subst (Given lane) (sym charge)
-          (effect-charge plain after (states_in stage lane) count kept lane list (subst (λ (c : LaneCommand). Effect plain (in_column 0 c) after []) charge shares.1))
+  given lane = effect-values plain after (states_in stage lane) count kept lane kind list shares.1
 
   given_effect : (lane : ℕ) → lane < stage.lanes →
-      Effect (session_in (data_of plain stage count kept) lane) (in_column lane command) (session_in (data_of after new count kept) lane) []
+      Effect (session_in (data_of plain stage count kept) lane) (in_column lane (Values kind list)) (session_in (data_of after new count kept) lane) []
   given_effect lane within =
-      subst (λ (state : List Tern). Effect (one_column plain (states_in stage lane) count kept) (in_column lane command) (one_column after state count kept) [])
+      subst (λ (state : List Tern). Effect (one_column plain (states_in stage lane) count kept) (in_column lane (Values kind list)) (one_column after state count kept) [])
       (sym (states lane within ∙ ap (λ (c : CircuitData). assigned c (states_in stage lane) (map (value_in lane) list)) circuit_is)) (given lane)
 
-  pub given_quietly : QuietlyTogether (data_of plain stage count kept) command (data_of after new count kept) (Ok tt)
-  given_quietly = done_quietly plain is stage clocks limit kept count inside after new command lanes shares.0 given_effect
+  pub given_quietly : QuietlyTogether (data_of plain stage count kept) (Values kind list) (data_of after new count kept) (Ok tt)
+  given_quietly = done_quietly plain is stage clocks limit kept count inside after new (Values kind list) lanes shares.0 given_effect
 
   pub given_inside : KeepsFit after.circuit.graph stage.machine new.machine → AreInside after new clocks limit kept
   given_inside keeps = record {
     clocks_are = inside.clocks_are ∙ sym (ap (λ (s : SessionData). s.clocks) shared_is.1);
     limit_is = inside.limit_is ∙ sym (ap (λ (s : SessionData). s.limit) shared_is.1);
-    sound = sound_after plain is stage clocks limit kept count inside after new command lanes shares.0 given_effect;
+    sound = sound_after plain is stage clocks limit kept count inside after new (Values kind list) lanes shares.0 given_effect;
     machine = serves_still after.circuit.graph kept stage.machine new.machine keeps
         (subst (λ (c : CircuitData). IfSome stage.machine (Serves c.graph kept)) (sym circuit_is) inside.machine);
   }

@@ -10,9 +10,10 @@ use Rattle.netlist.specs.Circuits.{CircuitData}
 use Rattle.group_text.specs.Texts.{GroupTextData}
 use Rattle.group_analysis.specs.Using.{used_texts}
 use Rattle.script_lang.specs.declared.command.Command.{Command}
-use Rattle.script_lang.specs.declared.command.Command.TheVariants as plain
+use Rattle.script_lang.specs.declared.command.Command.TheVariants as family
+use Rattle.script_lang.specs.declared.command.Run.TheVariants as run
 use Rattle.lane_script.specs.declared.command.LaneCommand.{LaneCommand}
-use Rattle.lane_script.specs.declared.command.LaneCommand.TheVariants.{Step, Phase, Cycle}
+use Rattle.lane_script.specs.declared.command.LaneCommand.TheVariants.{Shared}
 use Rattle.lane_script.specs.Commands.{in_column}
 use Rattle.oscillation_x.specs.declared.settling.Settled.{Settled}
 use Rattle.session_meaning.specs.declared.fault.Refusal.{Refusal}
@@ -215,23 +216,23 @@ module _ (old mid : HeldLanes) (command : LaneCommand) (asked told : List GroupT
 
 -- a front of the phases of a cycle was done in each column after a build
 cycle_begun : (old mid : HeldLanes) (times : ℕ) (asked told : List GroupTextData) (new : LaneSessionData) (before after : Option (List ℕ)) →
-    ((lane : ℕ) → lane < old.core.lanes → refusal_of (session_in old.core lane) (plain.Cycle times) ≡ None) → ReadiedTogether old mid asked told →
+    ((lane : ℕ) → lane < old.core.lanes → refusal_of (session_in old.core lane) (family.Run (run.Cycle times)) ≡ None) → ReadiedTogether old mid asked told →
     BeatsBegunTogether old.core.lanes (places_in (places_of mid.core.clocks) times) (session_in mid.core) (session_in new) before after →
-    BeginsTogether old.core (Cycle times) new before after asked told
+    BeginsTogether old.core (Shared (family.Run (run.Cycle times))) new before after asked told
 cycle_begun old mid times asked told new before after allowed ready begun =
-    begun_together old mid (Cycle times) asked told refl allowed ready new before after begun.end begun.lines begun.text begun.beats begun.rows begun.written begun.done
+    begun_together old mid (Shared (family.Run (run.Cycle times))) asked told refl allowed ready new before after begun.end begun.lines begun.text begun.beats begun.rows begun.written begun.done
 
 -- phases at the places of a cycle were done in each column after a build, or a front of them: the cycle is obeyed
 pub cycle_obeys : (old mid : HeldLanes) (times : ℕ) (asked told : List GroupTextData) (new : LaneSessionData) (before after : Option (List ℕ)) (refusals now : ℕ)
     (result : Result (Unit {0}) ApplyFault) →
-    ((lane : ℕ) → lane < old.core.lanes → refusal_of (session_in old.core lane) (plain.Cycle times) ≡ None) → ReadiedTogether old mid asked told →
+    ((lane : ℕ) → lane < old.core.lanes → refusal_of (session_in old.core lane) (family.Run (run.Cycle times)) ≡ None) → ReadiedTogether old mid asked told →
     TakesBeatsTogether old.core.lanes (places_in (places_of mid.core.clocks) times) (session_in mid.core) (session_in new) before after result → IfErr result IsSinkFault →
-    now ≡ refusals_sent refusals result → ObeysTogether old.core (Cycle times) new before after asked told refusals now result
+    now ≡ refusals_sent refusals result → ObeysTogether old.core (Shared (family.Run (run.Cycle times))) new before after asked told refusals now result
 cycle_obeys old mid times asked told new before after refusals now (Ok done) allowed ready beats cause counted = (
   record {
     text = beats.text;
     texts = ready.texts;
-    performs = built_together old mid (Cycle times) asked told refl allowed ready (session_in new) beats.lines beats.text beats.beats beats.rows;
+    performs = built_together old mid (Shared (family.Run (run.Cycle times))) asked told refl allowed ready (session_in new) beats.lines beats.text beats.beats beats.rows;
     grew = beats.grew;
     analysed = ready.analysed;
   },
@@ -249,15 +250,15 @@ cycle_obeys old mid times asked told new before after refusals now (Err NoMemory
 pub step_obeys : (old mid : HeldLanes) (counts : List Settled) (asked told : List GroupTextData) (new : LaneSessionData) (before after : Option (List ℕ)) (refusals now : ℕ)
     (result : Result (Unit {0}) ApplyFault) → counts ≡ replicate old.core.lanes (record { steps = 1; joined = false }) → ReadiedTogether old mid asked told →
     StepTaken mid.core new → SentText before after (row_text (wave_in new counts) new.lanes) result → IfErr result IsSinkFault → now ≡ refusals_sent refusals result →
-    ObeysTogether old.core Step new before after asked told refusals now result
+    ObeysTogether old.core (Shared (family.Run run.Step)) new before after asked told refusals now result
 step_obeys old mid counts asked told new before after refusals now result counted ready taken sent cause same =
     let lanes : mid.core.lanes ≡ old.core.lanes = lanes_stand old.core mid.core (used_texts ready.present old.core.kept) ready.stands in
     let all : new.lanes ≡ old.core.lanes = ap (λ (s : LaneSessionData). s.lanes) taken.rest ∙ lanes in
-    let effect : (lane : ℕ) → lane < old.core.lanes → Effect (session_in mid.core lane) plain.Step (session_in new lane) (wave_in new counts lane ∷ []) = λ lane inside.
+    let effect : (lane : ℕ) → lane < old.core.lanes → Effect (session_in mid.core lane) (family.Run run.Step) (session_in new lane) (wave_in new counts lane ∷ []) = λ lane inside.
     subst (λ (one : Settled). IsUnitStep (session_in mid.core lane) (session_in new lane) (wave_by (session_in new lane) one.steps one.joined ∷ []))
     (sym (ap (λ (list : List Settled). count_in list lane) counted ∙ single_counts old.core.lanes lane inside))
     (column_step mid.core new taken lane (subst (λ (n : ℕ). lane < n) (sym lanes) inside)) in
-    sent_obeys old mid Step asked told refl (λ lane inside. refl) ready new before after refusals now result (λ lane. wave_in new counts lane ∷ [])
+    sent_obeys old mid (Shared (family.Run run.Step)) asked told refl (λ lane inside. refl) ready new before after refusals now result (λ lane. wave_in new counts lane ∷ [])
     (row_text (wave_in new counts) new.lanes) effect (λ lane inside. (wave_in new counts lane ∷ [], effect lane inside))
     (subst (λ (n : ℕ). Interleaves old.core.lanes (λ lane. wave_in new counts lane ∷ []) (row_text (wave_in new counts) n)) (sym all)
     (rows-one old.core.lanes (wave_in new counts)))
@@ -266,13 +267,13 @@ step_obeys old mid counts asked told new before after refusals now result counte
 -- and so is a phase
 pub phase_obeys : (old mid : HeldLanes) (asked told : List GroupTextData) (new : LaneSessionData) (before after : Option (List ℕ)) (refusals now : ℕ)
     (result : Result (Unit {0}) ApplyFault) → ReadiedTogether old mid asked told → PhasesSent mid.core new before after result → IfErr result IsSinkFault →
-    now ≡ refusals_sent refusals result → ObeysTogether old.core Phase new before after asked told refusals now result
+    now ≡ refusals_sent refusals result → ObeysTogether old.core (Shared (family.Run run.Phase)) new before after asked told refusals now result
 phase_obeys old mid asked told new before after refusals now result ready phases cause same =
     let lanes : mid.core.lanes ≡ old.core.lanes = lanes_stand old.core mid.core (used_texts ready.present old.core.kept) ready.stands in
     let wave : ℕ → Line = wave_in new phases.counts in
-    let effect : (lane : ℕ) → lane < old.core.lanes → Effect (session_in mid.core lane) plain.Phase (session_in new lane) (wave lane ∷ []) = λ lane inside.
+    let effect : (lane : ℕ) → lane < old.core.lanes → Effect (session_in mid.core lane) (family.Run run.Phase) (session_in new lane) (wave lane ∷ []) = λ lane inside.
     column_phase mid.core new phases.counts phases.settled lane (subst (λ (n : ℕ). lane < n) (sym lanes) inside) in
-    sent_obeys old mid Phase asked told refl (λ lane inside. refl) ready new before after refusals now result (λ lane. wave lane ∷ [])
+    sent_obeys old mid (Shared (family.Run run.Phase)) asked told refl (λ lane inside. refl) ready new before after refusals now result (λ lane. wave lane ∷ [])
     (row_text wave mid.core.lanes) effect (λ lane inside. (wave lane ∷ [], effect lane inside))
     (subst (λ (n : ℕ). Interleaves old.core.lanes (λ lane. wave lane ∷ []) (row_text wave n)) (sym lanes) (rows-one old.core.lanes wave))
     phases.sent cause same

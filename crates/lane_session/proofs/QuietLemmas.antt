@@ -9,14 +9,19 @@ use Rattle.path_meaning.specs.Graphs.{nodes}
 use Rattle.netlist.specs.Circuits.{CircuitData, IsCircuit}
 use Rattle.group_text.specs.Texts.{GroupTextData}
 use Rattle.script_lang.specs.declared.command.Command.{Command}
+use Rattle.script_lang.specs.declared.command.Command.TheVariants as family
+use Rattle.script_lang.specs.declared.command.Setup.TheVariants.{Watch, Limit, Clock}
 use Rattle.lane_script.specs.declared.command.LaneCommand.{LaneCommand}
-use Rattle.lane_script.specs.declared.command.LaneCommand.TheVariants.{Set, Charge, Watch, Limit, Step, Phase, Clock, Cycle}
+use Rattle.lane_script.specs.declared.command.LaneCommand.TheVariants.{Values, Shared}
+use Rattle.lane_script.specs.declared.command.ValueCommand.{ValueCommand}
+use Rattle.lane_script.specs.declared.command.ValueCommand.TheVariants as value
 use Rattle.lane_script.specs.Commands.{in_column, value_in}
-use Rattle.lane_script.specs.Forms.{IsFormed, AreLaneValues, IsLaneValue}
+use Rattle.lane_script.specs.Forms.{AreLaneValues, IsLaneValue}
 use Rattle.session_meaning.specs.declared.fault.ApplyFault.{ApplyFault}
 use Rattle.session_meaning.specs.declared.fault.ApplyFault.TheVariants.{Refused, GroupNodes, GroupSwitches, WriteFault, NoMemory}
 use Rattle.session_meaning.specs.Sessions.{SessionData, HeldSession, ClockData, IsSession, start_of}
 use Rattle.session_meaning.specs.Refusals.{refusal_of}
+use Rattle.session_meaning.specs.Machines.{edits}
 use Rattle.session_meaning.specs.Preparing.{builds, BuildsIf}
 use Rattle.session_meaning.specs.Lines.{Line}
 use Rattle.session_meaning.specs.Effects.{Effect, clock_of}
@@ -26,7 +31,7 @@ use Rattle.session_meaning.proofs.EffectLemmas.{ready-start}
 use Rattle.session_meaning.proofs.RefusalLemmas.{set_known, charged_known}
 use Rattle.session_meaning.proofs.StateLemmas.{set_past, charged_past}
 use Rattle.lane_session.specs.LaneSessions.{LaneSessionData, session_in}
-use Rattle.lane_session.specs.Stages.{HeldLanes, StageData, states_in, AreSound, IsSoundState, Serves, AreInside, NamesFree, Shares, QuietlyTogether, one_column, with_columns, is_edit}
+use Rattle.lane_session.specs.Stages.{HeldLanes, StageData, states_in, AreSound, IsSoundState, Serves, AreInside, NamesFree, Shares, QuietlyTogether, one_column, with_columns, is_silent}
 use Rattle.lane_session.proofs.SharedLemmas.{effect-watch, effect-limit, effect-clock}
 use Rattle.lane_session.proofs.EditLemmas.{edit_does}
 use Rattle.lane_session.proofs.InsideLemmas.{unshared, unshared_inside, none_serves}
@@ -35,33 +40,38 @@ use Rattle.lane_session.proofs.ColumnStates.{data_of, same_itself}
 
 -- ---- the plain session
 
--- a command that builds nothing tells no lines
-quiet_effect : (command : LaneCommand) (old new : SessionData) (lines : List Line) → builds (in_column 0 command) ≡ false → Effect old (in_column 0 command) new lines →
-    Effect old (in_column 0 command) new []
-quiet_effect Step old new lines still effect = absurd (cc)
-quiet_effect Phase old new lines still effect = absurd (cc)
-quiet_effect (Cycle number) old new lines still effect = absurd (cc)
-quiet_effect other old new lines still effect = (effect.0, refl)
+-- a command that neither has the circuit built nor tells of what is there builds nothing
+pub silent_still : (command : Command) → is_silent command ≡ true → builds command ≡ false
+silent_still (family.Run run) silent = absurd (cc)
+silent_still other silent = refl
 
--- what a plain session does of a command that builds nothing, over a sink that takes everything
-pub obeys_shared : (old new : HeldSession) (command : LaneCommand) (before after : Option (List ℕ)) (asked told : List GroupTextData) (result : Result (Unit {0}) ApplyFault) →
-    builds (in_column 0 command) ≡ false → Obeys old (in_column 0 command) new before after asked told 0 0 result → 0 ≡ faults_applied 0 result →
-    Shares old.core (in_column 0 command) new.core result
-obeys_shared old new command before after asked told (Ok done) still (accepts, same) none =
+-- and tells no lines
+quiet_effect : (command : Command) (old new : SessionData) (lines : List Line) → is_silent command ≡ true → Effect old command new lines →
+    Effect old command new []
+quiet_effect (family.Edit edit) old new lines silent effect = (effect.0, refl)
+quiet_effect (family.Give give) old new lines silent effect = (effect.0, refl)
+quiet_effect (family.Setup setup) old new lines silent effect = (effect.0, refl)
+quiet_effect other old new lines silent effect = absurd (cc)
+
+-- what a plain session does of such a command, over a sink that takes everything
+pub obeys_shared : (old new : HeldSession) (command : Command) (before after : Option (List ℕ)) (asked told : List GroupTextData) (result : Result (Unit {0}) ApplyFault) →
+    is_silent command ≡ true → Obeys old command new before after asked told 0 0 result → 0 ≡ faults_applied 0 result →
+    Shares old.core command new.core result
+obeys_shared old new command before after asked told (Ok done) silent (accepts, same) none =
     let prepares : (accepts.performs.mid ≡ old.core) × (accepts.texts ≡ []) =
-    subst (λ (b : Bool). BuildsIf b old.core accepts.performs.mid accepts.texts) still accepts.performs.prepares in
+    subst (λ (b : Bool). BuildsIf b old.core accepts.performs.mid accepts.texts) (silent_still command silent) accepts.performs.prepares in
     let does = accepts.performs.does in
-    subst (λ (s : SessionData). (refusal_of s (in_column 0 command) ≡ None) × Effect s (in_column 0 command) new.core []) prepares.0
-    (does.allowed, quiet_effect command accepts.performs.mid new.core does.lines still does.effect)
-obeys_shared old new command before after asked told (Err (Refused refusal)) still (refuses, same) none =
+    subst (λ (s : SessionData). (refusal_of s command ≡ None) × Effect s command new.core []) prepares.0
+    (does.allowed, quiet_effect command accepts.performs.mid new.core does.lines silent does.effect)
+obeys_shared old new command before after asked told (Err (Refused refusal)) silent (refuses, same) none =
     (refuses.cause, ap (λ (s : HeldSession). s.core) refuses.keeps.same)
-obeys_shared old new command before after asked told (Err (GroupNodes node count)) still (refuses, same) none =
-    let both : true ≡ false = sym refuses.building ∙ still in absurd (cc)
-obeys_shared old new command before after asked told (Err (GroupSwitches node count)) still (refuses, same) none =
-    let both : true ≡ false = sym refuses.building ∙ still in absurd (cc)
-obeys_shared old new command before after asked told (Err WriteFault) still obeys none = absurd (omega (arith, none))
-obeys_shared old new command before after asked told (Err NoMemory) still (inl (stays, same)) none = stays.core
-obeys_shared old new command before after asked told (Err NoMemory) still (inr (begins, more)) none = absurd (omega (arith, more))
+obeys_shared old new command before after asked told (Err (GroupNodes node count)) silent (refuses, same) none =
+    let both : true ≡ false = sym refuses.building ∙ silent_still command silent in absurd (cc)
+obeys_shared old new command before after asked told (Err (GroupSwitches node count)) silent (refuses, same) none =
+    let both : true ≡ false = sym refuses.building ∙ silent_still command silent in absurd (cc)
+obeys_shared old new command before after asked told (Err WriteFault) silent obeys none = absurd (omega (arith, none))
+obeys_shared old new command before after asked told (Err NoMemory) silent (inl (stays, same)) none = stays.core
+obeys_shared old new command before after asked told (Err NoMemory) silent (inr (begins, more)) none = absurd (omega (arith, more))
 
 -- no fault of a sink ends a command that writes nothing
 pub quietly_faults : (old new : LaneSessionData) (command : LaneCommand) (faults : ℕ) (result : Result (Unit {0}) ApplyFault) → QuietlyTogether old command new result →
@@ -76,7 +86,7 @@ quietly_faults old new command faults (Err NoMemory) quietly = refl
 -- ---- edits
 
 -- there is room for the nodes that an edit makes
-pub room_for_edit : (plain after : SessionData) (command : LaneCommand) (high spare : ℕ) → is_edit command ≡ true → Effect plain (in_column 0 command) after [] →
+pub room_for_edit : (plain after : SessionData) (command : Command) (high spare : ℕ) → edits command ≡ true → Effect plain command after [] →
     nodes plain.circuit.graph ≤ high → 3 ≤ spare → nodes after.circuit.graph ≤ high + spare
 room_for_edit plain after command high spare edit effect words room = omega (arith, (edit_does plain after command edit effect).grown, words, room)
 
@@ -87,36 +97,26 @@ All-unmap : {X Y : Type 0} (P : X → Type 0) (f : Y → X) (ys : List Y) → Al
 All-unmap P f [] all = All-nil (λ y. P (f y))
 All-unmap P f (y ∷ ys) all = All-cons (λ y. P (f y)) y ys (all 0 (f y) (omega arith)) (All-unmap P f ys (λ k d inside. all (suc k) d (omega (arith, inside))))
 
-module _ (plain after : SessionData) (lanes : ℕ) (command : LaneCommand) (list : List (List ℕ × List Tern)) (values : (command ≡ Set list) ⊎ (command ≡ Charge list))
-  where
-    -- a value has one state, or one for each column
-    pub values_fit : IsFormed lanes command → All (λ item. (length item.1 ≡ 1) ⊎ (length item.1 ≡ lanes)) list
-    values_fit formed =
-        All-weaker (IsLaneValue lanes) (λ (item : List ℕ × List Tern). (length item.1 ≡ 1) ⊎ (length item.1 ≡ lanes)) (λ item is. is.states) list (by values).1
-      where
-        by : (command ≡ Set list) ⊎ (command ≡ Charge list) → AreLaneValues lanes list
-        by (inl set) = subst (IsFormed lanes) set formed
-        by (inr charge) = subst (IsFormed lanes) charge formed
+module _ (plain after : SessionData) (lanes : ℕ) (kind : ValueCommand) (list : List (List ℕ × List Tern)) where
+  -- a value has one state, or one for each column
+  pub values_fit : AreLaneValues lanes list → All (λ item. (length item.1 ≡ 1) ⊎ (length item.1 ≡ lanes)) list
+  values_fit formed =
+      All-weaker (IsLaneValue lanes) (λ (item : List ℕ × List Tern). (length item.1 ≡ 1) ⊎ (length item.1 ≡ lanes)) (λ item is. is.states) list formed.1
 
-    -- the names of values that aren't refused are in use, and no rails'
-    pub values_free : refusal_of plain (in_column 0 command) ≡ None → All (λ item. NamesFree plain.circuit item.0) list
-    values_free allowed = All-unmap (λ (item : List ℕ × Tern). NamesFree plain.circuit item.0) (value_in 0) list (free values)
-      where
-        free : (command ≡ Set list) ⊎ (command ≡ Charge list) → All (λ (item : List ℕ × Tern). NamesFree plain.circuit item.0) (map (value_in 0) list)
-        free (inl set) k d inside =
-            let none = sym (ap (λ (c : LaneCommand). refusal_of plain (in_column 0 c)) set) ∙ allowed in
-            (set_known plain.circuit (map (value_in 0) list) none k d inside, set_past plain.circuit (map (value_in 0) list) none k d inside)
-        free (inr charge) k d inside =
-            let none = sym (ap (λ (c : LaneCommand). refusal_of plain (in_column 0 c)) charge) ∙ allowed in
-            (charged_known plain.circuit (map (value_in 0) list) none k d inside, charged_past plain.circuit (map (value_in 0) list) none k d inside)
+  -- the names of values that aren't refused are in use, and no rails'
+  pub values_free : refusal_of plain (in_column 0 (Values kind list)) ≡ None → All (λ item. NamesFree plain.circuit item.0) list
+  values_free allowed = All-unmap (λ (item : List ℕ × Tern). NamesFree plain.circuit item.0) (value_in 0) list (free kind allowed)
+    where
+      free : (kind : ValueCommand) → refusal_of plain (in_column 0 (Values kind list)) ≡ None →
+          All (λ (item : List ℕ × Tern). NamesFree plain.circuit item.0) (map (value_in 0) list)
+      free value.Set none k d inside =
+          (set_known plain.circuit (map (value_in 0) list) none k d inside, set_past plain.circuit (map (value_in 0) list) none k d inside)
+      free value.Charge none k d inside =
+          (charged_known plain.circuit (map (value_in 0) list) none k d inside, charged_past plain.circuit (map (value_in 0) list) none k d inside)
 
-    -- the circuit stays
-    pub values_circuit : Effect plain (in_column 0 command) after [] → after.circuit ≡ plain.circuit
-    values_circuit effect = by values
-      where
-        by : (command ≡ Set list) ⊎ (command ≡ Charge list) → after.circuit ≡ plain.circuit
-        by (inl set) = ap (λ (s : SessionData). s.circuit) (subst (λ (c : LaneCommand). Effect plain (in_column 0 c) after []) set effect).0
-        by (inr charge) = ap (λ (s : SessionData). s.circuit) (subst (λ (c : LaneCommand). Effect plain (in_column 0 c) after []) charge effect).0
+  -- the circuit stays
+  pub values_circuit : Effect plain (in_column 0 (Values kind list)) after [] → after.circuit ≡ plain.circuit
+  values_circuit effect = ap (λ (s : SessionData). s.circuit) effect.0
 
 -- ---- the watch list, the clocks and the limit
 
@@ -137,11 +137,11 @@ unmoved_inside plain after stage clocks limit kept command fault inside shares =
     unshared_inside plain after stage stage clocks limit kept command fault inside (same_itself stage) shares (λ serves. serves)
 
 -- and so does one that sets the limit, which is the session's then too
-pub limit_inside : (plain after : SessionData) (stage : StageData) (clocks : List ClockData) (limit : ℕ) (kept : List GroupTextData) (command : LaneCommand)
-    (number : ℕ) → AreInside plain stage clocks limit kept → command ≡ Limit number → Effect plain (in_column 0 command) after [] →
+pub limit_inside : (plain after : SessionData) (stage : StageData) (clocks : List ClockData) (limit : ℕ) (kept : List GroupTextData) (command : Command)
+    (number : ℕ) → AreInside plain stage clocks limit kept → command ≡ family.Setup (Limit number) → Effect plain command after [] →
     AreInside after stage clocks number kept
 limit_inside plain after stage clocks limit kept command number inside limited done =
-    let effect : Effect plain (in_column 0 (Limit number)) after [] = subst (λ (c : LaneCommand). Effect plain (in_column 0 c) after []) limited done in
+    let effect : Effect plain (family.Setup (Limit number)) after [] = subst (λ (c : Command). Effect plain c after []) limited done in
     moved_apart plain after stage clocks clocks limit number kept inside (ap (λ (s : SessionData). s.circuit) effect.0)
     (inside.clocks_are ∙ sym (ap (λ (s : SessionData). s.clocks) effect.0)) (sym (ap (λ (s : SessionData). s.limit) effect.0))
 
@@ -150,59 +150,59 @@ abbrev held_of : SessionData → StageData → List GroupTextData → ℕ → He
 held_of plain stage kept count = record { core = data_of plain stage count kept; machine = stage.machine }
 
 module _ (plain after : SessionData) (is : IsSession plain) (stage : StageData) (clocks : List ClockData) (limit : ℕ) (kept : List GroupTextData) (count : ℕ)
-    (inside : AreInside plain stage clocks limit kept) (command : LaneCommand) where
+    (inside : AreInside plain stage clocks limit kept) (command : Command) where
   -- what such a command comes to in the columns
   abbrev Comes : Result (Unit {0}) ApplyFault → Type 0
-  Comes result = QuietlyTogether (data_of plain stage count kept) command (data_of after stage count kept) result
+  Comes result = QuietlyTogether (data_of plain stage count kept) (Shared command) (data_of after stage count kept) result
 
   -- its effect
-  abbrev Came : LaneCommand → ℕ → Type 0
-  Came c lane = Effect (one_column plain (states_in stage lane) count kept) (in_column lane c) (one_column after (states_in stage lane) count kept) []
+  abbrev Came : Command → ℕ → Type 0
+  Came c lane = Effect (one_column plain (states_in stage lane) count kept) c (one_column after (states_in stage lane) count kept) []
 
   -- where it has its effect in each column, it comes to that
-  came : (result : Result (Unit {0}) ApplyFault) → (Effect plain (in_column 0 command) after [] → (lane : ℕ) → Came command lane) →
-      Shares plain (in_column 0 command) after result → Comes result
+  came : (result : Result (Unit {0}) ApplyFault) → (Effect plain command after [] → (lane : ℕ) → Came command lane) →
+      Shares plain command after result → Comes result
   came (Ok done) effect shares =
-      done_quietly plain is stage clocks limit kept count inside after stage command refl shares.0 (λ lane within. effect shares.1 lane)
-  came (Err fault) effect shares = unshared plain after stage stage kept count command fault (same_itself stage) shares
+      done_quietly plain is stage clocks limit kept count inside after stage (Shared command) refl shares.0 (λ lane within. effect shares.1 lane)
+  came (Err fault) effect shares = unshared plain after stage stage kept count (Shared command) fault (same_itself stage) shares
 
   -- and so does one that is this command, in the session that is held
   module _ (held : HeldLanes) (view : held_of plain stage kept count ≡ held) where
-    came_as : (same : LaneCommand) → command ≡ same → (Effect plain (in_column 0 same) after [] → (lane : ℕ) → Came same lane) →
-        (result : Result (Unit {0}) ApplyFault) → Shares plain (in_column 0 command) after result →
-        QuietlyTogether held.core command (data_of after stage count kept) result
+    came_as : (same : Command) → command ≡ same → (Effect plain same after [] → (lane : ℕ) → Came same lane) →
+        (result : Result (Unit {0}) ApplyFault) → Shares plain command after result →
+        QuietlyTogether held.core (Shared command) (data_of after stage count kept) result
     came_as same is effect result shares =
-        subst (λ (s : HeldLanes). QuietlyTogether s.core command (data_of after stage count kept) result) view
+        subst (λ (s : HeldLanes). QuietlyTogether s.core (Shared command) (data_of after stage count kept) result) view
         (came result
         (λ done lane.
-        subst (λ (c : LaneCommand). Came c lane) (sym is) (effect (subst (λ (c : LaneCommand). Effect plain (in_column 0 c) after []) is done) lane))
+        subst (λ (c : Command). Came c lane) (sym is) (effect (subst (λ (c : Command). Effect plain c after []) is done) lane))
         shares)
 
-    pub watch_quietly : (names : List (List ℕ)) → command ≡ Watch names → (result : Result (Unit {0}) ApplyFault) →
-        Shares plain (in_column 0 command) after result → QuietlyTogether held.core command (data_of after stage count kept) result
-    watch_quietly names watch = came_as (Watch names) watch (λ effect lane. effect-watch plain after (states_in stage lane) count kept lane names effect)
+    pub watch_quietly : (names : List (List ℕ)) → command ≡ family.Setup (Watch names) → (result : Result (Unit {0}) ApplyFault) →
+        Shares plain command after result → QuietlyTogether held.core (Shared command) (data_of after stage count kept) result
+    watch_quietly names watch = came_as (family.Setup (Watch names)) watch (λ effect lane. effect-watch plain after (states_in stage lane) count kept lane names effect)
 
-    pub limit_quietly : (number : ℕ) → command ≡ Limit number → (result : Result (Unit {0}) ApplyFault) →
-        Shares plain (in_column 0 command) after result → QuietlyTogether held.core command (data_of after stage count kept) result
-    limit_quietly number limited = came_as (Limit number) limited (λ effect lane. effect-limit plain after (states_in stage lane) count kept lane number effect)
+    pub limit_quietly : (number : ℕ) → command ≡ family.Setup (Limit number) → (result : Result (Unit {0}) ApplyFault) →
+        Shares plain command after result → QuietlyTogether held.core (Shared command) (data_of after stage count kept) result
+    limit_quietly number limited = came_as (family.Setup (Limit number)) limited (λ effect lane. effect-limit plain after (states_in stage lane) count kept lane number effect)
 
-    pub clock_quietly : (list : List (List ℕ × List Tern)) → command ≡ Clock list → (result : Result (Unit {0}) ApplyFault) →
-        Shares plain (in_column 0 command) after result → QuietlyTogether held.core command (data_of after stage count kept) result
-    clock_quietly list clock = came_as (Clock list) clock (λ effect lane. effect-clock plain after (states_in stage lane) count kept lane list effect)
+    pub clock_quietly : (list : List (List ℕ × List Tern)) → command ≡ family.Setup (Clock list) → (result : Result (Unit {0}) ApplyFault) →
+        Shares plain command after result → QuietlyTogether held.core (Shared command) (data_of after stage count kept) result
+    clock_quietly list clock = came_as (family.Setup (Clock list)) clock (λ effect lane. effect-clock plain after (states_in stage lane) count kept lane list effect)
 
   -- and the parts are in step after each of them
-  pub watch_inside : (names : List (List ℕ)) → command ≡ Watch names → (result : Result (Unit {0}) ApplyFault) → Shares plain (in_column 0 command) after result →
+  pub watch_inside : (names : List (List ℕ)) → command ≡ family.Setup (Watch names) → (result : Result (Unit {0}) ApplyFault) → Shares plain command after result →
       AreInside after stage clocks limit kept
   watch_inside names watch (Ok done) shares =
-      let effect : Effect plain (in_column 0 (Watch names)) after [] = subst (λ (c : LaneCommand). Effect plain (in_column 0 c) after []) watch shares.1 in
+      let effect : Effect plain (family.Setup (Watch names)) after [] = subst (λ (c : Command). Effect plain c after []) watch shares.1 in
       moved_apart plain after stage clocks clocks limit limit kept inside (ap (λ (s : SessionData). s.circuit) effect.0)
       (inside.clocks_are ∙ sym (ap (λ (s : SessionData). s.clocks) effect.0)) (inside.limit_is ∙ sym (ap (λ (s : SessionData). s.limit) effect.0))
-  watch_inside names watch (Err fault) shares = unmoved_inside plain after stage clocks limit kept (in_column 0 command) fault inside shares
+  watch_inside names watch (Err fault) shares = unmoved_inside plain after stage clocks limit kept command fault inside shares
 
-  pub clock_inside : (list : List (List ℕ × List Tern)) (more : List ClockData) → command ≡ Clock list → more ≡ map (clock_of plain.circuit) list →
-      Effect plain (in_column 0 command) after [] → AreInside after stage more limit kept
+  pub clock_inside : (list : List (List ℕ × List Tern)) (more : List ClockData) → command ≡ family.Setup (Clock list) → more ≡ map (clock_of plain.circuit) list →
+      Effect plain command after [] → AreInside after stage more limit kept
   clock_inside list more clock named done =
-      let effect : Effect plain (in_column 0 (Clock list)) after [] = subst (λ (c : LaneCommand). Effect plain (in_column 0 c) after []) clock done in
+      let effect : Effect plain (family.Setup (Clock list)) after [] = subst (λ (c : Command). Effect plain c after []) clock done in
       moved_apart plain after stage clocks more limit limit kept inside (ap (λ (s : SessionData). s.circuit) effect.0)
       (named ∙ sym (ap (λ (s : SessionData). s.clocks) effect.0)) (inside.limit_is ∙ sym (ap (λ (s : SessionData). s.limit) effect.0))
 

@@ -2,8 +2,10 @@
 use Rattle.std.proofs.Common.{◌≡◌, ℕ, Bool, List, [], ◌∷◌, map, Option, refl, sym, ap, ◌∙◌}
 use Rattle.ternary.specs.declared.tern.Tern.{Tern}
 use Rattle.netlist.specs.Names.{node_of}
+use Rattle.script_lang.specs.declared.command.Command.TheVariants as family
 use Rattle.lane_script.specs.declared.command.LaneCommand.{LaneCommand}
-use Rattle.lane_script.specs.declared.command.LaneCommand.TheVariants.{Input, Set, Charge}
+use Rattle.lane_script.specs.declared.command.LaneCommand.TheVariants.{Values, Shared}
+use Rattle.lane_script.specs.declared.command.ValueCommand.TheVariants as value
 use Rattle.lane_script.specs.Commands.{in_column, value_in}
 use Rattle.session_meaning.specs.declared.fault.Refusal.{Refusal}
 use Rattle.session_meaning.specs.Sessions.{SessionData}
@@ -24,13 +26,14 @@ module _ (session : SessionData) (state : List Tern) (limit count : ℕ) (missed
   beside = record session { state = state; limit = limit; count = count; missed = missed; bound = bound; kept = kept; fresh = fresh }
 
   pub refused_alike : (command : LaneCommand) (lane other : ℕ) → refusal_of beside (in_column lane command) ≡ refusal_of session (in_column other command)
-  refused_alike (Set list) lane other =
+  refused_alike (Values value.Set list) lane other =
       first_refusal-map (value_in lane) (λ item. set_refusal session.circuit (node_of session.circuit.names item.0)) list
       ∙ sym (first_refusal-map (value_in other) (λ item. set_refusal session.circuit (node_of session.circuit.names item.0)) list)
-  refused_alike (Charge list) lane other =
+  refused_alike (Values value.Charge list) lane other =
       first_refusal-map (value_in lane) (λ item. charge_refusal session.circuit (node_of session.circuit.names item.0)) list
       ∙ sym (first_refusal-map (value_in other) (λ item. charge_refusal session.circuit (node_of session.circuit.names item.0)) list)
-  refused_alike command lane other = refl
+  refused_alike (Shared (family.Edit edit)) lane other = refl
+  refused_alike (Shared command) lane other = refl
 
 -- so all columns refuse a command alike
 pub columns_refuse : ColumnsRefuseAlike
@@ -40,5 +43,5 @@ columns_refuse session command lane other =
 
 -- whether a command builds doesn't depend on the column
 pub builds_alike : (command : LaneCommand) (lane other : ℕ) → builds (in_column lane command) ≡ builds (in_column other command)
-builds_alike (Input names) lane other = refl
-builds_alike command lane other = refl
+builds_alike (Values kind list) lane other = refl
+builds_alike (Shared command) lane other = refl

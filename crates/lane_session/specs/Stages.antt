@@ -1,6 +1,6 @@
 -- The states of all columns in words, and the machine that moves them, where there is one: what calls inside the session do to both.
 use Rattle.std.specs.Io.KnownBytes.{append_known}
-use Rattle.std.specs.Prelude.{◌≡◌, ℕ, ◌+◌, ◌-◌, ◌*◌, ◌<◌, ◌≤◌, Bool, List, [], ◌++◌, length, map, min, slice_index_or, Option, None, Some, Result, Ok, Err, IfSome, IfNone, is_some, true, vec_len, vec_capacity}
+use Rattle.std.specs.Prelude.{◌≡◌, ℕ, ◌+◌, ◌-◌, ◌*◌, ◌<◌, ◌≤◌, Bool, List, [], ◌++◌, length, map, min, slice_index_or, Option, None, Some, Result, Ok, Err, IfSome, IfNone, is_some, true, false, vec_len, vec_capacity}
 use Rattle.ternary.specs.declared.tern.Tern.{Tern}
 use Rattle.ternary.specs.Tern.{may_one, may_zero}
 use Rattle.path_meaning.specs.Graphs.{GraphData, nodes}
@@ -26,6 +26,7 @@ use Rattle.lane_machine.specs.Columns.{LaneData, column, FitsInLanes}
 use Rattle.lane_machine.specs.Running.{AreColumns}
 use Rattle.batch_lanes.specs.Settling.{none_yet}
 use Rattle.script_lang.specs.declared.command.Command.{Command}
+use Rattle.script_lang.specs.declared.command.Command.TheVariants as family
 use Rattle.lane_script.specs.declared.command.LaneCommand.{LaneCommand}
 use Rattle.lane_script.specs.Commands.{in_column}
 use Rattle.port_edge.specs.Sending.{WritesPart}
@@ -34,7 +35,6 @@ use Rattle.session_meaning.specs.declared.fault.ApplyFault.TheVariants.{Refused,
 use Rattle.session_meaning.specs.Sessions.{SessionData, ClockData}
 use Rattle.session_meaning.specs.Refusals.{refusal_of}
 use Rattle.session_meaning.specs.Lines.{Line, Wave}
-use Rattle.session_meaning.specs.Machines.{edits}
 use Rattle.session_meaning.specs.Effects.{Effect, AreBeats, one_more, states_with, wave_by}
 use Rattle.session_meaning.specs.Outcomes.{FrontDone}
 use Rattle.lane_session.specs.declared.rows.TheConstants.{LANE_LINE_ROOM}
@@ -203,9 +203,12 @@ Shares old command new (Err (GroupSwitches node count)) = ⊥
 Shares old command new (Err NoMemory) = new ≡ record old { kept = new.kept }
 Shares old command new (Err WriteFault) = ⊥
 
--- the command edits the circuit, whatever the column
-abbrev pub is_edit : LaneCommand → Bool
-is_edit command = edits (in_column 0 command)
+-- the command neither has the circuit built nor tells of what is there
+abbrev pub is_silent : Command → Bool
+is_silent (family.Edit edit) = true
+is_silent (family.Give give) = true
+is_silent (family.Setup setup) = true
+is_silent other = false
 
 -- what a command that builds nothing and writes nothing comes to in columns
 abbrev pub QuietlyTogether : LaneSessionData → LaneCommand → LaneSessionData → Result (Unit {0}) ApplyFault → Type 0

@@ -13,6 +13,7 @@ use cosmos_session::{ApplyFault, Clock, FIRST_LIMIT, Session};
 use lane_script::LaneCommand;
 use netlist::Circuit;
 use port_edge::Sink;
+use script_lang::Command;
 use std::alloc::Global;
 use std::marker::Model;
 use ternary::NoMemory;
@@ -129,21 +130,12 @@ impl LaneSession {
         ensures lanes { self.new.core.lanes ≡ self.old.core.lanes }
     {
         match command {
-            LaneCommand::Step => self.step(analyst, out),
-            LaneCommand::Phase => self.phase(analyst, out),
-            LaneCommand::Cycle(times) => self.cycle(*times, analyst, out),
-            LaneCommand::Set(_)
-            | LaneCommand::Charge(_)
-            | LaneCommand::Clock(_)
-            | LaneCommand::Limit(_)
-            | LaneCommand::Watch(_)
-            | LaneCommand::Input(_)
-            | LaneCommand::Store(_, _)
-            | LaneCommand::Add { .. }
-            | LaneCommand::Del(_)
-            | LaneCommand::Strength(_, _)
-            | LaneCommand::Kind(_, _)
-            | LaneCommand::Wire { .. } => self.stay(command),
+            LaneCommand::Shared(Command::Run(run)) => self.run(run, analyst, out),
+            LaneCommand::Values(_, _)
+            | LaneCommand::Shared(Command::Edit(_))
+            | LaneCommand::Shared(Command::Give(_))
+            | LaneCommand::Shared(Command::Setup(_)) => self.stay(command),
+            LaneCommand::Shared(Command::Tell(_)) => unreachable!(),
         }
     }
 }

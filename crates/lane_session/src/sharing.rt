@@ -1,15 +1,17 @@
 //! The commands that take no step: the plain session obeys them for all columns, and tells their refusals.
 
-ghost use Rattle.std.specs.Prelude.{◌≡◌, ◌⊎◌, ℕ, ◌<◌, true, false, length, map, All, IfOk};
+ghost use Rattle.std.specs.Prelude.{◌≡◌, ◌⊎◌, ℕ, ◌<◌, true, length, map, All, IfOk};
 ghost use Rattle.path_meaning.specs.Graphs.{nodes};
 ghost use Rattle.script_lang.specs.Forms as form;
-ghost use Rattle.lane_script.specs.declared.command.LaneCommand.TheVariants as asked;
-ghost use Rattle.lane_script.specs.Commands.{in_column, value_in};
+ghost use Rattle.script_lang.specs.declared.command.Command.TheVariants as family;
+ghost use Rattle.script_lang.specs.declared.command.Setup.TheVariants as asked;
+ghost use Rattle.lane_script.specs.declared.command.LaneCommand.TheVariants.{Values, Shared};
+ghost use Rattle.lane_script.specs.Commands.{in_column, value_in, IsShared, IsSharedSetup};
 ghost use Rattle.lane_script.specs.Forms.{IsFormed};
 ghost use Rattle.session_meaning.specs.Sessions.{IsSession};
-ghost use Rattle.session_meaning.specs.Preparing.{builds};
+ghost use Rattle.session_meaning.specs.Machines.{edits};
 ghost use Rattle.session_meaning.specs.Effects.{assigned, clock_of};
-ghost use Rattle.lane_session.specs.Stages.{AreSound, KeepsFit, NamesFree, Shares, QuietlyTogether, is_edit, states_in};
+ghost use Rattle.lane_session.specs.Stages.{AreSound, KeepsFit, NamesFree, Shares, QuietlyTogether, is_silent, states_in};
 
 use crate::given::first_given;
 use crate::session::LaneSession;
@@ -17,10 +19,10 @@ use crate::stage::LaneStage;
 use crate::unasked::Unasked;
 use crate::words::value_words;
 use cosmos_session::{ApplyFault, Clock, Session};
-use lane_script::LaneCommand;
+use lane_script::{LaneCommand, ValueCommand};
 use netlist::Circuit;
 use port_edge::DropSink;
-use script_lang::{ClockList, Name, NameList, StateList};
+use script_lang::{ClockList, Command, Name, NameList, Setup, StateList};
 use std::alloc::Global;
 use ternary::NoMemory;
 
@@ -28,106 +30,119 @@ impl LaneSession {
     /// Does a command that takes no step, in each column.
     pub(crate) fn stay(&mut self, command: &LaneCommand) -> Result<(), ApplyFault>
         requires formed { IsFormed self.old.core.lanes command.now }
-        requires first { form.IsFormed (in_column 0 command.now) }
-        requires still { builds (in_column 0 command.now) ≡ false }
+        requires silent { is_silent (in_column 0 command.now) ≡ true }
         ensures { QuietlyTogether self.old.core command.now self.new.core result }
     {
         match command {
-            LaneCommand::Set(list) | LaneCommand::Charge(list) => self.assign(command, list),
-            LaneCommand::Clock(list) => self.set_clocks(command, list),
-            LaneCommand::Limit(number) => self.set_limit(command, *number),
-            LaneCommand::Watch(names) => self.watch(command, names),
-            LaneCommand::Input(_)
-            | LaneCommand::Store(_, _)
-            | LaneCommand::Add { .. }
-            | LaneCommand::Del(_)
-            | LaneCommand::Strength(_, _)
-            | LaneCommand::Kind(_, _)
-            | LaneCommand::Wire { .. } => self.edit(command),
-            LaneCommand::Step | LaneCommand::Phase | LaneCommand::Cycle(_) => unreachable!(),
+            LaneCommand::Values(kind, list) => self.assign(*kind, list),
+            LaneCommand::Shared(shared) => self.stay_alike(shared),
+        }
+    }
+
+    // Does one that is the same in each column.
+    fn stay_alike(&mut self, shared: &Command) -> Result<(), ApplyFault>
+        requires formed { form.IsFormed shared.now × IsShared shared.now }
+        requires silent { is_silent shared.now ≡ true }
+        ensures { QuietlyTogether self.old.core (Shared shared.now) self.new.core result }
+    {
+        match shared {
+            Command::Edit(_) => self.edit(shared),
+            Command::Setup(setup) => self.set_up(shared, setup),
+            Command::Give(_) | Command::Run(_) | Command::Tell(_) => unreachable!(),
         }
     }
 
     // An edit of the circuit. Each node that is new is X in each column.
-    fn edit(&mut self, command: &LaneCommand) -> Result<(), ApplyFault>
-        requires first { form.IsFormed (in_column 0 command.now) }
-        requires still { builds (in_column 0 command.now) ≡ false }
-        requires edit { is_edit command.now ≡ true }
-        ensures { QuietlyTogether self.old.core command.now self.new.core result }
+    fn edit(&mut self, shared: &Command) -> Result<(), ApplyFault>
+        requires formed { form.IsFormed shared.now }
+        requires silent { is_silent shared.now ≡ true }
+        requires edit { edits shared.now ≡ true }
+        ensures { QuietlyTogether self.old.core (Shared shared.now) self.new.core result }
     {
         // a call for the proof alone: there is a column, which has a state for each node
         let _some = self.stage.lanes();
         self.stage.loosen(self.alloc)?;
-        share(self.alloc, command, &mut self.plain)?;
+        share(shared, &mut self.plain)?;
         self.stage.grow(self.plain.circuit().graph().nodes());
         Ok(())
     }
 
     // `set` and `charge`: gives the named nodes their states in each column, from left to right.
     #[tactic(auto, using(crate::proofs::QuietLemmas::unmoved_inside, crate::proofs::QuietLemmas::unmoved_quietly))]
-    fn assign(&mut self, command: &LaneCommand, list: &ClockList) -> Result<(), ApplyFault>
-        requires formed { IsFormed self.old.core.lanes command.now }
-        requires first { form.IsFormed (in_column 0 command.now) }
-        requires still { builds (in_column 0 command.now) ≡ false }
-        requires values { (command.now ≡ asked.Set list.now) ⊎ (command.now ≡ asked.Charge list.now) }
-        ensures { QuietlyTogether self.old.core command.now self.new.core result }
+    fn assign(&mut self, kind: ValueCommand, list: &ClockList) -> Result<(), ApplyFault>
+        requires formed { IsFormed self.old.core.lanes (Values kind list.now) }
+        ensures { QuietlyTogether self.old.core (Values kind list.now) self.new.core result }
     {
-        share(self.alloc, command, &mut self.plain)?;
+        let first = first_given(self.alloc, kind, list.items())?;
+        share(&first, &mut self.plain)?;
         assign_all(self.plain.circuit(), list.items(), &mut self.stage);
         Ok(())
     }
 
+    // Sets what later commands go by, which is the same in each column.
+    fn set_up(&mut self, shared: &Command, setup: &Setup) -> Result<(), ApplyFault>
+        requires formed { form.IsFormed shared.now × IsSharedSetup setup.now }
+        requires setup { shared.now ≡ family.Setup setup.now }
+        ensures { QuietlyTogether self.old.core (Shared shared.now) self.new.core result }
+    {
+        match setup {
+            Setup::Watch(names) => self.watch(shared, names),
+            Setup::Limit(number) => self.set_limit(shared, *number),
+            Setup::Clock(list) => self.set_clocks(shared, list),
+            Setup::Keep(_) => unreachable!(),
+        }
+    }
+
     // `watch`: appends the named nodes to the watch list.
-    fn watch(&mut self, command: &LaneCommand, names: &NameList) -> Result<(), ApplyFault>
-        requires first { form.IsFormed (in_column 0 command.now) }
-        requires still { builds (in_column 0 command.now) ≡ false }
-        requires names { command.now ≡ asked.Watch names.now }
-        ensures { QuietlyTogether self.old.core command.now self.new.core result }
+    fn watch(&mut self, shared: &Command, names: &NameList) -> Result<(), ApplyFault>
+        requires formed { form.IsFormed shared.now }
+        requires silent { is_silent shared.now ≡ true }
+        requires names { shared.now ≡ family.Setup (asked.Watch names.now) }
+        ensures { QuietlyTogether self.old.core (Shared shared.now) self.new.core result }
     {
         let _ = names;
-        share(self.alloc, command, &mut self.plain)
+        share(shared, &mut self.plain)
     }
 
     // `limit`: sets the limit of a phase.
     #[tactic(auto, using(crate::proofs::QuietLemmas::unmoved_inside, crate::proofs::QuietLemmas::unmoved_quietly, crate::proofs::QuietLemmas::limit_inside, crate::proofs::QuietLemmas::limit_quietly))]
-    fn set_limit(&mut self, command: &LaneCommand, limit: u64) -> Result<(), ApplyFault>
-        requires first { form.IsFormed (in_column 0 command.now) }
-        requires still { builds (in_column 0 command.now) ≡ false }
-        requires limit { command.now ≡ asked.Limit limit }
-        ensures { QuietlyTogether self.old.core command.now self.new.core result }
+    fn set_limit(&mut self, shared: &Command, limit: u64) -> Result<(), ApplyFault>
+        requires formed { form.IsFormed shared.now }
+        requires silent { is_silent shared.now ≡ true }
+        requires limit { shared.now ≡ family.Setup (asked.Limit limit) }
+        ensures { QuietlyTogether self.old.core (Shared shared.now) self.new.core result }
     {
-        share(self.alloc, command, &mut self.plain)?;
+        share(shared, &mut self.plain)?;
         self.limit = limit;
         Ok(())
     }
 
     // `clock`: puts these clocks in place of all others.
     #[tactic(auto, using(crate::proofs::QuietLemmas::unmoved_inside, crate::proofs::QuietLemmas::unmoved_quietly, crate::proofs::QuietLemmas::clock_quietly))]
-    fn set_clocks(&mut self, command: &LaneCommand, list: &ClockList) -> Result<(), ApplyFault>
-        requires first { form.IsFormed (in_column 0 command.now) }
-        requires still { builds (in_column 0 command.now) ≡ false }
-        requires clocks { command.now ≡ asked.Clock list.now }
-        ensures { QuietlyTogether self.old.core command.now self.new.core result }
+    fn set_clocks(&mut self, shared: &Command, list: &ClockList) -> Result<(), ApplyFault>
+        requires formed { form.IsFormed shared.now }
+        requires silent { is_silent shared.now ≡ true }
+        requires clocks { shared.now ≡ family.Setup (asked.Clock list.now) }
+        ensures { QuietlyTogether self.old.core (Shared shared.now) self.new.core result }
     {
         let clocks = named_clocks(self.alloc, self.plain.circuit(), list.items())?;
-        share(self.alloc, command, &mut self.plain)?;
+        share(shared, &mut self.plain)?;
         self.clocks = clocks;
         Ok(())
     }
 }
 
 // Has the plain session obey what the first column is given of a command that takes no step.
-fn share(alloc: Global, command: &LaneCommand, plain: &mut Session) -> Result<(), ApplyFault>
-    requires formed { form.IsFormed (in_column 0 command.now) }
-    requires still { builds (in_column 0 command.now) ≡ false }
-    ensures shares { Shares plain.old.core (in_column 0 command.now) plain.new.core result }
+fn share(first: &Command, plain: &mut Session) -> Result<(), ApplyFault>
+    requires formed { form.IsFormed first.now }
+    requires silent { is_silent first.now ≡ true }
+    ensures shares { Shares plain.old.core first.now plain.new.core result }
     ensures before { IsSession plain.old.core }
     ensures after { IsSession plain.new.core }
 {
     // a call for the proof alone: a session keeps itself well formed
     let _circuit = plain.circuit();
-    let given = first_given(alloc, command)?;
-    plain.apply(&given, &mut Unasked {}, &mut DropSink::new())
+    plain.apply(first, &mut Unasked {}, &mut DropSink::new())
 }
 
 // Gives these named nodes, which are in use and no rails, their states in each column, from left to right.

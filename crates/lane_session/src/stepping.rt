@@ -4,8 +4,11 @@ ghost use Rattle.std.specs.Prelude.{false, ◌≡◌, ℕ, ◌<◌, ◌≤◌, l
 ghost use Rattle.std.specs.List.{range_with_len};
 ghost use Rattle.path_meaning.specs.Graphs.{level_of, nodes};
 ghost use Rattle.path_meaning.specs.declared.TheConstants.{RAILS};
-ghost use Rattle.script_lang.specs.Forms.{IsTimes};
-ghost use Rattle.lane_script.specs.declared.command.LaneCommand.TheVariants as asked;
+ghost use Rattle.script_lang.specs.declared.command.Command.TheVariants as family;
+ghost use Rattle.script_lang.specs.declared.command.Run.TheVariants as asked;
+ghost use Rattle.script_lang.specs.Forms.{IsFormedRun, IsTimes};
+ghost use Rattle.lane_script.specs.declared.command.LaneCommand.TheVariants.{Shared};
+ghost use Rattle.lane_script.specs.Commands.{IsSharedRun};
 ghost use Rattle.session_meaning.specs.Sessions.{IsReady, places_of};
 ghost use Rattle.session_meaning.specs.Effects.{places_in, states_with};
 ghost use Rattle.session_meaning.specs.Sinks.{IsSinkFault, faults_applied, refusals_sent};
@@ -23,19 +26,37 @@ use cosmos_session::{ApplyFault, Clock, cycle_refusal, places_of};
 use oscillation_x::Settled;
 use path_meaning::Graph;
 use port_edge::Sink;
+use script_lang::Run;
 use std::alloc::AllocError;
 use strength_order::INPUT_LEVEL;
 use ternary::NoMemory;
 
 impl LaneSession {
-    /// `step`: one unit step in each column, and a row of waveform lines.
-    #[tactic(auto, using(crate::proofs::OutcomeLemmas::unready_obeys, crate::proofs::OutcomeLemmas::readies_faults))]
-    pub(crate) fn step<A: Analyst, S: Sink>(
+    /// Has the circuit built, and does in each column what the command says.
+    pub(crate) fn run<A: Analyst, S: Sink>(
         &mut self,
+        run: &Run,
         analyst: &mut A,
         out: &mut S,
     ) -> Result<(), ApplyFault>
-        ensures obeys { ObeysTogether self.old.core asked.Step self.new.core (S.written out.old) (S.written out.new)
+        requires { IsFormedRun run.now × IsSharedRun run.now }
+        ensures obeys { ObeysTogether self.old.core (Shared (family.Run run.now)) self.new.core (S.written out.old) (S.written out.new)
+            (A.analysed analyst.old) (A.analysed analyst.new) (S.refusals out.old) (S.refusals out.new) result }
+        ensures faults { S.faults out.new ≡ faults_applied (S.faults out.old) result }
+        ensures lanes { self.new.core.lanes ≡ self.old.core.lanes }
+    {
+        match run {
+            Run::Step => self.step(analyst, out),
+            Run::Phase => self.phase(analyst, out),
+            Run::Cycle(times) => self.cycle(*times, analyst, out),
+            Run::Report => unreachable!(),
+        }
+    }
+
+    // `step`: one unit step in each column, and a row of waveform lines.
+    #[tactic(auto, using(crate::proofs::OutcomeLemmas::unready_obeys, crate::proofs::OutcomeLemmas::readies_faults))]
+    fn step<A: Analyst, S: Sink>(&mut self, analyst: &mut A, out: &mut S) -> Result<(), ApplyFault>
+        ensures obeys { ObeysTogether self.old.core (Shared (family.Run asked.Step)) self.new.core (S.written out.old) (S.written out.new)
             (A.analysed analyst.old) (A.analysed analyst.new) (S.refusals out.old) (S.refusals out.new) result }
         ensures faults { S.faults out.new ≡ faults_applied (S.faults out.old) result }
         ensures lanes { self.new.core.lanes ≡ self.old.core.lanes }
@@ -45,15 +66,11 @@ impl LaneSession {
         self.send_row(&counts, &mut room, out)
     }
 
-    /// `phase`: in each column unit steps until nothing changes, past the limit joining ones, and a row of
-    /// waveform lines.
+    // `phase`: in each column unit steps until nothing changes, past the limit joining ones, and a row of
+    // waveform lines.
     #[tactic(auto, using(crate::proofs::OutcomeLemmas::unready_obeys, crate::proofs::OutcomeLemmas::readies_faults))]
-    pub(crate) fn phase<A: Analyst, S: Sink>(
-        &mut self,
-        analyst: &mut A,
-        out: &mut S,
-    ) -> Result<(), ApplyFault>
-        ensures obeys { ObeysTogether self.old.core asked.Phase self.new.core (S.written out.old) (S.written out.new)
+    fn phase<A: Analyst, S: Sink>(&mut self, analyst: &mut A, out: &mut S) -> Result<(), ApplyFault>
+        ensures obeys { ObeysTogether self.old.core (Shared (family.Run asked.Phase)) self.new.core (S.written out.old) (S.written out.new)
             (A.analysed analyst.old) (A.analysed analyst.new) (S.refusals out.old) (S.refusals out.new) result }
         ensures faults { S.faults out.new ≡ faults_applied (S.faults out.old) result }
         ensures lanes { self.new.core.lanes ≡ self.old.core.lanes }
@@ -62,17 +79,17 @@ impl LaneSession {
         self.settle_and_send(&mut counts, &mut room, out)
     }
 
-    /// `cycle`: so many times, for each place of the clocks in order, sets their nodes in each column and does
-    /// what a phase does.
+    // `cycle`: so many times, for each place of the clocks in order, sets their nodes in each column and does
+    // what a phase does.
     #[tactic(auto, using(crate::proofs::OutcomeLemmas::unready_obeys, crate::proofs::OutcomeLemmas::readies_faults))]
-    pub(crate) fn cycle<A: Analyst, S: Sink>(
+    fn cycle<A: Analyst, S: Sink>(
         &mut self,
         times: u64,
         analyst: &mut A,
         out: &mut S,
     ) -> Result<(), ApplyFault>
         requires { IsTimes times }
-        ensures obeys { ObeysTogether self.old.core (asked.Cycle times) self.new.core (S.written out.old) (S.written out.new)
+        ensures obeys { ObeysTogether self.old.core (Shared (family.Run (asked.Cycle times))) self.new.core (S.written out.old) (S.written out.new)
             (A.analysed analyst.old) (A.analysed analyst.new) (S.refusals out.old) (S.refusals out.new) result }
         ensures faults { S.faults out.new ≡ faults_applied (S.faults out.old) result }
         ensures lanes { self.new.core.lanes ≡ self.old.core.lanes }

@@ -17,14 +17,20 @@ use Rattle.script_lang.specs.declared.TheConstants.{MOST_TIMES}
 use Rattle.script_lang.specs.declared.verb.Verb.{Verb}
 use Rattle.script_lang.specs.declared.verb.Verb.TheVariants as verb
 use Rattle.script_lang.specs.declared.command.Command.{Command}
-use Rattle.script_lang.specs.declared.command.Command.TheVariants.{Input, Store, Set, Charge, Watch, Limit, Step, Phase, Clock, Cycle, Expect, Add, Del, Strength, Kind, Wire, Report, Keep}
+use Rattle.script_lang.specs.declared.command.Command.TheVariants as family
+use Rattle.script_lang.specs.declared.command.Edit.{Edit}
+use Rattle.script_lang.specs.declared.command.Edit.TheVariants.{Input, Store, Add, Del, Strength, Kind, Wire}
+use Rattle.script_lang.specs.declared.command.Give.TheVariants.{Set, Charge}
+use Rattle.script_lang.specs.declared.command.Setup.TheVariants.{Watch, Limit, Clock, Keep}
+use Rattle.script_lang.specs.declared.command.Run.TheVariants.{Step, Phase, Cycle, Report}
+use Rattle.script_lang.specs.declared.command.Tell.TheVariants.{Expect}
 use Rattle.script_lang.specs.declared.command.ScriptFault.{ScriptFault}
 use Rattle.script_lang.specs.declared.command.ScriptFault.TheVariants.{BadValue, BadNumber}
 use Rattle.script_lang.specs.Parts.{all_of, assignment_of, beats_of, is_equals, parts_of, state_of, states_of, times_of, times_within}
-use Rattle.script_lang.specs.Commands.{add_with, alone, by_terminals, assignments_given, clocks_given, command_by, commanded, commanded_by, del_by, kind_by, kind_given, names_given, number_given, reading_of_words, some_command, store_by, strength_by, times_given, verb_of, wire_with}
-use Rattle.script_lang.specs.Forms.{AreAssignments, AreBeats, AreNames, AreTerminalNames, IsFormed, IsTimes}
+use Rattle.script_lang.specs.Commands.{add_by, add_with, by_terminals, assignments_given, clocks_given, command_by, commanded, commanded_by, del_by, kind_by, kind_given, names_given, number_given, reading_of_words, some_command, store_by, strength_by, times_given, verb_of, wire_by, wire_with}
+use Rattle.script_lang.specs.Forms.{AreAssignments, AreBeats, AreNames, AreTerminalNames, IsFormed, IsFormedEdit, IsTimes}
 use Rattle.line_words.specs.Visible.{IsVisibleName}
-use Rattle.script_lang.proofs.GivenLemmas.{pair_given, terminals_given}
+use Rattle.script_lang.proofs.GivenLemmas.{holds_alone, holds_in, holds_of, holds_of_two, pair_given, terminals_given}
 
 -- ---- what words give
 
@@ -95,18 +101,6 @@ named_beats word item is found =
 
 -- ---- commands
 
--- what a command was made of
-made_of : {X : Type 0} (command : X → Command) (given : Result X ScriptFault) (made : Command) →
-    commanded command given ≡ Ok made → (x : X) × (given ≡ Ok x) × (command x ≡ made)
-made_of command (Ok x) made is = (x, refl, cc)
-made_of command (Err fault) made is = cc
-
--- what a command was made of is well formed, and so it is
-formed_of : {X : Type 0} (command : X → Command) (given : Result X ScriptFault) (made : Command) → ((x : X) → given ≡ Ok x → IsFormed (command x)) →
-    commanded command given ≡ Ok made → IsFormed made
-formed_of command given made each is =
-    let of = made_of command given made is in subst IsFormed of.2 (each of.0 of.1)
-
 -- what is there was there
 pub given_some : {X : Type 0} (found : Option X) (fault : ScriptFault) (x : X) → ok_or found fault ≡ Ok x → found ≡ Some x
 given_some None fault x is = cc
@@ -144,24 +138,12 @@ formed_times (word ∷ []) number is = in_range (decimal_of word) (given_some (t
         let bounds = and_parts (nat_le 1 n) (nat_le n MOST_TIMES) both.0 in
         subst IsTimes both.1 (leb-true 1 n bounds.0, leb-true n MOST_TIMES bounds.1)
 
--- a command that is given nothing stays as it is
-formed_alone : (command : Command) (words : List (List ℕ)) (made : Command) → IsFormed command → alone command words ≡ Ok made → IsFormed made
-formed_alone command [] made formed is = subst IsFormed (let same : command ≡ made = cc in same) formed
-formed_alone command (word ∷ words) made formed is = cc
-
 -- the name of `store` is a word
-formed_store : (words : List (List ℕ)) (made : Command) → All IsVisibleName words → store_by words ≡ Ok made → IsFormed made
+formed_store : (words : List (List ℕ)) (made : Edit) → All IsVisibleName words → store_by words ≡ Ok made → IsFormedEdit made
 formed_store words made are is =
     let of = pair_given (λ name size. ok_or (option_map (Store name) (decimal_of size)) BadNumber) words made is in
     let stored = mapped (Store of.one) (decimal_of of.other) made (given_some (option_map (Store of.one) (decimal_of of.other)) BadNumber made of.makes) in
-    subst IsFormed stored.2 (All-head IsVisibleName of.one (of.other ∷ []) (subst (All IsVisibleName) of.are are))
-
--- what a command was made of in two parts is well formed, and so it is
-formed_of_two : {X Y : Type 0} (command : X → Y → Command) (first : Result X ScriptFault) (second : Result Y ScriptFault) (made : Command) →
-    ((x : X) (y : Y) → IsFormed (command x y)) → commanded_by command first second ≡ Ok made → IsFormed made
-formed_of_two command (Ok x) (Ok y) made each is = subst IsFormed (let same : command x y ≡ made = cc in same) (each x y)
-formed_of_two command (Ok x) (Err fault) made each is = cc
-formed_of_two command (Err fault) second made each is = cc
+    subst IsFormedEdit stored.2 (All-head IsVisibleName of.one (of.other ∷ []) (subst (All IsVisibleName) of.are are))
 
 -- three words are the names of terminals
 terminals_of : (gate source drain : List ℕ) (words : List (List ℕ)) → All IsVisibleName (gate ∷ source ∷ drain ∷ words) →
@@ -173,66 +155,79 @@ terminals_of gate source drain words are =
       All-head IsVisibleName drain words (All-tail IsVisibleName source (drain ∷ words) later),
     )
 
--- so are the terminals of a command
-formed_terminals : (command : List ℕ → List ℕ → List ℕ → List ℕ → List (List ℕ) → Result Command ScriptFault) (words : List (List ℕ)) (made : Command) →
-    ((word gate source drain : List ℕ) (rest : List (List ℕ)) → AreTerminalNames gate source drain → command word gate source drain rest ≡ Ok made → IsFormed made) →
-    All IsVisibleName words → by_terminals command words ≡ Ok made → IsFormed made
+-- so are the terminals of an edit
+formed_terminals : (command : List ℕ → List ℕ → List ℕ → List ℕ → List (List ℕ) → Result Edit ScriptFault) (words : List (List ℕ)) (made : Edit) →
+    ((word gate source drain : List ℕ) (rest : List (List ℕ)) → AreTerminalNames gate source drain → command word gate source drain rest ≡ Ok made → IsFormedEdit made) →
+    All IsVisibleName words → by_terminals command words ≡ Ok made → IsFormedEdit made
 formed_terminals command words made each are is =
     let of = terminals_given command words made is in
     let later = All-tail IsVisibleName of.word (of.gate ∷ of.source ∷ of.drain ∷ of.rest) (subst (All IsVisibleName) of.are are) in
     each of.word of.gate of.source of.drain of.rest (terminals_of of.gate of.source of.drain of.rest later) of.makes
 
-formed_add : (made : Command) (kind gate source drain : List ℕ) (rest : List (List ℕ)) → AreTerminalNames gate source drain →
-    add_with kind gate source drain rest ≡ Ok made → IsFormed made
+formed_add : (made : Edit) (kind gate source drain : List ℕ) (rest : List (List ℕ)) → AreTerminalNames gate source drain →
+    add_with kind gate source drain rest ≡ Ok made → IsFormedEdit made
 formed_add made kind gate source drain [] names is =
-    formed_of (λ k. Add k gate source drain None) (kind_given kind) made (λ _ _. names) is
+    holds_of IsFormedEdit (λ k. Add k gate source drain None) (kind_given kind) made (λ _ _. names) is
 formed_add made kind gate source drain (strength ∷ []) names is =
-    formed_of_two (λ k s. Add k gate source drain (Some s)) (kind_given kind) (number_given strength) made (λ _ _. names) is
+    holds_of_two IsFormedEdit (λ k s. Add k gate source drain (Some s)) (kind_given kind) (number_given strength) made (λ _ _. names) is
 formed_add made kind gate source drain (strength ∷ other ∷ words) names is = cc
 
-formed_wire : (made : Command) (number gate source drain : List ℕ) (rest : List (List ℕ)) → AreTerminalNames gate source drain →
-    wire_with number gate source drain rest ≡ Ok made → IsFormed made
+formed_wire : (made : Edit) (number gate source drain : List ℕ) (rest : List (List ℕ)) → AreTerminalNames gate source drain →
+    wire_with number gate source drain rest ≡ Ok made → IsFormedEdit made
 formed_wire made number gate source drain [] names is =
-    formed_of (λ n. Wire n gate source drain) (number_given number) made (λ _ _. names) is
+    holds_of IsFormedEdit (λ n. Wire n gate source drain) (number_given number) made (λ _ _. names) is
 formed_wire made number gate source drain (other ∷ words) names is = cc
 
 -- numbers and kinds are well formed, whatever they are
-formed_del : (words : List (List ℕ)) (made : Command) → del_by words ≡ Ok made → IsFormed made
+formed_del : (words : List (List ℕ)) (made : Edit) → del_by words ≡ Ok made → IsFormedEdit made
 formed_del [] made is = cc
-formed_del (number ∷ []) made is = formed_of Del (number_given number) made (λ _ _. tt) is
+formed_del (number ∷ []) made is = holds_of IsFormedEdit Del (number_given number) made (λ _ _. tt) is
 formed_del (number ∷ other ∷ words) made is = cc
 
-formed_strength : (words : List (List ℕ)) (made : Command) → strength_by words ≡ Ok made → IsFormed made
+formed_strength : (words : List (List ℕ)) (made : Edit) → strength_by words ≡ Ok made → IsFormedEdit made
 formed_strength words made is =
     let of = pair_given (λ number strength. commanded_by Strength (number_given number) (number_given strength)) words made is in
-    formed_of_two Strength (number_given of.one) (number_given of.other) made (λ _ _. tt) of.makes
+    holds_of_two IsFormedEdit Strength (number_given of.one) (number_given of.other) made (λ _ _. tt) of.makes
 
-formed_kind : (words : List (List ℕ)) (made : Command) → kind_by words ≡ Ok made → IsFormed made
+formed_kind : (words : List (List ℕ)) (made : Edit) → kind_by words ≡ Ok made → IsFormedEdit made
 formed_kind words made is =
     let of = pair_given (λ number kind. commanded_by Kind (number_given number) (kind_given kind)) words made is in
-    formed_of_two Kind (number_given of.one) (kind_given of.other) made (λ _ _. tt) of.makes
+    holds_of_two IsFormedEdit Kind (number_given of.one) (kind_given of.other) made (λ _ _. tt) of.makes
+
+-- a well-formed edit is a well-formed command
+edit_formed : (given : Result Edit ScriptFault) (made : Command) → ((edit : Edit) → given ≡ Ok edit → IsFormedEdit edit) →
+    commanded family.Edit given ≡ Ok made → IsFormed made
+edit_formed given made each is = holds_of IsFormed family.Edit given made each is
 
 -- the command of a verb with names after it is well formed
 formed_by : (verb : Option Verb) (words : List (List ℕ)) (made : Command) → All IsVisibleName words → command_by verb words ≡ Ok made → IsFormed made
 formed_by None words made are is = cc
-formed_by (Some verb.Input) words made are is = formed_of Input (names_given words) made (λ names given. formed_names words names are given) is
-formed_by (Some verb.Store) words made are is = formed_store words made are is
-formed_by (Some verb.Set) words made are is = formed_of Set (assignments_given words) made (λ list given. formed_assignments words list are given) is
-formed_by (Some verb.Charge) words made are is = formed_of Charge (assignments_given words) made (λ list given. formed_assignments words list are given) is
-formed_by (Some verb.Watch) words made are is = formed_of Watch (names_given words) made (λ names given. formed_names words names are given) is
-formed_by (Some verb.Limit) words made are is = formed_of Limit (times_given words) made (formed_times words) is
-formed_by (Some verb.Step) words made are is = formed_alone Step words made tt is
-formed_by (Some verb.Phase) words made are is = formed_alone Phase words made tt is
-formed_by (Some verb.Clock) words made are is = formed_of Clock (clocks_given words) made (λ list given. formed_clocks words list are given) is
-formed_by (Some verb.Cycle) words made are is = formed_of Cycle (times_given words) made (formed_times words) is
-formed_by (Some verb.Expect) words made are is = formed_of Expect (assignments_given words) made (λ list given. formed_assignments words list are given) is
-formed_by (Some verb.Add) words made are is = formed_terminals add_with words made (formed_add made) are is
-formed_by (Some verb.Del) words made are is = formed_del words made is
-formed_by (Some verb.Strength) words made are is = formed_strength words made is
-formed_by (Some verb.Kind) words made are is = formed_kind words made is
-formed_by (Some verb.Wire) words made are is = formed_terminals wire_with words made (formed_wire made) are is
-formed_by (Some verb.Report) words made are is = formed_alone Report words made tt is
-formed_by (Some verb.Keep) words made are is = formed_of Keep (times_given words) made (formed_times words) is
+formed_by (Some verb.Input) words made are is =
+    holds_in IsFormed family.Edit Input (names_given words) made (λ names given. formed_names words names are given) is
+formed_by (Some verb.Store) words made are is = edit_formed (store_by words) made (λ edit given. formed_store words edit are given) is
+formed_by (Some verb.Set) words made are is =
+    holds_in IsFormed family.Give Set (assignments_given words) made (λ list given. formed_assignments words list are given) is
+formed_by (Some verb.Charge) words made are is =
+    holds_in IsFormed family.Give Charge (assignments_given words) made (λ list given. formed_assignments words list are given) is
+formed_by (Some verb.Watch) words made are is =
+    holds_in IsFormed family.Setup Watch (names_given words) made (λ names given. formed_names words names are given) is
+formed_by (Some verb.Limit) words made are is = holds_in IsFormed family.Setup Limit (times_given words) made (formed_times words) is
+formed_by (Some verb.Step) words made are is = holds_alone IsFormed (family.Run Step) words made tt is
+formed_by (Some verb.Phase) words made are is = holds_alone IsFormed (family.Run Phase) words made tt is
+formed_by (Some verb.Clock) words made are is =
+    holds_in IsFormed family.Setup Clock (clocks_given words) made (λ list given. formed_clocks words list are given) is
+formed_by (Some verb.Cycle) words made are is = holds_in IsFormed family.Run Cycle (times_given words) made (formed_times words) is
+formed_by (Some verb.Expect) words made are is =
+    holds_in IsFormed family.Tell Expect (assignments_given words) made (λ list given. formed_assignments words list are given) is
+formed_by (Some verb.Add) words made are is =
+    edit_formed (add_by words) made (λ edit given. formed_terminals add_with words edit (formed_add edit) are given) is
+formed_by (Some verb.Del) words made are is = edit_formed (del_by words) made (formed_del words) is
+formed_by (Some verb.Strength) words made are is = edit_formed (strength_by words) made (formed_strength words) is
+formed_by (Some verb.Kind) words made are is = edit_formed (kind_by words) made (formed_kind words) is
+formed_by (Some verb.Wire) words made are is =
+    edit_formed (wire_by words) made (λ edit given. formed_terminals wire_with words edit (formed_wire edit) are given) is
+formed_by (Some verb.Report) words made are is = holds_alone IsFormed (family.Run Report) words made tt is
+formed_by (Some verb.Keep) words made are is = holds_in IsFormed family.Setup Keep (times_given words) made (formed_times words) is
 
 -- what the words of a line ask for is well formed, where they are names
 formed_line : (words : List (List ℕ)) (found : Option Command) → All IsVisibleName words → reading_of_words words ≡ Ok found → IfSome found IsFormed

@@ -10,11 +10,17 @@ use Rattle.line_words.specs.Decimals.{decimal_of}
 use Rattle.script_lang.specs.declared.verb.Verb.{Verb}
 use Rattle.script_lang.specs.declared.verb.Verb.TheVariants as verb
 use Rattle.script_lang.specs.declared.command.Command.{Command}
-use Rattle.script_lang.specs.declared.command.Command.TheVariants.{Input, Store, Set, Charge, Watch, Limit, Step, Phase, Clock, Cycle, Expect, Add, Del, Strength, Kind, Wire, Report, Keep}
+use Rattle.script_lang.specs.declared.command.Command.TheVariants as family
+use Rattle.script_lang.specs.declared.command.Edit.{Edit}
+use Rattle.script_lang.specs.declared.command.Edit.TheVariants.{Input, Store, Add, Del, Strength, Kind, Wire}
+use Rattle.script_lang.specs.declared.command.Give.TheVariants.{Set, Charge}
+use Rattle.script_lang.specs.declared.command.Setup.TheVariants.{Watch, Limit, Clock, Keep}
+use Rattle.script_lang.specs.declared.command.Run.TheVariants.{Step, Phase, Cycle, Report}
+use Rattle.script_lang.specs.declared.command.Tell.TheVariants.{Expect}
 use Rattle.script_lang.specs.declared.command.ScriptFault.{ScriptFault}
 use Rattle.script_lang.specs.declared.command.ScriptFault.TheVariants.{NoMemory, BadValue, BadNumber}
 use Rattle.script_lang.specs.Parts.{all_of, assignment_of, beats_of, kind_of, times_of}
-use Rattle.script_lang.specs.Commands.{verb_of, names_given, assignments_given, clocks_given, times_given, kind_given, number_given, commanded, commanded_by, alone, by_pair, by_terminals, store_by, add_with, del_by, strength_by, kind_by, wire_with, command_by, some_command, reading_of_words, reading_by, reading_of}
+use Rattle.script_lang.specs.Commands.{verb_of, names_given, assignments_given, clocks_given, times_given, kind_given, number_given, commanded, commanded_by, alone, by_pair, by_terminals, store_by, add_by, add_with, del_by, strength_by, kind_by, wire_by, wire_with, command_by, some_command, reading_of_words, reading_by, reading_of}
 use Rattle.script_lang.specs.Forms.{IsFormed}
 use Rattle.script_lang.proofs.FormLemmas.{formed_words}
 
@@ -24,9 +30,14 @@ missing None fault other same = other (let e : fault ≡ NoMemory = cc in e)
 missing (Some x) fault other same = cc
 
 -- a command's fault is that of what was given
-commanded-named : {X : Type 0} (command : X → Command) (given : Result X ScriptFault) → given ≢ Err NoMemory → commanded command given ≢ Err NoMemory
+commanded-named : {X Y : Type 0} (command : X → Y) (given : Result X ScriptFault) → given ≢ Err NoMemory → commanded command given ≢ Err NoMemory
 commanded-named command (Ok x) named same = cc
 commanded-named command (Err fault) named same = named (let e : fault ≡ NoMemory = cc in ap Err e)
+
+-- so is that of a command of a family
+family-named : {X Y : Type 0} (whole : Y → Command) (command : X → Y) (given : Result X ScriptFault) → given ≢ Err NoMemory →
+    commanded whole (commanded command given) ≢ Err NoMemory
+family-named whole command given named = commanded-named whole (commanded command given) (commanded-named command given named)
 
 names-named : (words : List (List ℕ)) → names_given words ≢ Err NoMemory
 names-named [] same = cc
@@ -50,7 +61,7 @@ alone-named command [] same = cc
 alone-named command (word ∷ words) same = cc
 
 -- a command's fault is that of one of the two things that were given
-two-named : {X Y : Type 0} (command : X → Y → Command) (first : Result X ScriptFault) (second : Result Y ScriptFault) →
+two-named : {X Y Z : Type 0} (command : X → Y → Z) (first : Result X ScriptFault) (second : Result Y ScriptFault) →
     first ≢ Err NoMemory → second ≢ Err NoMemory → commanded_by command first second ≢ Err NoMemory
 two-named command (Ok x) (Ok y) one other same = cc
 two-named command (Ok x) (Err fault) one other same = other (let e : fault ≡ NoMemory = cc in ap Err e)
@@ -63,7 +74,7 @@ number-named : (word : List ℕ) → number_given word ≢ Err NoMemory
 number-named word same = missing (decimal_of word) BadNumber (λ e. cc) same
 
 -- so is that of two words
-pair-named : (command : List ℕ → List ℕ → Result Command ScriptFault) → ((one other : List ℕ) → command one other ≢ Err NoMemory) →
+pair-named : (command : List ℕ → List ℕ → Result Edit ScriptFault) → ((one other : List ℕ) → command one other ≢ Err NoMemory) →
     (words : List (List ℕ)) → by_pair command words ≢ Err NoMemory
 pair-named command each [] same = cc
 pair-named command each (one ∷ []) same = cc
@@ -81,7 +92,7 @@ type-named : (words : List (List ℕ)) → kind_by words ≢ Err NoMemory
 type-named words = pair-named _ (λ number kind. two-named Kind (number_given number) (kind_given kind) (number-named number) (kind-named kind)) words
 
 -- and that of a word and three names
-terminals-named : (command : List ℕ → List ℕ → List ℕ → List ℕ → List (List ℕ) → Result Command ScriptFault) →
+terminals-named : (command : List ℕ → List ℕ → List ℕ → List ℕ → List (List ℕ) → Result Edit ScriptFault) →
     ((word gate source drain : List ℕ) (rest : List (List ℕ)) → command word gate source drain rest ≢ Err NoMemory) →
     (words : List (List ℕ)) → by_terminals command words ≢ Err NoMemory
 terminals-named command each [] same = cc
@@ -109,24 +120,24 @@ del-named (number ∷ other ∷ words) same = cc
 
 command-named : (found : Option Verb) (words : List (List ℕ)) → command_by found words ≢ Err NoMemory
 command-named None words same = cc
-command-named (Some verb.Input) words same = commanded-named Input (names_given words) (names-named words) same
-command-named (Some verb.Store) words same = store-named words same
-command-named (Some verb.Set) words same = commanded-named Set (assignments_given words) (assignments-named words) same
-command-named (Some verb.Charge) words same = commanded-named Charge (assignments_given words) (assignments-named words) same
-command-named (Some verb.Watch) words same = commanded-named Watch (names_given words) (names-named words) same
-command-named (Some verb.Limit) words same = commanded-named Limit (times_given words) (times-named words) same
-command-named (Some verb.Step) words same = alone-named Step words same
-command-named (Some verb.Phase) words same = alone-named Phase words same
-command-named (Some verb.Clock) words same = commanded-named Clock (clocks_given words) (clocks-named words) same
-command-named (Some verb.Cycle) words same = commanded-named Cycle (times_given words) (times-named words) same
-command-named (Some verb.Expect) words same = commanded-named Expect (assignments_given words) (assignments-named words) same
-command-named (Some verb.Add) words same = terminals-named add_with add-named words same
-command-named (Some verb.Del) words same = del-named words same
-command-named (Some verb.Strength) words same = strength-named words same
-command-named (Some verb.Kind) words same = type-named words same
-command-named (Some verb.Wire) words same = terminals-named wire_with wire-named words same
-command-named (Some verb.Report) words same = alone-named Report words same
-command-named (Some verb.Keep) words same = commanded-named Keep (times_given words) (times-named words) same
+command-named (Some verb.Input) words same = family-named family.Edit Input (names_given words) (names-named words) same
+command-named (Some verb.Store) words same = commanded-named family.Edit (store_by words) (store-named words) same
+command-named (Some verb.Set) words same = family-named family.Give Set (assignments_given words) (assignments-named words) same
+command-named (Some verb.Charge) words same = family-named family.Give Charge (assignments_given words) (assignments-named words) same
+command-named (Some verb.Watch) words same = family-named family.Setup Watch (names_given words) (names-named words) same
+command-named (Some verb.Limit) words same = family-named family.Setup Limit (times_given words) (times-named words) same
+command-named (Some verb.Step) words same = alone-named (family.Run Step) words same
+command-named (Some verb.Phase) words same = alone-named (family.Run Phase) words same
+command-named (Some verb.Clock) words same = family-named family.Setup Clock (clocks_given words) (clocks-named words) same
+command-named (Some verb.Cycle) words same = family-named family.Run Cycle (times_given words) (times-named words) same
+command-named (Some verb.Expect) words same = family-named family.Tell Expect (assignments_given words) (assignments-named words) same
+command-named (Some verb.Add) words same = commanded-named family.Edit (add_by words) (terminals-named add_with add-named words) same
+command-named (Some verb.Del) words same = commanded-named family.Edit (del_by words) (del-named words) same
+command-named (Some verb.Strength) words same = commanded-named family.Edit (strength_by words) (strength-named words) same
+command-named (Some verb.Kind) words same = commanded-named family.Edit (kind_by words) (type-named words) same
+command-named (Some verb.Wire) words same = commanded-named family.Edit (wire_by words) (terminals-named wire_with wire-named words) same
+command-named (Some verb.Report) words same = alone-named (family.Run Report) words same
+command-named (Some verb.Keep) words same = family-named family.Setup Keep (times_given words) (times-named words) same
 
 some-named : (answer : Result Command ScriptFault) → answer ≢ Err NoMemory → some_command answer ≢ Err NoMemory
 some-named (Ok command) named same = cc

@@ -7,11 +7,17 @@ use Rattle.line_words.specs.Decimals.{decimal_of}
 use Rattle.script_lang.specs.declared.verb.Verb.{Verb}
 use Rattle.script_lang.specs.declared.verb.Verb.TheVariants as verb
 use Rattle.script_lang.specs.declared.command.Command.{Command}
-use Rattle.script_lang.specs.declared.command.Command.TheVariants.{Input, Store, Set, Charge, Watch, Limit, Step, Phase, Clock, Cycle, Expect, Add, Del, Strength, Kind, Wire, Report, Keep}
+use Rattle.script_lang.specs.declared.command.Command.TheVariants as family
+use Rattle.script_lang.specs.declared.command.Edit.{Edit}
+use Rattle.script_lang.specs.declared.command.Edit.TheVariants.{Input, Store, Add, Del, Strength, Kind, Wire}
+use Rattle.script_lang.specs.declared.command.Give.TheVariants.{Set, Charge}
+use Rattle.script_lang.specs.declared.command.Setup.TheVariants.{Watch, Limit, Clock, Keep}
+use Rattle.script_lang.specs.declared.command.Run.TheVariants.{Step, Phase, Cycle, Report}
+use Rattle.script_lang.specs.declared.command.Tell.TheVariants.{Expect}
 use Rattle.script_lang.specs.declared.command.ScriptFault.{ScriptFault}
 use Rattle.script_lang.specs.declared.command.ScriptFault.TheVariants.{BadNumber}
-use Rattle.script_lang.specs.Commands.{add_with, alone, by_terminals, assignments_given, clocks_given, command_by, commanded, commanded_by, del_by, kind_by, kind_given, names_given, number_given, reading_of_words, some_command, store_by, strength_by, times_given, verb_of, wire_with, word_of}
-use Rattle.script_lang.proofs.GivenLemmas.{pair_given, terminals_given}
+use Rattle.script_lang.specs.Commands.{add_by, add_with, by_terminals, assignments_given, clocks_given, command_by, commanded, commanded_by, del_by, kind_by, kind_given, names_given, number_given, reading_of_words, some_command, store_by, strength_by, times_given, verb_of, wire_by, wire_with, word_of, word_of_edit}
+use Rattle.script_lang.proofs.GivenLemmas.{holds_alone, holds_in, holds_of, holds_of_two, pair_given, terminals_given}
 
 -- the word of a verb
 abbrev text_of : Verb → List ℕ
@@ -70,83 +76,85 @@ verb_word word =
 
 -- ---- the word of what was made
 
-module _ (made : Command) (text : List ℕ) where
-  by_one : {X : Type 0} (command : X → Command) (given : Result X ScriptFault) → ((x : X) → word_of (command x) ≡ text) →
-      commanded command given ≡ Ok made → word_of made ≡ text
-  by_one command (Ok x) each is = subst (λ (c : Command). word_of c ≡ text) (let same : command x ≡ made = cc in same) (each x)
-  by_one command (Err fault) each is = cc
+-- the command and the edit have this word
+abbrev Has : List ℕ → Command → Type 0
+Has text command = word_of command ≡ text
 
-  by_two : {X Y : Type 0} (command : X → Y → Command) (first : Result X ScriptFault) (second : Result Y ScriptFault) →
-      ((x : X) (y : Y) → word_of (command x y) ≡ text) → commanded_by command first second ≡ Ok made → word_of made ≡ text
-  by_two command (Ok x) (Ok y) each is = subst (λ (c : Command). word_of c ≡ text) (let same : command x y ≡ made = cc in same) (each x y)
-  by_two command (Ok x) (Err fault) each is = cc
-  by_two command (Err fault) second each is = cc
+abbrev HasEdit : List ℕ → Edit → Type 0
+HasEdit text edit = word_of_edit edit ≡ text
 
-  by_none : (command : Command) (words : List (List ℕ)) → word_of command ≡ text → alone command words ≡ Ok made → word_of made ≡ text
-  by_none command [] own is = subst (λ (c : Command). word_of c ≡ text) (let same : command ≡ made = cc in same) own
-  by_none command (word ∷ words) own is = cc
-
-store_word : (words : List (List ℕ)) (made : Command) → store_by words ≡ Ok made → word_of made ≡ codes "store"
+store_word : (words : List (List ℕ)) (made : Edit) → store_by words ≡ Ok made → HasEdit (codes "store") made
 store_word words made is =
     let of = pair_given (λ name size. ok_or (option_map (Store name) (decimal_of size)) BadNumber) words made is in
     by of.one (decimal_of of.other) of.makes
   where
-    by : (name : List ℕ) (found : Option ℕ) → ok_or (option_map (Store name) found) BadNumber ≡ Ok made → word_of made ≡ codes "store"
+    by : (name : List ℕ) (found : Option ℕ) → ok_or (option_map (Store name) found) BadNumber ≡ Ok made → HasEdit (codes "store") made
     by name None is = cc
-    by name (Some number) is = subst (λ (c : Command). word_of c ≡ codes "store") (let same : Store name number ≡ made = cc in same) refl
+    by name (Some number) is = subst (HasEdit (codes "store")) (let same : Store name number ≡ made = cc in same) refl
 
-add_word : (made : Command) (kind gate source drain : List ℕ) (rest : List (List ℕ)) → add_with kind gate source drain rest ≡ Ok made → word_of made ≡ codes "add"
-add_word made kind gate source drain [] is = by_one made (codes "add") (λ k. Add k gate source drain None) (kind_given kind) (λ _. refl) is
+add_word : (made : Edit) (kind gate source drain : List ℕ) (rest : List (List ℕ)) → add_with kind gate source drain rest ≡ Ok made →
+    HasEdit (codes "add") made
+add_word made kind gate source drain [] is =
+    holds_of (HasEdit (codes "add")) (λ k. Add k gate source drain None) (kind_given kind) made (λ _ _. refl) is
 add_word made kind gate source drain (strength ∷ []) is =
-    by_two made (codes "add") (λ k s. Add k gate source drain (Some s)) (kind_given kind) (number_given strength) (λ _ _. refl) is
+    holds_of_two (HasEdit (codes "add")) (λ k s. Add k gate source drain (Some s)) (kind_given kind) (number_given strength) made (λ _ _. refl) is
 add_word made kind gate source drain (strength ∷ other ∷ words) is = cc
 
-del_word : (words : List (List ℕ)) (made : Command) → del_by words ≡ Ok made → word_of made ≡ codes "del"
+del_word : (words : List (List ℕ)) (made : Edit) → del_by words ≡ Ok made → HasEdit (codes "del") made
 del_word [] made is = cc
-del_word (number ∷ []) made is = by_one made (codes "del") Del (number_given number) (λ _. refl) is
+del_word (number ∷ []) made is = holds_of (HasEdit (codes "del")) Del (number_given number) made (λ _ _. refl) is
 del_word (number ∷ other ∷ words) made is = cc
 
-strength_word : (words : List (List ℕ)) (made : Command) → strength_by words ≡ Ok made → word_of made ≡ codes "strength"
+strength_word : (words : List (List ℕ)) (made : Edit) → strength_by words ≡ Ok made → HasEdit (codes "strength") made
 strength_word words made is =
     let of = pair_given (λ number strength. commanded_by Strength (number_given number) (number_given strength)) words made is in
-    by_two made (codes "strength") Strength (number_given of.one) (number_given of.other) (λ _ _. refl) of.makes
+    holds_of_two (HasEdit (codes "strength")) Strength (number_given of.one) (number_given of.other) made (λ _ _. refl) of.makes
 
-kind_word : (words : List (List ℕ)) (made : Command) → kind_by words ≡ Ok made → word_of made ≡ codes "type"
+kind_word : (words : List (List ℕ)) (made : Edit) → kind_by words ≡ Ok made → HasEdit (codes "type") made
 kind_word words made is =
     let of = pair_given (λ number kind. commanded_by Kind (number_given number) (kind_given kind)) words made is in
-    by_two made (codes "type") Kind (number_given of.one) (kind_given of.other) (λ _ _. refl) of.makes
+    holds_of_two (HasEdit (codes "type")) Kind (number_given of.one) (kind_given of.other) made (λ _ _. refl) of.makes
 
-wire_word : (made : Command) (number gate source drain : List ℕ) (rest : List (List ℕ)) → wire_with number gate source drain rest ≡ Ok made → word_of made ≡ codes "wire"
-wire_word made number gate source drain [] is = by_one made (codes "wire") (λ n. Wire n gate source drain) (number_given number) (λ _. refl) is
+wire_word : (made : Edit) (number gate source drain : List ℕ) (rest : List (List ℕ)) → wire_with number gate source drain rest ≡ Ok made →
+    HasEdit (codes "wire") made
+wire_word made number gate source drain [] is =
+    holds_of (HasEdit (codes "wire")) (λ n. Wire n gate source drain) (number_given number) made (λ _ _. refl) is
 wire_word made number gate source drain (other ∷ words) is = cc
 
 -- so has one that is given the names of terminals
-terminals_word : (command : List ℕ → List ℕ → List ℕ → List ℕ → List (List ℕ) → Result Command ScriptFault) (text : List ℕ) (words : List (List ℕ)) (made : Command) →
-    ((word gate source drain : List ℕ) (rest : List (List ℕ)) → command word gate source drain rest ≡ Ok made → word_of made ≡ text) →
-    by_terminals command words ≡ Ok made → word_of made ≡ text
+terminals_word : (command : List ℕ → List ℕ → List ℕ → List ℕ → List (List ℕ) → Result Edit ScriptFault) (text : List ℕ) (words : List (List ℕ)) (made : Edit) →
+    ((word gate source drain : List ℕ) (rest : List (List ℕ)) → command word gate source drain rest ≡ Ok made → HasEdit text made) →
+    by_terminals command words ≡ Ok made → HasEdit text made
 terminals_word command text words made each is =
     let of = terminals_given command words made is in each of.word of.gate of.source of.drain of.rest of.makes
 
+-- the command of an edit has its word
+edit_word : (text : List ℕ) (given : Result Edit ScriptFault) (made : Command) → ((edit : Edit) → given ≡ Ok edit → HasEdit text edit) →
+    commanded family.Edit given ≡ Ok made → Has text made
+edit_word text given made each is = holds_of (Has text) family.Edit given made each is
+
 -- the command of a verb has the verb's word
-command_word : (v : Verb) (words : List (List ℕ)) (made : Command) → command_by (Some v) words ≡ Ok made → word_of made ≡ text_of v
-command_word verb.Input words made is = by_one made (codes "input") Input (names_given words) (λ _. refl) is
-command_word verb.Store words made is = store_word words made is
-command_word verb.Set words made is = by_one made (codes "set") Set (assignments_given words) (λ _. refl) is
-command_word verb.Charge words made is = by_one made (codes "charge") Charge (assignments_given words) (λ _. refl) is
-command_word verb.Watch words made is = by_one made (codes "watch") Watch (names_given words) (λ _. refl) is
-command_word verb.Limit words made is = by_one made (codes "limit") Limit (times_given words) (λ _. refl) is
-command_word verb.Step words made is = by_none made (codes "step") Step words refl is
-command_word verb.Phase words made is = by_none made (codes "phase") Phase words refl is
-command_word verb.Clock words made is = by_one made (codes "clock") Clock (clocks_given words) (λ _. refl) is
-command_word verb.Cycle words made is = by_one made (codes "cycle") Cycle (times_given words) (λ _. refl) is
-command_word verb.Expect words made is = by_one made (codes "expect") Expect (assignments_given words) (λ _. refl) is
-command_word verb.Add words made is = terminals_word add_with (codes "add") words made (add_word made) is
-command_word verb.Del words made is = del_word words made is
-command_word verb.Strength words made is = strength_word words made is
-command_word verb.Kind words made is = kind_word words made is
-command_word verb.Wire words made is = terminals_word wire_with (codes "wire") words made (wire_word made) is
-command_word verb.Report words made is = by_none made (codes "report") Report words refl is
-command_word verb.Keep words made is = by_one made (codes "keep") Keep (times_given words) (λ _. refl) is
+command_word : (v : Verb) (words : List (List ℕ)) (made : Command) → command_by (Some v) words ≡ Ok made → Has (text_of v) made
+command_word verb.Input words made is = holds_in (Has (codes "input")) family.Edit Input (names_given words) made (λ _ _. refl) is
+command_word verb.Store words made is = edit_word (codes "store") (store_by words) made (store_word words) is
+command_word verb.Set words made is = holds_in (Has (codes "set")) family.Give Set (assignments_given words) made (λ _ _. refl) is
+command_word verb.Charge words made is = holds_in (Has (codes "charge")) family.Give Charge (assignments_given words) made (λ _ _. refl) is
+command_word verb.Watch words made is = holds_in (Has (codes "watch")) family.Setup Watch (names_given words) made (λ _ _. refl) is
+command_word verb.Limit words made is = holds_in (Has (codes "limit")) family.Setup Limit (times_given words) made (λ _ _. refl) is
+command_word verb.Step words made is = holds_alone (Has (codes "step")) (family.Run Step) words made refl is
+command_word verb.Phase words made is = holds_alone (Has (codes "phase")) (family.Run Phase) words made refl is
+command_word verb.Clock words made is = holds_in (Has (codes "clock")) family.Setup Clock (clocks_given words) made (λ _ _. refl) is
+command_word verb.Cycle words made is = holds_in (Has (codes "cycle")) family.Run Cycle (times_given words) made (λ _ _. refl) is
+command_word verb.Expect words made is = holds_in (Has (codes "expect")) family.Tell Expect (assignments_given words) made (λ _ _. refl) is
+command_word verb.Add words made is =
+    edit_word (codes "add") (add_by words) made (λ edit given. terminals_word add_with (codes "add") words edit (add_word edit) given) is
+command_word verb.Del words made is = edit_word (codes "del") (del_by words) made (del_word words) is
+command_word verb.Strength words made is = edit_word (codes "strength") (strength_by words) made (strength_word words) is
+command_word verb.Kind words made is = edit_word (codes "type") (kind_by words) made (kind_word words) is
+command_word verb.Wire words made is =
+    edit_word (codes "wire") (wire_by words) made (λ edit given. terminals_word wire_with (codes "wire") words edit (wire_word edit) given) is
+command_word verb.Report words made is = holds_alone (Has (codes "report")) (family.Run Report) words made refl is
+command_word verb.Keep words made is = holds_in (Has (codes "keep")) family.Setup Keep (times_given words) made (λ _ _. refl) is
 
 -- a line that asks for a command begins with the command's word
 pub first_word : (word : List ℕ) (words : List (List ℕ)) (made : Command) → reading_of_words (word ∷ words) ≡ Ok (Some made) → word ≡ word_of made

@@ -12,7 +12,17 @@ use Rattle.line_words.specs.Words.{words_of}
 use Rattle.script_lang.specs.declared.verb.Verb.{Verb}
 use Rattle.script_lang.specs.declared.verb.Verb.TheVariants as verb
 use Rattle.script_lang.specs.declared.command.Command.{Command}
-use Rattle.script_lang.specs.declared.command.Command.TheVariants.{Input, Store, Set, Charge, Watch, Limit, Step, Phase, Clock, Cycle, Expect, Add, Del, Strength, Kind, Wire, Report, Keep}
+use Rattle.script_lang.specs.declared.command.Command.TheVariants as family
+use Rattle.script_lang.specs.declared.command.Edit.{Edit}
+use Rattle.script_lang.specs.declared.command.Edit.TheVariants.{Input, Store, Add, Del, Strength, Kind, Wire}
+use Rattle.script_lang.specs.declared.command.Give.{Give}
+use Rattle.script_lang.specs.declared.command.Give.TheVariants.{Set, Charge}
+use Rattle.script_lang.specs.declared.command.Setup.{Setup}
+use Rattle.script_lang.specs.declared.command.Setup.TheVariants.{Watch, Limit, Clock, Keep}
+use Rattle.script_lang.specs.declared.command.Run.{Run}
+use Rattle.script_lang.specs.declared.command.Run.TheVariants.{Step, Phase, Cycle, Report}
+use Rattle.script_lang.specs.declared.command.Tell.{Tell}
+use Rattle.script_lang.specs.declared.command.Tell.TheVariants.{Expect}
 use Rattle.script_lang.specs.declared.command.ScriptFault.{ScriptFault}
 use Rattle.script_lang.specs.declared.command.ScriptFault.TheVariants.{LineTooLong, BadByte, BadCommand, FewWords, ManyWords, BadValue, BadNumber}
 use Rattle.script_lang.specs.Parts.{all_of, assignment_of, beats_of, kind_of, times_of}
@@ -69,12 +79,12 @@ abbrev pub number_given : List ℕ → Result ℕ ScriptFault
 number_given word = ok_or (decimal_of word) BadNumber
 
 -- the command of what was given, or the fault
-abbrev pub commanded : {X : Type 0} → (X → Command) → Result X ScriptFault → Result Command ScriptFault
+abbrev pub commanded : {X Y : Type 0} → (X → Y) → Result X ScriptFault → Result Y ScriptFault
 commanded command (Ok given) = Ok (command given)
 commanded command (Err fault) = Err fault
 
 -- the command of two things that were given, or the fault of the first that wasn't
-abbrev pub commanded_by : {X Y : Type 0} → (X → Y → Command) → Result X ScriptFault → Result Y ScriptFault → Result Command ScriptFault
+abbrev pub commanded_by : {X Y Z : Type 0} → (X → Y → Z) → Result X ScriptFault → Result Y ScriptFault → Result Z ScriptFault
 commanded_by command (Ok first) (Ok second) = Ok (command first second)
 commanded_by command (Ok first) (Err fault) = Err fault
 commanded_by command (Err fault) second = Err fault
@@ -84,19 +94,19 @@ abbrev pub alone : Command → List (List ℕ) → Result Command ScriptFault
 alone command [] = Ok command
 alone command (word ∷ words) = Err ManyWords
 
--- a command that is given two words
-abbrev pub by_pair : (List ℕ → List ℕ → Result Command ScriptFault) → List (List ℕ) → Result Command ScriptFault
+-- an edit that is given two words
+abbrev pub by_pair : (List ℕ → List ℕ → Result Edit ScriptFault) → List (List ℕ) → Result Edit ScriptFault
 by_pair command [] = Err FewWords
 by_pair command (one ∷ []) = Err FewWords
 by_pair command (one ∷ other ∷ []) = command one other
 by_pair command (one ∷ other ∷ more ∷ words) = Err ManyWords
 
 -- `store`, which is given a name and a size
-abbrev pub store_by : List (List ℕ) → Result Command ScriptFault
+abbrev pub store_by : List (List ℕ) → Result Edit ScriptFault
 store_by words = by_pair (λ name size. ok_or (option_map (Store name) (decimal_of size)) BadNumber) words
 
--- a command that is given a word, the names of a transistor's gate, source and drain, and perhaps more
-abbrev pub by_terminals : (List ℕ → List ℕ → List ℕ → List ℕ → List (List ℕ) → Result Command ScriptFault) → List (List ℕ) → Result Command ScriptFault
+-- an edit that is given a word, the names of a transistor's gate, source and drain, and perhaps more
+abbrev pub by_terminals : (List ℕ → List ℕ → List ℕ → List ℕ → List (List ℕ) → Result Edit ScriptFault) → List (List ℕ) → Result Edit ScriptFault
 by_terminals command [] = Err FewWords
 by_terminals command (word ∷ []) = Err FewWords
 by_terminals command (word ∷ gate ∷ []) = Err FewWords
@@ -104,58 +114,58 @@ by_terminals command (word ∷ gate ∷ source ∷ []) = Err FewWords
 by_terminals command (word ∷ gate ∷ source ∷ drain ∷ words) = command word gate source drain words
 
 -- `add`, which is given a kind, three names and perhaps a strength
-abbrev pub add_with : List ℕ → List ℕ → List ℕ → List ℕ → List (List ℕ) → Result Command ScriptFault
+abbrev pub add_with : List ℕ → List ℕ → List ℕ → List ℕ → List (List ℕ) → Result Edit ScriptFault
 add_with kind gate source drain [] = commanded (λ kind. Add kind gate source drain None) (kind_given kind)
 add_with kind gate source drain (strength ∷ []) =
     commanded_by (λ kind strength. Add kind gate source drain (Some strength)) (kind_given kind) (number_given strength)
 add_with kind gate source drain (strength ∷ other ∷ words) = Err ManyWords
 
-abbrev pub add_by : List (List ℕ) → Result Command ScriptFault
+abbrev pub add_by : List (List ℕ) → Result Edit ScriptFault
 add_by words = by_terminals add_with words
 
 -- `del`, which is given a number
-abbrev pub del_by : List (List ℕ) → Result Command ScriptFault
+abbrev pub del_by : List (List ℕ) → Result Edit ScriptFault
 del_by [] = Err FewWords
 del_by (number ∷ []) = commanded Del (number_given number)
 del_by (number ∷ other ∷ words) = Err ManyWords
 
 -- `strength`, which is given a number and a strength
-abbrev pub strength_by : List (List ℕ) → Result Command ScriptFault
+abbrev pub strength_by : List (List ℕ) → Result Edit ScriptFault
 strength_by words = by_pair (λ number strength. commanded_by Strength (number_given number) (number_given strength)) words
 
 -- `type`, which is given a number and a kind
-abbrev pub kind_by : List (List ℕ) → Result Command ScriptFault
+abbrev pub kind_by : List (List ℕ) → Result Edit ScriptFault
 kind_by words = by_pair (λ number kind. commanded_by Kind (number_given number) (kind_given kind)) words
 
 -- `wire`, which is given a number and three names
-abbrev pub wire_with : List ℕ → List ℕ → List ℕ → List ℕ → List (List ℕ) → Result Command ScriptFault
+abbrev pub wire_with : List ℕ → List ℕ → List ℕ → List ℕ → List (List ℕ) → Result Edit ScriptFault
 wire_with number gate source drain [] = commanded (λ number. Wire number gate source drain) (number_given number)
 wire_with number gate source drain (other ∷ words) = Err ManyWords
 
-abbrev pub wire_by : List (List ℕ) → Result Command ScriptFault
+abbrev pub wire_by : List (List ℕ) → Result Edit ScriptFault
 wire_by words = by_terminals wire_with words
 
 -- the command of a verb with the words after it
 abbrev pub command_by : Option Verb → List (List ℕ) → Result Command ScriptFault
 command_by None words = Err BadCommand
-command_by (Some verb.Input) words = commanded Input (names_given words)
-command_by (Some verb.Store) words = store_by words
-command_by (Some verb.Set) words = commanded Set (assignments_given words)
-command_by (Some verb.Charge) words = commanded Charge (assignments_given words)
-command_by (Some verb.Watch) words = commanded Watch (names_given words)
-command_by (Some verb.Limit) words = commanded Limit (times_given words)
-command_by (Some verb.Step) words = alone Step words
-command_by (Some verb.Phase) words = alone Phase words
-command_by (Some verb.Clock) words = commanded Clock (clocks_given words)
-command_by (Some verb.Cycle) words = commanded Cycle (times_given words)
-command_by (Some verb.Expect) words = commanded Expect (assignments_given words)
-command_by (Some verb.Add) words = add_by words
-command_by (Some verb.Del) words = del_by words
-command_by (Some verb.Strength) words = strength_by words
-command_by (Some verb.Kind) words = kind_by words
-command_by (Some verb.Wire) words = wire_by words
-command_by (Some verb.Report) words = alone Report words
-command_by (Some verb.Keep) words = commanded Keep (times_given words)
+command_by (Some verb.Input) words = commanded family.Edit (commanded Input (names_given words))
+command_by (Some verb.Store) words = commanded family.Edit (store_by words)
+command_by (Some verb.Set) words = commanded family.Give (commanded Set (assignments_given words))
+command_by (Some verb.Charge) words = commanded family.Give (commanded Charge (assignments_given words))
+command_by (Some verb.Watch) words = commanded family.Setup (commanded Watch (names_given words))
+command_by (Some verb.Limit) words = commanded family.Setup (commanded Limit (times_given words))
+command_by (Some verb.Step) words = alone (family.Run Step) words
+command_by (Some verb.Phase) words = alone (family.Run Phase) words
+command_by (Some verb.Clock) words = commanded family.Setup (commanded Clock (clocks_given words))
+command_by (Some verb.Cycle) words = commanded family.Run (commanded Cycle (times_given words))
+command_by (Some verb.Expect) words = commanded family.Tell (commanded Expect (assignments_given words))
+command_by (Some verb.Add) words = commanded family.Edit (add_by words)
+command_by (Some verb.Del) words = commanded family.Edit (del_by words)
+command_by (Some verb.Strength) words = commanded family.Edit (strength_by words)
+command_by (Some verb.Kind) words = commanded family.Edit (kind_by words)
+command_by (Some verb.Wire) words = commanded family.Edit (wire_by words)
+command_by (Some verb.Report) words = alone (family.Run Report) words
+command_by (Some verb.Keep) words = commanded family.Setup (commanded Keep (times_given words))
 
 -- a line's command, where it has words
 abbrev pub some_command : Result Command ScriptFault → Result (Option Command) ScriptFault
@@ -177,23 +187,43 @@ reading_by line None = if is_comment line then Ok None else reading_of_words (wo
 abbrev pub reading_of : List ℕ → Result (Option Command) ScriptFault
 reading_of line = reading_by line (line_fault line)
 
--- the first word of a line that asks for the command
+-- the first word of a line that asks for the edit
+abbrev pub word_of_edit : Edit → List ℕ
+word_of_edit (Input names) = codes "input"
+word_of_edit (Store name size) = codes "store"
+word_of_edit (Add kind gate source drain strength) = codes "add"
+word_of_edit (Del number) = codes "del"
+word_of_edit (Strength number strength) = codes "strength"
+word_of_edit (Kind number kind) = codes "type"
+word_of_edit (Wire number gate source drain) = codes "wire"
+
+-- of one that gives states
+abbrev pub word_of_give : Give → List ℕ
+word_of_give (Set list) = codes "set"
+word_of_give (Charge list) = codes "charge"
+
+-- of one that sets what others go by
+abbrev pub word_of_setup : Setup → List ℕ
+word_of_setup (Watch names) = codes "watch"
+word_of_setup (Limit number) = codes "limit"
+word_of_setup (Clock list) = codes "clock"
+word_of_setup (Keep number) = codes "keep"
+
+-- of one that has the circuit built
+abbrev pub word_of_run : Run → List ℕ
+word_of_run Step = codes "step"
+word_of_run Phase = codes "phase"
+word_of_run (Cycle number) = codes "cycle"
+word_of_run Report = codes "report"
+
+-- of one that tells
+abbrev pub word_of_tell : Tell → List ℕ
+word_of_tell (Expect list) = codes "expect"
+
+-- of any command
 abbrev pub word_of : Command → List ℕ
-word_of (Input names) = codes "input"
-word_of (Store name size) = codes "store"
-word_of (Set list) = codes "set"
-word_of (Charge list) = codes "charge"
-word_of (Watch names) = codes "watch"
-word_of (Limit number) = codes "limit"
-word_of Step = codes "step"
-word_of Phase = codes "phase"
-word_of (Clock list) = codes "clock"
-word_of (Cycle number) = codes "cycle"
-word_of (Expect list) = codes "expect"
-word_of (Add kind gate source drain strength) = codes "add"
-word_of (Del number) = codes "del"
-word_of (Strength number strength) = codes "strength"
-word_of (Kind number kind) = codes "type"
-word_of (Wire number gate source drain) = codes "wire"
-word_of Report = codes "report"
-word_of (Keep number) = codes "keep"
+word_of (family.Edit edit) = word_of_edit edit
+word_of (family.Give give) = word_of_give give
+word_of (family.Setup setup) = word_of_setup setup
+word_of (family.Run run) = word_of_run run
+word_of (family.Tell tell) = word_of_tell tell

@@ -3,7 +3,17 @@ use Rattle.std.specs.Prelude.{ℕ, ◌<◌, ◌≤◌, List, length, All}
 use Rattle.ternary.specs.declared.tern.Tern.{Tern}
 use Rattle.script_lang.specs.declared.TheConstants.{MOST_TIMES}
 use Rattle.script_lang.specs.declared.command.Command.{Command}
-use Rattle.script_lang.specs.declared.command.Command.TheVariants.{Input, Store, Set, Charge, Watch, Limit, Step, Phase, Clock, Cycle, Expect, Add, Del, Strength, Kind, Wire, Report, Keep}
+use Rattle.script_lang.specs.declared.command.Command.TheVariants as family
+use Rattle.script_lang.specs.declared.command.Edit.{Edit}
+use Rattle.script_lang.specs.declared.command.Edit.TheVariants.{Input, Store, Add, Del, Strength, Kind, Wire}
+use Rattle.script_lang.specs.declared.command.Give.{Give}
+use Rattle.script_lang.specs.declared.command.Give.TheVariants.{Set, Charge}
+use Rattle.script_lang.specs.declared.command.Setup.{Setup}
+use Rattle.script_lang.specs.declared.command.Setup.TheVariants.{Watch, Limit, Clock, Keep}
+use Rattle.script_lang.specs.declared.command.Run.{Run}
+use Rattle.script_lang.specs.declared.command.Run.TheVariants.{Step, Phase, Cycle, Report}
+use Rattle.script_lang.specs.declared.command.Tell.{Tell}
+use Rattle.script_lang.specs.declared.command.Tell.TheVariants.{Expect}
 use Rattle.line_words.specs.Visible.{IsVisibleName}
 
 -- one name or more
@@ -26,23 +36,43 @@ AreTerminalNames gate source drain = IsVisibleName gate × IsVisibleName source 
 abbrev pub IsTimes : ℕ → Type 0
 IsTimes number = (1 ≤ number) × (number ≤ MOST_TIMES)
 
+-- an edit is well formed: its names are names
+abbrev pub IsFormedEdit : Edit → Type 0
+IsFormedEdit (Input names) = AreNames names
+IsFormedEdit (Store name size) = IsVisibleName name
+IsFormedEdit (Add kind gate source drain strength) = AreTerminalNames gate source drain
+IsFormedEdit (Del number) = Unit {0}
+IsFormedEdit (Strength number strength) = Unit {0}
+IsFormedEdit (Kind number kind) = Unit {0}
+IsFormedEdit (Wire number gate source drain) = AreTerminalNames gate source drain
+
+-- so is what gives states
+abbrev pub IsFormedGive : Give → Type 0
+IsFormedGive (Set list) = AreAssignments list
+IsFormedGive (Charge list) = AreAssignments list
+
+-- and what sets: its number of times is in range
+abbrev pub IsFormedSetup : Setup → Type 0
+IsFormedSetup (Watch names) = AreNames names
+IsFormedSetup (Limit number) = IsTimes number
+IsFormedSetup (Clock list) = AreBeats list
+IsFormedSetup (Keep number) = IsTimes number
+
+-- and what has the circuit built
+abbrev pub IsFormedRun : Run → Type 0
+IsFormedRun Step = Unit {0}
+IsFormedRun Phase = Unit {0}
+IsFormedRun (Cycle number) = IsTimes number
+IsFormedRun Report = Unit {0}
+
+-- and what tells
+abbrev pub IsFormedTell : Tell → Type 0
+IsFormedTell (Expect list) = AreAssignments list
+
 -- a command is well formed: its lists have an item, its names are names, and its number of times is in range
 abbrev pub IsFormed : Command → Type 0
-IsFormed (Input names) = AreNames names
-IsFormed (Store name size) = IsVisibleName name
-IsFormed (Set list) = AreAssignments list
-IsFormed (Charge list) = AreAssignments list
-IsFormed (Watch names) = AreNames names
-IsFormed (Limit number) = IsTimes number
-IsFormed Step = Unit {0}
-IsFormed Phase = Unit {0}
-IsFormed (Clock list) = AreBeats list
-IsFormed (Cycle number) = IsTimes number
-IsFormed (Expect list) = AreAssignments list
-IsFormed (Add kind gate source drain strength) = AreTerminalNames gate source drain
-IsFormed (Del number) = Unit {0}
-IsFormed (Strength number strength) = Unit {0}
-IsFormed (Kind number kind) = Unit {0}
-IsFormed (Wire number gate source drain) = AreTerminalNames gate source drain
-IsFormed Report = Unit {0}
-IsFormed (Keep number) = IsTimes number
+IsFormed (family.Edit edit) = IsFormedEdit edit
+IsFormed (family.Give give) = IsFormedGive give
+IsFormed (family.Setup setup) = IsFormedSetup setup
+IsFormed (family.Run run) = IsFormedRun run
+IsFormed (family.Tell tell) = IsFormedTell tell

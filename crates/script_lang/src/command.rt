@@ -3,31 +3,28 @@ use path_meaning::SwitchKind;
 use ternary::NoMemory;
 use thiserror::Error;
 
-/// A command of a test script.
+/// A command of a test script, of one of five families.
 #[derive(Debug, Drop)]
 pub enum Command {
+    /// It edits the circuit, and writes nothing.
+    Edit(Edit),
+    /// It gives nodes states, and writes nothing.
+    Give(Give),
+    /// It sets what later commands go by, and writes nothing.
+    Setup(Setup),
+    /// It has the circuit built first, and writes lines.
+    Run(Run),
+    /// It tells of what is there.
+    Tell(Tell),
+}
+
+/// A command that edits the circuit.
+#[derive(Debug, Drop)]
+pub enum Edit {
     /// `input NAME..`: makes the nodes input nodes; their states stay.
     Input(NameList),
     /// `store NAME SIZE`: makes the node a storage node of this size; its state stays.
     Store(Name, u64),
-    /// `set NAME=V..`: sets input nodes, from left to right.
-    Set(AssignList),
-    /// `charge NAME=V..`: sets storage nodes, from left to right.
-    Charge(AssignList),
-    /// `watch NAME..`: appends the nodes to the watch list.
-    Watch(NameList),
-    /// `limit N`: sets the limit of a phase.
-    Limit(u64),
-    /// `step`: one unit step, and a waveform line.
-    Step,
-    /// `phase`: unit steps until nothing changes, past the limit joining ones, and a waveform line.
-    Phase,
-    /// `clock NAME=VV..`: puts these clocks in place of all others.
-    Clock(ClockList),
-    /// `cycle N`: so many times, for each place of the clocks in order, sets their nodes and does what `phase` does.
-    Cycle(u64),
-    /// `expect NAME=V..`: a line for each node that isn't in this state.
-    Expect(AssignList),
     /// `add KIND GATE SOURCE DRAIN [STRENGTH]`: adds a transistor, whose strength is the usual one
     /// of its kind where none is given. New names make storage nodes of size 1.
     Add {
@@ -51,11 +48,49 @@ pub enum Command {
         source: Name,
         drain: Name,
     },
+}
+
+/// A command that gives nodes states.
+#[derive(Debug, Drop)]
+pub enum Give {
+    /// `set NAME=V..`: sets input nodes, from left to right.
+    Set(AssignList),
+    /// `charge NAME=V..`: sets storage nodes, from left to right.
+    Charge(AssignList),
+}
+
+/// A command that sets what later commands go by.
+#[derive(Debug, Drop)]
+pub enum Setup {
+    /// `watch NAME..`: appends the nodes to the watch list.
+    Watch(NameList),
+    /// `limit N`: sets the limit of a phase.
+    Limit(u64),
+    /// `clock NAME=VV..`: puts these clocks in place of all others.
+    Clock(ClockList),
+    /// `keep N`: sets the bound on the number of texts whose analyses are kept, from the next build on.
+    Keep(u64),
+}
+
+/// A command that has the circuit built first.
+#[derive(Debug, Drop)]
+pub enum Run {
+    /// `step`: one unit step, and a waveform line.
+    Step,
+    /// `phase`: unit steps until nothing changes, past the limit joining ones, and a waveform line.
+    Phase,
+    /// `cycle N`: so many times, for each place of the clocks in order, sets their nodes and does what `phase` does.
+    Cycle(u64),
     /// `report`: a line with the numbers of groups, of distinct texts, and of texts analysed since
     /// the last one.
     Report,
-    /// `keep N`: sets the bound on the number of texts whose analyses are kept, from the next build on.
-    Keep(u64),
+}
+
+/// A command that tells of what is there.
+#[derive(Debug, Drop)]
+pub enum Tell {
+    /// `expect NAME=V..`: a line for each node that isn't in this state.
+    Expect(AssignList),
 }
 
 /// Why a line of a script is no command. Where several causes stand together, the first here wins;

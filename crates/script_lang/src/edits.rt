@@ -2,7 +2,7 @@
 ghost use Rattle.std.specs.Prelude.{◌≡◌, [], ◌∷◌, Err, IfErr, IfOk, IfSome, IsNone};
 ghost use Rattle.script_lang.specs.Commands.{add_by, del_by, kind_by, strength_by, wire_by};
 
-use crate::command::{Command, ScriptFault};
+use crate::command::{Edit, ScriptFault};
 use crate::lists::Name;
 use crate::parts::kind_named;
 use line_words::{Words, decimal};
@@ -13,7 +13,7 @@ use ternary::NoMemory;
 pub(crate) fn read_add(
     alloc: Global,
     mut words: Words<'_>,
-) -> Result<Result<Command, ScriptFault>, NoMemory>
+) -> Result<Result<Edit, ScriptFault>, NoMemory>
     ensures { IfOk result (λ answer. answer ≡ add_by words.entry) }
 {
     let Some((kind, gate, source, drain)) = with_terminals(&mut words) else {
@@ -38,7 +38,7 @@ pub(crate) fn read_add(
     let gate = Name::from_slice(alloc, gate)?;
     let source = Name::from_slice(alloc, source)?;
     let drain = Name::from_slice(alloc, drain)?;
-    Ok(Ok(Command::Add {
+    Ok(Ok(Edit::Add {
         kind,
         gate,
         source,
@@ -63,7 +63,7 @@ fn with_terminals<'a>(words: &mut Words<'a>) -> Option<(&'a [u8], &'a [u8], &'a 
 }
 
 /// Reads the number of `del`.
-pub(crate) fn read_del(mut words: Words<'_>) -> Result<Command, ScriptFault>
+pub(crate) fn read_del(mut words: Words<'_>) -> Result<Edit, ScriptFault>
     ensures { result ≡ del_by words.entry }
 {
     let Some(number) = words.next() else {
@@ -73,7 +73,7 @@ pub(crate) fn read_del(mut words: Words<'_>) -> Result<Command, ScriptFault>
         return Err(ScriptFault::ManyWords);
     }
     match decimal(number) {
-        Some(number) => Ok(Command::Del(number)),
+        Some(number) => Ok(Edit::Del(number)),
         None => Err(ScriptFault::BadNumber),
     }
 }
@@ -97,7 +97,7 @@ fn pair<'a>(mut words: Words<'a>) -> Result<(&'a [u8], &'a [u8]), ScriptFault>
 }
 
 /// Reads the number and the strength of `strength`.
-pub(crate) fn read_strength(words: Words<'_>) -> Result<Command, ScriptFault>
+pub(crate) fn read_strength(words: Words<'_>) -> Result<Edit, ScriptFault>
     ensures { result ≡ strength_by words.entry }
 {
     let (number, strength) = match pair(words) {
@@ -105,13 +105,13 @@ pub(crate) fn read_strength(words: Words<'_>) -> Result<Command, ScriptFault>
         Err(fault) => return Err(fault),
     };
     match (decimal(number), decimal(strength)) {
-        (Some(number), Some(strength)) => Ok(Command::Strength(number, strength)),
+        (Some(number), Some(strength)) => Ok(Edit::Strength(number, strength)),
         _ => Err(ScriptFault::BadNumber),
     }
 }
 
 /// Reads the number and the kind of `type`.
-pub(crate) fn read_kind(words: Words<'_>) -> Result<Command, ScriptFault>
+pub(crate) fn read_kind(words: Words<'_>) -> Result<Edit, ScriptFault>
     ensures { result ≡ kind_by words.entry }
 {
     let (number, kind) = match pair(words) {
@@ -122,7 +122,7 @@ pub(crate) fn read_kind(words: Words<'_>) -> Result<Command, ScriptFault>
         return Err(ScriptFault::BadNumber);
     };
     match kind_named(kind) {
-        Some(kind) => Ok(Command::Kind(number, kind)),
+        Some(kind) => Ok(Edit::Kind(number, kind)),
         None => Err(ScriptFault::BadValue),
     }
 }
@@ -131,7 +131,7 @@ pub(crate) fn read_kind(words: Words<'_>) -> Result<Command, ScriptFault>
 pub(crate) fn read_wire(
     alloc: Global,
     mut words: Words<'_>,
-) -> Result<Result<Command, ScriptFault>, NoMemory>
+) -> Result<Result<Edit, ScriptFault>, NoMemory>
     ensures { IfOk result (λ answer. answer ≡ wire_by words.entry) }
 {
     let Some((number, gate, source, drain)) = with_terminals(&mut words) else {
@@ -146,7 +146,7 @@ pub(crate) fn read_wire(
     let gate = Name::from_slice(alloc, gate)?;
     let source = Name::from_slice(alloc, source)?;
     let drain = Name::from_slice(alloc, drain)?;
-    Ok(Ok(Command::Wire {
+    Ok(Ok(Edit::Wire {
         number,
         gate,
         source,

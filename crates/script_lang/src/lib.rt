@@ -1,12 +1,12 @@
 //! The commands of a test script, read from its lines.
 //!
-//! The main type is `Command`, and the main call is `read_command`. The layer above uses its
+//! The main type is `Command`, of five families, and the main call is `read_command`. The layer above uses its
 //! contract: it gives `reading_of` of the line, a command, nothing to do, or the refusal, and
 //! commands that are well formed alone. For the proofs of crates above: `ReadingLemmas` has the laws
 //! of `reading_of`.
 //!
 //! ```text
-//! read_command(alloc, b"set a=1 b=0")     is Ok(Some(Command::Set([a One, b Zero])))
+//! read_command(alloc, b"set a=1 b=0")     is Ok(Some(Command::Give(Give::Set([a One, b Zero]))))
 //! read_command(alloc, b"| a comment")     is Ok(None)
 //! read_command(alloc, b"limit")           is Err(ScriptFault::FewWords)
 //! ```
@@ -23,7 +23,7 @@ mod parts;
 mod reader;
 mod verb;
 
-pub use command::{Command, ScriptFault};
+pub use command::{Command, Edit, Give, Run, ScriptFault, Setup, Tell};
 pub use laws::{limits_are_as_stated, readings_are_commands_or_refusals};
 pub use lists::{AssignList, ClockList, ItemList, Name, NameList, StateList};
 pub use parts::beats;

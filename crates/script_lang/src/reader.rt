@@ -4,7 +4,7 @@ ghost use Rattle.script_lang.specs.Parts.{all_of, assignment_of, beats_of};
 ghost use Rattle.script_lang.specs.Commands.{alone, assignments_given, clocks_given, command_by, names_given, reading_of, reading_of_words, store_by, times_given};
 ghost use Rattle.script_lang.specs.Forms.{IsFormed};
 
-use crate::command::{Command, ScriptFault};
+use crate::command::{Command, Edit, Give, Run, ScriptFault, Setup, Tell};
 use crate::edits::{read_add, read_del, read_kind, read_strength, read_wire};
 use crate::lists::{AssignList, ClockList, Name, NameList};
 use crate::parts::{assignment, beats, times};
@@ -52,24 +52,45 @@ fn read_verb(
     ensures { IfOk result (λ answer. answer ≡ command_by verb words.entry) }
 {
     match verb {
-        Some(Verb::Input) => Ok(read_names(alloc, words)?.map(Command::Input)),
-        Some(Verb::Store) => read_store(alloc, words),
-        Some(Verb::Set) => Ok(read_assignments(alloc, words)?.map(Command::Set)),
-        Some(Verb::Charge) => Ok(read_assignments(alloc, words)?.map(Command::Charge)),
-        Some(Verb::Watch) => Ok(read_names(alloc, words)?.map(Command::Watch)),
-        Some(Verb::Limit) => Ok(read_times(words).map(Command::Limit)),
-        Some(Verb::Step) => Ok(read_alone(Command::Step, words)),
-        Some(Verb::Phase) => Ok(read_alone(Command::Phase, words)),
-        Some(Verb::Clock) => Ok(read_clocks(alloc, words)?.map(Command::Clock)),
-        Some(Verb::Cycle) => Ok(read_times(words).map(Command::Cycle)),
-        Some(Verb::Expect) => Ok(read_assignments(alloc, words)?.map(Command::Expect)),
-        Some(Verb::Add) => read_add(alloc, words),
-        Some(Verb::Del) => Ok(read_del(words)),
-        Some(Verb::Strength) => Ok(read_strength(words)),
-        Some(Verb::Kind) => Ok(read_kind(words)),
-        Some(Verb::Wire) => read_wire(alloc, words),
-        Some(Verb::Report) => Ok(read_alone(Command::Report, words)),
-        Some(Verb::Keep) => Ok(read_times(words).map(Command::Keep)),
+        Some(Verb::Input) => Ok(
+            read_names(alloc, words)?
+                .map(Edit::Input)
+                .map(Command::Edit),
+        ),
+        Some(Verb::Store) => Ok(read_store(alloc, words)?.map(Command::Edit)),
+        Some(Verb::Set) => {
+            let list = read_assignments(alloc, words)?;
+            Ok(list.map(Give::Set).map(Command::Give))
+        }
+        Some(Verb::Charge) => {
+            let list = read_assignments(alloc, words)?;
+            Ok(list.map(Give::Charge).map(Command::Give))
+        }
+        Some(Verb::Watch) => Ok(
+            read_names(alloc, words)?
+                .map(Setup::Watch)
+                .map(Command::Setup),
+        ),
+        Some(Verb::Limit) => Ok(read_times(words).map(Setup::Limit).map(Command::Setup)),
+        Some(Verb::Step) => Ok(read_alone(Command::Run(Run::Step), words)),
+        Some(Verb::Phase) => Ok(read_alone(Command::Run(Run::Phase), words)),
+        Some(Verb::Clock) => Ok(
+            read_clocks(alloc, words)?
+                .map(Setup::Clock)
+                .map(Command::Setup),
+        ),
+        Some(Verb::Cycle) => Ok(read_times(words).map(Run::Cycle).map(Command::Run)),
+        Some(Verb::Expect) => {
+            let list = read_assignments(alloc, words)?;
+            Ok(list.map(Tell::Expect).map(Command::Tell))
+        }
+        Some(Verb::Add) => Ok(read_add(alloc, words)?.map(Command::Edit)),
+        Some(Verb::Del) => Ok(read_del(words).map(Command::Edit)),
+        Some(Verb::Strength) => Ok(read_strength(words).map(Command::Edit)),
+        Some(Verb::Kind) => Ok(read_kind(words).map(Command::Edit)),
+        Some(Verb::Wire) => Ok(read_wire(alloc, words)?.map(Command::Edit)),
+        Some(Verb::Report) => Ok(read_alone(Command::Run(Run::Report), words)),
+        Some(Verb::Keep) => Ok(read_times(words).map(Setup::Keep).map(Command::Setup)),
         None => Ok(Err(ScriptFault::BadCommand)),
     }
 }
@@ -164,7 +185,7 @@ fn read_times(mut words: Words<'_>) -> Result<u64, ScriptFault>
 }
 
 // Reads the name and the size of `store`.
-fn read_store(alloc: Global, mut words: Words<'_>) -> Result<Result<Command, ScriptFault>, NoMemory>
+fn read_store(alloc: Global, mut words: Words<'_>) -> Result<Result<Edit, ScriptFault>, NoMemory>
     ensures { IfOk result (λ answer. answer ≡ store_by words.entry) }
 {
     let Some(name) = words.next() else {
@@ -179,7 +200,7 @@ fn read_store(alloc: Global, mut words: Words<'_>) -> Result<Result<Command, Scr
     let Some(size) = decimal(size) else {
         return Ok(Err(ScriptFault::BadNumber));
     };
-    Ok(Ok(Command::Store(Name::from_slice(alloc, name)?, size)))
+    Ok(Ok(Edit::Store(Name::from_slice(alloc, name)?, size)))
 }
 
 // The command, which is given nothing.

@@ -8,11 +8,15 @@ use Rattle.netlist.specs.Edits.{node_named}
 use Rattle.group_text.specs.Texts.{GroupTextData}
 use Rattle.script_lang.specs.Forms.{IsFormed}
 use Rattle.script_lang.specs.declared.command.Command.{Command}
-use Rattle.script_lang.specs.declared.command.Command.TheVariants.{Input, Store, Set, Charge, Watch, Limit, Step, Phase, Clock, Cycle, Expect, Add, Del, Strength, Kind, Wire, Report, Keep}
+use Rattle.script_lang.specs.declared.command.Command.TheVariants as family
+use Rattle.script_lang.specs.declared.command.Run.{Run}
+use Rattle.script_lang.specs.declared.command.Run.TheVariants.{Step, Phase, Cycle, Report}
+use Rattle.script_lang.specs.declared.command.Tell.{Tell}
+use Rattle.script_lang.specs.declared.command.Tell.TheVariants.{Expect}
 use Rattle.session_meaning.specs.Bounds.{IsBounded, IsReadable}
 use Rattle.session_meaning.specs.Sessions.{SessionData, places_of}
 use Rattle.session_meaning.specs.Lines.{Line, Wave}
-use Rattle.session_meaning.specs.Effects.{Effect, AreBeats, is_state, unmet_lines, places_in, wave_by}
+use Rattle.session_meaning.specs.Effects.{Effect, RunEffect, AreBeats, told_by, is_state, unmet_lines, places_in, wave_by}
 use Rattle.session_meaning.specs.Outcomes.{Performs}
 use Rattle.session_meaning.proofs.BoundLemmas.{performs-readable}
 use Rattle.script_reports.specs.Countings.{IsWave, IsOther, AreAlike}
@@ -54,28 +58,24 @@ unmet_alike session (item ∷ list) = by (is_state (state_at session.state (node
 
 -- ---- all commands
 
+run_alike : (session new : SessionData) (lines : List Line) (run : Run) → All IsReadable lines → RunEffect session run new lines → AreAlike lines
+run_alike session new lines Step readable effect = inl (wave_alike lines _ _ _ _ readable effect.wrote)
+run_alike session new lines Phase readable effect = inl (wave_alike lines _ _ _ _ readable effect.wrote)
+run_alike session new lines (Cycle times) readable effect =
+    inl (beats_alike (places_in (places_of session.clocks) times) session new lines readable effect)
+run_alike session new lines Report readable effect =
+    inr (subst (All IsOther) (sym effect.wrote) (All-cons IsOther _ [] tt (All-nil IsOther)))
+
+told_alike : (session : SessionData) (tell : Tell) → All IsOther (told_by session tell)
+told_alike session (Expect list) = unmet_alike session list
+
 effect_alike : (session new : SessionData) (lines : List Line) (command : Command) → All IsReadable lines → Effect session command new lines →
     AreAlike lines
-effect_alike session new lines (Input names) readable effect = none_alike lines effect.1
-effect_alike session new lines (Store name size) readable effect = none_alike lines effect.1
-effect_alike session new lines (Set list) readable effect = none_alike lines effect.1
-effect_alike session new lines (Charge list) readable effect = none_alike lines effect.1
-effect_alike session new lines (Watch names) readable effect = none_alike lines effect.1
-effect_alike session new lines (Limit number) readable effect = none_alike lines effect.1
-effect_alike session new lines Step readable effect = inl (wave_alike lines _ _ _ _ readable effect.wrote)
-effect_alike session new lines Phase readable effect = inl (wave_alike lines _ _ _ _ readable effect.wrote)
-effect_alike session new lines (Clock list) readable effect = none_alike lines effect.1
-effect_alike session new lines (Cycle times) readable effect =
-    inl (beats_alike (places_in (places_of session.clocks) times) session new lines readable effect)
-effect_alike session new lines (Expect list) readable effect = inr (subst (All IsOther) (sym effect.1) (unmet_alike session list))
-effect_alike session new lines (Add kind gate source drain strength) readable effect = none_alike lines effect.1
-effect_alike session new lines (Del number) readable effect = none_alike lines effect.1
-effect_alike session new lines (Strength number strength) readable effect = none_alike lines effect.1
-effect_alike session new lines (Kind number kind) readable effect = none_alike lines effect.1
-effect_alike session new lines (Wire number gate source drain) readable effect = none_alike lines effect.1
-effect_alike session new lines Report readable effect =
-    inr (subst (All IsOther) (sym effect.wrote) (All-cons IsOther _ [] tt (All-nil IsOther)))
-effect_alike session new lines (Keep number) readable effect = none_alike lines effect.1
+effect_alike session new lines (family.Edit edit) readable effect = none_alike lines effect.1
+effect_alike session new lines (family.Give give) readable effect = none_alike lines effect.1
+effect_alike session new lines (family.Setup setup) readable effect = none_alike lines effect.1
+effect_alike session new lines (family.Run run) readable effect = run_alike session new lines run readable effect
+effect_alike session new lines (family.Tell tell) readable effect = inr (subst (All IsOther) (sym effect.1) (told_alike session tell))
 
 pub performs_alike : (old new : SessionData) (command : Command) (text : List ℕ) (texts : List GroupTextData) → IsBounded old → IsFormed command →
     (performs : Performs old command new text texts) → AreAlike performs.does.lines

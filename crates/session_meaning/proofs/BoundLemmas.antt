@@ -22,16 +22,25 @@ use Rattle.netlist.specs.declared.TheConstants.{MOST_NODES, MOST_SWITCHES}
 use Rattle.group_text.specs.Texts.{GroupTextData}
 use Rattle.script_lang.specs.declared.TheConstants.{MOST_TIMES}
 use Rattle.script_lang.specs.declared.command.Command.{Command}
-use Rattle.script_lang.specs.declared.command.Command.TheVariants.{Input, Store, Set, Charge, Watch, Limit, Step, Phase, Clock, Cycle, Expect, Add, Del, Strength, Kind, Wire, Report, Keep}
-use Rattle.script_lang.specs.Forms.{IsFormed}
+use Rattle.script_lang.specs.declared.command.Command.TheVariants as family
+use Rattle.script_lang.specs.declared.command.Edit.{Edit}
+use Rattle.script_lang.specs.declared.command.Edit.TheVariants.{Input, Store, Add, Del, Strength, Kind, Wire}
+use Rattle.script_lang.specs.declared.command.Setup.{Setup}
+use Rattle.script_lang.specs.declared.command.Setup.TheVariants.{Watch, Limit, Clock, Keep}
+use Rattle.script_lang.specs.declared.command.Run.{Run}
+use Rattle.script_lang.specs.declared.command.Run.TheVariants.{Step, Phase, Cycle, Report}
+use Rattle.script_lang.specs.declared.command.Tell.{Tell}
+use Rattle.script_lang.specs.declared.command.Tell.TheVariants.{Expect}
+use Rattle.script_lang.specs.Forms.{IsFormed, IsFormedSetup, IsFormedTell}
 use Rattle.session_meaning.specs.Sessions.{SessionData, places_of}
-use Rattle.session_meaning.specs.Refusals.{refusal_of, making_refusal, edit_refusal, strength_for}
+use Rattle.session_meaning.specs.Refusals.{refusal_of, refusal_of_edit, making_refusal, edit_refusal, strength_for}
 use Rattle.session_meaning.specs.Lines.{Line}
-use Rattle.session_meaning.specs.Effects.{Effect, IsPhase, AreBeats, with_beat, is_state, unmet_lines, places_in, one_more}
+use Rattle.session_meaning.specs.Effects.{Effect, RunEffect, IsPhase, AreBeats, circuit_after, setup_after, told_by, with_beat, is_state, unmet_lines, places_in, one_more}
 use Rattle.session_meaning.specs.Preparing.{builds, BuildsIf}
 use Rattle.session_meaning.specs.Outcomes.{Does, Performs}
 use Rattle.session_meaning.specs.Bounds.{IsBounded, IsReadable}
-use Rattle.session_meaning.proofs.EffectLemmas.{phase-ready, with_beat-ready, ready-build, ready-does, nodes-with_inputs}
+use Rattle.session_meaning.proofs.EditLemmas.{nodes-with_inputs}
+use Rattle.session_meaning.proofs.EffectLemmas.{phase-ready, with_beat-ready, ready-build, ready-does}
 
 -- ---- how many steps a phase has
 
@@ -117,32 +126,28 @@ unmet_readable session (item ∷ list) named =
     by false is others =
         rw is (All-cons IsReadable _ _ (All-head (λ (one : List ℕ × Tern). IsVisibleName one.0) item list named) others)
 
-effect_readable : (session new : SessionData) (lines : List Line) (command : Command) → IsBounded session → IsFormed command →
-    Effect session command new lines → All IsReadable lines
-effect_readable session new lines (Input names) bounded formed effect = none_readable lines effect.1
-effect_readable session new lines (Store name size) bounded formed effect = none_readable lines effect.1
-effect_readable session new lines (Set list) bounded formed effect = none_readable lines effect.1
-effect_readable session new lines (Charge list) bounded formed effect = none_readable lines effect.1
-effect_readable session new lines (Watch names) bounded formed effect = none_readable lines effect.1
-effect_readable session new lines (Limit number) bounded formed effect = none_readable lines effect.1
-effect_readable session new lines Step bounded formed effect =
+run_readable : (session new : SessionData) (lines : List Line) (run : Run) → IsBounded session → RunEffect session run new lines → All IsReadable lines
+run_readable session new lines Step bounded effect =
     let small : one_more session.count < 2 ^ 64 = omega arith in
     let numbered : new.count < 2 ^ 64 = subst (λ (now : SessionData). now.count < 2 ^ 64) (sym effect.moved) small in
     subst (All IsReadable) (sym effect.wrote) (All-cons IsReadable _ [] (numbered, omega arith) (All-nil IsReadable))
-effect_readable session new lines Phase bounded formed effect = phase_readable session new lines bounded effect
-effect_readable session new lines (Clock list) bounded formed effect = none_readable lines effect.1
-effect_readable session new lines (Cycle times) bounded formed effect =
+run_readable session new lines Phase bounded effect = phase_readable session new lines bounded effect
+run_readable session new lines (Cycle times) bounded effect =
     beats_readable (places_in (places_of session.clocks) times) session new lines bounded effect
-effect_readable session new lines (Expect list) bounded formed effect =
-    subst (All IsReadable) (sym effect.1) (unmet_readable session list formed.1)
-effect_readable session new lines (Add kind gate source drain strength) bounded formed effect = none_readable lines effect.1
-effect_readable session new lines (Del number) bounded formed effect = none_readable lines effect.1
-effect_readable session new lines (Strength number strength) bounded formed effect = none_readable lines effect.1
-effect_readable session new lines (Kind number kind) bounded formed effect = none_readable lines effect.1
-effect_readable session new lines (Wire number gate source drain) bounded formed effect = none_readable lines effect.1
-effect_readable session new lines Report bounded formed effect =
+run_readable session new lines Report bounded effect =
     subst (All IsReadable) (sym effect.wrote) (All-cons IsReadable _ [] tt (All-nil IsReadable))
-effect_readable session new lines (Keep number) bounded formed effect = none_readable lines effect.1
+
+told_readable : (session : SessionData) (tell : Tell) → IsFormedTell tell → All IsReadable (told_by session tell)
+told_readable session (Expect list) formed = unmet_readable session list formed.1
+
+effect_readable : (session new : SessionData) (lines : List Line) (command : Command) → IsBounded session → IsFormed command →
+    Effect session command new lines → All IsReadable lines
+effect_readable session new lines (family.Edit edit) bounded formed effect = none_readable lines effect.1
+effect_readable session new lines (family.Give give) bounded formed effect = none_readable lines effect.1
+effect_readable session new lines (family.Setup setup) bounded formed effect = none_readable lines effect.1
+effect_readable session new lines (family.Run run) bounded formed effect = run_readable session new lines run bounded effect
+effect_readable session new lines (family.Tell tell) bounded formed effect =
+    subst (All IsReadable) (sym effect.1) (told_readable session tell formed)
 
 -- ---- the data after all commands
 
@@ -178,34 +183,39 @@ few_wired c number gate source drain none =
 abbrev IsSmall : SessionData → Type 0
 IsSmall session = (nodes session.circuit.graph < 2 ^ 63) × (session.limit ≤ MOST_TIMES)
 
+-- an edit that isn't refused leaves few nodes
+few_edited : (c : CircuitData) (edit : Edit) → nodes c.graph < 2 ^ 63 → refusal_of_edit c edit ≡ None → nodes (circuit_after c edit).graph < 2 ^ 63
+few_edited c (Input names) few allowed = omega (arith, nodes-with_inputs names c, few)
+few_edited c (Store name size) few allowed = omega (arith, length-set c.graph.levels (node_named c name) (level_of_size size), few)
+few_edited c (Add kind gate source drain strength) few allowed = few_added c (strength_for kind strength) gate source drain allowed
+few_edited c (Del number) few allowed = few
+few_edited c (Strength number strength) few allowed = few
+few_edited c (Kind number kind) few allowed = few
+few_edited c (Wire number gate source drain) few allowed = few_wired c number gate source drain allowed
+
+-- what sets what others go by leaves a small limit
+small_set : (session : SessionData) (setup : Setup) → IsBounded session → IsFormedSetup setup → IsSmall (setup_after session setup)
+small_set session (Watch names) bounded formed = (bounded.few, bounded.limit)
+small_set session (Limit number) bounded formed = (bounded.few, formed.1)
+small_set session (Clock list) bounded formed = (bounded.few, bounded.limit)
+small_set session (Keep number) bounded formed = (bounded.few, bounded.limit)
+
+run_small : (session new : SessionData) (lines : List Line) (run : Run) → IsBounded session → RunEffect session run new lines → IsSmall new
+run_small session new lines Step bounded effect = subst IsSmall (sym effect.moved) (bounded.few, bounded.limit)
+run_small session new lines Phase bounded effect = subst IsSmall (sym effect.moved) (bounded.few, bounded.limit)
+run_small session new lines (Cycle times) bounded effect =
+    let after = bounded-beats (places_in (places_of session.clocks) times) session new lines bounded effect in (after.few, after.limit)
+run_small session new lines Report bounded effect = subst IsSmall (sym effect.moved) (bounded.few, bounded.limit)
+
 effect_small : (session new : SessionData) (lines : List Line) (command : Command) → IsBounded session → IsFormed command →
     refusal_of session command ≡ None → Effect session command new lines → IsSmall new
-effect_small session new lines (Input names) bounded formed allowed effect =
-    let same = nodes-with_inputs names session.circuit in
-    subst IsSmall (sym effect.0) (omega (arith, same, bounded.few), bounded.limit)
-effect_small session new lines (Store name size) bounded formed allowed effect =
-    let same = length-set session.circuit.graph.levels (node_named session.circuit name) (level_of_size size) in
-    subst IsSmall (sym effect.0) (omega (arith, same, bounded.few), bounded.limit)
-effect_small session new lines (Set list) bounded formed allowed effect = subst IsSmall (sym effect.0) (bounded.few, bounded.limit)
-effect_small session new lines (Charge list) bounded formed allowed effect = subst IsSmall (sym effect.0) (bounded.few, bounded.limit)
-effect_small session new lines (Watch names) bounded formed allowed effect = subst IsSmall (sym effect.0) (bounded.few, bounded.limit)
-effect_small session new lines (Limit number) bounded formed allowed effect = subst IsSmall (sym effect.0) (bounded.few, formed.1)
-effect_small session new lines Step bounded formed allowed effect = subst IsSmall (sym effect.moved) (bounded.few, bounded.limit)
-effect_small session new lines Phase bounded formed allowed effect = subst IsSmall (sym effect.moved) (bounded.few, bounded.limit)
-effect_small session new lines (Clock list) bounded formed allowed effect = subst IsSmall (sym effect.0) (bounded.few, bounded.limit)
-effect_small session new lines (Cycle times) bounded formed allowed effect =
-    let after = bounded-beats (places_in (places_of session.clocks) times) session new lines bounded effect in (after.few, after.limit)
-effect_small session new lines (Expect list) bounded formed allowed effect = subst IsSmall (sym effect.0) (bounded.few, bounded.limit)
-effect_small session new lines (Add kind gate source drain strength) bounded formed allowed effect =
-    subst IsSmall (sym effect.0) (few_added session.circuit (strength_for kind strength) gate source drain allowed, bounded.limit)
-effect_small session new lines (Del number) bounded formed allowed effect = subst IsSmall (sym effect.0) (bounded.few, bounded.limit)
-effect_small session new lines (Strength number strength) bounded formed allowed effect =
-    subst IsSmall (sym effect.0) (bounded.few, bounded.limit)
-effect_small session new lines (Kind number kind) bounded formed allowed effect = subst IsSmall (sym effect.0) (bounded.few, bounded.limit)
-effect_small session new lines (Wire number gate source drain) bounded formed allowed effect =
-    subst IsSmall (sym effect.0) (few_wired session.circuit number gate source drain allowed, bounded.limit)
-effect_small session new lines Report bounded formed allowed effect = subst IsSmall (sym effect.moved) (bounded.few, bounded.limit)
-effect_small session new lines (Keep number) bounded formed allowed effect = subst IsSmall (sym effect.0) (bounded.few, bounded.limit)
+effect_small session new lines (family.Edit edit) bounded formed allowed effect =
+    subst IsSmall (sym effect.0) (few_edited session.circuit edit bounded.few allowed, bounded.limit)
+effect_small session new lines (family.Give give) bounded formed allowed effect = subst IsSmall (sym effect.0) (bounded.few, bounded.limit)
+effect_small session new lines (family.Setup setup) bounded formed allowed effect =
+    subst IsSmall (sym effect.0) (small_set session setup bounded formed)
+effect_small session new lines (family.Run run) bounded formed allowed effect = run_small session new lines run bounded effect
+effect_small session new lines (family.Tell tell) bounded formed allowed effect = subst IsSmall (sym effect.0) (bounded.few, bounded.limit)
 
 -- ---- with the build before a command
 

@@ -3,12 +3,13 @@
 -- machine covered the graph before, and covers the graph after.
 use Rattle.std.proofs.Common.{◌≡◌, ℕ, ◌+◌, ◌-◌, ◌<◌, ◌≤◌, Bool, true, false, List, [], ◌∷◌, ◌++◌, length, replicate, Option, None, Some, Result, Ok, Err, IfSome, OnOk, is_some, nat_lt, nat_le, refl, sym, ap, subst, ◌∙◌, inl, inr, arith, length-append, append-nil}
 use Rattle.std.specs.Prelude.{◌⊎◌, if◌then◌else◌}
-use Rattle.std.proofs.lemmas.List.{length-replicate, get_or_append_left}
+use Rattle.std.proofs.lemmas.List.{length-replicate, length-set, get_or_append_left}
 use Rattle.std.proofs.lemmas.List.Elements.{All-weaker}
 use Rattle.std.proofs.lemmas.Bool.Decides.{nat_tests}
 use Rattle.ternary.specs.declared.tern.Tern.{Tern}
 use Rattle.ternary.specs.declared.tern.Tern.TheVariants.{Zero, Unk}
-use Rattle.strength_order.specs.declared.TheConstants.{LEAST_SIZE_LEVEL}
+use Rattle.strength_order.specs.declared.TheConstants.{INPUT_LEVEL, LEAST_SIZE_LEVEL}
+use Rattle.strength_order.specs.Levels.{level_of_size}
 use Rattle.path_meaning.specs.declared.TheConstants.{GND, VDD, RAILS}
 use Rattle.path_meaning.specs.declared.switching.SwitchKind.{SwitchKind}
 use Rattle.path_meaning.specs.Graphs.{GraphData, nodes}
@@ -25,17 +26,19 @@ use Rattle.netlist.specs.declared.fault.EditFault.TheVariants as edit
 use Rattle.netlist.specs.Faults.{MakingFault, IsAnswered}
 use Rattle.netlist.specs.Names.{node_of}
 use Rattle.netlist.specs.Circuits.{CircuitData, IsCircuit}
-use Rattle.netlist.specs.Edits.{answer_of, is_strength, add_fault, rail_fault, strength_fault, switch_numbered, wire_fault, with_node, with_nodes, with_new_node, with_transistor, with_wires, with_place}
+use Rattle.netlist.specs.Edits.{answer_of, is_strength, add_fault, node_named, rail_fault, strength_fault, switch_numbered, wire_fault, with_input, with_node, with_nodes, with_new_node, with_transistor, with_wires, with_place}
 use Rattle.script_lang.specs.declared.command.Command.{Command}
-use Rattle.script_lang.specs.declared.command.Command.TheVariants.{Add, Wire}
+use Rattle.script_lang.specs.declared.command.Command.TheVariants as family
+use Rattle.script_lang.specs.declared.command.Edit.{Edit}
+use Rattle.script_lang.specs.declared.command.Edit.TheVariants as asked
 use Rattle.session_meaning.specs.declared.switches.SwitchEdit.{SwitchEdit}
 use Rattle.session_meaning.specs.declared.switches.SwitchEdit.TheVariants.{Removal, Strength, Kind}
 use Rattle.session_meaning.specs.declared.fault.ApplyFault.{ApplyFault}
 use Rattle.session_meaning.specs.Sessions.{SessionData, HeldSession, IsReady, IsSession}
-use Rattle.session_meaning.specs.Refusals.{refusal_of, making_refusal, edit_refusal, rail_refusal, strength_for}
-use Rattle.session_meaning.specs.Effects.{Effect, with_circuit}
+use Rattle.session_meaning.specs.Refusals.{refusal_of, refusal_of_edit, making_refusal, edit_refusal, rail_refusal, strength_for}
+use Rattle.session_meaning.specs.Effects.{circuit_after, with_circuit, with_inputs}
 use Rattle.session_meaning.specs.Preparing.{fault_of_edit}
-use Rattle.session_meaning.specs.Switches.{place_after, edit_fault, command_of}
+use Rattle.session_meaning.specs.Switches.{place_after, edit_fault, edit_of}
 use Rattle.session_meaning.specs.Machines.{Serves, Survives, IsHeldSession, kept_in}
 use Rattle.session_meaning.specs.Outcomes.{Does, Quietly}
 use Rattle.session_meaning.specs.Stages.{StageData, EditsFrom}
@@ -102,6 +105,26 @@ pub same_states : (state : List Tern) (count : ℕ) → count ≤ length state �
 same_states state count few =
     let none : count - length state ≡ 0 = omega (few, arith) in
     ap (λ (n : ℕ). state ++ replicate n Unk) none ∙ append-nil state
+
+-- so a session whose circuit has no new node has the state that it had
+pub kept_states : (session : SessionData) (c : CircuitData) → nodes c.graph ≤ length session.state → (record session { circuit = c }) ≡ with_circuit session c
+kept_states session c few = ap (λ (state : List Tern). record session { circuit = c; state = state }) (sym (same_states session.state (nodes c.graph) few))
+
+-- `input` makes no new node, and gives no new name
+pub nodes-with_inputs : (names : List (List ℕ)) (c : CircuitData) → nodes (with_inputs c names).graph ≡ nodes c.graph
+nodes-with_inputs [] c = refl
+nodes-with_inputs (name ∷ names) c =
+    nodes-with_inputs names (with_input c (node_named c name)) ∙ length-set c.graph.levels (node_named c name) INPUT_LEVEL
+
+-- an edit makes three nodes at most
+pub nodes-after-most : (c : CircuitData) (edit : Edit) → nodes (circuit_after c edit).graph ≤ nodes c.graph + 3
+nodes-after-most c (asked.Input names) = omega (arith, nodes-with_inputs names c)
+nodes-after-most c (asked.Store name size) = omega (arith, length-set c.graph.levels (node_named c name) (level_of_size size))
+nodes-after-most c (asked.Add kind gate source drain strength) = nodes-with_nodes-most (gate ∷ source ∷ drain ∷ []) c
+nodes-after-most c (asked.Del number) = omega arith
+nodes-after-most c (asked.Strength number strength) = omega arith
+nodes-after-most c (asked.Kind number kind) = omega arith
+nodes-after-most c (asked.Wire number gate source drain) = nodes-with_nodes-most (gate ∷ source ∷ drain ∷ []) c
 
 -- the session with this circuit, and the state and the machine of this stage
 abbrev pub edited : HeldSession → CircuitData → StageData → HeldSession
@@ -292,42 +315,60 @@ same-halted session c stage table is state machine stood =
     let kept : kept_in stage.machine table ≡ session.core.kept = ap (λ (m : Option MachineData). kept_in m table) machine ∙ sym stood in
     λ i. record { core = record session.core { circuit = is i; state = state i; kept = kept i }; machine = machine i }
 
--- ---- edits of a transistor that leave its terminals
+-- ---- edits
 
--- the refusal of such an edit's command is the edit's
+-- an edit that isn't refused, and whose new nodes are X: what its command does
+pub edit_does : (session : SessionData) (edit : Edit) (c : CircuitData) (stage : StageData) → refusal_of_edit session.circuit edit ≡ None →
+    c ≡ circuit_after session.circuit edit → stage.state ≡ with_new_nodes session.state (nodes c.graph) →
+    Does session (family.Edit edit) (record session { circuit = c; state = stage.state }) []
+edit_does session edit c stage allowed is grown = record {
+  allowed = allowed;
+  lines = [];
+  effect = (ap (λ (state : List Tern). record session { circuit = c; state = state }) grown ∙ ap (with_circuit session) is, refl);
+  text_is = refl;
+}
+
+-- and of one that makes no node, where the states stay
+pub still_does : (session new : SessionData) (edit : Edit) (c : CircuitData) → refusal_of_edit session.circuit edit ≡ None →
+    c ≡ circuit_after session.circuit edit → nodes c.graph ≤ length session.state → new ≡ record session { circuit = c } →
+    Does session (family.Edit edit) new []
+still_does session new edit c allowed is few same = record {
+  allowed = allowed;
+  lines = [];
+  effect = (same ∙ kept_states session c few ∙ ap (with_circuit session) is, refl);
+  text_is = refl;
+}
+
+-- nodes that are made input nodes: what their command does
+pub inputs_does : (session new : SessionData) (names : List (List ℕ)) → length session.state ≡ nodes session.circuit.graph →
+    refusal_of session (family.Edit (asked.Input names)) ≡ None → new ≡ record session { circuit = with_inputs session.circuit names } →
+    Does session (family.Edit (asked.Input names)) new []
+inputs_does session new names counted allowed same =
+    still_does session new (asked.Input names) (with_inputs session.circuit names) allowed refl
+    (omega (arith, counted, nodes-with_inputs names session.circuit)) same
+
+-- the refusal of an edit of a transistor that leaves its terminals
 pub refusal_of-switch : (session : SessionData) (number : ℕ) (edit : SwitchEdit) →
-    refusal_of session (command_of number edit) ≡ edit_refusal (edit_fault session.circuit number edit)
+    refusal_of session (family.Edit (edit_of number edit)) ≡ edit_refusal (edit_fault session.circuit number edit)
 refusal_of-switch session number Removal = refl
 refusal_of-switch session number (Strength strength) = refl
 refusal_of-switch session number (Kind kind) = refl
 
--- and so is its effect
-effect-switch : (session : SessionData) (number : ℕ) (edit : SwitchEdit) →
-    Effect session (command_of number edit) (record session { circuit = with_place session.circuit number (place_after session.circuit number edit) }) []
-effect-switch session number Removal = (refl, refl)
-effect-switch session number (Strength strength) = (refl, refl)
-effect-switch session number (Kind kind) = (refl, refl)
+-- and the circuit after it
+circuit_after-switch : (c : CircuitData) (number : ℕ) (edit : SwitchEdit) → circuit_after c (edit_of number edit) ≡ with_place c number (place_after c number edit)
+circuit_after-switch c number Removal = refl
+circuit_after-switch c number (Strength strength) = refl
+circuit_after-switch c number (Kind kind) = refl
 
 -- a transistor that is edited so: what its command does
 pub switched_does : (session : SessionData) (c : CircuitData) (stage : StageData) (number : ℕ) (edit : SwitchEdit) →
-    length session.state ≡ nodes session.circuit.graph → Ok tt ≡ answer_of (edit_fault session.circuit number edit) →
-    c ≡ with_place session.circuit number (place_after session.circuit number edit) → stage.state ≡ with_new_nodes session.state (nodes c.graph) →
-    Does session (command_of number edit) (record session { circuit = c; state = stage.state }) []
-switched_does session c stage number edit states answered is grown =
-    let stays : stage.state ≡ session.state =
-    grown ∙ ap (λ (after : CircuitData). with_new_nodes session.state (nodes after.graph)) is
-    ∙ same_states session.state (nodes session.circuit.graph) (omega (arith, states)) in
-    let moved : (record session { circuit = c; state = stage.state })
-    ≡ record session { circuit = with_place session.circuit number (place_after session.circuit number edit) } =
-    λ i. record session { circuit = is i; state = stays i } in
-    record {
-      allowed = refusal_of-switch session number edit ∙ ap edit_refusal (no_fault (edit_fault session.circuit number edit) answered);
-      lines = [];
-      effect = subst (λ (new : SessionData). Effect session (command_of number edit) new []) (sym moved) (effect-switch session number edit);
-      text_is = refl;
-    }
-
--- ---- other edits
+    Ok tt ≡ answer_of (edit_fault session.circuit number edit) → c ≡ with_place session.circuit number (place_after session.circuit number edit) →
+    stage.state ≡ with_new_nodes session.state (nodes c.graph) →
+    Does session (family.Edit (edit_of number edit)) (record session { circuit = c; state = stage.state }) []
+switched_does session c stage number edit answered is grown =
+    edit_does session (edit_of number edit) c stage
+    (refusal_of-switch session number edit ∙ ap edit_refusal (no_fault (edit_fault session.circuit number edit) answered))
+    (is ∙ sym (circuit_after-switch session.circuit number edit)) grown
 
 -- a node that may be edited is past the rails
 pub past_edited : (found : Option ℕ) (node : ℕ) → rail_refusal found ≡ None → found ≡ Some node → RAILS ≤ node
@@ -346,29 +387,16 @@ input_made node answer Made past answered made = by (nat_lt node RAILS) refl ans
 pub added_does : (session : SessionData) (c : CircuitData) (stage : StageData) (kind : SwitchKind) (strength : Option ℕ) (given : ℕ)
     (gate source drain : List ℕ) → given ≡ strength_for kind strength → add_fault session.circuit given gate source drain ≡ None →
     c ≡ with_transistor session.circuit kind given gate source drain → stage.state ≡ with_new_nodes session.state (nodes c.graph) →
-    Does session (Add kind gate source drain strength) (record session { circuit = c; state = stage.state }) []
-added_does session c stage kind strength given gate source drain same none is grown = record {
-  allowed = ap making_refusal (subst (λ (n : ℕ). add_fault session.circuit n gate source drain ≡ None) same none);
-  lines = [];
-  effect = (
-    ap (λ (state : List Tern). record session { circuit = c; state = state }) grown
-        ∙ ap (with_circuit session) (is ∙ ap (λ (n : ℕ). with_transistor session.circuit kind n gate source drain) same),
-    refl,
-  );
-  text_is = refl;
-}
+    Does session (family.Edit (asked.Add kind gate source drain strength)) (record session { circuit = c; state = stage.state }) []
+added_does session c stage kind strength given gate source drain same none is grown =
+    edit_does session (asked.Add kind gate source drain strength) c stage
+    (ap making_refusal (subst (λ (n : ℕ). add_fault session.circuit n gate source drain ≡ None) same none))
+    (is ∙ ap (λ (n : ℕ). with_transistor session.circuit kind n gate source drain) same) grown
 
 -- a transistor whose terminals are set: what its command does
 pub rewired_does : (session : SessionData) (c : CircuitData) (stage : StageData) (number : ℕ) (gate source drain : List ℕ) →
     wire_fault session.circuit number gate source drain ≡ None → c ≡ with_wires session.circuit number gate source drain →
     stage.state ≡ with_new_nodes session.state (nodes c.graph) →
-    Does session (Wire number gate source drain) (record session { circuit = c; state = stage.state }) []
-rewired_does session c stage number gate source drain none is grown = record {
-  allowed = ap edit_refusal none;
-  lines = [];
-  effect = (
-    ap (λ (state : List Tern). record session { circuit = c; state = state }) grown ∙ ap (with_circuit session) is,
-    refl,
-  );
-  text_is = refl;
-}
+    Does session (family.Edit (asked.Wire number gate source drain)) (record session { circuit = c; state = stage.state }) []
+rewired_does session c stage number gate source drain none is grown =
+    edit_does session (asked.Wire number gate source drain) c stage (ap edit_refusal none) is grown

@@ -1,7 +1,7 @@
 -- Each command is refused or has an effect, and an effect keeps the data ready: the circuit well formed, and one state for each node.
 -- The plan: edits give nodes other than the rails a level, which keeps the circuit well formed; states are set and keep their number; steps,
 -- phases and cycles have an outcome because every state of a graph has a step and settles.
-use Rattle.std.proofs.Common.{◌≡◌, ℕ, ◌-◌, ◌≤◌, ◌++◌, ◌||◌, List, [], ◌∷◌, length, map, nat_lt, Option, None, Some, Bool, true, false, refl, sym, ◌∙◌, inl, inr, arith}
+use Rattle.std.proofs.Common.{◌≡◌, ℕ, ◌-◌, ◌≤◌, ◌++◌, ◌||◌, List, [], ◌∷◌, length, All, nat_lt, Option, None, Some, Bool, true, false, refl, ◌∙◌, inl, inr, arith}
 use Rattle.std.specs.Prelude.{if◌then◌else◌, ◌⊎◌}
 use Rattle.std.proofs.lemmas.List.{length-set, length-replicate}
 use Rattle.std.proofs.lemmas.List.Elements.{All-nil}
@@ -18,7 +18,7 @@ use Rattle.netlist.specs.Circuits.{CircuitData, IsCircuit}
 use Rattle.netlist.proofs.KeptLemmas.{IsLevel-input, IsLevel-size, IsCircuit-with_level}
 use Rattle.netlist.proofs.KeptLemmas.{IsCircuit-with_transistor}
 use Rattle.netlist.proofs.EditLemmas.{nodes-with_transistor, nodes-with_wires, IsCircuit-without_switch, IsCircuit-with_strength, IsCircuit-with_kind, IsCircuit-with_wires}
-use Rattle.netlist.specs.Edits.{with_input, with_store, node_named, is_size, with_transistor, without_switch, with_strength, with_kind, with_wires}
+use Rattle.netlist.specs.Edits.{with_input, node_named, is_size}
 use Rattle.group_text.specs.Texts.{GroupTextData}
 use Rattle.group_text.specs.FirstTexts.{first_texts}
 use Rattle.circuit_texts.specs.declared.texts.BuildFault.{BuildFault}
@@ -26,21 +26,29 @@ use Rattle.circuit_texts.specs.Sizes.{TellsTooLarge}
 use Rattle.circuit_texts.specs.Building.{HasTexts}
 use Rattle.group_text.specs.FirstTexts.{new_texts}
 use Rattle.script_lang.specs.declared.command.Command.{Command}
-use Rattle.script_lang.specs.declared.command.Command.TheVariants.{Input, Store, Set, Charge, Watch, Limit, Step, Phase, Clock, Cycle, Expect, Add, Del, Strength, Kind, Wire, Report, Keep}
+use Rattle.script_lang.specs.declared.command.Command.TheVariants as family
+use Rattle.script_lang.specs.declared.command.Edit.{Edit}
+use Rattle.script_lang.specs.declared.command.Edit.TheVariants.{Input, Store, Add, Del, Strength, Kind, Wire}
+use Rattle.script_lang.specs.declared.command.Give.{Give}
+use Rattle.script_lang.specs.declared.command.Give.TheVariants.{Set, Charge}
+use Rattle.script_lang.specs.declared.command.Setup.{Setup}
+use Rattle.script_lang.specs.declared.command.Setup.TheVariants.{Watch, Limit, Clock, Keep}
+use Rattle.script_lang.specs.declared.command.Run.{Run}
+use Rattle.script_lang.specs.declared.command.Run.TheVariants.{Step, Phase, Cycle, Report}
 use Rattle.script_lang.specs.Forms.{IsFormed}
 use Rattle.session_meaning.specs.declared.fault.Refusal.{Refusal}
 use Rattle.session_meaning.specs.declared.fault.Refusal.TheVariants.{Rail, BadSize}
 use Rattle.session_meaning.specs.Sessions.{SessionData, ClockData, IsReady, start_of, places_of}
-use Rattle.session_meaning.specs.Refusals.{refusal_of, first_refusal, rail_refusal, store_refusal, length_refusal, strength_for}
+use Rattle.session_meaning.specs.Refusals.{refusal_of, refusal_of_edit, refusal_of_give, refusal_of_setup, first_refusal, rail_refusal, store_refusal, length_refusal, strength_for}
 use Rattle.session_meaning.specs.Preparing.{builds, with_present, IsBuild, BuildsIf}
 use Rattle.session_meaning.specs.Lines.{Line, Reported, text_of}
-use Rattle.session_meaning.specs.Effects.{Effect, IsPhase, AreBeats, with_inputs, assigned, clock_of, with_beat, moved_to, wave_by, unmet_lines, has_lines, places_in, with_circuit}
+use Rattle.session_meaning.specs.Effects.{Effect, RunEffect, IsPhase, AreBeats, circuit_after, given_by, setup_after, told_by, misses, with_inputs, assigned, with_beat, moved_to, wave_by, places_in, with_circuit}
 use Rattle.session_meaning.specs.Outcomes.{Does, Performs}
 use Rattle.session_meaning.proofs.RefusalLemmas.{first_refusal-none, or_else-none}
 use Rattle.session_meaning.proofs.StateLemmas.{length-assigned, length-states_with, length-settles, set_past, charged_past, clocks_past, sound-assigned, sound-states_with, sound-step, sound-settles}
 use Rattle.session_meaning.proofs.OutcomeLemmas.{does_effect, refusal_of-built, built_performs, still_performs}
 use Rattle.session_meaning.proofs.SizeLemmas.{texts_or_size}
-use Rattle.session_meaning.proofs.EditLemmas.{IsReady-grown, unrefused_add, unrefused_strength}
+use Rattle.session_meaning.proofs.EditLemmas.{IsReady-grown, nodes-with_inputs, unrefused_add, unrefused_strength}
 
 -- ---- edits
 
@@ -48,12 +56,6 @@ use Rattle.session_meaning.proofs.EditLemmas.{IsReady-grown, unrefused_add, unre
 no_rail_edit : (found : Option ℕ) → rail_refusal found ≡ None → (node : ℕ) × (found ≡ Some node) × (RAILS ≤ node)
 no_rail_edit None none = absurd (cc)
 no_rail_edit (Some node) none = (node, refl, grind (arith, nat_tests))
-
--- `input` makes no new node, and gives no new name
-pub nodes-with_inputs : (names : List (List ℕ)) (c : CircuitData) → nodes (with_inputs c names).graph ≡ nodes c.graph
-nodes-with_inputs [] c = refl
-nodes-with_inputs (name ∷ names) c =
-    nodes-with_inputs names (with_input c (node_named c name)) ∙ length-set c.graph.levels (node_named c name) INPUT_LEVEL
 
 -- a circuit stays well formed by an `input` that isn't refused
 IsCircuit-with_inputs : (names : List (List ℕ)) (c : CircuitData) → first_refusal (λ name. rail_refusal (node_of c.names name)) names ≡ None →
@@ -77,6 +79,31 @@ no_rail_store c size (Some node) none = by (nat_lt node RAILS) (is_size c.profil
     by true fits is_rail is_fits none = absurd (cc)
     by false false is_rail is_fits none = absurd (cc)
     by false true is_rail is_fits none = (node, refl, grind (arith, nat_tests), IsLevel-size c.profile size is_fits)
+
+-- a circuit stays well formed by an edit that isn't refused
+IsCircuit-after : (c : CircuitData) (edit : Edit) → refusal_of_edit c edit ≡ None → IsCircuit c → IsCircuit (circuit_after c edit)
+IsCircuit-after c (Input names) allowed is = IsCircuit-with_inputs names c allowed is
+IsCircuit-after c (Store name size) allowed is =
+    let found = no_rail_store c size (node_of c.names name) allowed in
+    IsCircuit-with_level c (node_named c name) (level_of_size size) (rw found.1 found.2) found.3 is
+IsCircuit-after c (Add kind gate source drain strength) allowed is =
+    let used = strength_for kind strength in
+    IsCircuit-with_transistor c kind used gate source drain is (unrefused_add c used gate source drain allowed)
+IsCircuit-after c (Del number) allowed is = IsCircuit-without_switch c number is
+IsCircuit-after c (Strength number strength) allowed is =
+    IsCircuit-with_strength c number strength (unrefused_strength c number strength allowed) is
+IsCircuit-after c (Kind number kind) allowed is = IsCircuit-with_kind c number kind is
+IsCircuit-after c (Wire number gate source drain) allowed is = IsCircuit-with_wires c number gate source drain is
+
+-- and no edit takes a node away
+nodes-after : (c : CircuitData) (edit : Edit) → nodes c.graph ≤ nodes (circuit_after c edit).graph
+nodes-after c (Input names) = omega (arith, nodes-with_inputs names c)
+nodes-after c (Store name size) = omega (arith, length-set c.graph.levels (node_named c name) (level_of_size size))
+nodes-after c (Add kind gate source drain strength) = nodes-with_transistor c kind (strength_for kind strength) gate source drain
+nodes-after c (Del number) = omega arith
+nodes-after c (Strength number strength) = omega arith
+nodes-after c (Kind number kind) = omega arith
+nodes-after c (Wire number gate source drain) = nodes-with_wires c number gate source drain
 
 -- ---- phases and cycles
 
@@ -126,42 +153,32 @@ beats_exist (place ∷ places) session ready =
 
 -- ---- all commands
 
--- every command has an effect where it isn't refused, and the circuit has texts where it was built
-effect_exists : (session : SessionData) → IsReady session → (command : Command) →
-    (builds command ≡ true → (texts : List GroupTextData) × HasTexts session.circuit.graph texts) →
-    (new : SessionData) × (lines : List Line) × Effect session command new lines
-effect_exists session ready (Input names) has = (record session { circuit = with_inputs session.circuit names }, [], (refl, refl))
-effect_exists session ready (Store name size) has =
-    (record session { circuit = with_store session.circuit (node_named session.circuit name) size }, [], (refl, refl))
-effect_exists session ready (Set list) has = (record session { state = assigned session.circuit session.state list }, [], (refl, refl))
-effect_exists session ready (Charge list) has = (record session { state = assigned session.circuit session.state list }, [], (refl, refl))
-effect_exists session ready (Watch names) has =
-    (record session { watched = session.watched ++ map (node_named session.circuit) names }, [], (refl, refl))
-effect_exists session ready (Limit number) has = (record session { limit = number }, [], (refl, refl))
-effect_exists session ready Step has =
+-- each command that has the circuit built has an effect where the circuit has texts
+run_exists : (session : SessionData) → IsReady session → (run : Run) → (texts : List GroupTextData) × HasTexts session.circuit.graph texts →
+    (new : SessionData) × (lines : List Line) × RunEffect session run new lines
+run_exists session ready Step has =
     let found = exists session.circuit.graph ready.netlist.wired session.state in
     let new : SessionData = moved_to session found.0 in
     (new, wave_by new 1 false ∷ [], record { next = found.0; step = found.1; moved = refl; wrote = refl })
-effect_exists session ready Phase has = phase_exists session ready
-effect_exists session ready (Clock list) has = (record session { clocks = map (clock_of session.circuit) list }, [], (refl, refl))
-effect_exists session ready (Cycle times) has = beats_exist (places_in (places_of session.clocks) times) session ready
-effect_exists session ready (Expect list) has =
-    (record session { missed = session.missed || has_lines (unmet_lines session list) }, unmet_lines session list, (refl, refl))
-effect_exists session ready (Add kind gate source drain strength) has =
-    (with_circuit session (with_transistor session.circuit kind (strength_for kind strength) gate source drain), [], (refl, refl))
-effect_exists session ready (Del number) has = (record session { circuit = without_switch session.circuit number }, [], (refl, refl))
-effect_exists session ready (Strength number strength) has =
-    (record session { circuit = with_strength session.circuit number strength }, [], (refl, refl))
-effect_exists session ready (Kind number kind) has = (record session { circuit = with_kind session.circuit number kind }, [], (refl, refl))
-effect_exists session ready (Wire number gate source drain) has =
-    (with_circuit session (with_wires session.circuit number gate source drain), [], (refl, refl))
-effect_exists session ready Report has =
-    let found = has refl in (
-      record session { fresh = 0 },
-      Reported (length found.0) (length (first_texts found.0)) session.fresh ∷ [],
-      record { texts = found.0; has = found.1; moved = refl; wrote = refl },
-    )
-effect_exists session ready (Keep number) has = (record session { bound = Some number }, [], (refl, refl))
+run_exists session ready Phase has = phase_exists session ready
+run_exists session ready (Cycle times) has = beats_exist (places_in (places_of session.clocks) times) session ready
+run_exists session ready Report has = (
+  record session { fresh = 0 },
+  Reported (length has.0) (length (first_texts has.0)) session.fresh ∷ [],
+  record { texts = has.0; has = has.1; moved = refl; wrote = refl },
+)
+
+-- so every command has an effect where it isn't refused, and the circuit has texts where it was built
+effect_exists : (session : SessionData) → IsReady session → (command : Command) →
+    (builds command ≡ true → (texts : List GroupTextData) × HasTexts session.circuit.graph texts) →
+    (new : SessionData) × (lines : List Line) × Effect session command new lines
+effect_exists session ready (family.Edit edit) has = (with_circuit session (circuit_after session.circuit edit), [], (refl, refl))
+effect_exists session ready (family.Give give) has =
+    (record session { state = assigned session.circuit session.state (given_by give) }, [], (refl, refl))
+effect_exists session ready (family.Setup setup) has = (setup_after session setup, [], (refl, refl))
+effect_exists session ready (family.Run run) has = run_exists session ready run (has refl)
+effect_exists session ready (family.Tell tell) has =
+    (record session { missed = session.missed || misses session tell }, told_by session tell, (refl, refl))
 
 -- a build keeps the data ready
 pub ready-build : (old mid : SessionData) (texts : List GroupTextData) → IsBuild old mid texts → IsReady old → IsReady mid
@@ -207,84 +224,51 @@ ends session command ready formed = by (refusal_of session command) (builds comm
     by None true is does (inl has) = built_ends session command has.0 ready does is has.1
     by None true is does (inr large) = too_large large.0 is does large.1
 
--- an effect keeps the data ready
-ready-effect : (old new : SessionData) (command : Command) (lines : List Line) → refusal_of old command ≡ None → Effect old command new lines →
-    IsReady old → IsReady new
-ready-effect old new (Input names) lines allowed effect ready = rw (effect.0) (record {
-  netlist = IsCircuit-with_inputs names old.circuit allowed ready.netlist;
-  states = ready.states ∙ sym (nodes-with_inputs names old.circuit);
+-- nodes that are given states, and aren't refused, are past the rails
+given_past : (c : CircuitData) (give : Give) → refusal_of_give c give ≡ None → All (λ item. RAILS ≤ node_named c item.0) (given_by give)
+given_past c (Set list) allowed = set_past c list allowed
+given_past c (Charge list) allowed = charged_past c list allowed
+
+-- the data stay ready with what is set for later commands
+ready-set : (old : SessionData) (setup : Setup) → refusal_of_setup old.circuit (length old.watched) setup ≡ None → IsReady old → IsReady (setup_after old setup)
+ready-set old (Watch names) allowed ready = record { netlist = ready.netlist; states = ready.states; sound = ready.sound; free = ready.free }
+ready-set old (Limit number) allowed ready = record { netlist = ready.netlist; states = ready.states; sound = ready.sound; free = ready.free }
+ready-set old (Clock list) allowed ready = record {
+  netlist = ready.netlist;
+  states = ready.states;
   sound = ready.sound;
-  free = ready.free;
-})
-ready-effect old new (Store name size) lines allowed effect ready =
-    let node = node_named old.circuit name in
-    let found = no_rail_store old.circuit size (node_of old.circuit.names name) allowed in
-    rw (effect.0) (record {
-      netlist = IsCircuit-with_level old.circuit node (level_of_size size) (rw found.1 found.2) found.3 ready.netlist;
-      states = ready.states ∙ sym (length-set old.circuit.graph.levels node (level_of_size size));
-      sound = ready.sound;
-      free = ready.free;
-    })
-ready-effect old new (Set list) lines allowed effect ready = rw (effect.0) (record {
-  netlist = ready.netlist;
-  states = length-assigned old.circuit list old.state ∙ ready.states;
-  sound = sound-assigned old.circuit list old.state (set_past old.circuit list allowed) ready.sound;
-  free = ready.free;
-})
-ready-effect old new (Charge list) lines allowed effect ready = rw (effect.0) (record {
-  netlist = ready.netlist;
-  states = length-assigned old.circuit list old.state ∙ ready.states;
-  sound = sound-assigned old.circuit list old.state (charged_past old.circuit list allowed) ready.sound;
-  free = ready.free;
-})
-ready-effect old new (Watch names) lines allowed effect ready = rw (effect.0) (record { netlist = ready.netlist; states = ready.states; sound = ready.sound; free = ready.free })
-ready-effect old new (Limit number) lines allowed effect ready = rw (effect.0) (record { netlist = ready.netlist; states = ready.states; sound = ready.sound; free = ready.free })
-ready-effect old new Step lines allowed effect ready = rw effect.moved (record {
+  free = clocks_past old.circuit list (set_past old.circuit list (or_else-none (length_refusal list) _ allowed).1);
+}
+ready-set old (Keep number) allowed ready = record { netlist = ready.netlist; states = ready.states; sound = ready.sound; free = ready.free }
+
+-- and after steps and reports
+ready-run : (old new : SessionData) (run : Run) (lines : List Line) → RunEffect old run new lines → IsReady old → IsReady new
+ready-run old new Step lines effect ready = rw effect.moved (record {
   netlist = ready.netlist;
   states = effect.step.count;
   sound = sound-step old.circuit ready.netlist old.state effect.next effect.step ready.sound;
   free = ready.free;
 })
-ready-effect old new Phase lines allowed effect ready = phase-ready old new lines effect ready
-ready-effect old new (Clock list) lines allowed effect ready = rw (effect.0) (record {
-  netlist = ready.netlist;
-  states = ready.states;
-  sound = ready.sound;
-  free = clocks_past old.circuit list (set_past old.circuit list (or_else-none (length_refusal list) _ allowed).1);
-})
-ready-effect old new (Cycle times) lines allowed effect ready =
-    beats-ready (places_in (places_of old.clocks) times) old new lines effect ready
-ready-effect old new (Expect list) lines allowed effect ready = rw (effect.0) (record { netlist = ready.netlist; states = ready.states; sound = ready.sound; free = ready.free })
-ready-effect old new (Add kind gate source drain strength) lines allowed effect ready =
-    let used = strength_for kind strength in
-    let none = unrefused_add old.circuit used gate source drain allowed in
-    rw (effect.0) (IsReady-grown old (with_transistor old.circuit kind used gate source drain)
-    (IsCircuit-with_transistor old.circuit kind used gate source drain ready.netlist none)
-    (nodes-with_transistor old.circuit kind used gate source drain) ready)
-ready-effect old new (Del number) lines allowed effect ready = rw (effect.0) (record {
-  netlist = IsCircuit-without_switch old.circuit number ready.netlist;
-  states = ready.states;
-  sound = ready.sound;
-  free = ready.free;
-})
-ready-effect old new (Strength number strength) lines allowed effect ready = rw (effect.0) (record {
-  netlist = IsCircuit-with_strength old.circuit number strength (unrefused_strength old.circuit number strength allowed) ready.netlist;
-  states = ready.states;
-  sound = ready.sound;
-  free = ready.free;
-})
-ready-effect old new (Kind number kind) lines allowed effect ready = rw (effect.0) (record {
-  netlist = IsCircuit-with_kind old.circuit number kind ready.netlist;
-  states = ready.states;
-  sound = ready.sound;
-  free = ready.free;
-})
-ready-effect old new (Wire number gate source drain) lines allowed effect ready =
-    rw (effect.0) (IsReady-grown old (with_wires old.circuit number gate source drain)
-    (IsCircuit-with_wires old.circuit number gate source drain ready.netlist) (nodes-with_wires old.circuit number gate source drain) ready)
-ready-effect old new Report lines allowed effect ready =
+ready-run old new Phase lines effect ready = phase-ready old new lines effect ready
+ready-run old new (Cycle times) lines effect ready = beats-ready (places_in (places_of old.clocks) times) old new lines effect ready
+ready-run old new Report lines effect ready =
     rw effect.moved (record { netlist = ready.netlist; states = ready.states; sound = ready.sound; free = ready.free })
-ready-effect old new (Keep number) lines allowed effect ready = rw (effect.0) (record { netlist = ready.netlist; states = ready.states; sound = ready.sound; free = ready.free })
+
+-- so an effect keeps the data ready
+ready-effect : (old new : SessionData) (command : Command) (lines : List Line) → refusal_of old command ≡ None → Effect old command new lines →
+    IsReady old → IsReady new
+ready-effect old new (family.Edit edit) lines allowed effect ready =
+    rw (effect.0) (IsReady-grown old (circuit_after old.circuit edit) (IsCircuit-after old.circuit edit allowed ready.netlist) (nodes-after old.circuit edit) ready)
+ready-effect old new (family.Give give) lines allowed effect ready = rw (effect.0) (record {
+  netlist = ready.netlist;
+  states = length-assigned old.circuit (given_by give) old.state ∙ ready.states;
+  sound = sound-assigned old.circuit (given_by give) old.state (given_past old.circuit give allowed) ready.sound;
+  free = ready.free;
+})
+ready-effect old new (family.Setup setup) lines allowed effect ready = rw (effect.0) (ready-set old setup allowed ready)
+ready-effect old new (family.Run run) lines allowed effect ready = ready-run old new run lines effect ready
+ready-effect old new (family.Tell tell) lines allowed effect ready =
+    rw (effect.0) (record { netlist = ready.netlist; states = ready.states; sound = ready.sound; free = ready.free })
 
 -- what a command does keeps the data ready
 pub ready-does : (session new : SessionData) (command : Command) (text : List ℕ) → IsReady session → Does session command new text → IsReady new

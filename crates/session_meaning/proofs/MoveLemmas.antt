@@ -7,12 +7,12 @@ use Rattle.ternary.proofs.CountsLemmas.{raised-more, raised-none}
 use Rattle.machine_laws.specs.Machines.{MachineData}
 use Rattle.machine_parts.specs.Marking.{IsMarked}
 use Rattle.machine_parts.specs.Stepping.{ReadsChange}
-use Rattle.script_lang.specs.declared.command.Command.{Command}
-use Rattle.script_lang.specs.declared.command.Command.TheVariants.{Phase, Cycle}
+use Rattle.script_lang.specs.declared.command.Run.{Run}
+use Rattle.script_lang.specs.declared.command.Run.TheVariants.{Phase, Cycle}
 use Rattle.group_text.specs.Texts.{GroupTextData}
 use Rattle.session_meaning.specs.Sessions.{SessionData, HeldSession, places_of}
 use Rattle.session_meaning.specs.Lines.{Line, Wave, Unmet, Reported}
-use Rattle.session_meaning.specs.Effects.{Effect, IsPhase, AreBeats, with_beat, wave_by, places_in}
+use Rattle.session_meaning.specs.Effects.{RunEffect, IsPhase, AreBeats, with_beat, wave_by, places_in}
 use Rattle.session_meaning.specs.Machines.{FitsIn, IsBuilt, EndsAtRest, MovesMachine, StepsMachine, SettlesMachine, moves_of, placed_of, steps_in}
 use Rattle.session_meaning.specs.Stages.{Readied, IsSettled, PhaseMoves, BeatsMove, BeatsMoveOn, StaysPut, SameSetup}
 use Rattle.session_meaning.proofs.BeatLemmas.{beats-append, one_beat, clocks-beats, cycles-next}
@@ -232,9 +232,9 @@ module _ (old mid new : HeldSession) (asked told : List GroupTextData) (ready : 
       }
 
   -- phases of a command after it
-  settles-readied : (command : Command) (lines : List Line) → Effect mid.core command new.core lines → IsBuilt new →
-      MovesMachine mid.core.limit mid.machine new.machine lines → SettlesMachine old command new
-  settles-readied command lines effect built moved = record {
+  settles-readied : (run : Run) (lines : List Line) → RunEffect mid.core run new.core lines → IsBuilt new →
+      MovesMachine mid.core.limit mid.machine new.machine lines → SettlesMachine old run new
+  settles-readied run lines effect built moved = record {
     mid = mid.core;
     same = built_same;
     lines = lines;

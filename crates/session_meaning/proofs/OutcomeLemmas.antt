@@ -7,7 +7,8 @@ use Rattle.path_meaning.specs.Graphs.{nodes}
 use Rattle.circuit_texts.specs.declared.texts.BuildFault.TheVariants as build
 use Rattle.group_text.specs.Texts.{GroupTextData}
 use Rattle.script_lang.specs.declared.command.Command.{Command}
-use Rattle.script_lang.specs.declared.command.Command.TheVariants.{Input, Cycle}
+use Rattle.script_lang.specs.declared.command.Command.TheVariants as family
+use Rattle.script_lang.specs.declared.command.Run.TheVariants.{Cycle}
 use Rattle.session_meaning.specs.declared.fault.ApplyFault.{ApplyFault}
 use Rattle.session_meaning.specs.declared.fault.ApplyFault.TheVariants.{Refused, GroupNodes, GroupSwitches, WriteFault, NoMemory}
 use Rattle.session_meaning.specs.Sessions.{SessionData, HeldSession, places_of}
@@ -51,7 +52,7 @@ does_effect old new command lines allowed effect = record { allowed = allowed; l
 -- no refusal asks what is kept
 refusal_of-with_present : (session : SessionData) (command : Command) (present : List GroupTextData) →
     refusal_of (with_present session present) command ≡ refusal_of session command
-refusal_of-with_present session (Input names) present = refl
+refusal_of-with_present session (family.Edit edit) present = refl
 refusal_of-with_present session command present = refl
 
 -- so a build changes no refusal
@@ -140,31 +141,31 @@ ready_obeys old mid new command lines before after asked told refusals now resul
 
 -- phases at the places of a cycle were done after a build, or a front of them: the cycle is obeyed
 pub cycle_obeys : (old mid new : HeldSession) (times : ℕ) (before after : Option (List ℕ)) (asked told : List GroupTextData) (refusals now : ℕ)
-    (result : Result (Unit {0}) ApplyFault) → refusal_of old.core (Cycle times) ≡ None → Readied old mid asked told →
+    (result : Result (Unit {0}) ApplyFault) → refusal_of old.core (family.Run (Cycle times)) ≡ None → Readied old mid asked told →
     TakesBeats (places_in (places_of mid.core.clocks) times) mid.core new.core before after result → IfErr result IsSinkFault →
-    now ≡ refusals_sent refusals result → Obeys old (Cycle times) new before after asked told refusals now result
+    now ≡ refusals_sent refusals result → Obeys old (family.Run (Cycle times)) new before after asked told refusals now result
 cycle_obeys old mid new times before after asked told refusals now (Ok finished) allowed ready (lines, beats, grew) cause counted = (
   record {
     text = text_of lines;
     texts = ready.texts;
-    performs = built_performs old.core mid.core new.core (Cycle times) (text_of lines) ready.texts refl ready.build
-        (does_effect mid.core new.core (Cycle times) lines
-        (refusal_of-built old.core mid.core (Cycle times) ready.texts ready.build ∙ allowed) beats);
+    performs = built_performs old.core mid.core new.core (family.Run (Cycle times)) (text_of lines) ready.texts refl ready.build
+        (does_effect mid.core new.core (family.Run (Cycle times)) lines
+        (refusal_of-built old.core mid.core (family.Run (Cycle times)) ready.texts ready.build ∙ allowed) beats);
     grew = grew;
     analysed = ready.analysed;
   },
   counted,
 )
 cycle_obeys old mid new times before after asked told refusals now (Err fault) allowed ready begun cause counted =
-    begun_obeys old new (Cycle times) before after asked told refusals now fault (record {
+    begun_obeys old new (family.Run (Cycle times)) before after asked told refusals now fault (record {
       end = begun.end;
       text = text_of begun.lines;
       texts = ready.texts;
       performs = record {
         mid = mid.core;
         prepares = ready.build;
-        does = does_effect mid.core begun.end (Cycle times) begun.lines
-            (refusal_of-built old.core mid.core (Cycle times) ready.texts ready.build ∙ allowed) begun.beats;
+        does = does_effect mid.core begun.end (family.Run (Cycle times)) begun.lines
+            (refusal_of-built old.core mid.core (family.Run (Cycle times)) ready.texts ready.build ∙ allowed) begun.beats;
       };
       written = begun.written;
       done = begun.done;

@@ -7,11 +7,13 @@ use Rattle.oscillation_x.proofs.UniqueSettling.{settling_is_unique}
 use Rattle.group_text.specs.Texts.{GroupTextData}
 use Rattle.group_text.specs.FirstTexts.{first_texts}
 use Rattle.script_lang.specs.declared.command.Command.{Command}
-use Rattle.script_lang.specs.declared.command.Command.TheVariants.{Input, Store, Set, Charge, Watch, Limit, Step, Phase, Clock, Cycle, Expect, Add, Del, Strength, Kind, Wire, Report, Keep}
+use Rattle.script_lang.specs.declared.command.Command.TheVariants as family
+use Rattle.script_lang.specs.declared.command.Run.{Run}
+use Rattle.script_lang.specs.declared.command.Run.TheVariants.{Step, Phase, Cycle, Report}
 use Rattle.session_meaning.specs.Sessions.{SessionData, places_of}
 use Rattle.session_meaning.specs.Preparing.{builds, BuildsIf}
 use Rattle.session_meaning.specs.Lines.{Line, Reported, text_of}
-use Rattle.session_meaning.specs.Effects.{Effect, IsUnitStep, IsPhase, AreBeats, IsReported, moved_to, wave_by, with_beat, places_in}
+use Rattle.session_meaning.specs.Effects.{Effect, RunEffect, IsUnitStep, IsPhase, AreBeats, IsReported, moved_to, wave_by, with_beat, places_in}
 use Rattle.session_meaning.specs.Outcomes.{Performs}
 use Rattle.session_meaning.specs.Laws.{EffectsAreUnique, CommandsPerformOneThing}
 use Rattle.session_meaning.proofs.UniqueBuilds.{HasTexts-unique, built_unique}
@@ -62,27 +64,22 @@ report_unique old new other lines more one two =
       one.wrote ∙ ap (λ (all : List GroupTextData). Reported (length all) (length (first_texts all)) old.fresh ∷ []) texts ∙ sym two.wrote,
     )
 
--- so a command has one effect
-pub effect_unique : EffectsAreUnique
-effect_unique old new other (Input names) lines more one two = same_as _ new other [] lines more one two
-effect_unique old new other (Store name size) lines more one two = same_as _ new other [] lines more one two
-effect_unique old new other (Set list) lines more one two = same_as _ new other [] lines more one two
-effect_unique old new other (Charge list) lines more one two = same_as _ new other [] lines more one two
-effect_unique old new other (Watch names) lines more one two = same_as _ new other [] lines more one two
-effect_unique old new other (Limit number) lines more one two = same_as _ new other [] lines more one two
-effect_unique old new other Step lines more one two = step_unique old new other lines more one two
-effect_unique old new other Phase lines more one two = phase_unique old new other lines more one two
-effect_unique old new other (Clock list) lines more one two = same_as _ new other [] lines more one two
-effect_unique old new other (Cycle times) lines more one two =
+-- so a command that has the circuit built has one effect
+run_unique : (old new other : SessionData) (run : Run) (lines more : List Line) → RunEffect old run new lines → RunEffect old run other more →
+    (new ≡ other) × (lines ≡ more)
+run_unique old new other Step lines more one two = step_unique old new other lines more one two
+run_unique old new other Phase lines more one two = phase_unique old new other lines more one two
+run_unique old new other (Cycle times) lines more one two =
     beats_unique (places_in (places_of old.clocks) times) old new other lines more one two
-effect_unique old new other (Expect list) lines more one two = same_as _ new other _ lines more one two
-effect_unique old new other (Add kind gate source drain strength) lines more one two = same_as _ new other [] lines more one two
-effect_unique old new other (Del number) lines more one two = same_as _ new other [] lines more one two
-effect_unique old new other (Strength number strength) lines more one two = same_as _ new other [] lines more one two
-effect_unique old new other (Kind number kind) lines more one two = same_as _ new other [] lines more one two
-effect_unique old new other (Wire number gate source drain) lines more one two = same_as _ new other [] lines more one two
-effect_unique old new other Report lines more one two = report_unique old new other lines more one two
-effect_unique old new other (Keep number) lines more one two = same_as _ new other [] lines more one two
+run_unique old new other Report lines more one two = report_unique old new other lines more one two
+
+-- and so has any other, whose effect is a function
+pub effect_unique : EffectsAreUnique
+effect_unique old new other (family.Edit edit) lines more one two = same_as _ new other [] lines more one two
+effect_unique old new other (family.Give give) lines more one two = same_as _ new other [] lines more one two
+effect_unique old new other (family.Setup setup) lines more one two = same_as _ new other [] lines more one two
+effect_unique old new other (family.Run run) lines more one two = run_unique old new other run lines more one two
+effect_unique old new other (family.Tell tell) lines more one two = same_as _ new other _ lines more one two
 
 -- and what two performances of it come to is the same, by its two names
 pub record IsOnePerformance (new other : SessionData) (lines more : List Line) (texts others : List GroupTextData) : Type 0 where

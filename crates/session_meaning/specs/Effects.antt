@@ -15,7 +15,17 @@ use Rattle.group_text.specs.FirstTexts.{first_texts}
 use Rattle.group_text.specs.Texts.{GroupTextData}
 use Rattle.circuit_texts.specs.Building.{HasTexts}
 use Rattle.script_lang.specs.declared.command.Command.{Command}
-use Rattle.script_lang.specs.declared.command.Command.TheVariants.{Input, Store, Set, Charge, Watch, Limit, Step, Phase, Clock, Cycle, Expect, Add, Del, Strength, Kind, Wire, Report, Keep}
+use Rattle.script_lang.specs.declared.command.Command.TheVariants as family
+use Rattle.script_lang.specs.declared.command.Edit.{Edit}
+use Rattle.script_lang.specs.declared.command.Edit.TheVariants.{Input, Store, Add, Del, Strength, Kind, Wire}
+use Rattle.script_lang.specs.declared.command.Give.{Give}
+use Rattle.script_lang.specs.declared.command.Give.TheVariants.{Set, Charge}
+use Rattle.script_lang.specs.declared.command.Setup.{Setup}
+use Rattle.script_lang.specs.declared.command.Setup.TheVariants.{Watch, Limit, Clock, Keep}
+use Rattle.script_lang.specs.declared.command.Run.{Run}
+use Rattle.script_lang.specs.declared.command.Run.TheVariants.{Step, Phase, Cycle, Report}
+use Rattle.script_lang.specs.declared.command.Tell.{Tell}
+use Rattle.script_lang.specs.declared.command.Tell.TheVariants.{Expect}
 use Rattle.session_meaning.specs.Sessions.{SessionData, ClockData, places_of}
 use Rattle.session_meaning.specs.Refusals.{strength_for}
 use Rattle.session_meaning.specs.Lines.{Line, Wave, Unmet, Reported}
@@ -117,29 +127,49 @@ pub record IsReported (old new : SessionData) (lines : List Line) : Type 0 where
   pub moved : new ≡ record old { fresh = 0 }
   pub wrote : lines ≡ Reported (length texts) (length (first_texts texts)) old.fresh ∷ []
 
+-- ---- by families
+
+-- the circuit after an edit
+abbrev pub circuit_after : CircuitData → Edit → CircuitData
+circuit_after c (Input names) = with_inputs c names
+circuit_after c (Store name size) = with_store c (node_named c name) size
+circuit_after c (Add kind gate source drain strength) = with_transistor c kind (strength_for kind strength) gate source drain
+circuit_after c (Del number) = without_switch c number
+circuit_after c (Strength number strength) = with_strength c number strength
+circuit_after c (Kind number kind) = with_kind c number kind
+circuit_after c (Wire number gate source drain) = with_wires c number gate source drain
+
+-- the names that are given states, with these
+abbrev pub given_by : Give → List (List ℕ × Tern)
+given_by (Set list) = list
+given_by (Charge list) = list
+
+-- the data after a command that sets what others go by
+abbrev pub setup_after : SessionData → Setup → SessionData
+setup_after old (Watch names) = record old { watched = old.watched ++ map (node_named old.circuit) names }
+setup_after old (Limit number) = record old { limit = number }
+setup_after old (Clock list) = record old { clocks = map (clock_of old.circuit) list }
+setup_after old (Keep number) = record old { bound = Some number }
+
+-- the effect of a command that has the circuit built
+abbrev pub RunEffect : SessionData → Run → SessionData → List Line → Type 0
+RunEffect old Step new lines = IsUnitStep old new lines
+RunEffect old Phase new lines = IsPhase old new lines
+RunEffect old (Cycle times) new lines = AreBeats old (places_in (places_of old.clocks) times) new lines
+RunEffect old Report new lines = IsReported old new lines
+
+-- the lines of a command that tells
+abbrev pub told_by : SessionData → Tell → List Line
+told_by session (Expect list) = unmet_lines session list
+
+-- an expectation of it wasn't met
+abbrev pub misses : SessionData → Tell → Bool
+misses session (Expect list) = has_lines (unmet_lines session list)
+
 -- the effect of a command: from the data before it, the data after it and its lines
 abbrev pub Effect : SessionData → Command → SessionData → List Line → Type 0
-Effect old (Input names) new lines = (new ≡ record old { circuit = with_inputs old.circuit names }) × (lines ≡ [])
-Effect old (Store name size) new lines =
-    (new ≡ record old { circuit = with_store old.circuit (node_named old.circuit name) size }) × (lines ≡ [])
-Effect old (Set list) new lines = (new ≡ record old { state = assigned old.circuit old.state list }) × (lines ≡ [])
-Effect old (Charge list) new lines = (new ≡ record old { state = assigned old.circuit old.state list }) × (lines ≡ [])
-Effect old (Watch names) new lines =
-    (new ≡ record old { watched = old.watched ++ map (node_named old.circuit) names }) × (lines ≡ [])
-Effect old (Limit number) new lines = (new ≡ record old { limit = number }) × (lines ≡ [])
-Effect old Step new lines = IsUnitStep old new lines
-Effect old Phase new lines = IsPhase old new lines
-Effect old (Clock list) new lines = (new ≡ record old { clocks = map (clock_of old.circuit) list }) × (lines ≡ [])
-Effect old (Cycle times) new lines = AreBeats old (places_in (places_of old.clocks) times) new lines
-Effect old (Expect list) new lines =
-    (new ≡ record old { missed = old.missed || has_lines (unmet_lines old list) }) × (lines ≡ unmet_lines old list)
-Effect old (Add kind gate source drain strength) new lines =
-    (new ≡ with_circuit old (with_transistor old.circuit kind (strength_for kind strength) gate source drain)) × (lines ≡ [])
-Effect old (Del number) new lines = (new ≡ record old { circuit = without_switch old.circuit number }) × (lines ≡ [])
-Effect old (Strength number strength) new lines =
-    (new ≡ record old { circuit = with_strength old.circuit number strength }) × (lines ≡ [])
-Effect old (Kind number kind) new lines = (new ≡ record old { circuit = with_kind old.circuit number kind }) × (lines ≡ [])
-Effect old (Wire number gate source drain) new lines =
-    (new ≡ with_circuit old (with_wires old.circuit number gate source drain)) × (lines ≡ [])
-Effect old Report new lines = IsReported old new lines
-Effect old (Keep number) new lines = (new ≡ record old { bound = Some number }) × (lines ≡ [])
+Effect old (family.Edit edit) new lines = (new ≡ with_circuit old (circuit_after old.circuit edit)) × (lines ≡ [])
+Effect old (family.Give give) new lines = (new ≡ record old { state = assigned old.circuit old.state (given_by give) }) × (lines ≡ [])
+Effect old (family.Setup setup) new lines = (new ≡ setup_after old setup) × (lines ≡ [])
+Effect old (family.Run run) new lines = RunEffect old run new lines
+Effect old (family.Tell tell) new lines = (new ≡ record old { missed = old.missed || misses old tell }) × (lines ≡ told_by old tell)

@@ -15,10 +15,14 @@ use Rattle.machine_laws.specs.Fitting.{Covers, FitsGraph, IsKeptBy}
 use Rattle.netlist.specs.Circuits.{CircuitData}
 use Rattle.netlist.specs.Edits.{node_named}
 use Rattle.script_lang.specs.declared.command.Command.{Command}
-use Rattle.script_lang.specs.declared.command.Command.TheVariants.{Input, Store, Set, Charge, Watch, Limit, Step, Phase, Clock, Cycle, Expect, Add, Del, Strength, Kind, Wire, Report, Keep}
+use Rattle.script_lang.specs.declared.command.Command.TheVariants as family
+use Rattle.script_lang.specs.declared.command.Give.{Give}
+use Rattle.script_lang.specs.declared.command.Give.TheVariants.{Set, Charge}
+use Rattle.script_lang.specs.declared.command.Run.{Run}
+use Rattle.script_lang.specs.declared.command.Run.TheVariants.{Step, Phase, Cycle, Report}
 use Rattle.session_meaning.specs.Sessions.{SessionData, HeldSession, IsSession}
 use Rattle.session_meaning.specs.Lines.{Line, Wave, Unmet, Reported}
-use Rattle.session_meaning.specs.Effects.{Effect}
+use Rattle.session_meaning.specs.Effects.{RunEffect}
 
 -- a machine as contracts of a session see it: how much room it has for new nodes isn't told
 abbrev pub without_room : MachineData → MachineData
@@ -109,11 +113,11 @@ pub record MovesMachine (limit : ℕ) (old new : Option MachineData) (lines : Li
   pub rests : EndsAtRest limit lines → (k : ℕ) → ¬ IsMarked machine.marks k
 
 -- the phases of a command were done by the machine, which fits the circuit, from the data after its build
-pub record SettlesMachine (old : HeldSession) (command : Command) (new : HeldSession) : Type 0 where
+pub record SettlesMachine (old : HeldSession) (run : Run) (new : HeldSession) : Type 0 where
   pub mid : SessionData
   pub same : mid ≡ record old.core { kept = mid.kept; fresh = mid.fresh }
   pub lines : List Line
-  pub effect : Effect mid command new.core lines
+  pub effect : RunEffect mid run new.core lines
   pub built : IsBuilt new
   pub moves : MovesMachine old.core.limit old.machine new.machine lines
 
@@ -155,37 +159,30 @@ pub record Survives (old : Option MachineData) (machine : MachineData) : Type 0 
 abbrev pub EditsMachine : HeldSession → HeldSession → Type 0
 EditsMachine old new = IfSome new.machine (Survives old.machine)
 
+-- nodes were given states
+abbrev pub GivesMachine : HeldSession → Give → HeldSession → Type 0
+GivesMachine old (Set list) new =
+    PlacesIn old.core.circuit (map (λ item. item.0) list) old.machine new.machine × (placed_of new.machine ≡ placed_of old.machine)
+GivesMachine old (Charge list) new = PlacesIn old.core.circuit (map (λ item. item.0) list) old.machine new.machine
+
+-- the circuit was built, and more was done, as the command says
+abbrev pub RunsMachine : HeldSession → Run → HeldSession → Type 0
+RunsMachine old Step new = StepsMachine old new
+RunsMachine old Phase new = SettlesMachine old Phase new
+RunsMachine old (Cycle times) new = SettlesMachine old (Cycle times) new
+RunsMachine old Report new = BuildsMachine old new
+
 -- what an accepted command does to the machine
 abbrev pub IsMachineAfter : HeldSession → Command → HeldSession → Type 0
-IsMachineAfter old (Input names) new = EditsMachine old new
-IsMachineAfter old (Store name size) new = EditsMachine old new
-IsMachineAfter old (Set list) new =
-    PlacesIn old.core.circuit (map (λ item. item.0) list) old.machine new.machine × (placed_of new.machine ≡ placed_of old.machine)
-IsMachineAfter old (Charge list) new = PlacesIn old.core.circuit (map (λ item. item.0) list) old.machine new.machine
-IsMachineAfter old (Watch names) new = new.machine ≡ old.machine
-IsMachineAfter old (Limit number) new = new.machine ≡ old.machine
-IsMachineAfter old Step new = StepsMachine old new
-IsMachineAfter old Phase new = SettlesMachine old Phase new
-IsMachineAfter old (Clock list) new = new.machine ≡ old.machine
-IsMachineAfter old (Cycle times) new = SettlesMachine old (Cycle times) new
-IsMachineAfter old (Expect list) new = new.machine ≡ old.machine
-IsMachineAfter old (Add kind gate source drain strength) new = EditsMachine old new
-IsMachineAfter old (Del number) new = EditsMachine old new
-IsMachineAfter old (Strength number strength) new = EditsMachine old new
-IsMachineAfter old (Kind number kind) new = EditsMachine old new
-IsMachineAfter old (Wire number gate source drain) new = EditsMachine old new
-IsMachineAfter old Report new = BuildsMachine old new
-IsMachineAfter old (Keep number) new = new.machine ≡ old.machine
+IsMachineAfter old (family.Edit edit) new = EditsMachine old new
+IsMachineAfter old (family.Give give) new = GivesMachine old give new
+IsMachineAfter old (family.Setup setup) new = new.machine ≡ old.machine
+IsMachineAfter old (family.Run run) new = RunsMachine old run new
+IsMachineAfter old (family.Tell tell) new = new.machine ≡ old.machine
 
 -- the command edits the circuit
 abbrev pub edits : Command → Bool
-edits (Input names) = true
-edits (Store name size) = true
-edits (Add kind gate source drain strength) = true
-edits (Del number) = true
-edits (Strength number strength) = true
-edits (Kind number kind) = true
-edits (Wire number gate source drain) = true
+edits (family.Edit edit) = true
 edits other = false
 
 -- where an accepted command found a machine and leaves none, it edited the circuit

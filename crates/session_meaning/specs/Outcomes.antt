@@ -4,7 +4,8 @@ use Rattle.std.specs.Io.KnownBytes.{append_known}
 use Rattle.ternary.specs.Counts.{raised}
 use Rattle.port_edge.specs.Sending.{WritesPart}
 use Rattle.script_lang.specs.declared.command.Command.{Command}
-use Rattle.script_lang.specs.declared.command.Command.TheVariants.{Cycle}
+use Rattle.script_lang.specs.declared.command.Command.TheVariants as family
+use Rattle.script_lang.specs.declared.command.Run.TheVariants.{Cycle}
 use Rattle.session_meaning.specs.declared.fault.Refusal.{Refusal}
 use Rattle.session_meaning.specs.declared.fault.ApplyFault.{ApplyFault}
 use Rattle.session_meaning.specs.declared.fault.ApplyFault.TheVariants.{Refused, GroupNodes, GroupSwitches, WriteFault, NoMemory}
@@ -78,7 +79,7 @@ pub record FrontDone (places : List ℕ) (old new : SessionData) : Type 0 where
 
 -- the data are as after a whole part of the command: of a cycle the phases at a front of its places, of any other command its effect
 abbrev pub DoesPart : SessionData → Command → SessionData → Type 0
-DoesPart old (Cycle times) new = FrontDone (places_in (places_of old.clocks) times) old new
+DoesPart old (family.Run (Cycle times)) new = FrontDone (places_in (places_of old.clocks) times) old new
 DoesPart old command new = (lines : List Line) × Effect old command new lines
 
 -- the command isn't refused; of the lines of its effect a part was written, from the start, and a whole part of it was done

@@ -7,7 +7,7 @@ use Rattle.group_text.specs.FirstTexts.{new_texts}
 use Rattle.group_analysis.specs.Using.{kept_after}
 use Rattle.circuit_texts.specs.Building.{HasTexts}
 use Rattle.script_lang.specs.declared.command.Command.{Command}
-use Rattle.script_lang.specs.declared.command.Command.TheVariants.{Step, Phase, Cycle, Report}
+use Rattle.script_lang.specs.declared.command.Command.TheVariants as family
 use Rattle.circuit_texts.specs.declared.texts.BuildFault.{BuildFault}
 use Rattle.circuit_texts.specs.declared.texts.BuildFault.TheVariants as build
 use Rattle.path_meaning.specs.Graphs.{GraphData, nodes}
@@ -20,10 +20,7 @@ use Rattle.session_meaning.specs.Sessions.{SessionData}
 
 -- the command builds the present circuit before it has its effect
 abbrev pub builds : Command → Bool
-builds Step = true
-builds Phase = true
-builds (Cycle times) = true
-builds Report = true
+builds (family.Run run) = true
 builds other = false
 
 -- the data after a build with these present texts: they are in front of what is kept, what is past the bound is cut, and the new ones are

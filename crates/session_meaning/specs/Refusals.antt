@@ -10,9 +10,19 @@ use Rattle.path_meaning.specs.declared.switching.SwitchKind.{SwitchKind}
 use Rattle.netlist.specs.Edits.{is_size, usual_strength, add_fault, number_fault, strength_fault, wire_fault}
 use Rattle.netlist.specs.Faults.{MakingFault}
 use Rattle.netlist.specs.declared.fault.EditFault.{EditFault}
-use Rattle.netlist.specs.declared.fault.EditFault.TheVariants as edit
+use Rattle.netlist.specs.declared.fault.EditFault.TheVariants as fault
 use Rattle.script_lang.specs.declared.command.Command.{Command}
-use Rattle.script_lang.specs.declared.command.Command.TheVariants.{Input, Store, Set, Charge, Watch, Limit, Step, Phase, Clock, Cycle, Expect, Add, Del, Strength, Kind, Wire, Report, Keep}
+use Rattle.script_lang.specs.declared.command.Command.TheVariants as family
+use Rattle.script_lang.specs.declared.command.Edit.{Edit}
+use Rattle.script_lang.specs.declared.command.Edit.TheVariants.{Input, Store, Add, Del, Strength, Kind, Wire}
+use Rattle.script_lang.specs.declared.command.Give.{Give}
+use Rattle.script_lang.specs.declared.command.Give.TheVariants.{Set, Charge}
+use Rattle.script_lang.specs.declared.command.Setup.{Setup}
+use Rattle.script_lang.specs.declared.command.Setup.TheVariants.{Watch, Limit, Clock, Keep}
+use Rattle.script_lang.specs.declared.command.Run.{Run}
+use Rattle.script_lang.specs.declared.command.Run.TheVariants.{Step, Phase, Cycle, Report}
+use Rattle.script_lang.specs.declared.command.Tell.{Tell}
+use Rattle.script_lang.specs.declared.command.Tell.TheVariants.{Expect}
 use Rattle.session_meaning.specs.declared.TheConstants.{MOST_WATCHED}
 use Rattle.session_meaning.specs.declared.fault.Refusal.{Refusal}
 use Rattle.session_meaning.specs.declared.fault.Refusal.TheVariants.{UnknownNode, NoSuchSwitch, Rail, BadStrength, BadSize, TooManyNodes, TooManySwitches, NotInput, NotStore, ClockLength, NoClock, TooManyWatched}
@@ -94,42 +104,54 @@ making_refusal (Some MakingFault.TooManySwitches) = Some TooManySwitches
 -- the refusal of an edit of a transistor that is there; such an edit gives no node a second name, and its want of memory is no refusal
 abbrev pub edit_refusal : Option EditFault → Option Refusal
 edit_refusal None = None
-edit_refusal (Some edit.NoSuchSwitch) = Some NoSuchSwitch
-edit_refusal (Some edit.Rail) = Some Rail
-edit_refusal (Some edit.BadStrength) = Some BadStrength
-edit_refusal (Some edit.BadSize) = Some BadSize
-edit_refusal (Some edit.AliasTaken) = None
-edit_refusal (Some edit.TooManyNodes) = Some TooManyNodes
-edit_refusal (Some edit.TooManySwitches) = Some TooManySwitches
-edit_refusal (Some edit.NoMemory) = None
+edit_refusal (Some fault.NoSuchSwitch) = Some NoSuchSwitch
+edit_refusal (Some fault.Rail) = Some Rail
+edit_refusal (Some fault.BadStrength) = Some BadStrength
+edit_refusal (Some fault.BadSize) = Some BadSize
+edit_refusal (Some fault.AliasTaken) = None
+edit_refusal (Some fault.TooManyNodes) = Some TooManyNodes
+edit_refusal (Some fault.TooManySwitches) = Some TooManySwitches
+edit_refusal (Some fault.NoMemory) = None
 
--- the refusal of a command, by the data before it
+-- the refusal of an edit, by the circuit before it
+abbrev pub refusal_of_edit : CircuitData → Edit → Option Refusal
+refusal_of_edit c (Input names) = first_refusal (λ name. rail_refusal (node_of c.names name)) names
+refusal_of_edit c (Store name size) = store_refusal c size (node_of c.names name)
+refusal_of_edit c (Add kind gate source drain strength) = making_refusal (add_fault c (strength_for kind strength) gate source drain)
+refusal_of_edit c (Del number) = edit_refusal (number_fault c number)
+refusal_of_edit c (Strength number strength) = edit_refusal (strength_fault c number strength)
+refusal_of_edit c (Kind number kind) = edit_refusal (number_fault c number)
+refusal_of_edit c (Wire number gate source drain) = edit_refusal (wire_fault c number gate source drain)
+
+-- of a command that gives nodes states
+abbrev pub refusal_of_give : CircuitData → Give → Option Refusal
+refusal_of_give c (Set list) = first_refusal (λ item. set_refusal c (node_of c.names item.0)) list
+refusal_of_give c (Charge list) = first_refusal (λ item. charge_refusal c (node_of c.names item.0)) list
+
+-- of one that sets what others go by, where so many nodes are watched
+abbrev pub refusal_of_setup : CircuitData → ℕ → Setup → Option Refusal
+refusal_of_setup c watched (Watch names) =
+    or_else (first_refusal (λ name. known_refusal (node_of c.names name)) names) (watch_refusal (watched + length names))
+refusal_of_setup c watched (Limit number) = None
+refusal_of_setup c watched (Clock list) =
+    or_else (length_refusal list) (first_refusal (λ item. set_refusal c (node_of c.names item.0)) list)
+refusal_of_setup c watched (Keep number) = None
+
+-- of one that has the circuit built, by the data alone
+abbrev pub refusal_of_run : CircuitData → List ClockData → Run → Option Refusal
+refusal_of_run c clocks Step = None
+refusal_of_run c clocks Phase = None
+refusal_of_run c clocks (Cycle number) = cycle_refusal c clocks
+refusal_of_run c clocks Report = None
+
+-- of one that tells
+abbrev pub refusal_of_tell : CircuitData → Tell → Option Refusal
+refusal_of_tell c (Expect list) = first_refusal (λ item. known_refusal (node_of c.names item.0)) list
+
+-- the refusal of a command, by the data before it: no state is a cause of one
 abbrev pub refusal_of : SessionData → Command → Option Refusal
-refusal_of session (Input names) =
-    first_refusal (λ name. rail_refusal (node_of session.circuit.names name)) names
-refusal_of session (Store name size) =
-    store_refusal session.circuit size (node_of session.circuit.names name)
-refusal_of session (Set list) =
-    first_refusal (λ item. set_refusal session.circuit (node_of session.circuit.names item.0)) list
-refusal_of session (Charge list) =
-    first_refusal (λ item. charge_refusal session.circuit (node_of session.circuit.names item.0)) list
-refusal_of session (Watch names) =
-    or_else (first_refusal (λ name. known_refusal (node_of session.circuit.names name)) names)
-    (watch_refusal (length session.watched + length names))
-refusal_of session (Limit number) = None
-refusal_of session Step = None
-refusal_of session Phase = None
-refusal_of session (Clock list) =
-    or_else (length_refusal list)
-    (first_refusal (λ item. set_refusal session.circuit (node_of session.circuit.names item.0)) list)
-refusal_of session (Cycle number) = cycle_refusal session.circuit session.clocks
-refusal_of session (Expect list) =
-    first_refusal (λ item. known_refusal (node_of session.circuit.names item.0)) list
-refusal_of session (Add kind gate source drain strength) =
-    making_refusal (add_fault session.circuit (strength_for kind strength) gate source drain)
-refusal_of session (Del number) = edit_refusal (number_fault session.circuit number)
-refusal_of session (Strength number strength) = edit_refusal (strength_fault session.circuit number strength)
-refusal_of session (Kind number kind) = edit_refusal (number_fault session.circuit number)
-refusal_of session (Wire number gate source drain) = edit_refusal (wire_fault session.circuit number gate source drain)
-refusal_of session Report = None
-refusal_of session (Keep number) = None
+refusal_of session (family.Edit edit) = refusal_of_edit session.circuit edit
+refusal_of session (family.Give give) = refusal_of_give session.circuit give
+refusal_of session (family.Setup setup) = refusal_of_setup session.circuit (length session.watched) setup
+refusal_of session (family.Run run) = refusal_of_run session.circuit session.clocks run
+refusal_of session (family.Tell tell) = refusal_of_tell session.circuit tell

@@ -5,8 +5,8 @@ use Rattle.path_meaning.specs.declared.switching.Switch.{Switch}
 use Rattle.netlist.specs.declared.fault.EditFault.{EditFault}
 use Rattle.netlist.specs.Circuits.{CircuitData}
 use Rattle.netlist.specs.Edits.{number_fault, strength_fault, switch_numbered}
-use Rattle.script_lang.specs.declared.command.Command.{Command}
-use Rattle.script_lang.specs.declared.command.Command.TheVariants as asked
+use Rattle.script_lang.specs.declared.command.Edit.{Edit}
+use Rattle.script_lang.specs.declared.command.Edit.TheVariants as asked
 use Rattle.session_meaning.specs.declared.switches.SwitchEdit.{SwitchEdit}
 use Rattle.session_meaning.specs.declared.switches.SwitchEdit.TheVariants.{Removal, Strength, Kind}
 
@@ -26,8 +26,8 @@ edit_fault c number Removal = number_fault c number
 edit_fault c number (Strength strength) = strength_fault c number strength
 edit_fault c number (Kind kind) = number_fault c number
 
--- the command that asks for it
-abbrev pub command_of : ℕ → SwitchEdit → Command
-command_of number Removal = asked.Del number
-command_of number (Strength strength) = asked.Strength number strength
-command_of number (Kind kind) = asked.Kind number kind
+-- the edit that a script asks for
+abbrev pub edit_of : ℕ → SwitchEdit → Edit
+edit_of number Removal = asked.Del number
+edit_of number (Strength strength) = asked.Strength number strength
+edit_of number (Kind kind) = asked.Kind number kind

@@ -1,7 +1,6 @@
-use Rattle.std.proofs.Common.{◌≡◌, ◌<◌, ℕ, Some, Ok, Err, rules, sym, ap, ◌∙◌}
-use Rattle.script_lang.specs.declared.command.Command.{Command}
+use Rattle.std.proofs.Common.{◌≡◌, ◌<◌, ℕ, Ok, Err, rules, sym, ◌∙◌}
 use Rattle.lane_script.specs.Columns.{column_reading_of}
-use Rattle.lane_script.proofs.ColumnLemmas.{valued_line, values_formed, shared_command}
+use Rattle.lane_script.proofs.ColumnLemmas.{valued_line, values_formed, shared_asked, shared_formed}
 use Rattle.lane_script.proofs.reader.read_lane_command.Goals as goal
 
 pub returns-in_ok-list-in-Valued-clause-ok : goal.returns-in_ok-list-in-Valued-clause-ok
@@ -9,7 +8,6 @@ returns-in_ok-list-in-Valued-clause-ok c = λ lane inside.
     valued_line c.args.lanes c.args.bytes.now c.in-Some.verb.now c.next.new.self
     c.in-Ok.ensures.fault (sym c.is_comment.ensures.test ∙ c.if-is_comment.false) (sym c.words-words.ensures.parts ∙ c.in-Some.ensures.steps)
     c.in-Valued.command (sym c.in-Valued.ensures) (Ok c.in_ok-list-in-Valued.list) (sym c.in_ok-list-in-Valued.was ∙ c.in_ok-read_values-in-Valued.ensures) lane inside
-    ∙ ap (λ (command : Command). Ok (Some command)) (sym (c.valued.ensures.columns lane))
 
 pub returns-in_err-list-in-Valued-clause-refused : goal.returns-in_err-list-in-Valued-clause-refused
 returns-in_err-list-in-Valued-clause-refused c =
@@ -21,12 +19,20 @@ returns-in_err-list-in-Valued-clause-refused c =
 
 pub returns-in_ok-list-in-Valued-clause-formed : goal.returns-in_ok-list-in-Valued-clause-formed
 returns-in_ok-list-in-Valued-clause-formed c =
-    c.valued.ensures.formed c.args.lanes (values_formed c.args.lanes c.args.bytes.now c.in-Some.verb.now c.next.new.self
+    values_formed c.args.lanes c.args.bytes.now c.in-Some.verb.now c.next.new.self
     c.in-Ok.ensures.fault (sym c.is_comment.ensures.test ∙ c.if-is_comment.false) (sym c.words-words.ensures.parts ∙ c.in-Some.ensures.steps)
-    c.in_ok-list-in-Valued.list (sym c.in_ok-list-in-Valued.was ∙ c.in_ok-read_values-in-Valued.ensures))
+    c.in_ok-list-in-Valued.list (sym c.in_ok-list-in-Valued.was ∙ c.in_ok-read_values-in-Valued.ensures)
 
-pub map-requires : goal.map-requires
-map-requires c made is =
-    shared_command c.args.lanes c.args.bytes.now c.in-Some.verb.now c.next.new.self
+pub returns-in-Shared-clause-ok : goal.returns-in-Shared-clause-ok
+returns-in-Shared-clause-ok c = λ lane inside.
+    rw c.map.ensures
+    (shared_asked c.args.lanes c.args.bytes.now c.in-Some.verb.now c.next.new.self
     c.in-Ok.ensures.fault (sym c.is_comment.ensures.test ∙ c.if-is_comment.false) (sym c.words-words.ensures.parts ∙ c.in-Some.ensures.steps)
-    (sym c.in-Shared.ensures) made (c.in_ok-read_command-in-Shared.ensures.ok ∙ ap Ok is)
+    (sym c.in-Shared.ensures) _ c.in_ok-read_command-in-Shared.ensures.ok lane)
+
+pub returns-in-Shared-clause-formed : goal.returns-in-Shared-clause-formed
+returns-in-Shared-clause-formed c =
+    rw c.map.ensures
+    (shared_formed c.args.lanes c.args.bytes.now c.in-Some.verb.now c.next.new.self
+    c.in-Ok.ensures.fault (sym c.is_comment.ensures.test ∙ c.if-is_comment.false) (sym c.words-words.ensures.parts ∙ c.in-Some.ensures.steps)
+    (sym c.in-Shared.ensures) _ c.in_ok-read_command-in-Shared.ensures.ok c.in_ok-read_command-in-Shared.ensures.formed)

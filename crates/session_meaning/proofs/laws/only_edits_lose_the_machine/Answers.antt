@@ -3,9 +3,13 @@ use Rattle.std.proofs.Common.{◌≡◌, ℕ, List, true, Option, None, Some, is
 use Rattle.machine_laws.specs.Machines.{MachineData}
 use Rattle.netlist.specs.Circuits.{CircuitData}
 use Rattle.script_lang.specs.declared.command.Command.{Command}
-use Rattle.script_lang.specs.declared.command.Command.TheVariants.{Input, Store, Set, Charge, Watch, Limit, Step, Phase, Clock, Cycle, Expect, Add, Del, Strength, Kind, Wire, Report, Keep}
+use Rattle.script_lang.specs.declared.command.Command.TheVariants as family
+use Rattle.script_lang.specs.declared.command.Give.{Give}
+use Rattle.script_lang.specs.declared.command.Give.TheVariants.{Set, Charge}
+use Rattle.script_lang.specs.declared.command.Run.{Run}
+use Rattle.script_lang.specs.declared.command.Run.TheVariants.{Step, Phase, Cycle, Report}
 use Rattle.session_meaning.specs.Sessions.{HeldSession}
-use Rattle.session_meaning.specs.Machines.{PlacesIn, IsMachineAfter, edits}
+use Rattle.session_meaning.specs.Machines.{PlacesIn, GivesMachine, RunsMachine, IsMachineAfter, edits}
 use Rattle.session_meaning.proofs.laws.only_edits_lose_the_machine.Goals as goal
 
 -- none is there, and one is
@@ -24,26 +28,23 @@ placed_lost : (c : CircuitData) (names : List (List ℕ)) (old new : Option Mach
 placed_lost c names None new places some none = absurd (cc)
 placed_lost c names (Some machine) new places some none = none_there new places.machine places.there none
 
+by_give : (old new : HeldSession) (give : Give) → GivesMachine old give new → is_some old.machine ≡ true → new.machine ≡ None → ⊥
+by_give old new (Set list) after some none = placed_lost old.core.circuit _ old.machine new.machine after.0 some none
+by_give old new (Charge list) after some none = placed_lost old.core.circuit _ old.machine new.machine after some none
+
+by_run : (old new : HeldSession) (run : Run) → RunsMachine old run new → new.machine ≡ None → ⊥
+by_run old new Step after none = none_there new.machine after.machine after.there none
+by_run old new Phase after none = none_there new.machine after.moves.machine after.moves.there none
+by_run old new (Cycle times) after none = none_there new.machine after.moves.machine after.moves.there none
+by_run old new Report after none = none_there new.machine after.machine after.there none
+
 by_command : (old new : HeldSession) (command : Command) → IsMachineAfter old command new → is_some old.machine ≡ true → new.machine ≡ None →
     edits command ≡ true
-by_command old new (Input names) after some none = refl
-by_command old new (Store name size) after some none = refl
-by_command old new (Set list) after some none = absurd (placed_lost old.core.circuit _ old.machine new.machine after.0 some none)
-by_command old new (Charge list) after some none = absurd (placed_lost old.core.circuit _ old.machine new.machine after some none)
-by_command old new (Watch names) after some none = absurd (lost old.machine new.machine after some none)
-by_command old new (Limit number) after some none = absurd (lost old.machine new.machine after some none)
-by_command old new Step after some none = absurd (none_there new.machine after.machine after.there none)
-by_command old new Phase after some none = absurd (none_there new.machine after.moves.machine after.moves.there none)
-by_command old new (Clock list) after some none = absurd (lost old.machine new.machine after some none)
-by_command old new (Cycle times) after some none = absurd (none_there new.machine after.moves.machine after.moves.there none)
-by_command old new (Expect list) after some none = absurd (lost old.machine new.machine after some none)
-by_command old new (Add kind gate source drain strength) after some none = refl
-by_command old new (Del number) after some none = refl
-by_command old new (Strength number strength) after some none = refl
-by_command old new (Kind number kind) after some none = refl
-by_command old new (Wire number gate source drain) after some none = refl
-by_command old new Report after some none = absurd (none_there new.machine after.machine after.there none)
-by_command old new (Keep number) after some none = absurd (lost old.machine new.machine after some none)
+by_command old new (family.Edit edit) after some none = refl
+by_command old new (family.Give give) after some none = absurd (by_give old new give after some none)
+by_command old new (family.Setup setup) after some none = absurd (lost old.machine new.machine after some none)
+by_command old new (family.Run run) after some none = absurd (by_run old new run after none)
+by_command old new (family.Tell tell) after some none = absurd (lost old.machine new.machine after some none)
 
 pub returns : goal.returns
 returns c = by_command

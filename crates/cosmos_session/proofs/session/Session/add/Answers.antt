@@ -2,7 +2,8 @@ use Rattle.std.proofs.Common.{◌≡◌, ℕ, length, Option, refl, sym, ap, ◌
 use Rattle.netlist.specs.Edits.{add_fault}
 use Rattle.analysis_cache.specs.Keeping.{texts_of}
 use Rattle.path_meaning.specs.Graphs.{GraphData}
-use Rattle.script_lang.specs.declared.command.Command.TheVariants.{Add}
+use Rattle.script_lang.specs.declared.command.Command.TheVariants as family
+use Rattle.script_lang.specs.declared.command.Edit.TheVariants.{Add}
 use Rattle.session_meaning.specs.declared.fault.Refusal.{Refusal}
 use Rattle.session_meaning.specs.Refusals.{making_refusal, strength_for}
 use Rattle.cosmos_session.specs.contracts.session.Session.{the_view}
@@ -38,7 +39,7 @@ pub returns-in-Ok-clause-quiet : goal.returns-in-Ok-clause-quiet
 returns-in-Ok-clause-quiet c =
     rw (← c.self.view_is)
     (does-told (the_view c.self.inside) c.add_switch.new.self _ c.edit.new.self _ (texts_of c.self.inside.kept) _ c.reserve.ensures.machine c.edit.ensures.bound refl c.edit.ensures.kept
-    (Add c.args.kind c.args.gate.now c.args.source.now c.args.drain.now c.args.strength)
+    (family.Edit (Add c.args.kind c.args.gate.now c.args.source.now c.args.drain.now c.args.strength))
     (added_does (the_view c.self.inside).core c.add_switch.new.self c.edit.new.self c.args.kind c.args.strength c.unwrap_or-strength.result
     c.args.gate.now c.args.source.now c.args.drain.now (search rules)
     (rw (c.items-gate.ensures, c.items-source.ensures, c.items-drain.ensures) at c.in-Ok.ensures.allowed)
@@ -49,7 +50,7 @@ pub returns-in-Err-clause-quiet : goal.returns-in-Err-clause-quiet
 returns-in-Err-clause-quiet c =
     let session = the_view c.self.inside in
     let new = halted session c.add_switch.new.self c.reserve.new.self (texts_of c.self.inside.kept) in
-    let command = Add c.args.kind c.args.gate.now c.args.source.now c.args.drain.now c.args.strength in
+    let command = family.Edit (Add c.args.kind c.args.gate.now c.args.source.now c.args.drain.now c.args.strength) in
     let refusal : ℕ → Option Refusal =
     λ strength. making_refusal (add_fault session.core.circuit strength c.args.gate.now c.args.source.now c.args.drain.now) in
     let given : c.unwrap_or-strength.result ≡ strength_for c.args.kind c.args.strength = search rules in

@@ -1,6 +1,7 @@
 use Rattle.std.proofs.Common.{refl}
 use Rattle.analysis_cache.specs.Keeping.{texts_of}
-use Rattle.session_meaning.specs.Switches.{command_of, edit_fault}
+use Rattle.script_lang.specs.declared.command.Command.TheVariants as family
+use Rattle.session_meaning.specs.Switches.{edit_of, edit_fault}
 use Rattle.cosmos_session.specs.contracts.session.Session.{the_view}
 use Rattle.session_meaning.proofs.UndoLemmas.{Undoes, undoes-place}
 use Rattle.session_meaning.proofs.EditLemmas.{covers-before, held-told, does-told, switched_does, refusal_of-switch, refused_quietly, the_fault, quietly_as, halted, same-halted}
@@ -33,15 +34,15 @@ pub returns-in-Ok-clause-quiet : goal.returns-in-Ok-clause-quiet
 returns-in-Ok-clause-quiet c =
     rw (← c.self.view_is)
     (does-told (the_view c.self.inside) c.edited.new.circuit _ c.edit.new.self _ (texts_of c.self.inside.kept) _ refl c.edit.ensures.bound refl c.edit.ensures.kept
-    (command_of c.args.number c.args.edit)
-    (switched_does (the_view c.self.inside).core c.edited.new.circuit c.edit.new.self c.args.number c.args.edit c.self.invariant.0.core.ready.states
+    (family.Edit (edit_of c.args.number c.args.edit))
+    (switched_does (the_view c.self.inside).core c.edited.new.circuit c.edit.new.self c.args.number c.args.edit
     c.in-Ok.ensures.answer c.in-Ok.ensures.ok (rw c.graph-in-Ok.ensures.value at c.edit.ensures.state)))
 
 pub returns-in-Err-clause-quiet : goal.returns-in-Err-clause-quiet
 returns-in-Err-clause-quiet c =
     let session = the_view c.self.inside in
     let new = halted session c.edited.new.circuit c.self.inside.stage (texts_of c.self.inside.kept) in
-    let command = command_of c.args.number c.args.edit in
+    let command = family.Edit (edit_of c.args.number c.args.edit) in
     let found = edit_fault session.core.circuit c.args.number c.args.edit in
     quietly_as session c.args.self.now new command c.in-Err.fault c.of_edit.result c.self.view_is c.of_edit.ensures
     (refused_quietly session new command found c.in-Err.fault (refusal_of-switch session.core c.args.number c.args.edit)

@@ -1,5 +1,6 @@
 use Rattle.std.proofs.Common.{◌≡◌, Bool, ◌||◌, refl, sym, ap, rules, None}
-use Rattle.script_lang.specs.declared.command.Command.TheVariants as asked
+use Rattle.script_lang.specs.declared.command.Command.TheVariants as family
+use Rattle.script_lang.specs.declared.command.Tell.TheVariants as asked
 use Rattle.session_meaning.specs.Refusals.{refusal_of}
 use Rattle.session_meaning.specs.Lines.{text_of}
 use Rattle.session_meaning.specs.Effects.{unmet_lines}
@@ -26,12 +27,12 @@ pub returns-clause-obeys : goal.returns-clause-obeys
 returns-clause-obeys g c = λ texts.
     let session = the_view c.self.inside in
     let core = session.core in
-    let allowed : refusal_of core (asked.Expect c.args.list.now) ≡ None = sym (rw (c.in_default.is, c.items.ensures) at c.expect_refusal.ensures) in
+    let allowed : refusal_of core (family.Tell (asked.Expect c.args.list.now)) ≡ None = sym (rw (c.in_default.is, c.items.ensures) at c.expect_refusal.ensures) in
     let text : c.bytes.result.now ≡ text_of (unmet_lines c.args.self.now.core c.args.list.now) = search rules in
     let lines = unmet_lines core c.args.list.now in
     let any = rw (c.items-2.ensures, ← c.self.view_is) at c.in_ok-unmet.ensures.any in
     let missed = λ (any : Bool). record core { missed = core.missed || any } in
     rw (← c.self.view_is)
-    (still_obeys session _ (asked.Expect c.args.list.now) lines _ _ texts _ _ c.send_text.result refl allowed (ap missed any, refl) (lines, (ap missed any, refl))
+    (still_obeys session _ (family.Tell (asked.Expect c.args.list.now)) lines _ _ texts _ _ c.send_text.result refl allowed (ap missed any, refl) (lines, (ap missed any, refl))
     (sent_text _ _ lines _ c.send_text.result (rw (← c.self.view_is) at text) c.send_text.ensures.ok c.send_text.ensures.part)
     c.send_text.ensures.cause c.send_text.ensures.refusals)

@@ -1,7 +1,8 @@
 use Rattle.std.proofs.Common.{refl}
 use Rattle.netlist.specs.Edits.{wire_fault}
 use Rattle.analysis_cache.specs.Keeping.{texts_of}
-use Rattle.script_lang.specs.declared.command.Command.TheVariants.{Wire}
+use Rattle.script_lang.specs.declared.command.Command.TheVariants as family
+use Rattle.script_lang.specs.declared.command.Edit.TheVariants.{Wire}
 use Rattle.cosmos_session.specs.contracts.session.Session.{the_view}
 use Rattle.session_meaning.proofs.UndoLemmas.{Undoes, undoes-wires}
 use Rattle.session_meaning.proofs.EditLemmas.{covers-before, held-told, does-told, rewired_does, lacking_quietly, quietly_as, halted, same-halted}
@@ -34,7 +35,7 @@ pub returns-in-Ok-clause-quiet : goal.returns-in-Ok-clause-quiet
 returns-in-Ok-clause-quiet c =
     rw (← c.self.view_is)
     (does-told (the_view c.self.inside) c.rewire.new.self _ c.edit.new.self _ (texts_of c.self.inside.kept) _ c.reserve.ensures.machine c.edit.ensures.bound refl c.edit.ensures.kept
-    (Wire c.args.number c.args.gate.now c.args.source.now c.args.drain.now)
+    (family.Edit (Wire c.args.number c.args.gate.now c.args.source.now c.args.drain.now))
     (rewired_does (the_view c.self.inside).core c.rewire.new.self c.edit.new.self c.args.number c.args.gate.now c.args.source.now c.args.drain.now
     (rw (c.items-gate.ensures, c.items-source.ensures, c.items-drain.ensures) at c.in-Ok.ensures.allowed)
     (rw (c.items-gate.ensures, c.items-source.ensures, c.items-drain.ensures) at c.in-Ok.ensures.ok)
@@ -44,7 +45,7 @@ pub returns-in-Err-clause-quiet : goal.returns-in-Err-clause-quiet
 returns-in-Err-clause-quiet c =
     let session = the_view c.self.inside in
     let new = halted session c.rewire.new.self c.reserve.new.self (texts_of c.self.inside.kept) in
-    let command = Wire c.args.number c.args.gate.now c.args.source.now c.args.drain.now in
+    let command = family.Edit (Wire c.args.number c.args.gate.now c.args.source.now c.args.drain.now) in
     let found = wire_fault session.core.circuit c.args.number c.args.gate.now c.args.source.now c.args.drain.now in
     quietly_as session c.args.self.now new command c.in-Err.fault c.of_edit.result c.self.view_is c.of_edit.ensures
     (lacking_quietly session new command found c.in-Err.fault refl

@@ -2,7 +2,9 @@
 use Rattle.std.proofs.Common.{◌≡◌, ℕ, ◌<◌, None, Some, refl, sym, subst, ◌∙◌}
 use Rattle.std.proofs.lemmas.Result.{err_from_is_err_and}
 use Rattle.analysis_cache.specs.Keeping.{texts_of}
-use Rattle.lane_script.specs.declared.command.LaneCommand.TheVariants as asked
+use Rattle.script_lang.specs.declared.command.Command.TheVariants as family
+use Rattle.script_lang.specs.declared.command.Run.TheVariants as asked
+use Rattle.lane_script.specs.declared.command.LaneCommand.TheVariants.{Shared}
 use Rattle.session_meaning.specs.Sessions.{IsReady, places_of}
 use Rattle.session_meaning.specs.Refusals.{cycle_refusal}
 use Rattle.session_meaning.specs.Effects.{places_in}
@@ -21,7 +23,7 @@ pub returns-in-Some-clause-obeys : goal.returns-in-Some-clause-obeys
 returns-in-Some-clause-obeys g c =
     let here = rw (c.circuit.ensures.value, c.deref.ensures.value, c.self.invariant.0.clocks_are) at c.in-Some.ensures in
     let told = subst (λ (s : HeldLanes). Some c.in-Some.refusal ≡ cycle_refusal s.core.circuit s.core.clocks) c.self.view_is here in
-    refused_obeys c.args.self.now.core (asked.Cycle c.args.times) c.in-Some.refusal _ _ _ (λ lane inside. sym told)
+    refused_obeys c.args.self.now.core (Shared (family.Run (asked.Cycle c.args.times))) c.in-Some.refusal _ _ _ (λ lane inside. sym told)
 
 pub run_cycles-requires-clause-built : goal.run_cycles-requires-clause-built
 run_cycles-requires-clause-built g c = c.in_ok-counts.ensures.ready.built
@@ -48,7 +50,7 @@ returns-in_err-counts-clause-obeys g c =
     let here = rw (c.in_default.is, c.circuit.ensures.value, c.deref.ensures.value, c.self.invariant.0.clocks_are) at c.cycle_refusal.ensures in
     let none = subst (λ (s : HeldLanes). None ≡ cycle_refusal s.core.circuit s.core.clocks) c.self.view_is here in
     rw (stopped.1, stopped.2)
-    (unready_obeys c.args.self.now c.begin.new.self (asked.Cycle c.args.times) _ _ _ _ c.in_err-counts.field-0.0 refl (λ lane inside. sym none) c.in_err-counts.ensures.refused)
+    (unready_obeys c.args.self.now c.begin.new.self (Shared (family.Run (asked.Cycle c.args.times))) _ _ _ _ c.in_err-counts.field-0.0 refl (λ lane inside. sym none) c.in_err-counts.ensures.refused)
 
 pub returns-clause-obeys : goal.returns-clause-obeys
 returns-clause-obeys g c =

@@ -3,7 +3,7 @@ use Rattle.std.proofs.Common.{◌≡◌, ◌≤◌, Err, length, ap, subst, arit
 use Rattle.std.proofs.lemmas.Result.{err_from_is_err_and}
 use Rattle.path_meaning.specs.Graphs.{nodes}
 use Rattle.analysis_cache.specs.Keeping.{texts_of}
-use Rattle.lane_script.specs.Commands.{in_column}
+use Rattle.lane_script.specs.declared.command.LaneCommand.TheVariants.{Shared}
 use Rattle.lane_session.specs.Stages.{HeldLanes, QuietlyTogether, states_in}
 use Rattle.lane_session.proofs.ColumnLemmas.{length-column-min}
 use Rattle.lane_session.proofs.InsideLemmas.{built_inside, unshared_inside, edit_inside, none_serves, kept_stands, unshared, edit_quietly}
@@ -23,7 +23,7 @@ grow-requires-clause-room c =
     let counted : length (states_in i.stage 0) ≡ nodes i.plain.core.circuit.graph = (c.self.invariant.0.sound 0 some).counted in
     let words : nodes i.plain.core.circuit.graph ≤ length loose.hi = omega (arith, counted, ap length same, length-column-min 0 loose.hi loose.lo) in
     rw (c.nodes.ensures, c.graph.ensures.value, c.circuit.ensures.value)
-    (room_for_edit i.plain.core c.share.new.plain.core c.args.command.now (length loose.hi) loose.spare c.requires.edit c.in_ok-share.ensures.shares.1 words
+    (room_for_edit i.plain.core c.share.new.plain.core c.args.shared.now (length loose.hi) loose.spare c.requires.edit c.in_ok-share.ensures.shares.1 words
     c.in_ok-loosen.ensures.room)
 
 pub invariant_of-self : goal.invariant_of-self
@@ -37,7 +37,7 @@ invariant_of-self c =
 pub invariant_of-self-in_err-share : goal.invariant_of-self-in_err-share
 invariant_of-self-in_err-share c =
     let i = c.self.inside in (
-      unshared_inside i.plain.core c.share.new.plain.core i.stage c.loosen.new.self i.clocks.items i.limit (texts_of i.kept) (in_column 0 c.args.command.now)
+      unshared_inside i.plain.core c.share.new.plain.core i.stage c.loosen.new.self i.clocks.items i.limit (texts_of i.kept) c.args.shared.now
           c.in_err-share.field-0.0 c.self.invariant.0 c.loosen.ensures.same c.in_err-share.ensures.shares
           (λ serves. none_serves i.plain.core.circuit.graph (texts_of i.kept) c.loosen.new.self.machine c.in_ok-loosen.ensures.loose),
       c.self.invariant.1,
@@ -47,7 +47,7 @@ pub invariant_of-self-2 : goal.invariant_of-self-2
 invariant_of-self-2 c =
     let i = c.self.inside in (
       edit_inside i.plain.core c.share.new.plain.core c.share.ensures.before i.stage c.loosen.new.self c.grow.new.self i.clocks.items i.limit (texts_of i.kept) i.count
-          c.self.invariant.0 c.args.command.now c.requires.edit c.in_ok-share.ensures.shares c.loosen.ensures.same c.grow.ensures.lanes
+          c.self.invariant.0 c.args.shared.now c.requires.edit c.in_ok-share.ensures.shares c.loosen.ensures.same c.grow.ensures.lanes
           (rw (c.nodes.ensures, c.graph.ensures.value, c.circuit.ensures.value) at c.grow.ensures.states) c.grow.ensures.machine,
       c.self.invariant.1,
     )
@@ -65,9 +65,9 @@ returns-in_err-share c =
     let i = c.self.inside in
     rw (stopped.1, stopped.2)
     (subst
-    (λ (s : HeldLanes). QuietlyTogether s.core c.args.command.now (data_of c.share.new.plain.core c.loosen.new.self i.count (texts_of i.kept)) (Err c.in_err-share.field-0.0))
+    (λ (s : HeldLanes). QuietlyTogether s.core (Shared c.args.shared.now) (data_of c.share.new.plain.core c.loosen.new.self i.count (texts_of i.kept)) (Err c.in_err-share.field-0.0))
     c.self.view_is
-    (unshared i.plain.core c.share.new.plain.core i.stage c.loosen.new.self (texts_of i.kept) i.count c.args.command.now c.in_err-share.field-0.0 c.loosen.ensures.same
+    (unshared i.plain.core c.share.new.plain.core i.stage c.loosen.new.self (texts_of i.kept) i.count (Shared c.args.shared.now) c.in_err-share.field-0.0 c.loosen.ensures.same
     c.in_err-share.ensures.shares))
 
 pub returns : goal.returns
@@ -75,5 +75,5 @@ returns c =
     let i = c.self.inside in
     rw (← c.self.view_is)
     (edit_quietly i.plain.core c.share.new.plain.core c.share.ensures.before i.stage c.loosen.new.self c.grow.new.self i.clocks.items i.limit (texts_of i.kept) i.count
-    c.self.invariant.0 c.args.command.now c.requires.edit c.in_ok-share.ensures.shares c.loosen.ensures.same c.grow.ensures.lanes
+    c.self.invariant.0 c.args.shared.now c.requires.edit c.in_ok-share.ensures.shares c.loosen.ensures.same c.grow.ensures.lanes
     (rw (c.nodes.ensures, c.graph.ensures.value, c.circuit.ensures.value) at c.grow.ensures.states))

@@ -3,7 +3,7 @@ use Rattle.std.proofs.Common.{◌≡◌, length, drop, map}
 use Rattle.path_meaning.specs.Graphs.{nodes}
 use Rattle.session_meaning.specs.Effects.{assigned}
 use Rattle.session_meaning.specs.Stages.{AssignsIn}
-use Rattle.cosmos_session.proofs.quiet.assign.Given as goal
+use Rattle.cosmos_session.proofs.giving.assign.Given as goal
 
 abbrev pub invariant-loop-name : goal.invariant-loop-name
 invariant-loop-name l = record {

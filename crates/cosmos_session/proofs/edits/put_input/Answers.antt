@@ -1,5 +1,5 @@
 use Rattle.session_meaning.proofs.EditLemmas.{input_made}
-use Rattle.cosmos_session.proofs.quiet.put_input.Goals as goal
+use Rattle.cosmos_session.proofs.edits.put_input.Goals as goal
 
 pub returns : goal.returns
 returns c =

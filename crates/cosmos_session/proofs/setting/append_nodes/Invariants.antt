@@ -1,7 +1,7 @@
 use Rattle.std.proofs.Common.{◌≡◌, ◌<◌, ◌≤◌, All, ◌+◌, ◌-◌, ◌++◌, map, drop, length, vec_len, vec_capacity}
 use Rattle.path_meaning.specs.Graphs.{nodes}
 use Rattle.netlist.specs.Edits.{node_named}
-use Rattle.cosmos_session.proofs.quiet.append_nodes.Given as goal
+use Rattle.cosmos_session.proofs.setting.append_nodes.Given as goal
 
 abbrev pub invariant-loop-name : goal.invariant-loop-name
 invariant-loop-name l = record {

@@ -7,7 +7,7 @@ use Rattle.netlist.specs.Edits.{node_named}
 use Rattle.session_meaning.specs.Stages.{PutsIn}
 use Rattle.session_meaning.proofs.StateLemmas.{assigned-more}
 use Rattle.session_meaning.proofs.MachineLemmas.{assigns_in-none, assigns_in-more}
-use Rattle.cosmos_session.proofs.quiet.assign.Goals as goal
+use Rattle.cosmos_session.proofs.giving.assign.Goals as goal
 
 pub loop-name-init : goal.loop-name-init
 loop-name-init c = record { state = refl; count = c.requires.states; machine = assigns_in-none c.args.circuit.now _ c.args.stage.now.machine }

@@ -2,7 +2,7 @@ use Rattle.std.proofs.Common.{◌≡◌, ◌<◌, ◌≤◌, All, ◌+◌, ◌-�
 use Rattle.path_meaning.specs.Graphs.{nodes}
 use Rattle.session_meaning.specs.Sessions.{ClockData}
 use Rattle.session_meaning.specs.Effects.{clock_of}
-use Rattle.cosmos_session.proofs.quiet.named_clocks.Given as goal
+use Rattle.cosmos_session.proofs.setting.named_clocks.Given as goal
 
 abbrev pub invariant-loop-name : goal.invariant-loop-name
 invariant-loop-name l = record {

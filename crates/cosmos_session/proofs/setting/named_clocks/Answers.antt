@@ -1,5 +1,5 @@
 use Rattle.std.proofs.Common.{arith}
-use Rattle.cosmos_session.proofs.quiet.named_clocks.Goals as goal
+use Rattle.cosmos_session.proofs.setting.named_clocks.Goals as goal
 
 pub unwrap-node-requires : goal.unwrap-node-requires
 unwrap-node-requires c =

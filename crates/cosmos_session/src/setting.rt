@@ -1,0 +1,115 @@
+//! The commands that set what later ones go by.
+
+ghost use Rattle.std.specs.Prelude.{◌≡◌, ◌<◌, ◌≤◌, ◌++◌, ◌+◌, is_some, true, map, length, vec_len, vec_capacity, All, IfOk};
+ghost use Rattle.path_meaning.specs.Graphs.{nodes};
+ghost use Rattle.netlist.specs.Names.{node_of};
+ghost use Rattle.netlist.specs.Edits.{node_named};
+ghost use Rattle.script_lang.specs.declared.command.Command.TheVariants as family;
+ghost use Rattle.script_lang.specs.declared.command.Setup.TheVariants as asked;
+ghost use Rattle.script_lang.specs.Forms.{AreBeats, IsFormedSetup, IsTimes};
+ghost use Rattle.session_meaning.specs.Effects as effect;
+ghost use Rattle.session_meaning.specs.Outcomes.{Quietly};
+
+use crate::refusals;
+use crate::session::Session;
+use netlist::Circuit;
+use script_lang::{ClockList, Name, NameList, Setup, StateList};
+use session_meaning::{ApplyFault, Clock, MOST_WATCHED, Refusal};
+use std::alloc::Global;
+use ternary::NoMemory;
+
+impl Session {
+    /// Sets what later commands go by.
+    pub(crate) fn set_up(&mut self, setup: &Setup) -> Result<(), ApplyFault>
+        requires { IsFormedSetup setup.now }
+        ensures quiet { Quietly self.old (family.Setup setup.now) self.new result }
+        ensures machine { self.new.machine ≡ self.old.machine }
+    {
+        match setup {
+            Setup::Watch(names) => self.watch(names),
+            Setup::Limit(number) => self.set_limit(*number),
+            Setup::Clock(list) => self.set_clocks(list),
+            Setup::Keep(number) => self.set_bound(*number),
+        }
+    }
+
+    // `watch`: appends the named nodes to the watch list.
+    fn watch(&mut self, names: &NameList) -> Result<(), ApplyFault>
+        ensures quiet { Quietly self.old (family.Setup (asked.Watch names.now)) self.new result }
+        ensures machine { self.new.machine ≡ self.old.machine }
+    {
+        if let Some(refusal) = refusals::known_refusal(&self.circuit, names.items()) {
+            return Err(ApplyFault::Refused(refusal));
+        }
+        if names.items().len() > MOST_WATCHED - self.watched.len() {
+            return Err(ApplyFault::Refused(Refusal::TooManyWatched));
+        }
+        self.watched.reserve(names.items().len())?;
+        append_nodes(&self.circuit, names.items(), &mut self.watched);
+        Ok(())
+    }
+
+    // `limit`: sets the limit of a phase.
+    fn set_limit(&mut self, limit: u64) -> Result<(), ApplyFault>
+        requires { IsTimes limit }
+        ensures quiet { Quietly self.old (family.Setup (asked.Limit limit)) self.new result }
+        ensures machine { self.new.machine ≡ self.old.machine }
+    {
+        self.limit = limit;
+        Ok(())
+    }
+
+    // `keep`: sets the bound on the number of texts that are kept. The next build cuts what is past it.
+    fn set_bound(&mut self, number: u64) -> Result<(), ApplyFault>
+        ensures quiet { Quietly self.old (family.Setup (asked.Keep number)) self.new result }
+        ensures machine { self.new.machine ≡ self.old.machine }
+    {
+        self.kept.set_bound(Some(number));
+        Ok(())
+    }
+
+    // `clock`: puts these clocks in place of all others.
+    fn set_clocks(&mut self, list: &ClockList) -> Result<(), ApplyFault>
+        requires { AreBeats list.now }
+        ensures quiet { Quietly self.old (family.Setup (asked.Clock list.now)) self.new result }
+        ensures machine { self.new.machine ≡ self.old.machine }
+    {
+        if let Some(refusal) = refusals::clocks_refusal(&self.circuit, list.items()) {
+            return Err(ApplyFault::Refused(refusal));
+        }
+        self.clocks = named_clocks(self.alloc, &self.circuit, list.items())?;
+        Ok(())
+    }
+}
+
+// Appends the nodes of these names, which are in use, in room that is there.
+fn append_nodes(circuit: &Circuit, names: &[Name], watched: &mut Vec<usize>)
+    requires known { All (λ name. is_some (node_of circuit.now.names name) ≡ true) names.now }
+    requires room { vec_len watched.old + length names.now ≤ vec_capacity watched.old }
+    requires within { All (λ node. node < nodes circuit.now.graph) watched.old.items }
+    ensures items { watched.new.items ≡ watched.old.items ++ map (node_named circuit.now) names.now }
+    ensures within { All (λ node. node < nodes circuit.now.graph) watched.new.items }
+{
+    for name in names {
+        watched.push_reserved(circuit.find(name.items()).unwrap());
+    }
+}
+
+// The clocks of these names, which are in use, and their letters.
+fn named_clocks(
+    alloc: Global,
+    circuit: &Circuit,
+    list: &[(Name, StateList)],
+) -> Result<Vec<Clock>, NoMemory>
+    requires { All (λ item. is_some (node_of circuit.now.names item.0) ≡ true) list.now }
+    ensures items { IfOk result (λ clocks. clocks.items ≡ map (effect.clock_of circuit.now) list.now) }
+    ensures within { IfOk result (λ clocks. All (λ clock. clock.node < nodes circuit.now.graph) clocks.items) }
+{
+    let mut clocks = Vec::with_capacity(alloc, list.len())?;
+    for (name, states) in list {
+        let node = circuit.find(name.items()).unwrap();
+        let states = Vec::from_slice(alloc, states.items())?;
+        clocks.push_reserved(Clock { node, states });
+    }
+    Ok(clocks)
+}
