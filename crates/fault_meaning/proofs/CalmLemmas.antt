@@ -1,7 +1,7 @@
 -- Once the circuit is built, calm lines have nothing analysed, and leave what is kept.
 -- The plan: a build puts the present texts in front of what is kept, where a further build finds them; and no effect of a calm command
 -- changes the circuit, the bound or what is kept. While a node is stuck a line stays calm, and one that builds still builds.
-use Rattle.std.proofs.Common.{◌≡◌, ℕ, Bool, true, false, inl, inr, List, [], ◌∷◌, ◌++◌, All, Option, Some, None, option_map, Result, Ok, Err, refl, sym, ap, subst, ◌∙◌}
+use Rattle.std.proofs.Common.{◌≡◌, ℕ, Bool, true, false, inl, inr, List, [], ◌∷◌, ◌++◌, All, Option, Some, None, Result, Ok, Err, refl, sym, ap, subst, ◌∙◌}
 use Rattle.std.proofs.lemmas.List.Elements.{All-head, All-tail}
 use Rattle.ternary.specs.declared.tern.Tern.{Tern}
 use Rattle.netlist.specs.Circuits.{CircuitData}
@@ -12,24 +12,21 @@ use Rattle.analysis_cache.proofs.SettleLemmas.{none_is_new_again, kept_after-aga
 use Rattle.circuit_texts.specs.Building.{HasTexts}
 use Rattle.script_lang.specs.declared.command.Command.{Command}
 use Rattle.script_lang.specs.declared.command.Command.TheVariants as family
-use Rattle.script_lang.specs.declared.command.Setup.{Setup}
-use Rattle.script_lang.specs.declared.command.Setup.TheVariants.{Watch, Limit, Clock, Keep}
-use Rattle.script_lang.specs.declared.command.Run.{Run}
-use Rattle.script_lang.specs.declared.command.Run.TheVariants.{Step, Phase, Cycle, Report}
 use Rattle.script_lang.specs.declared.command.ScriptFault.{ScriptFault}
 use Rattle.script_lang.specs.Commands.{reading_of}
-use Rattle.session_meaning.specs.Sessions.{SessionData, HeldSession, places_of}
+use Rattle.session_meaning.specs.Sessions.{SessionData, HeldSession}
 use Rattle.session_meaning.specs.Preparing.{IsBuild, BuildsIf, builds}
 use Rattle.session_meaning.specs.Lines.{Line}
-use Rattle.session_meaning.specs.Effects.{Effect, RunEffect, AreBeats, setup_after, places_in}
+use Rattle.session_meaning.specs.Effects.{Effect}
 use Rattle.session_meaning.specs.Outcomes.{Performs}
+use Rattle.session_meaning.proofs.LeavingLemmas.{run_leaves, setup_leaves}
 use Rattle.session_meaning.proofs.UniqueBuilds.{HasTexts-unique}
 use Rattle.script_meaning.specs.Runs.{Outcome, Runs, ends, passes, obeys, refuses}
 use Rattle.script_meaning.specs.declared.turn.Turn.TheVariants.{Accepted}
 use Rattle.script_meaning.specs.Turns.{TakesTurn}
-use Rattle.fault_sim.specs.Masks.{masked_edit, masked_give, masked_setup, masked_of, masked_reading_by, masked_reading}
-use Rattle.fault_meaning.specs.Early.{sets_bound, unsettles, IsCalm, IsBuilding}
-use Rattle.fault_meaning.proofs.OnceLemmas.{beats_leave, beats_bound, beats_kept}
+use Rattle.fault_sim.specs.Masks.{masked_of, masked_reading_by, masked_reading}
+use Rattle.fault_meaning.specs.Early.{unsettles, IsCalm, IsBuilding}
+use Rattle.fault_meaning.proofs.OnceLemmas.{mask_alike, set_unbound}
 
 -- ---- builds
 
@@ -52,9 +49,6 @@ built_current old mid texts build =
 
 -- ---- effects
 
-beats_circuit : (places : List ℕ) (old new : SessionData) (lines : List Line) → AreBeats old places new lines → new.circuit ≡ old.circuit
-beats_circuit = beats_leave (λ session. session.circuit) (λ place old new lines phase. ap (λ (session : SessionData). session.circuit) phase.moved)
-
 -- the circuit, the bound and what is kept are as before
 record LeavesBuilt (old new : SessionData) : Type 0 where
   circuit : new.circuit ≡ old.circuit
@@ -66,30 +60,15 @@ leaves_by : (old new next : SessionData) → new ≡ next → LeavesBuilt old ne
 leaves_by old new next same left = subst (LeavesBuilt old) (sym same) left
 
 -- so it is after the effect of a command that doesn't unsettle them
-set_leaves : (old : SessionData) (setup : Setup) → sets_bound setup ≡ false → LeavesBuilt old (setup_after old setup)
-set_leaves old (Watch names) calm = record { circuit = refl; bound = refl; kept = refl }
-set_leaves old (Limit number) calm = record { circuit = refl; bound = refl; kept = refl }
-set_leaves old (Clock list) calm = record { circuit = refl; bound = refl; kept = refl }
-set_leaves old (Keep number) calm = absurd (cc)
-
-run_leaves : (old new : SessionData) (run : Run) (lines : List Line) → RunEffect old run new lines → LeavesBuilt old new
-run_leaves old new Step lines effect = leaves_by old new _ effect.moved (record { circuit = refl; bound = refl; kept = refl })
-run_leaves old new Phase lines effect = leaves_by old new _ effect.moved (record { circuit = refl; bound = refl; kept = refl })
-run_leaves old new (Cycle times) lines effect =
-    let places = places_in (places_of old.clocks) times in
-    record {
-      circuit = beats_circuit places old new lines effect;
-      bound = beats_bound places old new lines effect;
-      kept = beats_kept places old new lines effect;
-    }
-run_leaves old new Report lines effect = leaves_by old new _ effect.moved (record { circuit = refl; bound = refl; kept = refl })
-
 effect_leaves : (old new : SessionData) (command : Command) (lines : List Line) → unsettles command ≡ false → Effect old command new lines →
     LeavesBuilt old new
 effect_leaves old new (family.Edit edit) lines calm effect = absurd (cc)
 effect_leaves old new (family.Give give) lines calm effect = leaves_by old new _ effect.0 (record { circuit = refl; bound = refl; kept = refl })
-effect_leaves old new (family.Setup setup) lines calm effect = leaves_by old new _ effect.0 (set_leaves old setup calm)
-effect_leaves old new (family.Run run) lines calm effect = run_leaves old new run lines effect
+effect_leaves old new (family.Setup setup) lines calm effect =
+    let left = setup_leaves old setup in
+    leaves_by old new _ effect.0 (record { circuit = left.circuit; bound = set_unbound old setup calm; kept = left.kept })
+effect_leaves old new (family.Run run) lines calm effect =
+    let left = run_leaves old new run lines effect in record { circuit = left.circuit; bound = left.bound; kept = left.kept }
 effect_leaves old new (family.Tell tell) lines calm effect = leaves_by old new _ effect.0 (record { circuit = refl; bound = refl; kept = refl })
 
 left_current : (old new : SessionData) → LeavesBuilt old new → IsCurrent old → IsCurrent new
@@ -156,27 +135,6 @@ performs_calm old new command text texts current calm performs =
 
 -- ---- while a node is stuck
 
--- what is left of a command has its family
-masked_setup_bound : (c : CircuitData) (stuck : Option (ℕ × Tern)) (setup : Setup) → sets_bound (masked_setup c stuck setup) ≡ sets_bound setup
-masked_setup_bound c stuck (Clock list) = refl
-masked_setup_bound c stuck setup = refl
-
-in_family : {X : Type 0} (whole : X → Command) (left : Option X) (masked : Command) → option_map whole left ≡ Some masked → (x : X) × (masked ≡ whole x)
-in_family whole None masked is = absurd (cc)
-in_family whole (Some x) masked is = (x, cc)
-
--- a command unsettles what is built where it did so before
-masked_calm : (c : CircuitData) (stuck : Option (ℕ × Tern)) (command masked : Command) → masked_of c stuck command ≡ Some masked →
-    unsettles masked ≡ unsettles command
-masked_calm c stuck (family.Edit edit) masked is =
-    ap unsettles (in_family family.Edit (masked_edit c stuck edit) masked is).1
-masked_calm c stuck (family.Give give) masked is =
-    ap unsettles (in_family family.Give (masked_give c stuck give) masked is).1
-masked_calm c stuck (family.Setup setup) masked is =
-    let e : masked ≡ family.Setup (masked_setup c stuck setup) = cc in ap unsettles e ∙ masked_setup_bound c stuck setup
-masked_calm c stuck (family.Run run) masked is = let e : masked ≡ family.Run run = cc in ap unsettles e
-masked_calm c stuck (family.Tell tell) masked is = let e : masked ≡ family.Tell tell = cc in ap unsettles e
-
 -- what a calm line asks for is calm
 asked_calm : (c : CircuitData) (stuck : Option (ℕ × Tern)) (line : List ℕ) (command : Command) → IsCalm line →
     masked_reading stuck c line ≡ Ok (Some command) → unsettles command ≡ false
@@ -187,7 +145,7 @@ asked_calm c stuck line command calm asked = by (reading_of line) refl asked
     by (Ok None) is gives = absurd (cc)
     by (Ok (Some plain)) is gives =
         let masked : masked_of c stuck plain ≡ Some command = cc in
-        masked_calm c stuck plain command masked ∙ calm plain is
+        (mask_alike c stuck plain command masked).unsettled ∙ calm plain is
     by (Err fault) is gives = absurd (cc)
 
 -- a command that builds stays as it is

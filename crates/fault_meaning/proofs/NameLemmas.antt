@@ -12,7 +12,7 @@ use Rattle.group_text.specs.Texts.{GroupTextData}
 use Rattle.script_lang.specs.declared.command.Command.{Command}
 use Rattle.script_lang.specs.declared.command.Command.TheVariants as family
 use Rattle.script_lang.specs.declared.command.Setup.{Setup}
-use Rattle.script_lang.specs.declared.command.Setup.TheVariants.{Watch, Limit, Clock, Keep}
+use Rattle.script_lang.specs.declared.command.Setup.TheVariants.{Watch}
 use Rattle.script_lang.specs.declared.command.Run.{Run}
 use Rattle.script_lang.specs.declared.command.Run.TheVariants.{Step, Phase, Cycle, Report}
 use Rattle.script_lang.specs.declared.command.Tell.{Tell}
@@ -114,9 +114,7 @@ set_fitting old new (Watch names) lines same none =
       grows = omega (arith, long, length-append old.watched (map (node_named old.circuit) names));
       fit = subst (All (FitsIn (length new.watched))) (sym none) (All-nil (FitsIn (length new.watched)));
     }
-set_fitting old new (Limit number) lines same none = still_fitting old new lines (ap (λ (session : SessionData). session.watched) same) none
-set_fitting old new (Clock list) lines same none = still_fitting old new lines (ap (λ (session : SessionData). session.watched) same) none
-set_fitting old new (Keep number) lines same none = still_fitting old new lines (ap (λ (session : SessionData). session.watched) same) none
+set_fitting old new other lines same none = still_fitting old new lines (ap (λ (session : SessionData). session.watched) same) none
 
 run_fitting : (old new : SessionData) (run : Run) (lines : List Line) → RunEffect old run new lines → AreFitting old new lines
 run_fitting old new Step lines effect =

@@ -19,29 +19,27 @@ use Rattle.analysis_cache.proofs.NewTextLemmas.{new_texts-new, new_texts-known, 
 use Rattle.analysis_cache.proofs.UseLemmas.{is_among-used}
 use Rattle.script_lang.specs.declared.command.Command.{Command}
 use Rattle.script_lang.specs.declared.command.Command.TheVariants as family
-use Rattle.script_lang.specs.declared.command.Edit.{Edit}
 use Rattle.script_lang.specs.declared.command.Edit.TheVariants.{Input, Del, Kind}
-use Rattle.script_lang.specs.declared.command.Give.{Give}
 use Rattle.script_lang.specs.declared.command.Give.TheVariants.{Set}
 use Rattle.script_lang.specs.declared.command.Setup.{Setup}
-use Rattle.script_lang.specs.declared.command.Setup.TheVariants.{Watch, Limit, Clock, Keep}
-use Rattle.script_lang.specs.declared.command.Run.{Run}
-use Rattle.script_lang.specs.declared.command.Run.TheVariants.{Step, Phase, Cycle, Report}
+use Rattle.script_lang.specs.declared.command.Setup.TheVariants.{Clock, Keep}
 use Rattle.script_lang.specs.declared.command.ScriptFault.{ScriptFault}
 use Rattle.script_lang.specs.Commands.{reading_of}
-use Rattle.session_meaning.specs.Sessions.{SessionData, places_of}
+use Rattle.session_meaning.specs.Sessions.{SessionData}
 use Rattle.session_meaning.specs.Preparing.{BuildsIf, builds}
 use Rattle.session_meaning.specs.Lines.{Line}
-use Rattle.session_meaning.specs.Effects.{Effect, RunEffect, IsPhase, AreBeats, setup_after, with_beat, places_in}
+use Rattle.session_meaning.specs.Effects.{Effect, setup_after}
 use Rattle.session_meaning.specs.Outcomes.{Performs}
+use Rattle.session_meaning.proofs.LeavingLemmas.{run_leaves, setup_leaves}
 use Rattle.run_ends.specs.Answers.{Answer}
 use Rattle.script_meaning.specs.Runs.{Outcome, Runs, ends, passes, obeys, refuses}
 use Rattle.fault_sim.specs.declared.fault.Fault.{Fault}
 use Rattle.fault_sim.specs.declared.fault.Fault.TheVariants.{Open, Closed, Stuck}
 use Rattle.fault_sim.specs.declared.trace.Trace.{Trace}
-use Rattle.fault_sim.specs.Masks.{masked_edit, masked_give, masked_of, masked_reading_by, masked_reading}
+use Rattle.fault_sim.specs.Masks.{masked_edit, masked_give, masked_setup, masked_of, masked_reading_by, masked_reading}
 use Rattle.fault_meaning.specs.declared.listed.ListedFault.{ListedFault}
 use Rattle.fault_meaning.specs.declared.listed.ListRefusal.{ListRefusal}
+use Rattle.fault_meaning.specs.Early.{sets_bound, unsettles}
 use Rattle.fault_meaning.specs.Lists.{faults_in}
 use Rattle.fault_meaning.specs.Laws.{AsksNoBound, NeverKeeps, TextsAreAnalysedOnce}
 use Rattle.fault_meaning.specs.Traces.{start_with, commands_under, stuck_under, AreDone, RunsUnder}
@@ -151,65 +149,36 @@ both_new kept some mid more new first second = record {
 
 -- ---- a command
 
--- the command isn't `keep`
-abbrev Never : Command → Type 0
-Never command = (number : ℕ) → command ≢ family.Setup (Keep number)
+-- the command is `keep`
+abbrev pub bounds : Command → Bool
+bounds (family.Setup setup) = sets_bound setup
+bounds other = false
 
-keeps_by : (old new next : SessionData) → new ≡ next → (next.kept ≡ old.kept) × (next.bound ≡ old.bound) → (new.kept ≡ old.kept) × (new.bound ≡ old.bound)
-keeps_by old new next same keeps =
-    (ap (λ (session : SessionData). session.kept) same ∙ keeps.0, ap (λ (session : SessionData). session.bound) same ∙ keeps.1)
+never_bounds : (command : Command) → ((number : ℕ) → command ≢ family.Setup (Keep number)) → bounds command ≡ false
+never_bounds (family.Setup (Keep number)) never = absurd (never number refl)
+never_bounds (family.Setup other) never = refl
+never_bounds other never = refl
 
--- what each phase leaves, all phases leave
-pub beats_leave : {T : Type 0} (seen : SessionData → T) →
-    ((place : ℕ) (old new : SessionData) (lines : List Line) → IsPhase (with_beat old place) new lines → seen new ≡ seen old) →
-    (places : List ℕ) (old new : SessionData) (lines : List Line) → AreBeats old places new lines → seen new ≡ seen old
-beats_leave seen leaves [] old new lines beats = ap seen beats.0
-beats_leave seen leaves (place ∷ places) old new lines (mid, front, back, phase, beats, joined) =
-    beats_leave seen leaves places mid new back beats ∙ leaves place old mid front phase
+-- no other command sets a bound
+pub set_unbound : (old : SessionData) (setup : Setup) → sets_bound setup ≡ false → (setup_after old setup).bound ≡ old.bound
+set_unbound old (Keep number) never = absurd cc
+set_unbound old other never = refl
 
-pub beats_bound : (places : List ℕ) (old new : SessionData) (lines : List Line) → AreBeats old places new lines → new.bound ≡ old.bound
-beats_bound = beats_leave (λ session. session.bound) (λ place old new lines phase. ap (λ (session : SessionData). session.bound) phase.moved)
-
-pub beats_kept : (places : List ℕ) (old new : SessionData) (lines : List Line) → AreBeats old places new lines → new.kept ≡ old.kept
-beats_kept = beats_leave (λ session. session.kept) (λ place old new lines phase. ap (λ (session : SessionData). session.kept) phase.moved)
-
--- no command that has the circuit built lets go of what is kept, adds to it or sets a bound
-run_keeps : (old new : SessionData) (run : Run) (lines : List Line) → RunEffect old run new lines → (new.kept ≡ old.kept) × (new.bound ≡ old.bound)
-run_keeps old new Step lines effect = keeps_by old new _ effect.moved (refl, refl)
-run_keeps old new Phase lines effect = keeps_by old new _ effect.moved (refl, refl)
-run_keeps old new (Cycle times) lines effect =
-    let places = places_in (places_of old.clocks) times in (beats_kept places old new lines effect, beats_bound places old new lines effect)
-run_keeps old new Report lines effect = keeps_by old new _ effect.moved (refl, refl)
-
--- nor does one that sets what others go by let go of it, or add to it
-set_keeps : (old : SessionData) (setup : Setup) → (setup_after old setup).kept ≡ old.kept
-set_keeps old (Watch names) = refl
-set_keeps old (Limit number) = refl
-set_keeps old (Clock list) = refl
-set_keeps old (Keep number) = refl
-
--- and `keep` alone sets a bound
-set_unbound : (old : SessionData) (setup : Setup) → ((number : ℕ) → family.Setup setup ≢ family.Setup (Keep number)) → (setup_after old setup).bound ≡ old.bound
-set_unbound old (Watch names) never = refl
-set_unbound old (Limit number) never = refl
-set_unbound old (Clock list) never = refl
-set_unbound old (Keep number) never = absurd (never number refl)
+effect_unbound : (old new : SessionData) (command : Command) (lines : List Line) → bounds command ≡ false → Effect old command new lines →
+    new.bound ≡ old.bound
+effect_unbound old new (family.Edit edit) lines never effect = ap (λ (session : SessionData). session.bound) effect.0
+effect_unbound old new (family.Give give) lines never effect = ap (λ (session : SessionData). session.bound) effect.0
+effect_unbound old new (family.Setup setup) lines never effect = ap (λ (session : SessionData). session.bound) effect.0 ∙ set_unbound old setup never
+effect_unbound old new (family.Run run) lines never effect = (run_leaves old new run lines effect).bound
+effect_unbound old new (family.Tell tell) lines never effect = ap (λ (session : SessionData). session.bound) effect.0
 
 -- no effect lets go of what is kept, or adds to it
 effect_keeps : (old new : SessionData) (command : Command) (lines : List Line) → Effect old command new lines → new.kept ≡ old.kept
 effect_keeps old new (family.Edit edit) lines effect = ap (λ (session : SessionData). session.kept) effect.0
 effect_keeps old new (family.Give give) lines effect = ap (λ (session : SessionData). session.kept) effect.0
-effect_keeps old new (family.Setup setup) lines effect = ap (λ (session : SessionData). session.kept) effect.0 ∙ set_keeps old setup
-effect_keeps old new (family.Run run) lines effect = (run_keeps old new run lines effect).0
+effect_keeps old new (family.Setup setup) lines effect = ap (λ (session : SessionData). session.kept) effect.0 ∙ (setup_leaves old setup).kept
+effect_keeps old new (family.Run run) lines effect = (run_leaves old new run lines effect).kept
 effect_keeps old new (family.Tell tell) lines effect = ap (λ (session : SessionData). session.kept) effect.0
-
--- no other command sets a bound
-effect_unbound : (old new : SessionData) (command : Command) (lines : List Line) → Never command → Effect old command new lines → new.bound ≡ old.bound
-effect_unbound old new (family.Edit edit) lines never effect = ap (λ (session : SessionData). session.bound) effect.0
-effect_unbound old new (family.Give give) lines never effect = ap (λ (session : SessionData). session.bound) effect.0
-effect_unbound old new (family.Setup setup) lines never effect = ap (λ (session : SessionData). session.bound) effect.0 ∙ set_unbound old setup never
-effect_unbound old new (family.Run run) lines never effect = (run_keeps old new run lines effect).1
-effect_unbound old new (family.Tell tell) lines never effect = ap (λ (session : SessionData). session.bound) effect.0
 
 prepares_once : (does : Bool) (old mid : SessionData) (texts : List GroupTextData) → old.bound ≡ None → BuildsIf does old mid texts →
     IsOnce old.kept texts mid.kept
@@ -232,7 +201,7 @@ prepares_unbound true old mid texts build = ap (λ (session : SessionData). sess
 prepares_unbound false old mid texts still = ap (λ (session : SessionData). session.bound) still.0
 
 performs_once : (old new : SessionData) (command : Command) (text : List ℕ) (texts : List GroupTextData) → old.bound ≡ None →
-    Never command → Performs old command new text texts → IsOnce old.kept texts new.kept × (new.bound ≡ None)
+    bounds command ≡ false → Performs old command new text texts → IsOnce old.kept texts new.kept × (new.bound ≡ None)
 performs_once old new command text texts free never performs =
     let built = prepares_once (builds command) old performs.mid texts free performs.prepares in
     let same = effect_keeps performs.mid new command performs.does.lines performs.does.effect in (
@@ -243,34 +212,41 @@ performs_once old new command text texts free never performs =
 
 -- ---- the commands of a script that asks for no bound
 
--- a command under a stuck node asks for a bound only where it did before
-masked_never : (c : CircuitData) (stuck : Option (ℕ × Tern)) (command masked : Command) → Never command → masked_of c stuck command ≡ Some masked →
-    Never masked
-masked_never c stuck (family.Edit edit) masked never is number same = by (masked_edit c stuck edit) is
-  where
-    by : (left : Option Edit) → option_map family.Edit left ≡ Some masked → ⊥
-    by None is = cc
-    by (Some edit) is = cc
-masked_never c stuck (family.Give give) masked never is number same = by (masked_give c stuck give) is
-  where
-    by : (left : Option Give) → option_map family.Give left ≡ Some masked → ⊥
-    by None is = cc
-    by (Some give) is = cc
-masked_never c stuck (family.Setup (Clock list)) masked never is number same = absurd cc
-masked_never c stuck (family.Setup (Watch names)) masked never is number same = absurd cc
-masked_never c stuck (family.Setup (Limit count)) masked never is number same = absurd cc
-masked_never c stuck (family.Setup (Keep bound)) masked never is number same = absurd (never bound refl)
-masked_never c stuck (family.Run run) masked never is number same = absurd cc
-masked_never c stuck (family.Tell tell) masked never is number same = absurd cc
+-- what is left of a command under a stuck node asks for a bound where it did so before, and unsettles what is built where it did so
+pub record IsMaskAlike (command masked : Command) : Type 0 where
+  pub bound : bounds masked ≡ bounds command
+  pub unsettled : unsettles masked ≡ unsettles command
 
--- so does a line
+in_family : {X : Type 0} (whole : X → Command) (left : Option X) (masked : Command) → option_map whole left ≡ Some masked → (x : X) × (masked ≡ whole x)
+in_family whole None masked is = absurd cc
+in_family whole (Some x) masked is = (x, cc)
+
+setup_masked : (c : CircuitData) (stuck : Option (ℕ × Tern)) (setup : Setup) → sets_bound (masked_setup c stuck setup) ≡ sets_bound setup
+setup_masked c stuck (Clock list) = refl
+setup_masked c stuck other = refl
+
+pub mask_alike : (c : CircuitData) (stuck : Option (ℕ × Tern)) (command masked : Command) → masked_of c stuck command ≡ Some masked →
+    IsMaskAlike command masked
+mask_alike c stuck (family.Edit edit) masked is =
+    let left = in_family family.Edit (masked_edit c stuck edit) masked is in record { bound = ap bounds left.1; unsettled = ap unsettles left.1 }
+mask_alike c stuck (family.Give give) masked is =
+    let left = in_family family.Give (masked_give c stuck give) masked is in record { bound = ap bounds left.1; unsettled = ap unsettles left.1 }
+mask_alike c stuck (family.Setup setup) masked is =
+    let e : masked ≡ family.Setup (masked_setup c stuck setup) = cc in
+    record { bound = ap bounds e ∙ setup_masked c stuck setup; unsettled = ap unsettles e ∙ setup_masked c stuck setup }
+mask_alike c stuck (family.Run run) masked is =
+    let e : masked ≡ family.Run run = cc in record { bound = ap bounds e; unsettled = ap unsettles e }
+mask_alike c stuck (family.Tell tell) masked is =
+    let e : masked ≡ family.Tell tell = cc in record { bound = ap bounds e; unsettled = ap unsettles e }
+
+-- a line asks for none where no line of the script does
 asked_never : (c : CircuitData) (stuck : Option (ℕ × Tern)) (read : Result (Option Command) ScriptFault) (command : Command) →
-    ((number : ℕ) → read ≢ Ok (Some (family.Setup (Keep number)))) → masked_reading_by c stuck read ≡ Ok (Some command) → Never command
-asked_never c stuck (Ok None) command never asked number = absurd cc
-asked_never c stuck (Ok (Some plain)) command never asked number =
+    ((number : ℕ) → read ≢ Ok (Some (family.Setup (Keep number)))) → masked_reading_by c stuck read ≡ Ok (Some command) → bounds command ≡ false
+asked_never c stuck (Ok None) command never asked = absurd cc
+asked_never c stuck (Ok (Some plain)) command never asked =
     let is : masked_of c stuck plain ≡ Some command = cc in
-    masked_never c stuck plain command (λ bound same. never bound (ap (λ (one : Command). Ok (Some one)) same)) is number
-asked_never c stuck (Err fault) command never asked number = absurd cc
+    (mask_alike c stuck plain command is).bound ∙ never_bounds plain (λ bound same. never bound (ap (λ (one : Command). Ok (Some one)) same))
+asked_never c stuck (Err fault) command never asked = absurd cc
 
 -- ---- a run
 
@@ -289,13 +265,16 @@ runs_once stuck cut _ _ _ free never (refuses session line lines cause is) = non
 
 -- ---- the commands of a fault
 
+abbrev Never : Command → Type 0
+Never command = bounds command ≡ false
+
 commands_never : (c : CircuitData) (fault : Option Fault) → All Never (commands_under c fault)
 commands_never c None = All-nil Never
-commands_never c (Some (Open place)) = All-cons Never (family.Edit (Del place)) [] (λ number same. cc) (All-nil Never)
-commands_never c (Some (Closed place)) = All-cons Never (family.Edit (Kind place Always)) [] (λ number same. cc) (All-nil Never)
+commands_never c (Some (Open place)) = All-cons Never (family.Edit (Del place)) [] refl (All-nil Never)
+commands_never c (Some (Closed place)) = All-cons Never (family.Edit (Kind place Always)) [] refl (All-nil Never)
 commands_never c (Some (Stuck node state)) =
-    All-cons Never (family.Edit (Input (called c node ∷ []))) (family.Give (Set ((called c node, state) ∷ [])) ∷ []) (λ number same. cc)
-    (All-cons Never (family.Give (Set ((called c node, state) ∷ []))) [] (λ number same. cc) (All-nil Never))
+    All-cons Never (family.Edit (Input (called c node ∷ []))) (family.Give (Set ((called c node, state) ∷ [])) ∷ []) refl
+    (All-cons Never (family.Give (Set ((called c node, state) ∷ []))) [] refl (All-nil Never))
 
 done_keeps : (commands : List Command) (old new : SessionData) → All Never commands → AreDone old commands new →
     (new.kept ≡ old.kept) × (new.bound ≡ old.bound)

@@ -5,7 +5,7 @@ use Rattle.group_text.specs.Texts.{GroupTextData}
 use Rattle.circuit_texts.specs.Building.{HasTexts}
 use Rattle.script_lang.specs.declared.command.Command.TheVariants as family
 use Rattle.script_lang.specs.declared.command.Setup.{Setup}
-use Rattle.script_lang.specs.declared.command.Setup.TheVariants.{Watch, Limit, Clock, Keep}
+use Rattle.script_lang.specs.declared.command.Setup.TheVariants.{Watch}
 use Rattle.script_lang.specs.declared.command.Run.{Run}
 use Rattle.script_lang.specs.declared.command.Run.TheVariants.{Step, Phase, Cycle, Report}
 use Rattle.lane_script.specs.declared.command.LaneCommand.{LaneCommand}
@@ -56,9 +56,7 @@ beats_count (place ∷ places) session new lines (mid, front, back, phase, beats
 -- what is set for later commands is set beside the states
 set_less : (session : SessionData) (setup : Setup) → less_states (setup_after session setup) ≡ setup_after (less_states session) setup
 set_less session (Watch names) = refl
-set_less session (Limit number) = refl
-set_less session (Clock list) = refl
-set_less session (Keep number) = refl
+set_less session other = refl
 
 -- steps and reports keep sessions alike
 alike-run : (run : Run) (one two after later : SessionData) (lines more : List Line) → AreAlike one two → RunEffect one run after lines →

@@ -6,9 +6,9 @@ use Rattle.script_lang.specs.declared.command.Command.{Command}
 use Rattle.script_lang.specs.declared.command.Command.TheVariants as family
 use Rattle.script_lang.specs.declared.command.Give.TheVariants.{Set, Charge}
 use Rattle.script_lang.specs.declared.command.Setup.{Setup}
-use Rattle.script_lang.specs.declared.command.Setup.TheVariants.{Watch, Limit, Clock, Keep}
+use Rattle.script_lang.specs.declared.command.Setup.TheVariants.{Keep}
 use Rattle.script_lang.specs.declared.command.Run.{Run}
-use Rattle.script_lang.specs.declared.command.Run.TheVariants.{Step, Phase, Cycle, Report}
+use Rattle.script_lang.specs.declared.command.Run.TheVariants.{Report}
 use Rattle.script_lang.specs.declared.command.Tell.TheVariants.{Expect}
 use Rattle.script_lang.specs.Commands.{reading_of_words, word_of, word_of_run, word_of_setup}
 use Rattle.script_lang.proofs.VerbLemmas.{first_word}
@@ -47,16 +47,12 @@ pub shared_words : (word : List ℕ) (words : List (List ℕ)) (made : Command) 
 shared_words word words made other is = by made (first_word word words made is)
   where
     setup_shared : (setup : Setup) → word ≡ word_of_setup setup → IsSharedSetup setup
-    setup_shared (Watch names) is = tt
-    setup_shared (Limit number) is = tt
-    setup_shared (Clock list) is = tt
     setup_shared (Keep number) is = left_out word (codes "keep") is refl other.out
+    setup_shared setup is = tt
 
     run_shared : (run : Run) → word ≡ word_of_run run → IsSharedRun run
-    run_shared Step is = tt
-    run_shared Phase is = tt
-    run_shared (Cycle number) is = tt
     run_shared Report is = left_out word (codes "report") is refl other.out
+    run_shared run is = tt
 
     by : (command : Command) → word ≡ word_of command → IsShared command
     by (family.Edit edit) is = tt

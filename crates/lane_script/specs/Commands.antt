@@ -7,9 +7,9 @@ use Rattle.script_lang.specs.declared.command.Command.TheVariants as family
 use Rattle.script_lang.specs.declared.command.Give.{Give}
 use Rattle.script_lang.specs.declared.command.Give.TheVariants as plain
 use Rattle.script_lang.specs.declared.command.Setup.{Setup}
-use Rattle.script_lang.specs.declared.command.Setup.TheVariants.{Watch, Limit, Clock, Keep}
+use Rattle.script_lang.specs.declared.command.Setup.TheVariants.{Keep}
 use Rattle.script_lang.specs.declared.command.Run.{Run}
-use Rattle.script_lang.specs.declared.command.Run.TheVariants.{Step, Phase, Cycle, Report}
+use Rattle.script_lang.specs.declared.command.Run.TheVariants.{Report}
 use Rattle.lane_script.specs.declared.command.ValueCommand.{ValueCommand}
 use Rattle.lane_script.specs.declared.command.ValueCommand.TheVariants as value
 use Rattle.lane_script.specs.declared.command.LaneCommand.{LaneCommand}
@@ -35,17 +35,13 @@ in_column lane (Shared command) = command
 
 -- columns are alike in what they have set: no bound on what is kept
 abbrev pub IsSharedSetup : Setup → Type 0
-IsSharedSetup (Watch names) = Unit {0}
-IsSharedSetup (Limit number) = Unit {0}
-IsSharedSetup (Clock list) = Unit {0}
 IsSharedSetup (Keep number) = ⊥
+IsSharedSetup other = Unit {0}
 
 -- and in what has the circuit built: no report
 abbrev pub IsSharedRun : Run → Type 0
-IsSharedRun Step = Unit {0}
-IsSharedRun Phase = Unit {0}
-IsSharedRun (Cycle number) = Unit {0}
 IsSharedRun Report = ⊥
+IsSharedRun other = Unit {0}
 
 -- columns can be given the command all alike: it gives no values, and is there for columns
 abbrev pub IsShared : Command → Type 0

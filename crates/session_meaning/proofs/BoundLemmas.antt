@@ -24,9 +24,9 @@ use Rattle.script_lang.specs.declared.TheConstants.{MOST_TIMES}
 use Rattle.script_lang.specs.declared.command.Command.{Command}
 use Rattle.script_lang.specs.declared.command.Command.TheVariants as family
 use Rattle.script_lang.specs.declared.command.Edit.{Edit}
-use Rattle.script_lang.specs.declared.command.Edit.TheVariants.{Input, Store, Add, Del, Strength, Kind, Wire}
+use Rattle.script_lang.specs.declared.command.Edit.TheVariants.{Input, Store, Add, Wire}
 use Rattle.script_lang.specs.declared.command.Setup.{Setup}
-use Rattle.script_lang.specs.declared.command.Setup.TheVariants.{Watch, Limit, Clock, Keep}
+use Rattle.script_lang.specs.declared.command.Setup.TheVariants.{Limit}
 use Rattle.script_lang.specs.declared.command.Run.{Run}
 use Rattle.script_lang.specs.declared.command.Run.TheVariants.{Step, Phase, Cycle, Report}
 use Rattle.script_lang.specs.declared.command.Tell.{Tell}
@@ -188,24 +188,18 @@ few_edited : (c : CircuitData) (edit : Edit) → nodes c.graph < 2 ^ 63 → refu
 few_edited c (Input names) few allowed = omega (arith, nodes-with_inputs names c, few)
 few_edited c (Store name size) few allowed = omega (arith, length-set c.graph.levels (node_named c name) (level_of_size size), few)
 few_edited c (Add kind gate source drain strength) few allowed = few_added c (strength_for kind strength) gate source drain allowed
-few_edited c (Del number) few allowed = few
-few_edited c (Strength number strength) few allowed = few
-few_edited c (Kind number kind) few allowed = few
 few_edited c (Wire number gate source drain) few allowed = few_wired c number gate source drain allowed
+few_edited c other few allowed = few
 
 -- what sets what others go by leaves a small limit
 small_set : (session : SessionData) (setup : Setup) → IsBounded session → IsFormedSetup setup → IsSmall (setup_after session setup)
-small_set session (Watch names) bounded formed = (bounded.few, bounded.limit)
 small_set session (Limit number) bounded formed = (bounded.few, formed.1)
-small_set session (Clock list) bounded formed = (bounded.few, bounded.limit)
-small_set session (Keep number) bounded formed = (bounded.few, bounded.limit)
+small_set session other bounded formed = (bounded.few, bounded.limit)
 
 run_small : (session new : SessionData) (lines : List Line) (run : Run) → IsBounded session → RunEffect session run new lines → IsSmall new
-run_small session new lines Step bounded effect = subst IsSmall (sym effect.moved) (bounded.few, bounded.limit)
-run_small session new lines Phase bounded effect = subst IsSmall (sym effect.moved) (bounded.few, bounded.limit)
 run_small session new lines (Cycle times) bounded effect =
     let after = bounded-beats (places_in (places_of session.clocks) times) session new lines bounded effect in (after.few, after.limit)
-run_small session new lines Report bounded effect = subst IsSmall (sym effect.moved) (bounded.few, bounded.limit)
+run_small session new lines other bounded effect = subst IsSmall (sym effect.moved) (bounded.few, bounded.limit)
 
 effect_small : (session new : SessionData) (lines : List Line) (command : Command) → IsBounded session → IsFormed command →
     refusal_of session command ≡ None → Effect session command new lines → IsSmall new

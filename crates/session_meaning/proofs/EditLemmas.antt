@@ -121,10 +121,8 @@ pub nodes-after-most : (c : CircuitData) (edit : Edit) → nodes (circuit_after 
 nodes-after-most c (asked.Input names) = omega (arith, nodes-with_inputs names c)
 nodes-after-most c (asked.Store name size) = omega (arith, length-set c.graph.levels (node_named c name) (level_of_size size))
 nodes-after-most c (asked.Add kind gate source drain strength) = nodes-with_nodes-most (gate ∷ source ∷ drain ∷ []) c
-nodes-after-most c (asked.Del number) = omega arith
-nodes-after-most c (asked.Strength number strength) = omega arith
-nodes-after-most c (asked.Kind number kind) = omega arith
 nodes-after-most c (asked.Wire number gate source drain) = nodes-with_nodes-most (gate ∷ source ∷ drain ∷ []) c
+nodes-after-most c other = omega arith
 
 -- the session with this circuit, and the state and the machine of this stage
 abbrev pub edited : HeldSession → CircuitData → StageData → HeldSession

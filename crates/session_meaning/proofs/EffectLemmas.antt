@@ -32,7 +32,7 @@ use Rattle.script_lang.specs.declared.command.Edit.TheVariants.{Input, Store, Ad
 use Rattle.script_lang.specs.declared.command.Give.{Give}
 use Rattle.script_lang.specs.declared.command.Give.TheVariants.{Set, Charge}
 use Rattle.script_lang.specs.declared.command.Setup.{Setup}
-use Rattle.script_lang.specs.declared.command.Setup.TheVariants.{Watch, Limit, Clock, Keep}
+use Rattle.script_lang.specs.declared.command.Setup.TheVariants.{Clock}
 use Rattle.script_lang.specs.declared.command.Run.{Run}
 use Rattle.script_lang.specs.declared.command.Run.TheVariants.{Step, Phase, Cycle, Report}
 use Rattle.script_lang.specs.Forms.{IsFormed}
@@ -100,10 +100,8 @@ nodes-after : (c : CircuitData) (edit : Edit) → nodes c.graph ≤ nodes (circu
 nodes-after c (Input names) = omega (arith, nodes-with_inputs names c)
 nodes-after c (Store name size) = omega (arith, length-set c.graph.levels (node_named c name) (level_of_size size))
 nodes-after c (Add kind gate source drain strength) = nodes-with_transistor c kind (strength_for kind strength) gate source drain
-nodes-after c (Del number) = omega arith
-nodes-after c (Strength number strength) = omega arith
-nodes-after c (Kind number kind) = omega arith
 nodes-after c (Wire number gate source drain) = nodes-with_wires c number gate source drain
+nodes-after c other = omega arith
 
 -- ---- phases and cycles
 
@@ -231,15 +229,13 @@ given_past c (Charge list) allowed = charged_past c list allowed
 
 -- the data stay ready with what is set for later commands
 ready-set : (old : SessionData) (setup : Setup) → refusal_of_setup old.circuit (length old.watched) setup ≡ None → IsReady old → IsReady (setup_after old setup)
-ready-set old (Watch names) allowed ready = record { netlist = ready.netlist; states = ready.states; sound = ready.sound; free = ready.free }
-ready-set old (Limit number) allowed ready = record { netlist = ready.netlist; states = ready.states; sound = ready.sound; free = ready.free }
 ready-set old (Clock list) allowed ready = record {
   netlist = ready.netlist;
   states = ready.states;
   sound = ready.sound;
   free = clocks_past old.circuit list (set_past old.circuit list (or_else-none (length_refusal list) _ allowed).1);
 }
-ready-set old (Keep number) allowed ready = record { netlist = ready.netlist; states = ready.states; sound = ready.sound; free = ready.free }
+ready-set old other allowed ready = record { netlist = ready.netlist; states = ready.states; sound = ready.sound; free = ready.free }
 
 -- and after steps and reports
 ready-run : (old new : SessionData) (run : Run) (lines : List Line) → RunEffect old run new lines → IsReady old → IsReady new

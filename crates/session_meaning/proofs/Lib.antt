@@ -14,6 +14,7 @@ pub mod StayingLemmas
 pub mod TickLemmas
 pub mod UndoLemmas
 pub mod LastLemmas
+pub mod LeavingLemmas
 pub mod BuildLemmas
 pub mod MoveLemmas
 pub mod ReportLemmas

@@ -16,7 +16,7 @@ use Rattle.lane_session.proofs.session.LaneSession.assign.Goals as goal
 -- what the plain session did
 did : (c : In_ok-share) → (refusal_of c.self.inside.plain.core (in_column 0 (Values c.args.kind c.args.list.now)) ≡ None)
     × Effect c.self.inside.plain.core (in_column 0 (Values c.args.kind c.args.list.now)) c.share.new.plain.core []
-did c = rw (c.in_ok-first.ensures, c.items.ensures) c.in_ok-share.ensures.shares
+did c = rw (c.in_ok-first.ensures, c.items.ensures) at c.in_ok-share.ensures.shares
 
 pub share-requires-clause-formed : goal.share-requires-clause-formed
 share-requires-clause-formed c =
