@@ -4,17 +4,17 @@ ghost use Rattle.std.specs.Prelude.{◌≡◌, ◌++◌, List, [], ◌∷◌, is
 ghost use Rattle.group_text.specs.Texts.{GroupTextData};
 ghost use Rattle.netlist.specs.Names.{node_of};
 ghost use Rattle.script_lang.specs.declared.command.Command.TheVariants as family;
-ghost use Rattle.script_lang.specs.declared.command.Tell.TheVariants as asked;
 ghost use Rattle.session_meaning.specs.Effects as effect;
 ghost use Rattle.session_meaning.specs.Lines.{text_of};
 ghost use Rattle.session_meaning.specs.Sinks.{faults_applied};
+ghost use Rattle.session_meaning.specs.Stages.{IsToldKnown};
 ghost use Rattle.session_meaning.specs.Outcomes.{Obeys};
 
 use crate::refusals;
 use crate::session::Session;
 use crate::waves::send_text;
 use port_edge::Sink;
-use script_lang::{AssignList, Name, Tell};
+use script_lang::{Name, Tell};
 use session_meaning::ApplyFault;
 use ternary::{NoMemory, Tern};
 use wave_print::{EXPECT_LINE_ROOM, LineBuf, expect_line};
@@ -27,25 +27,24 @@ impl Session {
         ensures faults { S.faults out.new ≡ faults_applied (S.faults out.old) result }
         ensures machine { self.new.machine ≡ self.old.machine }
     {
-        match tell {
-            Tell::Expect(list) => self.expect(list, out),
-        }
-    }
-
-    // `expect`: a line for each node that isn't in the wanted state.
-    fn expect<S: Sink>(&mut self, list: &AssignList, out: &mut S) -> Result<(), ApplyFault>
-        ensures obeys { (texts : List GroupTextData) → Obeys self.old (family.Tell (asked.Expect list.now)) self.new (S.written out.old) (S.written out.new)
-            texts texts (S.refusals out.old) (S.refusals out.new) result }
-        ensures faults { S.faults out.new ≡ faults_applied (S.faults out.old) result }
-        ensures machine { self.new.machine ≡ self.old.machine }
-    {
-        if let Some(refusal) = refusals::expect_refusal(&self.circuit, list.items()) {
+        if let Some(refusal) = refusals::tell_refusal(&self.circuit, tell) {
             return Err(ApplyFault::Refused(refusal));
         }
         let mut lines = LineBuf::new(self.alloc, 0)?;
-        let unmet = self.put_unmet(list.items(), &mut lines)?;
+        let unmet = self.put_told(tell, &mut lines)?;
         self.missed |= unmet;
         send_text(out, lines.bytes())
+    }
+
+    // Puts the lines of what is told; true where an expectation isn't met. The names are in use.
+    fn put_told(&self, tell: &Tell, lines: &mut LineBuf) -> Result<bool, NoMemory>
+        requires { IsToldKnown self.now.core.circuit tell.now }
+        ensures bytes { IfOk result (λ _. lines.new.bytes ≡ lines.old.bytes ++ text_of (effect.told_by self.now.core tell.now)) }
+        ensures any { IfOk result (λ any. any ≡ effect.misses self.now.core tell.now) }
+    {
+        match tell {
+            Tell::Expect(list) => self.put_unmet(list.items(), lines),
+        }
     }
 
     // Puts the line of each assignment that isn't met; true where there is one. The names are in use.

@@ -7,7 +7,7 @@ ghost use Rattle.session_meaning.specs.Refusals as spec;
 ghost use Rattle.session_meaning.specs.declared.fault.Refusal.TheVariants.{ClockLength};
 
 use netlist::{Circuit, RAILS};
-use script_lang::{Name, StateList};
+use script_lang::{Name, StateList, Tell};
 use session_meaning::{Clock, Refusal};
 use strength_order::INPUT_LEVEL;
 use ternary::Tern;
@@ -60,9 +60,18 @@ pub(crate) fn known_refusal(circuit: &Circuit, names: &[Name]) -> Option<Refusal
     None
 }
 
-/// The first refusal of these assignments' names as names in use.
-pub(crate) fn expect_refusal(circuit: &Circuit, list: &[(Name, Tern)]) -> Option<Refusal>
-    ensures { result ≡ spec.first_refusal (λ item. spec.known_refusal (node_of circuit.now.names item.0)) list.now }
+/// The refusal of a command that tells.
+pub(crate) fn tell_refusal(circuit: &Circuit, tell: &Tell) -> Option<Refusal>
+    ensures { result ≡ spec.refusal_of_tell circuit.now tell.now }
+{
+    match tell {
+        Tell::Expect(list) => expect_refusal(circuit, list.items()),
+    }
+}
+
+// The first refusal of these assignments' names as names in use.
+fn expect_refusal(circuit: &Circuit, list: &[(Name, Tern)]) -> Option<Refusal>
+    ensures { result ≡ spec.expect_refusal circuit.now list.now }
 {
     for (name, _) in list {
         if circuit.find(name.items()).is_none() {

@@ -1,6 +1,6 @@
 -- A line in its columns: what it asks for, or why it is refused, is found for all columns at once.
-use Rattle.std.proofs.Common.{◌≡◌, ℕ, ◌<◌, Bool, true, false, ◌||◌, List, [], ◌∷◌, length, map, All, Option, Some, None, IfSome, option_map, Result, Ok, Err, refl, sym, ap, ◌∙◌, subst, ◌⊎◌, inl, inr, arith, if◌then◌else◌, eqb-true}
-use Rattle.std.specs.Prelude.{codes, bytes_eq, ◌==◌}
+use Rattle.std.proofs.Common.{◌≡◌, ℕ, ◌<◌, Bool, true, false, ◌||◌, List, [], ◌∷◌, length, map, All, Option, Some, None, IfSome, Result, Ok, Err, refl, sym, ap, ◌∙◌, subst, ◌⊎◌, inl, inr, arith, if◌then◌else◌, eqb-true}
+use Rattle.std.specs.Prelude.{codes, bytes_eq, ◌==◌, MatchOption, IsSomeAnd}
 use Rattle.std.specs.Option.{option_and_then}
 use Rattle.std.proofs.lemmas.Slice.Eq.{bytes_eq-Decides}
 use Rattle.std.proofs.lemmas.List.Elements.{All-tail}
@@ -23,11 +23,12 @@ use Rattle.script_lang.specs.Forms as form
 use Rattle.script_lang.proofs.FormLemmas.{all_given, given_some, named_beats}
 use Rattle.lane_script.specs.declared.command.ValueCommand.{ValueCommand}
 use Rattle.lane_script.specs.declared.command.ValueCommand.TheVariants as value
+use Rattle.lane_script.specs.declared.command.LaneCommand.{LaneCommand}
 use Rattle.lane_script.specs.declared.command.LaneCommand.TheVariants.{Shared}
 use Rattle.lane_script.specs.declared.reader.Sort.{Sort}
 use Rattle.lane_script.specs.declared.reader.Sort.TheVariants as sort
 use Rattle.lane_script.specs.Columns.{column_reading, column_reading_by, column_reading_of, is_left_out, word_in, words_in}
-use Rattle.lane_script.specs.Commands.{in_column, plain_of, IsShared}
+use Rattle.lane_script.specs.Commands.{plain_of, IsShared}
 use Rattle.lane_script.specs.Forms.{AreLaneValues, IsFormed, IsLaneValue}
 use Rattle.lane_script.specs.Values.{are_fit, lane_value_of, sort_of, values_given}
 use Rattle.lane_script.specs.Laws.{ColumnsAreRefusedAlike, ColumnsPassAlike}
@@ -173,16 +174,12 @@ module _ (lanes : ℕ) (line word : List ℕ) (rest : List (List ℕ)) (sound : 
   shared_command kind made is =
       shared_words word rest made (other_sort word kind) (sym (other_words lanes 0 word rest (other_sort word kind)) ∙ sym (line_words 0) ∙ shared_line kind 0 ∙ is)
 
-  -- so columns are given what is read of it
-  pub shared_asked : sort_of word ≡ sort.Shared → (read : Option Command) → reading_of line ≡ Ok read → (lane : ℕ) →
-      column_reading_of lanes lane line ≡ Ok (option_map (in_column lane) (option_map Shared read))
-  shared_asked kind None is lane = shared_line kind lane ∙ is
-  shared_asked kind (Some made) is lane = shared_line kind lane ∙ is
-
-  pub shared_formed : sort_of word ≡ sort.Shared → (read : Option Command) → reading_of line ≡ Ok read → IfSome read form.IsFormed →
-      IfSome (option_map Shared read) (IsFormed lanes)
-  shared_formed kind None is formed = tt
-  shared_formed kind (Some made) is formed = (formed, shared_command kind made is)
+  -- and what is made of it is well formed
+  pub shared_formed : sort_of word ≡ sort.Shared → (read : Option Command) (made : Option LaneCommand) → reading_of line ≡ Ok read → IfSome read form.IsFormed →
+      MatchOption read (made ≡ None) (λ command. IsSomeAnd made (λ whole. whole ≡ Shared command)) → IfSome made (IsFormed lanes)
+  shared_formed kind None made is formed none = subst (λ (m : Option LaneCommand). IfSome m (IsFormed lanes)) (sym none) tt
+  shared_formed kind (Some command) None is formed some = absurd some
+  shared_formed kind (Some command) (Some whole) is formed some = subst (IsFormed lanes) (sym some) (formed, shared_command kind command is)
 
 -- ---- columns are alike
 

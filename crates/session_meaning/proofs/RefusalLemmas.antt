@@ -4,8 +4,11 @@ use Rattle.std.proofs.lemmas.List.Elements.{All-nil, All-cons, All-weaker}
 use Rattle.ternary.specs.declared.tern.Tern.{Tern}
 use Rattle.netlist.specs.Names.{node_of}
 use Rattle.netlist.specs.Circuits.{CircuitData}
+use Rattle.script_lang.specs.declared.command.Tell.{Tell}
+use Rattle.script_lang.specs.declared.command.Tell.TheVariants.{Expect}
 use Rattle.session_meaning.specs.declared.fault.Refusal.{Refusal}
-use Rattle.session_meaning.specs.Refusals.{first_refusal, or_else, known_refusal, set_refusal, charge_refusal}
+use Rattle.session_meaning.specs.Refusals.{first_refusal, or_else, known_refusal, set_refusal, charge_refusal, refusal_of_tell}
+use Rattle.session_meaning.specs.Stages.{IsToldKnown}
 
 -- each of two refusals is none where the first of them is
 pub or_else-none : (first second : Option Refusal) → or_else first second ≡ None → (first ≡ None) × (second ≡ None)
@@ -61,8 +64,12 @@ charged_known c list none =
     (λ item. is_some-charged c (node_of c.names item.0)) list (none_of_all (λ item. charge_refusal c (node_of c.names item.0)) list none)
 
 -- and those of an `expect` that isn't refused
-pub expected_known : (c : CircuitData) (list : List (List ℕ × Tern)) → first_refusal (λ item. known_refusal (node_of c.names item.0)) list ≡ None →
+expected_known : (c : CircuitData) (list : List (List ℕ × Tern)) → first_refusal (λ item. known_refusal (node_of c.names item.0)) list ≡ None →
     All (λ item. is_some (node_of c.names item.0) ≡ true) list
 expected_known c list none =
     All-weaker (λ (item : List ℕ × Tern). known_refusal (node_of c.names item.0) ≡ None) (λ item. is_some (node_of c.names item.0) ≡ true)
     (λ item. is_some-known (node_of c.names item.0)) list (none_of_all (λ item. known_refusal (node_of c.names item.0)) list none)
+
+-- those of a command that tells, and isn't refused, are in use
+pub told_known : (c : CircuitData) (tell : Tell) → refusal_of_tell c tell ≡ None → IsToldKnown c tell
+told_known c (Expect list) allowed = expected_known c list allowed

@@ -70,6 +70,10 @@ charge_refusal c None = Some UnknownNode
 charge_refusal c (Some node) =
     if nat_lt node RAILS then Some Rail else (if is_input c node then Some NotStore else None)
 
+-- some name of these isn't in use
+abbrev pub expect_refusal : CircuitData → List (List ℕ × Tern) → Option Refusal
+expect_refusal c list = first_refusal (λ item. known_refusal (node_of c.names item.0)) list
+
 -- the watch list would be too long
 abbrev pub watch_refusal : ℕ → Option Refusal
 watch_refusal count = if nat_lt MOST_WATCHED count then Some TooManyWatched else None
@@ -146,7 +150,7 @@ refusal_of_run c clocks Report = None
 
 -- of one that tells
 abbrev pub refusal_of_tell : CircuitData → Tell → Option Refusal
-refusal_of_tell c (Expect list) = first_refusal (λ item. known_refusal (node_of c.names item.0)) list
+refusal_of_tell c (Expect list) = expect_refusal c list
 
 -- the refusal of a command, by the data before it: no state is a cause of one
 abbrev pub refusal_of : SessionData → Command → Option Refusal

@@ -1,5 +1,5 @@
 -- The state of a session's nodes, and the machine that moves it, where there is one: what calls inside the session do to both.
-use Rattle.std.specs.Prelude.{◌≡◌, ◌≢◌, ℕ, ◌<◌, ◌⊎◌, Bool, false, List, ◌++◌, All, Option, None, Some, Result, Ok, Err}
+use Rattle.std.specs.Prelude.{◌≡◌, ◌≢◌, ℕ, ◌<◌, ◌⊎◌, Bool, true, false, List, ◌++◌, All, Option, None, Some, is_some, Result, Ok, Err}
 use Rattle.ternary.specs.declared.tern.Tern.{Tern}
 use Rattle.ternary.specs.Counts.{raised}
 use Rattle.strength_order.specs.declared.TheConstants.{INPUT_LEVEL}
@@ -19,7 +19,10 @@ use Rattle.machine_laws.specs.Fitting.{Covers, FitsGraph, IsKeptBy}
 use Rattle.machine_laws.specs.Editing.{Edits}
 use Rattle.channel_groups.specs.declared.change.Change.{Change}
 use Rattle.netlist.specs.Circuits.{CircuitData}
+use Rattle.netlist.specs.Names.{node_of}
 use Rattle.netlist.specs.Edits.{node_named}
+use Rattle.script_lang.specs.declared.command.Tell.{Tell}
+use Rattle.script_lang.specs.declared.command.Tell.TheVariants.{Expect}
 use Rattle.session_meaning.specs.declared.fault.ApplyFault.{ApplyFault}
 use Rattle.session_meaning.specs.declared.fault.ApplyFault.TheVariants.{Refused, GroupNodes, GroupSwitches, WriteFault, NoMemory}
 use Rattle.session_meaning.specs.Sessions.{SessionData, HeldSession, ClockData}
@@ -28,6 +31,10 @@ use Rattle.session_meaning.specs.Effects.{IsUnitStep, IsPhase, AreBeats, IsRepor
 use Rattle.session_meaning.specs.Preparing.{IsBuild}
 use Rattle.session_meaning.specs.Machines.{ConcernsNamed, BuildsMachine, MovesMachine, moves_of, placed_of}
 use Rattle.session_meaning.specs.Outcomes.{Sent}
+
+-- the names of a command that tells are in use
+abbrev pub IsToldKnown : CircuitData → Tell → Type 0
+IsToldKnown c (Expect list) = All (λ item. is_some (node_of c.names item.0) ≡ true) list
 
 -- the state, the machine, where there is one, and for how many nodes more there is room
 pub record StageData : Type 0 where

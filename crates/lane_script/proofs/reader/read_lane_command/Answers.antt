@@ -1,6 +1,6 @@
 use Rattle.std.proofs.Common.{◌≡◌, ◌<◌, ℕ, Ok, Err, rules, sym, ◌∙◌}
 use Rattle.lane_script.specs.Columns.{column_reading_of}
-use Rattle.lane_script.proofs.ColumnLemmas.{valued_line, values_formed, shared_asked, shared_formed}
+use Rattle.lane_script.proofs.ColumnLemmas.{valued_line, values_formed, shared_formed}
 use Rattle.lane_script.proofs.reader.read_lane_command.Goals as goal
 
 pub returns-in_ok-list-in-Valued-clause-ok : goal.returns-in_ok-list-in-Valued-clause-ok
@@ -23,16 +23,9 @@ returns-in_ok-list-in-Valued-clause-formed c =
     c.in-Ok.ensures.fault (sym c.is_comment.ensures.test ∙ c.if-is_comment.false) (sym c.words-words.ensures.parts ∙ c.in-Some.ensures.steps)
     c.in_ok-list-in-Valued.list (sym c.in_ok-list-in-Valued.was ∙ c.in_ok-read_values-in-Valued.ensures)
 
-pub returns-in-Shared-clause-ok : goal.returns-in-Shared-clause-ok
-returns-in-Shared-clause-ok c = λ lane inside.
-    rw c.map.ensures
-    (shared_asked c.args.lanes c.args.bytes.now c.in-Some.verb.now c.next.new.self
+pub returns-in_ok-read_command-in-Shared-clause-formed : goal.returns-in_ok-read_command-in-Shared-clause-formed
+returns-in_ok-read_command-in-Shared-clause-formed c =
+    shared_formed c.args.lanes c.args.bytes.now c.in-Some.verb.now c.next.new.self
     c.in-Ok.ensures.fault (sym c.is_comment.ensures.test ∙ c.if-is_comment.false) (sym c.words-words.ensures.parts ∙ c.in-Some.ensures.steps)
-    (sym c.in-Shared.ensures) _ c.in_ok-read_command-in-Shared.ensures.ok lane)
-
-pub returns-in-Shared-clause-formed : goal.returns-in-Shared-clause-formed
-returns-in-Shared-clause-formed c =
-    rw c.map.ensures
-    (shared_formed c.args.lanes c.args.bytes.now c.in-Some.verb.now c.next.new.self
-    c.in-Ok.ensures.fault (sym c.is_comment.ensures.test ∙ c.if-is_comment.false) (sym c.words-words.ensures.parts ∙ c.in-Some.ensures.steps)
-    (sym c.in-Shared.ensures) _ c.in_ok-read_command-in-Shared.ensures.ok c.in_ok-read_command-in-Shared.ensures.formed)
+    (sym c.in-Shared.ensures) c.in_ok-read_command-in-Shared.field-0 c.map.result c.in_ok-read_command-in-Shared.ensures.ok
+    c.in_ok-read_command-in-Shared.ensures.formed c.map.ensures.cases
