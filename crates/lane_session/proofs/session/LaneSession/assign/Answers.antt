@@ -1,15 +1,17 @@
 -- Values that the plain session doesn't refuse are given in each column.
-use Rattle.std.proofs.Common.{◌≡◌, None, [], sym, subst}
+use Rattle.std.proofs.Common.{◌≡◌, None, [], Err, sym, subst}
+use Rattle.std.proofs.lemmas.Result.{err_from_is_err_and}
 use Rattle.analysis_cache.specs.Keeping.{texts_of}
+use Rattle.script_lang.specs.declared.command.Command.{Command}
 use Rattle.lane_script.specs.declared.command.LaneCommand.TheVariants.{Values}
 use Rattle.lane_script.specs.Commands.{in_column}
 use Rattle.lane_script.specs.Forms.{AreLaneValues}
 use Rattle.session_meaning.specs.Refusals.{refusal_of}
 use Rattle.session_meaning.specs.Effects.{Effect}
-use Rattle.lane_session.specs.Stages.{HeldLanes}
+use Rattle.lane_session.specs.Stages.{HeldLanes, Shares}
 use Rattle.lane_session.proofs.FormLemmas.{formed_in}
 use Rattle.lane_session.proofs.InsideLemmas.{given_inside, given_quietly}
-use Rattle.lane_session.proofs.QuietLemmas.{values_fit, values_free, values_circuit}
+use Rattle.lane_session.proofs.QuietLemmas.{values_fit, values_free, values_circuit, unmoved_quietly}
 use Rattle.lane_session.proofs.session.LaneSession.assign.Goals.{In_ok-share}
 use Rattle.lane_session.proofs.session.LaneSession.assign.Goals as goal
 
@@ -20,7 +22,7 @@ did c = rw (c.in_ok-first.ensures, c.items.ensures) at c.in_ok-share.ensures.sha
 
 pub share-requires-clause-formed : goal.share-requires-clause-formed
 share-requires-clause-formed c =
-    rw (c.in_ok-first.ensures, c.items.ensures) (formed_in c.args.self.now.core.lanes 0 (Values c.args.kind c.args.list.now) c.requires)
+    rw (c.in_ok-first.ensures, c.items.ensures) (formed_in c.args.self.now.core.lanes 0 (Values c.args.kind c.args.list.now) c.requires.formed)
 
 pub assign_all-requires-clause-sound : goal.assign_all-requires-clause-sound
 assign_all-requires-clause-sound c =
@@ -33,7 +35,7 @@ assign_all-requires-clause-sound c =
 pub assign_all-requires-clause-fit : goal.assign_all-requires-clause-fit
 assign_all-requires-clause-fit c =
     let i = c.self.inside in
-    let formed : AreLaneValues i.stage.lanes c.args.list.now = subst (λ (s : HeldLanes). AreLaneValues s.core.lanes c.args.list.now) (sym c.self.view_is) c.requires in
+    let formed : AreLaneValues i.stage.lanes c.args.list.now = subst (λ (s : HeldLanes). AreLaneValues s.core.lanes c.args.list.now) (sym c.self.view_is) c.requires.formed in
     rw c.items-2.ensures (values_fit i.plain.core c.share.new.plain.core i.stage.lanes c.args.kind c.args.list.now formed)
 
 pub assign_all-requires-clause-free : goal.assign_all-requires-clause-free
@@ -53,6 +55,16 @@ invariant_of-self-2 c =
           (rw (c.circuit.ensures.value, c.items-2.ensures) at c.assign_all.ensures.states) (rw c.circuit.ensures.value at c.assign_all.ensures.machine),
       c.self.invariant.1,
     )
+
+pub returns-in_err-share : goal.returns-in_err-share
+returns-in_err-share c =
+    let stopped = err_from_is_err_and c.from_residual-in_err-share.result c.from_residual-in_err-share.ensures.1 in
+    let i = c.self.inside in
+    let first = rw c.items.ensures at c.in_ok-first.ensures in
+    rw (stopped.1, stopped.2)
+    (unmoved_quietly c.args.self.now i.plain.core c.share.new.plain.core i.stage (texts_of i.kept) i.count (Values c.args.kind c.args.list.now)
+    c.in_err-share.field-0.0 c.self.view_is
+    (subst (λ (given : Command). Shares i.plain.core given c.share.new.plain.core (Err c.in_err-share.field-0.0)) first c.in_err-share.ensures.shares))
 
 pub returns : goal.returns
 returns c =
