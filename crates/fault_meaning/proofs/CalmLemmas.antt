@@ -1,7 +1,7 @@
 -- Once the circuit is built, calm lines have nothing analysed, and leave what is kept.
 -- The plan: a build puts the present texts in front of what is kept, where a further build finds them; and no effect of a calm command
 -- changes the circuit, the bound or what is kept. While a node is stuck a line stays calm, and one that builds still builds.
-use Rattle.std.proofs.Common.{◌≡◌, ℕ, Bool, true, false, inl, inr, List, [], ◌∷◌, ◌++◌, All, Option, Some, None, Result, Ok, Err, refl, sym, ap, subst, ◌∙◌}
+use Rattle.std.proofs.Common.{◌≡◌, ℕ, Bool, true, false, inl, inr, List, [], ◌++◌, All, Option, Some, None, Result, Ok, Err, refl, sym, ap, subst, ◌∙◌}
 use Rattle.std.proofs.lemmas.List.Elements.{All-head, All-tail}
 use Rattle.ternary.specs.declared.tern.Tern.{Tern}
 use Rattle.netlist.specs.Circuits.{CircuitData}

@@ -212,7 +212,7 @@ performs_once old new command text texts free never performs =
 
 -- ---- the commands of a script that asks for no bound
 
--- what is left of a command under a stuck node asks for a bound where it did so before, and unsettles what is built where it did so
+-- what is left of a command under a stuck node asks for a bound exactly if the command does, and so it is with unsettling what is built
 pub record IsMaskAlike (command masked : Command) : Type 0 where
   pub bound : bounds masked ≡ bounds command
   pub unsettled : unsettles masked ≡ unsettles command
@@ -239,7 +239,7 @@ mask_alike c stuck (family.Run run) masked is =
 mask_alike c stuck (family.Tell tell) masked is =
     let e : masked ≡ family.Tell tell = cc in record { bound = ap bounds e; unsettled = ap unsettles e }
 
--- a line asks for none where no line of the script does
+-- a line asks for none if no line of the script does
 asked_never : (c : CircuitData) (stuck : Option (ℕ × Tern)) (read : Result (Option Command) ScriptFault) (command : Command) →
     ((number : ℕ) → read ≢ Ok (Some (family.Setup (Keep number)))) → masked_reading_by c stuck read ≡ Ok (Some command) → bounds command ≡ false
 asked_never c stuck (Ok None) command never asked = absurd cc

@@ -114,7 +114,7 @@ fn masked_give(mask: &Mask<'_>, give: Give) -> Result<Option<Give>, NoMemory>
     }
 }
 
-// What is set for later commands, where clocks give the stuck node its own state.
+// What is set for later commands: clocks give the stuck node its own state.
 fn masked_setup(mask: &Mask<'_>, setup: Setup) -> Result<Setup, NoMemory>
     ensures { IfOk result (λ left. left ≡ spec.masked_setup mask.now.circuit.now mask.now.stuck setup) }
 {
