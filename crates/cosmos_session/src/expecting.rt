@@ -36,7 +36,7 @@ impl Session {
         send_text(out, lines.bytes())
     }
 
-    // Puts the lines of what is told; true where an expectation isn't met. The names are in use.
+    // Puts the lines of what is told; true if an expectation isn't met. The names are in use.
     fn put_told(&self, tell: &Tell, lines: &mut LineBuf) -> Result<bool, NoMemory>
         requires { IsToldKnown self.now.core.circuit tell.now }
         ensures bytes { IfOk result (λ _. lines.new.bytes ≡ lines.old.bytes ++ text_of (effect.told_by self.now.core tell.now)) }

@@ -151,7 +151,7 @@ beats_exist (place ∷ places) session ready =
 
 -- ---- all commands
 
--- each command that has the circuit built has an effect where the circuit has texts
+-- each command that has the circuit built has an effect if the circuit has texts
 run_exists : (session : SessionData) → IsReady session → (run : Run) → (texts : List GroupTextData) × HasTexts session.circuit.graph texts →
     (new : SessionData) × (lines : List Line) × RunEffect session run new lines
 run_exists session ready Step has =
@@ -166,7 +166,7 @@ run_exists session ready Report has = (
   record { texts = has.0; has = has.1; moved = refl; wrote = refl },
 )
 
--- so every command has an effect where it isn't refused, and the circuit has texts where it was built
+-- so every command has an effect if it isn't refused, and the circuit has texts if it was built
 effect_exists : (session : SessionData) → IsReady session → (command : Command) →
     (builds command ≡ true → (texts : List GroupTextData) × HasTexts session.circuit.graph texts) →
     (new : SessionData) × (lines : List Line) × Effect session command new lines

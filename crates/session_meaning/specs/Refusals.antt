@@ -132,7 +132,7 @@ abbrev pub refusal_of_give : CircuitData → Give → Option Refusal
 refusal_of_give c (Set list) = first_refusal (λ item. set_refusal c (node_of c.names item.0)) list
 refusal_of_give c (Charge list) = first_refusal (λ item. charge_refusal c (node_of c.names item.0)) list
 
--- of one that sets what others go by, where so many nodes are watched
+-- of one that sets what others go by, if so many nodes are watched
 abbrev pub refusal_of_setup : CircuitData → ℕ → Setup → Option Refusal
 refusal_of_setup c watched (Watch names) =
     or_else (first_refusal (λ name. known_refusal (node_of c.names name)) names) (watch_refusal (watched + length names))
