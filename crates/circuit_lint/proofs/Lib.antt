@@ -1,0 +1,12 @@
+pub mod ClosedLemmas
+pub mod RangeLemmas
+pub mod PositionLemmas
+pub mod TableLemmas
+pub mod NameLemmas
+pub mod LineLemmas
+pub mod TallyLemmas
+pub mod SearchLemmas
+pub mod WayLemmas
+pub mod StartLemmas
+pub mod ShortLemmas
+pub mod UniqueFindings

@@ -1,0 +1,35 @@
+-- Switches that the rails alone decide: Vdd is 1 and Gnd is 0 in each state, so a gate at a rail closes its switch always or never.
+use Rattle.std.specs.Prelude.{◌≡◌, ℕ, Bool, true, false, ◌==◌, Some}
+use Rattle.path_meaning.specs.declared.switching.SwitchKind.{SwitchKind}
+use Rattle.path_meaning.specs.declared.switching.SwitchKind.TheVariants.{NChan, PChan, Always}
+use Rattle.path_meaning.specs.declared.switching.Switch.{Switch}
+use Rattle.path_meaning.specs.declared.TheConstants.{GND, VDD}
+use Rattle.path_meaning.specs.Graphs.{GraphData, place_at}
+use Rattle.path_meaning.specs.Path.{Joins}
+
+-- a depletion switch is closed always, an n-channel one by Vdd, and a p-channel one by Gnd
+abbrev pub closes_always : SwitchKind → ℕ → Bool
+closes_always Always gate = true
+closes_always NChan gate = gate == VDD
+closes_always PChan gate = gate == GND
+
+-- an n-channel switch is never closed with Gnd as its gate, nor a p-channel one with Vdd
+abbrev pub closes_never : SwitchKind → ℕ → Bool
+closes_never Always gate = false
+closes_never NChan gate = gate == GND
+closes_never PChan gate = gate == VDD
+
+-- a switch is always closed by its kind and its gate
+abbrev pub is_always_closed : Switch → Bool
+is_always_closed switch = closes_always switch.kind switch.gate
+
+-- or never
+abbrev pub is_never_closed : Switch → Bool
+is_never_closed switch = closes_never switch.kind switch.gate
+
+-- at the place stands an always closed switch with one end at each of the two nodes
+pub record IsClosedAcross (g : GraphData) (place m n : ℕ) : Type 0 where
+  pub switch : Switch
+  pub at_place : place_at g.places place ≡ Some switch
+  pub joins : Joins switch m n
+  pub closed : is_always_closed switch ≡ true

@@ -1,0 +1,13 @@
+pub mod Conducting
+pub mod Nodes
+pub mod Sides
+pub mod Dead
+pub mod Tallies
+pub mod Supplies
+pub mod Shorts
+pub mod Closed
+pub mod Distances
+pub mod Starts
+pub mod Ways
+pub mod Findings
+pub mod Lines

@@ -1,0 +1,60 @@
+//! Switches that the rails alone decide.
+
+ghost use Rattle.std.specs.Prelude.{◌≡◌, ℕ, ◌<◌, length, Some, IfSome};
+ghost use Rattle.path_meaning.specs.Graphs.{nodes};
+ghost use Rattle.path_meaning.specs.Path.{Joins};
+ghost use Rattle.circuit_lint.specs.Conducting as spec;
+
+use path_meaning::{GND, Graph, Switch, SwitchKind, VDD};
+
+/// Whether a switch is closed in each state.
+pub(crate) fn is_always_closed(switch: Switch) -> bool
+    ensures { result ≡ spec.is_always_closed switch }
+{
+    match switch.kind {
+        SwitchKind::Always => true,
+        SwitchKind::NChan => switch.gate == VDD,
+        SwitchKind::PChan => switch.gate == GND,
+    }
+}
+
+/// Whether a switch is closed in no state.
+pub(crate) fn is_never_closed(switch: Switch) -> bool
+    ensures { result ≡ spec.is_never_closed switch }
+{
+    match switch.kind {
+        SwitchKind::Always => false,
+        SwitchKind::NChan => switch.gate == GND,
+        SwitchKind::PChan => switch.gate == VDD,
+    }
+}
+
+/// The node at the other end of an always closed switch at a place that has an end at this node, if there
+/// is such a switch.
+pub(crate) fn across(graph: &Graph, place: usize, node: usize) -> Option<usize>
+    requires { place < length graph.now.places }
+    ensures joined { IfSome result (spec.IsClosedAcross graph.now place node) }
+    ensures all { (other : ℕ) → spec.IsClosedAcross graph.now place node other → result ≡ Some other }
+    ensures inside { IfSome result (λ other. other < nodes graph.now) }
+{
+    let switch = graph.switch_at(place)?;
+    if is_always_closed(switch) {
+        other_end(switch, node)
+    } else {
+        None
+    }
+}
+
+// The node at the other end of a switch that has an end at this node, if it has one.
+fn other_end(switch: Switch, node: usize) -> Option<usize>
+    ensures joined { IfSome result (Joins switch node) }
+    ensures all { (other : ℕ) → Joins switch node other → result ≡ Some other }
+{
+    if switch.a == node {
+        Some(switch.b)
+    } else if switch.b == node {
+        Some(switch.a)
+    } else {
+        None
+    }
+}
