@@ -1,4 +1,5 @@
 mod GroupsLemmas
+mod LintLemmas
 mod ListLemmas
 mod PieceLemmas
 pub mod UniqueAnswers

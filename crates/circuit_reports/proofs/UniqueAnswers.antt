@@ -3,15 +3,20 @@ use Rattle.std.proofs.Common.{◌≡◌, Result, Ok, Err, inl, inr, sym, ap, ◌
 use Rattle.path_meaning.specs.Graphs.{GraphData}
 use Rattle.netlist.specs.Circuits.{CircuitData}
 use Rattle.sim_read.specs.declared.fault.NetRefusal.{NetRefusal}
+use Rattle.spice_cards.specs.declared.fault.DeckFault.{DeckFault}
+use Rattle.spice_cards.specs.declared.fault.DeckFault.TheVariants as deck_fault
 use Rattle.group_meaning.proofs.UniqueGroups.{unique}
 use Rattle.group_report.proofs.ReportLemmas.{report_unique}
+use Rattle.circuit_lint.specs.Findings.{FindingsData}
+use Rattle.circuit_lint.specs.Lines.{text_of}
+use Rattle.circuit_lint.proofs.UniqueFindings.{findings_unique}
 use Rattle.wave_print.specs.declared.faults.FaultPlace.TheVariants.{NetWhole}
 use Rattle.circuit_texts.specs.declared.texts.BuildFault.{BuildFault}
 use Rattle.circuit_texts.specs.Sizes.{AllFit, TellsTooLarge}
 use Rattle.run_ends.specs.declared.status.Status.TheVariants as status
 use Rattle.run_ends.specs.Answers.{Answer, plain_answer, IsTooLarge}
 use Rattle.circuit_reports.specs.Alike.{AreAlike}
-use Rattle.circuit_reports.specs.Answers.{IsOver, IsGroups, IsListed, IsCompiled, distinct_texts}
+use Rattle.circuit_reports.specs.Answers.{IsOver, IsOverDeck, IsGroups, IsLinted, IsListed, IsCompiled, lint_status, distinct_texts}
 
 -- an answer is alike to itself
 pub alike : (answer other : Answer) → answer ≡ other → AreAlike answer other
@@ -31,10 +36,31 @@ pub over_alike : (IsRight : CircuitData → Answer → Type 0) →
 over_alike IsRight right (Ok circuit) answer other one two = right circuit answer other one two
 over_alike IsRight right (Err refusal) answer other one two = alike answer other (one ∙ sym two)
 
+-- over a deck likewise
+pub over_deck_unique : (IsRight : CircuitData → Answer → Type 0) →
+    ((circuit : CircuitData) (answer other : Answer) → IsRight circuit answer → IsRight circuit other → answer ≡ other) →
+    (meaning : Result CircuitData DeckFault) (answer other : Answer) → IsOverDeck IsRight meaning answer → IsOverDeck IsRight meaning other → answer ≡ other
+over_deck_unique IsRight right (Ok circuit) answer other one two = right circuit answer other one two
+over_deck_unique IsRight right (Err (deck_fault.At line what)) answer other one two = one ∙ sym two
+over_deck_unique IsRight right (Err deck_fault.NoMemory) answer other one two = absurd one
+
+pub over_deck_alike : (IsRight : CircuitData → Answer → Type 0) →
+    ((circuit : CircuitData) (answer other : Answer) → IsRight circuit answer → IsRight circuit other → AreAlike answer other) →
+    (meaning : Result CircuitData DeckFault) (answer other : Answer) → IsOverDeck IsRight meaning answer → IsOverDeck IsRight meaning other → AreAlike answer other
+over_deck_alike IsRight right (Ok circuit) answer other one two = right circuit answer other one two
+over_deck_alike IsRight right (Err (deck_fault.At line what)) answer other one two = alike answer other (one ∙ sym two)
+over_deck_alike IsRight right (Err deck_fault.NoMemory) answer other one two = absurd one
+
 -- the report of a circuit's groups is one
 pub groups_unique : (circuit : CircuitData) (answer other : Answer) → IsGroups circuit answer → IsGroups circuit other → answer ≡ other
 groups_unique circuit answer other (text, report, told) (more, another, tells) =
     told ∙ ap (plain_answer status.Done) (report_unique circuit text more report another) ∙ sym tells
+
+-- a circuit's findings are one list, and so are their lines
+pub linted_unique : (circuit : CircuitData) (answer other : Answer) → IsLinted circuit answer → IsLinted circuit other → answer ≡ other
+linted_unique circuit answer other (found, are, told) (more, also, tells) =
+    told ∙ ap (λ (findings : FindingsData). plain_answer (lint_status findings) (text_of circuit findings)) (findings_unique circuit found more are also)
+    ∙ sym tells
 
 -- a graph in which all groups fit has none that is too large
 none_large : (g : GraphData) (fault : BuildFault) → AllFit g → ¬ TellsTooLarge g fault

@@ -8,8 +8,9 @@ use Rattle.help_texts.specs.Texts.{text_of, topics}
 use Rattle.help_texts.specs.declared.pages.TheConstants.{PAGE, VERSION}
 use Rattle.net_gen.specs.declared.families.GenPart.{GenPart}
 use Rattle.command_line.specs.Columns.{lanes_of}
+use Rattle.command_line.specs.Decks.{is_deck_name}
 use Rattle.command_line.specs.Samples.{Sample, part_of, sample_of}
-use Rattle.command_line.specs.Requests.{Question, Simulate, Batch, Check, Groups, Compile, Explain, Judge, Request, About, OverDeck, Show, Unclear, request_of, about, shown, generate, sum_up, in_columns}
+use Rattle.command_line.specs.Requests.{Question, Simulate, Batch, Check, Groups, Compile, Lint, Explain, Judge, Request, About, OverDeck, Show, Unclear, request_of, about, shown, generate, sum_up, in_columns}
 
 -- a question for columns is for one at least
 abbrev pub HasColumns : Question → Type 0
@@ -19,6 +20,7 @@ HasColumns question = Unit {0}
 -- so is a request
 abbrev pub AsksColumns : Request → Type 0
 AsksColumns (About net question) = HasColumns question
+AsksColumns (OverDeck deck question) = HasColumns question
 AsksColumns request = Unit {0}
 
 -- a word that tells of columns tells of one at least
@@ -50,13 +52,19 @@ about_fits net false true compile = tt
 about_fits net false false true = tt
 about_fits net false false false = tt
 
-two_fit : (net : List ℕ) (text : Option (List ℕ)) (help check groups compile : Bool) →
-    AsksColumns (if help then shown text else about net (if check then Some Check else (if groups then Some Groups else (if compile then Some Compile else None))))
-two_fit net text true check groups compile = shown_fits text
-two_fit net text false check groups compile = about_fits net check groups compile
+lint_fits : (net : List ℕ) (deck : Bool) → AsksColumns (if deck then OverDeck net Lint else About net Lint)
+lint_fits net true = tt
+lint_fits net false = tt
+
+two_fit : (net : List ℕ) (text : Option (List ℕ)) (help lint deck check groups compile : Bool) →
+    AsksColumns (if help then shown text else (if lint then (if deck then OverDeck net Lint else About net Lint)
+    else about net (if check then Some Check else (if groups then Some Groups else (if compile then Some Compile else None)))))
+two_fit net text true lint deck check groups compile = shown_fits text
+two_fit net text false true deck check groups compile = lint_fits net deck
+two_fit net text false false deck check groups compile = about_fits net check groups compile
 
 three_fit : (circuit script : List ℕ) (plain deck : Bool) →
-    AsksColumns (if plain then About circuit (Simulate script) else (if deck then OverDeck circuit script else Unclear))
+    AsksColumns (if plain then About circuit (Simulate script) else (if deck then OverDeck circuit (Simulate script) else Unclear))
 three_fit circuit script true deck = tt
 three_fit circuit script false true = tt
 three_fit circuit script false false = tt
@@ -88,7 +96,8 @@ pub asks_columns : (words : List (List ℕ)) → AsksColumns (request_of words)
 asks_columns [] = tt
 asks_columns (command ∷ []) = one_fits (bytes_eq command (codes "help")) (bytes_eq command (codes "version"))
 asks_columns (command ∷ net ∷ []) =
-    two_fit net (text_of topics net) (bytes_eq command (codes "help")) (bytes_eq command (codes "check")) (bytes_eq command (codes "groups")) (bytes_eq command (codes "compile"))
+    two_fit net (text_of topics net) (bytes_eq command (codes "help")) (bytes_eq command (codes "lint")) (is_deck_name net)
+    (bytes_eq command (codes "check")) (bytes_eq command (codes "groups")) (bytes_eq command (codes "compile"))
 asks_columns (command ∷ circuit ∷ script ∷ []) =
     three_fit circuit script (bytes_eq command (codes "sim")) (bytes_eq command (codes "sim-spice"))
 asks_columns (command ∷ first ∷ second ∷ third ∷ []) =

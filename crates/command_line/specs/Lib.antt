@@ -1,3 +1,4 @@
 pub mod Columns
+pub mod Decks
 pub mod Samples
 pub mod Requests

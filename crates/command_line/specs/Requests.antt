@@ -15,27 +15,29 @@ use Rattle.command_line.specs.declared.request.Report.TheVariants as code_report
 use Rattle.command_line.specs.declared.request.Request as code_request
 use Rattle.command_line.specs.declared.request.Request.TheVariants as code_request_is
 use Rattle.command_line.specs.Columns.{lanes_of, lanes_seen}
+use Rattle.command_line.specs.Decks.{is_deck_name}
 use Rattle.command_line.specs.Samples.{Sample, part_of, sample_of, sample_seen}
 
--- what may be asked about a netlist: the run of the script with this name in its circuit, or in so many columns of it, a check, its groups,
--- its listing, the reasons of the node with the second name at the end of the script with the first, or the verdicts on the faults of the
--- list with the second name beside the run of the script with the first
+-- what may be asked about a netlist or a deck: the run of the script with this name in its circuit, or in so many columns of it, a check,
+-- its groups, its listing, its findings, the reasons of the node with the second name at the end of the script with the first, or the
+-- verdicts on the faults of the list with the second name beside the run of the script with the first
 pub data Question : Type 0 where
   Simulate : List ℕ → Question
   Batch : ℕ → List ℕ → Question
   Check : Question
   Groups : Question
   Compile : Question
+  Lint : Question
   Explain : List ℕ → List ℕ → Question
   Judge : List ℕ → List ℕ → Question
 
--- what words ask for: a question about the netlist with this name, a part of a sample, a sample's run summed up, the run of a script in the
--- circuit of a deck, by the deck's name and the script's, a text that is shown as it stands, or nothing that there is
+-- what words ask for: a question about the netlist with this name, a part of a sample, a sample's run summed up, a question about the deck
+-- with this name, a text that is shown as it stands, or nothing that there is
 pub data Request : Type 0 where
   About : List ℕ → Question → Request
   Generate : GenPart → Sample → Request
   SumUp : Sample → Request
-  OverDeck : List ℕ → List ℕ → Request
+  OverDeck : List ℕ → Question → Request
   Show : List ℕ → Request
   Unclear : Request
 
@@ -62,9 +64,16 @@ abbrev pub about : List ℕ → Option Question → Request
 about net (Some question) = About net question
 about net None = Unclear
 
--- what two words ask for: `help WORD` for the topic of this name, or the question of the first about the netlist of the second
+-- a question about a deck, if the name is that of one, and else about a netlist
+abbrev pub over : List ℕ → Question → Request
+over net question = if is_deck_name net then OverDeck net question else About net question
+
+-- what two words ask for: `help WORD` for the topic of this name, `lint NET` for the findings of a netlist or a deck, or the question of the
+-- first about the netlist of the second
 abbrev pub by_two : List ℕ → List ℕ → Request
-by_two command word = if bytes_eq command (codes "help") then shown (text_of topics word) else about word (question_of command)
+by_two command word =
+    if bytes_eq command (codes "help") then shown (text_of topics word)
+    else (if bytes_eq command (codes "lint") then over word Lint else about word (question_of command))
 
 -- a part of a sample, where the words tell both
 abbrev pub generate : Option GenPart → Option Sample → Request
@@ -76,7 +85,7 @@ generate None sample = Unclear
 abbrev pub simulation : List ℕ → List ℕ → List ℕ → Request
 simulation command circuit script =
     if bytes_eq command (codes "sim") then About circuit (Simulate script)
-    else (if bytes_eq command (codes "sim-spice") then OverDeck circuit script else Unclear)
+    else (if bytes_eq command (codes "sim-spice") then OverDeck circuit (Simulate script) else Unclear)
 
 -- `gen PART KIND SEED N`
 abbrev pub generation : List ℕ → List ℕ → List ℕ → List ℕ → List ℕ → Request
@@ -101,7 +110,7 @@ by_four command first second third =
     else (if bytes_eq command (codes "faults") then About first (Judge second third)
     else (if bytes_eq command (codes "batch") then in_columns first (lanes_of second) third else Unclear)))
 
--- what words ask for, by their number: `sim NET SCRIPT`, `sim-spice DECK SCRIPT`, `check NET`, `groups NET`, `compile NET`,
+-- what words ask for, by their number: `sim NET SCRIPT`, `sim-spice DECK SCRIPT`, `check NET`, `groups NET`, `compile NET`, `lint NET`,
 -- `gen PART KIND SEED N`, `large KIND SEED N`, `why NET SCRIPT NODE`, `faults NET SCRIPT LIST`, `batch NET L SCRIPT`, `help`, `help WORD` and
 -- `version`, and nothing else
 abbrev pub request_of : List (List ℕ) → Request
@@ -123,6 +132,7 @@ abbrev pub report_seen : code_report.Report → Question
 report_seen code_report_is.Check = Check
 report_seen code_report_is.Groups = Groups
 report_seen code_report_is.Compile = Compile
+report_seen code_report_is.Lint = Lint
 
 -- a question of the code, as it is meant here
 abbrev pub question_seen : code_question.Question → Question
@@ -140,7 +150,7 @@ alone_seen code_alone_is.Unclear = Unclear
 -- and each request of the code
 abbrev pub request_seen : code_request.Request → Request
 request_seen (code_request_is.About net question) = About net.now (question_seen question)
-request_seen (code_request_is.OverDeck deck script) = OverDeck deck.now script.now
+request_seen (code_request_is.OverDeck deck question) = OverDeck deck.now (question_seen question)
 request_seen (code_request_is.Alone alone) = alone_seen alone
 
 -- the bytes of the words

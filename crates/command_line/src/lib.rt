@@ -1,11 +1,12 @@
 //! What the words of a command line ask for.
 //!
-//! The main call is `request_of`: it answers a `Request`, which is a question about a netlist, the run of a
-//! script over a deck, or what needs no file. The layer above rests on its contract, which is the function
-//! `request_of` of `specs/Requests`, and answers each case.
+//! The main call is `request_of`: it answers a `Request`, which is a question about a netlist or about a deck,
+//! or what needs no file. The layer above rests on its contract, which is the function `request_of` of
+//! `specs/Requests`, and answers each case. `is_deck_name` tells decks from netlists if a request takes both.
 //!
 //! ```text
 //! request_of(["check", "inverter.sim"])                 is About { net: "inverter.sim", question: Report(Check) }
+//! request_of(["lint", "gates.sp"])                      is OverDeck { deck: "gates.sp", question: Report(Lint) }
 //! request_of(["gen", "net", "inverters", "1", "2"])     is Alone(Generate { part: Net, sample })
 //! request_of(["batch", "inverter.sim", "65", "a.cmd"])  is Alone(Unclear)
 //! request_of(["help", "del"])                           is Alone(Show("del K\nRemoves transistor K. ..\n"))
@@ -15,11 +16,13 @@
 #![tactic(auto)]
 
 mod columns;
+mod decks;
 mod lanes;
 mod request;
 mod sample;
 
 pub use columns::lanes_of;
+pub use decks::is_deck_name;
 pub use lanes::Lanes;
 pub use request::{Alone, Purpose, Question, Report, Request, request_of};
 pub use sample::Sample;

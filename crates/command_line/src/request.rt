@@ -7,6 +7,7 @@ ghost use Rattle.command_line.specs.Samples as samples;
 ghost use Rattle.command_line.specs.Columns as columns;
 
 use crate::columns::lanes_of;
+use crate::decks::is_deck_name;
 use crate::lanes::Lanes;
 use crate::sample::Sample;
 use help_texts::{page, topic, version};
@@ -21,10 +22,10 @@ pub enum Request<'a> {
         net: &'a str,
         question: Question<'a>,
     },
-    /// The run of the script with this name in the circuit of the deck with that name.
+    /// A question about the deck with this name.
     OverDeck {
         deck: &'a str,
-        script: &'a str,
+        question: Question<'a>,
     },
     /// What needs no file.
     Alone(Alone<'a>),
@@ -43,7 +44,7 @@ pub enum Alone<'a> {
     Unclear,
 }
 
-/// What may be asked about a netlist.
+/// What may be asked about a netlist, or about a deck.
 #[derive(Clone, Copy)]
 pub enum Question<'a> {
     /// The run of the script with this name in its circuit, for a purpose.
@@ -80,11 +81,14 @@ pub enum Report {
     Groups,
     /// Its listing.
     Compile,
+    /// What it most likely has wrong.
+    Lint,
 }
 
 /// What the words of a command line ask for: `sim NET SCRIPT`, `sim-spice DECK SCRIPT`, `check NET`, `groups NET`,
-/// `compile NET`, `gen PART KIND SEED N`, `large KIND SEED N`, `why NET SCRIPT NODE`, `faults NET SCRIPT LIST`,
-/// `batch NET L SCRIPT`, `help`, `help WORD` of a request or a command of a script, and `version`, and nothing else.
+/// `compile NET`, `lint NET`, `gen PART KIND SEED N`, `large KIND SEED N`, `why NET SCRIPT NODE`,
+/// `faults NET SCRIPT LIST`, `batch NET L SCRIPT`, `help`, `help WORD` of a request or a command of a script, and
+/// `version`, and nothing else. Under `lint` NET is a deck if its name is that of one.
 pub fn request_of(words: &[String]) -> Request<'_>
     ensures { spec.request_seen result ≡ spec.request_of (spec.names_of words.now) }
 {
@@ -122,6 +126,8 @@ fn by_two<'a>(command: &'a str, word: &'a str) -> Request<'a>
 {
     if command == "help" {
         shown(topic(word))
+    } else if command == "lint" {
+        over(word, Question::Report(Report::Lint))
     } else {
         about(word, question_of(command))
     }
@@ -134,10 +140,7 @@ fn simulation<'a>(command: &str, circuit: &'a str, script: &'a str) -> Request<'
     if command == "sim" {
         run_for(circuit, script, Purpose::Lines)
     } else if command == "sim-spice" {
-        Request::OverDeck {
-            deck: circuit,
-            script,
-        }
+        simulation_over(circuit, script)
     } else {
         Request::Alone(Alone::Unclear)
     }
@@ -169,6 +172,15 @@ fn by_four<'a>(command: &str, first: &'a str, second: &'a str, third: &'a str) -
     } else {
         Request::Alone(Alone::Unclear)
     }
+}
+
+// The run of a script over a deck.
+fn simulation_over<'a>(deck: &'a str, script: &'a str) -> Request<'a>
+    ensures { spec.request_seen result ≡ spec.OverDeck deck.now (spec.Simulate script.now) }
+{
+    let purpose = Purpose::Lines;
+    let question = Question::Run { script, purpose };
+    Request::OverDeck { deck, question }
 }
 
 // The question for the run of a script for a purpose.
@@ -224,6 +236,20 @@ fn about<'a>(net: &'a str, question: Option<Question<'a>>) -> Request<'a>
     match question {
         Some(question) => Request::About { net, question },
         None => Request::Alone(Alone::Unclear),
+    }
+}
+
+// A question about a deck, if the name is that of one, and else about a netlist.
+fn over<'a>(net: &'a str, question: Question<'a>) -> Request<'a>
+    ensures { spec.request_seen result ≡ spec.over net.now (spec.question_seen question.entry) }
+{
+    if is_deck_name(net) {
+        Request::OverDeck {
+            deck: net,
+            question,
+        }
+    } else {
+        Request::About { net, question }
     }
 }
 

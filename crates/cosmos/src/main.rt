@@ -6,8 +6,8 @@
 //! `cosmos batch NET L SCRIPT` obeys it in L columns at once, which differ in the script's letters, and
 //! writes their lines row by row.
 //! `cosmos check NET` reads the netlist and writes how many nodes, transistors and names it
-//! has; `cosmos groups NET` writes its channel-connected groups, and `cosmos compile NET` a listing of
-//! it. `cosmos gen PART KIND SEED N` reads nothing and writes a generated netlist or script, and
+//! has; `cosmos groups NET` writes its channel-connected groups, `cosmos compile NET` a listing of
+//! it, and `cosmos lint NET` what it most often has wrong, of a netlist or a deck. `cosmos gen PART KIND SEED N` reads nothing and writes a generated netlist or script, and
 //! `cosmos large KIND SEED N` one line that sums up the run of both. `cosmos why NET SCRIPT NODE` runs
 //! the script, whose lines aren't written, and writes why the node may be 1 and why it may be 0 at its
 //! end. `cosmos faults NET SCRIPT LIST` runs the script under each fault of a list and writes whether it
@@ -16,10 +16,10 @@
 //! usage line.
 //!
 //! The exit status is that of `cosmos_app::run`, whose contract says what is written: 0 where all went
-//! well, 1 where an expectation wasn't met, 2 for words that are no command line and for a NODE that
-//! isn't in use, 3 and 4 for a refused line of the netlist or the deck, or of the script or the list, 5 and
-//! 6 where reading or writing failed, and 7 for want of memory. For 2 standard error has the forms of all
-//! requests, or a line where it is NODE that isn't in use; for 3 and 4 a line with the file's name, the
+//! well, 1 where an expectation wasn't met or there is a finding, 2 for words that are no command line and for
+//! a NODE that isn't in use, 3 and 4 for a refused line of the netlist or the deck, or of the script or the
+//! list, 5 and 6 where reading or writing failed, and 7 for want of memory. For 2 standard error has the forms
+//! of all requests, or a line where it is NODE that isn't in use; for 3 and 4 a line with the file's name, the
 //! number of the refused line, its code and the cure, as `help_texts` has it; for 5, 6 and 7 a line that says
 //! more. No clause speaks of standard error.
 //!

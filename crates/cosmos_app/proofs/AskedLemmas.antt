@@ -10,7 +10,7 @@ use Rattle.command_line.specs.declared.request.Alone.{Alone}
 use Rattle.command_line.specs.declared.request.Alone.TheVariants.{Generate, SumUp, Show, Unclear}
 use Rattle.command_line.specs.declared.request.Question as code_question
 use Rattle.command_line.specs.declared.request.Report.{Report}
-use Rattle.command_line.specs.declared.request.Report.TheVariants.{Check, Groups, Compile}
+use Rattle.command_line.specs.declared.request.Report.TheVariants.{Check, Groups, Compile, Lint}
 use Rattle.command_line.specs.Requests.{Request, alone_seen, question_seen, report_seen}
 use Rattle.cosmos_app.specs.Answers.{IsAnswerIn, IsAnswerTo}
 use Rattle.circuit_files.specs.Starts.{Started}
@@ -43,11 +43,13 @@ pub starts_reported : (report : Report) (started : Started) → ScriptStarts (re
 starts_reported Check started = refl
 starts_reported Groups started = refl
 starts_reported Compile started = refl
+starts_reported Lint started = refl
 
 pub scripts_reported : (report : Report) → [] ≡ scripts_of (report_seen report)
 scripts_reported Check = refl
 scripts_reported Groups = refl
 scripts_reported Compile = refl
+scripts_reported Lint = refl
 
 -- ---- a request
 

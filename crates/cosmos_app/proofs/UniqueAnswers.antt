@@ -1,12 +1,10 @@
 -- The words have one answer, unless they ask for a listing or for reasons; of these the status and the texts that are analysed are one.
-use Rattle.std.proofs.Common.{◌≡◌, ℕ, false, List, Result, Ok, Err, refl, sym, ◌∙◌}
+use Rattle.std.proofs.Common.{◌≡◌, ℕ, false, List, refl, sym, ◌∙◌}
 use Rattle.line_words.specs.Files.{lines_in, cut_line}
 use Rattle.netlist.specs.Circuits.{CircuitData}
 use Rattle.sim_read.specs.Meaning.{netlist_of}
-use Rattle.spice_cards.specs.declared.fault.DeckFault.{DeckFault}
-use Rattle.spice_cards.specs.declared.fault.DeckFault.TheVariants as deck_fault
 use Rattle.spice_read.specs.Making.{circuit_of}
-use Rattle.command_line.specs.Requests.{Question, Simulate, Batch, Check, Groups, Compile, Explain, Judge, Request, About, Generate, SumUp, OverDeck, Show, Unclear, request_of}
+use Rattle.command_line.specs.Requests.{Question, Simulate, Batch, Check, Groups, Compile, Lint, Explain, Judge, Request, About, Generate, SumUp, OverDeck, Show, Unclear, request_of}
 use Rattle.command_line.proofs.LaneLemmas.{HasColumns, AsksColumns, asks_columns}
 use Rattle.session_meaning.specs.Sessions.{start_of}
 use Rattle.run_ends.specs.Answers.{Answer}
@@ -17,7 +15,7 @@ use Rattle.fault_meaning.proofs.UniqueJudging.{judged_faults_unique}
 use Rattle.circuit_reports.specs.Alike.{AreAlike}
 use Rattle.circuit_reports.proofs.UniqueAnswers as circuit
 use Rattle.script_reports.proofs.UniqueAnswers.{sample_unique, reasoned_alike}
-use Rattle.cosmos_app.specs.Answers.{IsSimulation, IsDeckSimulation, IsAnswerIn, IsAnswerTo}
+use Rattle.cosmos_app.specs.Answers.{IsSimulation, IsAnswerIn, IsAnswerTo}
 use Rattle.cosmos_app.specs.Laws.{leaves_choice, asks_choice, AnswersAreUnique, AnswersAreAlike}
 
 -- ---- one answer
@@ -25,13 +23,6 @@ use Rattle.cosmos_app.specs.Laws.{leaves_choice, asks_choice, AnswersAreUnique, 
 -- a simulation has one
 simulated_unique : (script : List ℕ) (c : CircuitData) (first second : Answer) → IsSimulation script c first → IsSimulation script c second → first ≡ second
 simulated_unique script c first second one two = answer_unique plain_reading (cut_line script) (start_of c) (lines_in script) first second one two
-
--- so has one over a deck
-deck_unique : (script : List ℕ) (meaning : Result CircuitData DeckFault) (first second : Answer) → IsDeckSimulation script meaning first →
-    IsDeckSimulation script meaning second → first ≡ second
-deck_unique script (Ok c) first second one two = simulated_unique script c first second one two
-deck_unique script (Err (deck_fault.At line what)) first second one two = one ∙ sym two
-deck_unique script (Err deck_fault.NoMemory) first second one two = absurd one
 
 -- a question has one in a circuit, unless it leaves a choice
 question_unique : (question : Question) (holds : List ℕ → List ℕ) → leaves_choice question ≡ false → HasColumns question →
@@ -42,6 +33,7 @@ question_unique (Batch lanes script) holds plain some c first second one two =
 question_unique Check holds plain some c first second one two = one ∙ sym two
 question_unique Groups holds plain some c first second one two = circuit.groups_unique c first second one two
 question_unique Compile holds plain some c first second one two = absurd (cc (plain))
+question_unique Lint holds plain some c first second one two = circuit.linted_unique c first second one two
 question_unique (Explain script node) holds plain some c first second one two = absurd (cc (plain))
 question_unique (Judge script list) holds plain some c first second one two = judged_faults_unique (holds script) (holds list) c first second one two
 
@@ -52,8 +44,8 @@ request_unique (About net question) holds first second plain some one two =
     circuit.over_unique (IsAnswerIn question holds) (question_unique question holds plain some) (netlist_of (holds net)) first second one two
 request_unique (Generate part sample) holds first second plain some one two = one ∙ sym two
 request_unique (SumUp sample) holds first second plain some one two = sample_unique sample first second one two
-request_unique (OverDeck deck script) holds first second plain some one two =
-    deck_unique (holds script) (circuit_of (holds deck)) first second one two
+request_unique (OverDeck deck question) holds first second plain some one two =
+    circuit.over_deck_unique (IsAnswerIn question holds) (question_unique question holds plain some) (circuit_of (holds deck)) first second one two
 request_unique (Show text) holds first second plain some one two = one ∙ sym two
 request_unique Unclear holds first second plain some one two = one ∙ sym two
 
@@ -72,6 +64,7 @@ question_alike (Batch lanes script) holds some c first second one two =
 question_alike Check holds some c first second one two = circuit.alike first second (question_unique Check holds refl some c first second one two)
 question_alike Groups holds some c first second one two = circuit.alike first second (question_unique Groups holds refl some c first second one two)
 question_alike Compile holds some c first second one two = circuit.compiled_alike c first second one two
+question_alike Lint holds some c first second one two = circuit.alike first second (question_unique Lint holds refl some c first second one two)
 question_alike (Explain script node) holds some c first second one two = reasoned_alike (holds script) node c first second one two
 question_alike (Judge script list) holds some c first second one two =
     circuit.alike first second (question_unique (Judge script list) holds refl some c first second one two)
@@ -85,8 +78,8 @@ request_alike (Generate part sample) holds first second some one two =
     circuit.alike first second (request_unique (Generate part sample) holds first second refl some one two)
 request_alike (SumUp sample) holds first second some one two =
     circuit.alike first second (request_unique (SumUp sample) holds first second refl some one two)
-request_alike (OverDeck deck script) holds first second some one two =
-    circuit.alike first second (request_unique (OverDeck deck script) holds first second refl some one two)
+request_alike (OverDeck deck question) holds first second some one two =
+    circuit.over_deck_alike (IsAnswerIn question holds) (question_alike question holds some) (circuit_of (holds deck)) first second one two
 request_alike (Show text) holds first second some one two =
     circuit.alike first second (request_unique (Show text) holds first second refl some one two)
 request_alike Unclear holds first second some one two =

@@ -1,8 +1,6 @@
 -- How much of its files a run has read, joined from what each call says of it.
 use Rattle.std.proofs.Common.{◌≡◌, ℕ, List, [], ◌∷◌, Option, None, Some, IfSome, IfOk, Result, Ok, Err, sym, subst}
 use Rattle.netlist.specs.Circuits.{CircuitData}
-use Rattle.sim_read.specs.declared.fault.NetRefusal.{NetRefusal}
-use Rattle.sim_read.specs.Meaning.{netlist_of}
 use Rattle.port_edge.specs.Taken.{Taken}
 use Rattle.run_ends.specs.declared.stop.End as end
 use Rattle.run_ends.specs.declared.stop.End.TheVariants as ended
@@ -22,24 +20,25 @@ whole_unasked None request taken asks = tt
 whole_unasked (Some holds) request taken asks =
     subst (ReadsWhole taken taken holds) (sym (asks holds)) (whole_none taken)
 
--- after the netlist, what the question needs beside it
-pub whole_beside : (known later : Option (List ℕ → List ℕ)) (net : List ℕ) (question : Question) (circuit : CircuitData) (old mid new : Taken) →
-    IfSome known (λ holds. netlist_of (holds net) ≡ Ok circuit) → later ≡ known →
+-- after the netlist or the deck, what the question needs beside it
+pub whole_beside : {E : Type 0} (meaning_of : List ℕ → Result CircuitData E) (known later : Option (List ℕ → List ℕ)) (net : List ℕ) (question : Question)
+    (circuit : CircuitData) (old mid new : Taken) → IfSome known (λ holds. meaning_of (holds net) ≡ Ok circuit) → later ≡ known →
     IfSome known (λ holds. ReadsWhole old mid holds (net ∷ [])) → IfSome later (λ holds. ReadsWhole mid new holds (scripts_of question)) →
-    IfSome known (λ holds. ReadsWhole old new holds (needed question net (netlist_of (holds net))))
-whole_beside None later net question circuit old mid new means kept before after = tt
-whole_beside (Some holds) later net question circuit old mid new means kept before after =
+    IfSome known (λ holds. ReadsWhole old new holds (needed question net (meaning_of (holds net))))
+whole_beside meaning_of None later net question circuit old mid new means kept before after = tt
+whole_beside meaning_of (Some holds) later net question circuit old mid new means kept before after =
     let here : ReadsWhole mid new holds (scripts_of question) =
     subst (λ names. IfSome names (λ holds. ReadsWhole mid new holds (scripts_of question))) kept after in
     subst (λ meaning. ReadsWhole old new holds (needed question net meaning)) (sym means)
     (whole_both old mid new holds (net ∷ []) (scripts_of question) before here)
 
--- a refused netlist alone
-pub whole_refused : (known : Option (List ℕ → List ℕ)) (net : List ℕ) (question : Question) (refusal : NetRefusal) (old new : Taken) →
-    IfSome known (λ holds. netlist_of (holds net) ≡ Err refusal) → IfSome known (λ holds. ReadsWhole old new holds (net ∷ [])) →
-    IfSome known (λ holds. ReadsWhole old new holds (needed question net (netlist_of (holds net))))
-whole_refused None net question refusal old new means read = tt
-whole_refused (Some holds) net question refusal old new means read =
+-- a refused netlist or deck alone
+pub whole_refused : {E : Type 0} (meaning_of : List ℕ → Result CircuitData E) (known : Option (List ℕ → List ℕ)) (net : List ℕ) (question : Question)
+    (refusal : E) (old new : Taken) → IfSome known (λ holds. meaning_of (holds net) ≡ Err refusal) →
+    IfSome known (λ holds. ReadsWhole old new holds (net ∷ [])) →
+    IfSome known (λ holds. ReadsWhole old new holds (needed question net (meaning_of (holds net))))
+whole_refused meaning_of None net question refusal old new means read = tt
+whole_refused meaning_of (Some holds) net question refusal old new means read =
     subst (λ meaning. ReadsWhole old new holds (needed question net meaning)) (sym means) read
 
 -- what a run has read by its end, it has read by its status

@@ -1,23 +1,20 @@
 -- What the program answers to the words of its command line, and what a call that meets a fault may have written.
-use Rattle.std.specs.Prelude.{◌≡◌, ℕ, List, Option, Result, Ok, Err}
+use Rattle.std.specs.Prelude.{◌≡◌, ℕ, List, Option}
 use Rattle.line_words.specs.Files.{lines_in, cut_line}
 use Rattle.netlist.specs.Circuits.{CircuitData}
 use Rattle.sim_read.specs.Meaning.{netlist_of}
-use Rattle.spice_cards.specs.declared.fault.DeckFault.{DeckFault}
-use Rattle.spice_cards.specs.declared.fault.DeckFault.TheVariants as deck_fault
 use Rattle.spice_read.specs.Making.{circuit_of}
 use Rattle.group_text.specs.Texts.{GroupTextData}
-use Rattle.net_gen.specs.declared.families.GenPart.TheVariants as part
 use Rattle.session_meaning.specs.Sessions.{start_of}
 use Rattle.run_ends.specs.declared.status.Status.{Status}
 use Rattle.run_ends.specs.declared.status.Status.TheVariants as status
 use Rattle.cosmos_app.specs.Batching.{IsBatch}
-use Rattle.command_line.specs.Requests.{Question, Simulate, Batch, Check, Groups, Compile, Explain, Judge, Request, About, Generate, SumUp, OverDeck, Show, Unclear, request_of}
+use Rattle.command_line.specs.Requests.{Question, Simulate, Batch, Check, Groups, Compile, Lint, Explain, Judge, Request, About, Generate, SumUp, OverDeck, Show, Unclear, request_of}
 use Rattle.run_ends.specs.Answers.{Answer, IsWritten, IsStopped, IsAnalysed}
 use Rattle.script_meaning.specs.Runs.{plain_reading, IsScriptAnswer}
 use Rattle.script_reports.specs.Reasoned.{IsReasoned}
 use Rattle.fault_meaning.specs.Judging.{AreJudgedFaults}
-use Rattle.circuit_reports.specs.Answers.{IsUsage, IsOver, IsCheck, IsGroups, IsCompiled, IsGenerated, IsShown, IsDeckRefusal}
+use Rattle.circuit_reports.specs.Answers.{IsUsage, IsOver, IsOverDeck, IsCheck, IsGroups, IsLinted, IsCompiled, IsGenerated, IsShown}
 use Rattle.script_reports.specs.Answers.{IsSampleSummary}
 
 -- the answer of a simulation: that of the script's lines from the start in the circuit
@@ -31,21 +28,16 @@ IsAnswerIn (Batch lanes script) holds = IsBatch lanes (holds script)
 IsAnswerIn Check holds = IsCheck
 IsAnswerIn Groups holds = IsGroups
 IsAnswerIn Compile holds = IsCompiled
+IsAnswerIn Lint holds = IsLinted
 IsAnswerIn (Explain script node) holds = IsReasoned (holds script) node
 IsAnswerIn (Judge script list) holds = AreJudgedFaults (holds script) (holds list)
-
--- the answer of a simulation over a deck: that of the script in its circuit, or its refusal; want of memory is no meaning of a deck
-abbrev pub IsDeckSimulation : List ℕ → Result CircuitData DeckFault → Answer → Type 0
-IsDeckSimulation script (Ok circuit) answer = IsSimulation script circuit answer
-IsDeckSimulation script (Err (deck_fault.At line what)) answer = IsDeckRefusal line what answer
-IsDeckSimulation script (Err deck_fault.NoMemory) answer = ⊥
 
 -- the answer to a request, by what the names hold
 abbrev pub IsAnswerTo : Request → (List ℕ → List ℕ) → Answer → Type 0
 IsAnswerTo (About net question) holds answer = IsOver (IsAnswerIn question holds) (netlist_of (holds net)) answer
 IsAnswerTo (Generate part sample) holds answer = IsGenerated part sample answer
 IsAnswerTo (SumUp sample) holds answer = IsSampleSummary sample answer
-IsAnswerTo (OverDeck deck script) holds answer = IsDeckSimulation (holds script) (circuit_of (holds deck)) answer
+IsAnswerTo (OverDeck deck question) holds answer = IsOverDeck (IsAnswerIn question holds) (circuit_of (holds deck)) answer
 IsAnswerTo (Show text) holds answer = IsShown text answer
 IsAnswerTo Unclear holds answer = IsUsage answer
 

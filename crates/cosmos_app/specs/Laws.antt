@@ -1,6 +1,6 @@
 -- Laws of the answer of the words: where it is one.
 use Rattle.std.specs.Prelude.{◌≡◌, ℕ, Bool, true, false, List}
-use Rattle.command_line.specs.Requests.{Question, Compile, Explain, Request, About, request_of}
+use Rattle.command_line.specs.Requests.{Question, Compile, Explain, Request, About, OverDeck, request_of}
 use Rattle.run_ends.specs.Answers.{Answer}
 use Rattle.circuit_reports.specs.Alike.{AreAlike}
 use Rattle.cosmos_app.specs.Answers.{IsAnswer}
@@ -14,6 +14,7 @@ leaves_choice question = false
 -- the request asks for a listing or for reasons
 abbrev pub asks_choice : Request → Bool
 asks_choice (About net question) = leaves_choice question
+asks_choice (OverDeck deck question) = leaves_choice question
 asks_choice request = false
 
 -- words that ask neither for a listing nor for reasons have one answer, by what the files hold

@@ -11,7 +11,7 @@ use Rattle.circuit_files.specs.Starts.{Started, StartsAtMost}
 abbrev pub StartsInOrder : Started → Started → List ℕ → List ℕ → Type 0
 StartsInOrder old new first second = StartsAtMost old new first ⊎ (new ≡ with_name (with_name old first) second)
 
--- what a question starts beside the netlist: one that runs a script starts nothing or the script; one about faults nothing, or its
+-- what a question starts beside the netlist or the deck: one that runs a script starts nothing or the script; one about faults nothing, or its
 -- script, or both its script and its list
 abbrev pub ScriptStarts : Question → Started → Started → Type 0
 ScriptStarts (Simulate script) old new = StartsAtMost old new script
@@ -25,23 +25,18 @@ abbrev pub IsAccepted : {E : Type 0} → Result CircuitData E → Type 0
 IsAccepted (Ok circuit) = ⊤
 IsAccepted (Err fault) = ⊥
 
--- what a question starts: nothing, or the netlist; and then what it starts beside it, only where the netlist has no refusal
-abbrev pub QuestionStarts : List ℕ → Question → Option (List ℕ → List ℕ) → Started → Started → Type 0
-QuestionStarts net question known old new =
+-- what a question starts, by what the text of the netlist or the deck means: nothing, or that file; and then what it starts beside it, only
+-- where that has no refusal
+abbrev pub QuestionStarts : {E : Type 0} → (List ℕ → Result CircuitData E) → List ℕ → Question → Option (List ℕ → List ℕ) → Started → Started → Type 0
+QuestionStarts meaning_of net question known old new =
     StartsAtMost old new net
-    ⊎ (ScriptStarts question (with_name old net) new × IfSome known (λ holds. IsAccepted (netlist_of (holds net))))
-
--- what a simulation over a deck starts: nothing, or the deck; and then nothing or its script, only where the deck has no refusal
-abbrev pub DeckStarts : List ℕ → List ℕ → Option (List ℕ → List ℕ) → Started → Started → Type 0
-DeckStarts deck script known old new =
-    StartsAtMost old new deck
-    ⊎ (StartsAtMost (with_name old deck) new script × IfSome known (λ holds. IsAccepted (circuit_of (holds deck))))
+    ⊎ (ScriptStarts question (with_name old net) new × IfSome known (λ holds. IsAccepted (meaning_of (holds net))))
 
 -- what a request starts
 abbrev pub RequestStarts : Request → Option (List ℕ → List ℕ) → Started → Started → Type 0
-RequestStarts (About net question) known old new = QuestionStarts net question known old new
+RequestStarts (About net question) known old new = QuestionStarts netlist_of net question known old new
 RequestStarts (Generate part sample) known old new = new ≡ old
 RequestStarts (SumUp sample) known old new = new ≡ old
-RequestStarts (OverDeck deck script) known old new = DeckStarts deck script known old new
+RequestStarts (OverDeck deck question) known old new = QuestionStarts circuit_of deck question known old new
 RequestStarts (Show text) known old new = new ≡ old
 RequestStarts Unclear known old new = new ≡ old

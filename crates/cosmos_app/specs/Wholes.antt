@@ -1,9 +1,7 @@
 -- How much of its files a run reads before it answers: each one to its end, or to the first byte too many.
 use Rattle.std.specs.Prelude.{ℕ, List, [], ◌∷◌, ◌++◌, Result, Ok, Err}
 use Rattle.netlist.specs.Circuits.{CircuitData}
-use Rattle.sim_read.specs.declared.fault.NetRefusal.{NetRefusal}
 use Rattle.sim_read.specs.Meaning.{netlist_of}
-use Rattle.spice_cards.specs.declared.fault.DeckFault.{DeckFault}
 use Rattle.spice_read.specs.Making.{circuit_of}
 use Rattle.port_edge.specs.Taken.{Taken}
 use Rattle.run_ends.specs.declared.status.Status.{Status}
@@ -11,7 +9,7 @@ use Rattle.run_ends.specs.declared.status.Status.TheVariants.{ReadFault, WriteFa
 use Rattle.command_line.specs.Requests.{Question, Simulate, Batch, Explain, Judge, Request, About, Generate, SumUp, OverDeck, Show, Unclear}
 use Rattle.circuit_files.specs.Wholes.{ReadsWhole}
 
--- the files that a question needs beside the netlist, the last one first
+-- the files that a question needs beside the netlist or the deck, the last one first
 abbrev pub scripts_of : Question → List (List ℕ)
 scripts_of (Simulate script) = script ∷ []
 scripts_of (Batch lanes script) = script ∷ []
@@ -19,22 +17,17 @@ scripts_of (Explain script node) = script ∷ []
 scripts_of (Judge script list) = list ∷ script ∷ []
 scripts_of _ = []
 
--- the files that a question about a netlist of this meaning needs, the last one first: a script only where the netlist has no refusal
-abbrev pub needed : Question → List ℕ → Result CircuitData NetRefusal → List (List ℕ)
+-- the files that a question about a netlist or a deck of this meaning needs, the last one first: a script only where that has no refusal
+abbrev pub needed : {E : Type 0} → Question → List ℕ → Result CircuitData E → List (List ℕ)
 needed question net (Ok circuit) = scripts_of question ++ net ∷ []
 needed question net (Err refusal) = net ∷ []
-
--- the files that a simulation over a deck of this meaning needs, the last one first: the script only where the deck has no refusal
-abbrev pub needed_over : List ℕ → List ℕ → Result CircuitData DeckFault → List (List ℕ)
-needed_over deck script (Ok circuit) = script ∷ deck ∷ []
-needed_over deck script (Err fault) = deck ∷ []
 
 -- the files that a request needs, the last one first
 abbrev pub files_of : Request → (List ℕ → List ℕ) → List (List ℕ)
 files_of (About net question) holds = needed question net (netlist_of (holds net))
 files_of (Generate part sample) holds = []
 files_of (SumUp sample) holds = []
-files_of (OverDeck deck script) holds = needed_over deck script (circuit_of (holds deck))
+files_of (OverDeck deck question) holds = needed question deck (circuit_of (holds deck))
 files_of (Show text) holds = []
 files_of Unclear holds = []
 

@@ -14,6 +14,7 @@
 //! run(alloc, ["sim-spice", "gates.sp", "gates.cmd"], files, out)    is Status::Done
 //! run(alloc, ["check", "inverter.sim"], files, out)                 is Status::Done, and writes
 //!     `ok nodes 4 switches 2 names 2`
+//! run(alloc, ["lint", "gates.sp"], files, out)                      is Status::Mismatch if it writes a finding
 //! run(alloc, ["large", "inverters", "1", "2"], files, out)          is Status::Done, and writes
 //!     `large nodes 5 switches 4 lines 4 steps 4 marks 0 zeros 4 ones 4 unknown 0`
 //! run(alloc, ["why", "inverter.sim", "inverter.cmd", "out"], files, out) is Status::Done, and writes

@@ -7,7 +7,7 @@ ghost use Rattle.cosmos_app.specs.Answers.{IsAnswerIn};
 ghost use Rattle.run_ends.specs.Ends.{IsToldBy};
 ghost use Rattle.run_ends.specs.Stops.{faults_written, IsRefusedOnce};
 
-use circuit_reports::{list_groups, report_check, write_listing};
+use circuit_reports::{list_findings, list_groups, report_check, write_listing};
 use command_line::Report;
 use group_analysis::Analyst;
 use netlist::Circuit;
@@ -37,5 +37,6 @@ pub(crate) fn report_on<S: Sink, A: Analyst>(
         Report::Check => report_check(alloc, circuit, out),
         Report::Groups => list_groups(alloc, keys, circuit, out),
         Report::Compile => write_listing(alloc, keys, circuit, out, analyst),
+        Report::Lint => list_findings(alloc, keys, circuit, out),
     }
 }

@@ -5,16 +5,16 @@ ghost use Rattle.port_edge.specs.Taken.{TakesFiles};
 ghost use Rattle.netlist.specs.Circuits.{IsCircuit, HasVisibleNames};
 ghost use Rattle.command_line.specs.Requests.{alone_seen, names_of, question_seen};
 ghost use Rattle.command_line.specs.Requests as spec;
-ghost use Rattle.cosmos_app.specs.Answers.{IsAnswer, IsAnswered, IsAnswerIn, IsAnswerTo, IsDeckSimulation, IsSimulation};
-ghost use Rattle.circuit_reports.specs.Answers.{IsOver};
+ghost use Rattle.cosmos_app.specs.Answers.{IsAnswer, IsAnswered, IsAnswerIn, IsAnswerTo, IsSimulation};
+ghost use Rattle.circuit_reports.specs.Answers.{IsOver, IsOverDeck};
 ghost use Rattle.cosmos_app.specs.Purposes.{IsRunFor};
 ghost use Rattle.sim_read.specs.Meaning.{netlist_of};
 ghost use Rattle.spice_read.specs.Making.{circuit_of};
 ghost use Rattle.run_ends.specs.Stops.{faults_read, faults_written, IsRefusedOnce};
 ghost use Rattle.cosmos_app.specs.Counts.{files_count, sink_count, HasRefused};
-ghost use Rattle.cosmos_app.specs.Wholes.{files_of, needed, needed_over, scripts_of, ReadsAll};
+ghost use Rattle.cosmos_app.specs.Wholes.{files_of, needed, scripts_of, ReadsAll};
 ghost use Rattle.circuit_files.specs.Wholes.{ReadsWhole};
-ghost use Rattle.cosmos_app.specs.Starts.{DeckStarts, QuestionStarts, RequestStarts, ScriptStarts};
+ghost use Rattle.cosmos_app.specs.Starts.{QuestionStarts, RequestStarts, ScriptStarts};
 ghost use Rattle.circuit_files.specs.Starts.{StartsAtMost};
 ghost use Rattle.run_ends.specs.Ends.{IsToldBy, IsUntouched, status_after};
 
@@ -46,7 +46,8 @@ use table_keys::TableKeys;
 /// `check NET` reads the netlist and writes how many nodes, transistors and names it has;
 /// `groups NET` writes a line for each of its channel-connected groups; `compile NET` has the analyst
 /// make code of each text of a group that the circuit has, once, and writes a listing of the circuit,
-/// or the line of its first group that is too large. `gen PART KIND SEED N` writes the netlist or the
+/// or the line of its first group that is too large. `lint NET` writes a line for each finding in the circuit and one
+/// with their numbers; if NET's name is that of a deck, by `is_deck_name`, it is read as one. `gen PART KIND SEED N` writes the netlist or the
 /// script, by PART `net` or `script`, that `net_gen::generate` makes of the family KIND, `inverters`,
 /// `passes` or `columns`, from the seed SEED, a decimal within 64 bits, with N rows, a decimal from 1 to
 /// 10,000; it reads no file. `large KIND SEED N` makes both texts, runs the script in the netlist's circuit
@@ -143,8 +144,8 @@ fn answer<F: Files, S: Sink, A: Analyst>(
 {
     match request_of(words) {
         Request::About { net, question } => answer_about(alloc, net, question, files, out, analyst),
-        Request::OverDeck { deck, script } => simulate_deck(
-            alloc, deck, script, files, out, analyst,
+        Request::OverDeck { deck, question } => answer_over_deck(
+            alloc, deck, question, files, out, analyst,
         ),
         Request::Alone(alone) => answer_alone(alloc, files.keys(), alone, out, analyst),
     }
@@ -185,7 +186,7 @@ fn answer_about<F: Files, S: Sink, A: Analyst>(
         (IsOver (IsAnswerIn (question_seen question.entry) holds) (netlist_of (holds net.now)))
         (S.written out.old) (S.written out.new) (A.analysed analyst.old) (A.analysed analyst.new) result) }
     ensures started { QuestionStarts
-        net.now (question_seen question.entry)
+        netlist_of net.now (question_seen question.entry)
         (F.holds files.old) (F.started files.old) (F.started files.new) }
     ensures taken { TakesFiles (F.taken files.old) (F.taken files.new) (MOST_FILE_BYTES + 1) }
     ensures whole { IfOk result (λ _. IfSome (F.holds files.old) (λ holds.
@@ -203,26 +204,26 @@ fn answer_about<F: Files, S: Sink, A: Analyst>(
     }
 }
 
-// Reads the deck, and runs the script in its circuit.
+// Reads the deck, and answers the question in its circuit.
 #[tactic(auto, using(run_ends::proofs::EndLemmas::read_none, run_ends::proofs::EndLemmas::untouched_none))]
-fn simulate_deck<F: Files, S: Sink, A: Analyst>(
+fn answer_over_deck<F: Files, S: Sink, A: Analyst>(
     alloc: Global,
     deck: &str,
-    script: &str,
+    question: Question<'_>,
     files: &mut F,
     out: &mut S,
     analyst: &mut A,
 ) -> Result<End, Stop>
     ensures told { IfSome (F.holds files.old) (λ holds. IsToldBy
-        (IsDeckSimulation (holds script.now) (circuit_of (holds deck.now)))
+        (IsOverDeck (IsAnswerIn (question_seen question.entry) holds) (circuit_of (holds deck.now)))
         (S.written out.old) (S.written out.new) (A.analysed analyst.old) (A.analysed analyst.new) result) }
-    ensures started { DeckStarts
-        deck.now script.now
+    ensures started { QuestionStarts
+        circuit_of deck.now (question_seen question.entry)
         (F.holds files.old) (F.started files.old) (F.started files.new) }
     ensures taken { TakesFiles (F.taken files.old) (F.taken files.new) (MOST_FILE_BYTES + 1) }
     ensures whole { IfOk result (λ _. IfSome (F.holds files.old) (λ holds.
         ReadsWhole (F.taken files.old) (F.taken files.new) holds
-        (needed_over deck.now script.now (circuit_of (holds deck.now))))) }
+        (needed (question_seen question.entry) deck.now (circuit_of (holds deck.now))))) }
     ensures read { F.faults files.new ≡ faults_read (F.faults files.old) result }
     ensures write { S.faults out.new ≡ faults_written (S.faults out.old) result }
     ensures refused { IsRefusedOnce (S.refusals out.old) (S.refusals out.new) result }
@@ -230,10 +231,7 @@ fn simulate_deck<F: Files, S: Sink, A: Analyst>(
 {
     let mut refused = Vec::new(alloc);
     match read_deck_file(alloc, files, deck, &mut refused)? {
-        Ok(circuit) => {
-            let purpose = Purpose::Lines;
-            run_script(alloc, circuit, script, purpose, files, out, analyst)
-        }
+        Ok(circuit) => answer_in(alloc, circuit, question, files, out, analyst),
         Err(refusal) => refuse_deck(alloc, refusal.line, refusal.what, &refused, out),
     }
 }

@@ -41,7 +41,7 @@ const DECK: &[u8] = b"two inverters\n.subckt inv a y\nmp y a vdd vdd p\nmn y a 0
     x1 in m inv\nx2 m out inv\n";
 
 /// Each request once, and scripts that between them have each command.
-pub(super) const RUNS: [Run; 14] = [
+pub(super) const RUNS: [Run; 15] = [
     (
         SIMULATE,
         b"n a Gnd out\np a Vdd out\nn r Gnd r\np r Vdd r\n",
@@ -96,6 +96,14 @@ pub(super) const RUNS: [Run; 14] = [
         Status::Done,
         b"node 0 i Gnd\nnode 1 i Vdd\nnode 2 s out\nnode 3 s a\nt0 = h3 & l3\nt1 = h3 | t0\n\
             next 2 l3 t1\nnext 3 h3 l3\n",
+    ),
+    (
+        &["lint", "net"],
+        b"d Vdd m Vdd\nd Vdd Gnd m\nn a Gnd m\n",
+        b"",
+        Status::Mismatch,
+        b"shorted 1 2\nfloating a 1\n\
+            lint shorted 1 floating 1 undriven 0 never-one 0 never-zero 0 dead 0 supply 0 wide 0 unused 0\n",
     ),
     (
         &["why", "net", "script", "cell"],

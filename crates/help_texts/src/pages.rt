@@ -14,6 +14,7 @@ Cosmos: a proved switch-level simulator for MOS circuits, by Bryant's model.
   cosmos check NET                count nodes, transistors and names
   cosmos groups NET               list the channel-connected groups
   cosmos compile NET              write the circuit as straight-line code
+  cosmos lint NET                 find what a netlist most often has wrong
   cosmos gen PART KIND SEED N     write a generated netlist or its script
   cosmos large KIND SEED N        run such a script, and sum it up in one line
   cosmos help [WORD]              this page, or one request or command in full
@@ -34,9 +35,10 @@ Examples, from the folder of the README:
   ./cosmos why examples/unknown-nodes.sim examples/unknown-nodes.cmd cell
   ./cosmos sim-spice examples/two-inverters.sp examples/two-inverters.cmd
 
-Exit status: 0; 1 an expectation isn't met; 2 a bad command line or NODE; 3 NET
-or DECK refused; 4 SCRIPT or LIST refused; 5 reading; 6 writing; 7 no memory.
-For 3 and 4 standard error has the refused line's number, its code and a cure.
+Exit status: 0; 1 an expectation isn't met, or 'lint' has findings; 2 a bad
+command line or NODE; 3 NET or DECK refused; 4 SCRIPT or LIST refused; 5
+reading; 6 writing; 7 no memory. For 3 and 4 standard error has the refused
+line's number, its code and a cure.
 Documents: README.md, and in docs/ USING.md, FORMATS.md, MODEL.md and others.
 ";
 
@@ -50,6 +52,7 @@ usage: cosmos sim NET SCRIPT
        cosmos check NET
        cosmos groups NET
        cosmos compile NET
+       cosmos lint NET
        cosmos gen PART KIND SEED N
        cosmos large KIND SEED N
        cosmos version

@@ -6,7 +6,7 @@ ghost use Rattle.help_texts.specs.Texts as spec;
 use crate::finding::text_of;
 
 /// Each request and each command of a script with its form, what it does, and what it is refused for.
-pub const TOPICS: [(&str, &str); 30] = [
+pub const TOPICS: [(&str, &str); 31] = [
     (
         "sim",
         "cosmos sim NET SCRIPT
@@ -100,6 +100,24 @@ state, X included: a line for each node, the lines of the code, and a line
 for the next state of each storage node.
 Refused (status 3): a line of NET as in 'sim'; a group of more than 200 nodes
 (G1 GroupNodes) or 800 switches (G2 GroupSwitches).
+",
+    ),
+    (
+        "lint",
+        "cosmos lint NET
+Prints a line for each thing that an extracted netlist most often has wrong,
+and a last line with their numbers. The status is 1 if there is any:
+shorted K..        transistors that always conduct and join Vdd with Gnd
+floating NAME N    the gate of N transistors, and the source or drain of none
+undriven NAME N    a group of N nodes, joined to no rail and no input node
+never-one NAME N   a group that is joined to Gnd alone; never-zero: to Vdd
+dead K N           N equal transistors, the first of them K, that do nothing
+supply NAME        a node that is called like a supply, and is no rail
+wide NAME N S      a group of N nodes and S switches, more than 200 or 800
+unused NAME        a node at which there is no transistor
+If the name NET ends in .sp, .spi, .spice, .cir or .ckt, it is a SPICE deck.
+A line of NET is refused as in 'sim', one of a deck as in 'sim-spice' (status
+3).
 ",
     ),
     (

@@ -6,7 +6,7 @@ ghost use Rattle.run_ends.specs.Statuses.{code_of};
 pub enum Status {
     /// None of the others.
     Done,
-    /// The script was accepted to its end and an expectation of it was not met.
+    /// The script was accepted to its end and an expectation of it was not met; or the circuit has a finding.
     Mismatch,
     /// The words are no command line.
     Usage,

@@ -9,7 +9,7 @@ use ternary::NoMemory;
 pub enum End {
     /// The script was obeyed to its end, or all that was asked for was written.
     Done,
-    /// The script was obeyed to its end, and an expectation was not met.
+    /// The script was obeyed to its end, and an expectation was not met; or the circuit has a finding.
     Mismatch,
     /// The words are no command line.
     Usage,

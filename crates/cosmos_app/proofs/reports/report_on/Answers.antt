@@ -10,7 +10,7 @@ use Rattle.run_ends.proofs.EndLemmas.{told_by_none}
 use Rattle.command_line.specs.declared.request.Report.{Report}
 use Rattle.command_line.specs.Requests.{report_seen}
 use Rattle.cosmos_app.specs.Answers.{IsAnswerIn}
-use Rattle.circuit_reports.specs.Answers.{IsCheck, IsGroups}
+use Rattle.circuit_reports.specs.Answers.{IsCheck, IsGroups, IsLinted}
 use Rattle.cosmos_app.proofs.reports.report_on.Goals as goal
 
 told_for : {report other : Report} → report ≡ other → (holds : List ℕ → List ℕ) (circuit : CircuitData) (old new : Option (List ℕ))
@@ -42,3 +42,8 @@ pub returns-in-Compile-clause-told : goal.returns-in-Compile-clause-told
 returns-in-Compile-clause-told g c = λ holds.
     told_for c.in-Compile.is holds c.args.circuit.now (g.S.Sink.written c.args.out.now) (g.S.Sink.written c.write_listing.new.out)
     (g.A.Analyst.analysed c.args.analyst.now) (g.A.Analyst.analysed c.write_listing.new.analyst) c.write_listing.result c.write_listing.ensures.told
+
+pub returns-in-Lint-clause-told : goal.returns-in-Lint-clause-told
+returns-in-Lint-clause-told g c = λ holds.
+    told_alone c.in-Lint.is (IsLinted c.args.circuit.now) holds c.args.circuit.now (g.S.Sink.written c.args.out.now) (g.S.Sink.written c.list_findings.new.out)
+    (g.A.Analyst.analysed c.args.analyst.now) c.list_findings.result (λ answer is. (is, ap (λ (told : Answer). told.texts) is.2)) c.list_findings.ensures.told

@@ -32,24 +32,24 @@ returns-in-About-clause-whole g c =
 
 pub returns-in-OverDeck-clause-told : goal.returns-in-OverDeck-clause-told
 returns-in-OverDeck-clause-told g c =
-    told_request (OverDeck c.in-OverDeck.deck.now c.in-OverDeck.script.now) (request_of (names_of c.args.words.now))
+    told_request (OverDeck c.in-OverDeck.deck.now (question_seen c.in-OverDeck.question)) (request_of (names_of c.args.words.now))
     (sym (ap request_seen c.in-OverDeck.is) ∙ c.request_of.ensures)
-    (g.F.Files.holds c.args.files.now) (g.S.Sink.written c.args.out.now) (g.S.Sink.written c.simulate_deck.new.out)
-    (g.A.Analyst.analysed c.args.analyst.now) (g.A.Analyst.analysed c.simulate_deck.new.analyst) c.simulate_deck.result c.simulate_deck.ensures.told
+    (g.F.Files.holds c.args.files.now) (g.S.Sink.written c.args.out.now) (g.S.Sink.written c.answer_over_deck.new.out)
+    (g.A.Analyst.analysed c.args.analyst.now) (g.A.Analyst.analysed c.answer_over_deck.new.analyst) c.answer_over_deck.result c.answer_over_deck.ensures.told
 
 pub returns-in-OverDeck-clause-started : goal.returns-in-OverDeck-clause-started
 returns-in-OverDeck-clause-started g c =
-    starts_request (OverDeck c.in-OverDeck.deck.now c.in-OverDeck.script.now) (request_of (names_of c.args.words.now))
+    starts_request (OverDeck c.in-OverDeck.deck.now (question_seen c.in-OverDeck.question)) (request_of (names_of c.args.words.now))
     (sym (ap request_seen c.in-OverDeck.is) ∙ c.request_of.ensures)
-    (g.F.Files.holds c.args.files.now) (g.F.Files.started c.args.files.now) (g.F.Files.started c.simulate_deck.new.files)
-    c.simulate_deck.ensures.started
+    (g.F.Files.holds c.args.files.now) (g.F.Files.started c.args.files.now) (g.F.Files.started c.answer_over_deck.new.files)
+    c.answer_over_deck.ensures.started
 
 pub returns-in-OverDeck-clause-whole : goal.returns-in-OverDeck-clause-whole
 returns-in-OverDeck-clause-whole g c =
-    whole_request (OverDeck c.in-OverDeck.deck.now c.in-OverDeck.script.now) (request_of (names_of c.args.words.now))
+    whole_request (OverDeck c.in-OverDeck.deck.now (question_seen c.in-OverDeck.question)) (request_of (names_of c.args.words.now))
     (sym (ap request_seen c.in-OverDeck.is) ∙ c.request_of.ensures)
-    (g.F.Files.holds c.args.files.now) (g.F.Files.taken c.args.files.now) (g.F.Files.taken c.simulate_deck.new.files) c.simulate_deck.result
-    c.simulate_deck.ensures.whole
+    (g.F.Files.holds c.args.files.now) (g.F.Files.taken c.args.files.now) (g.F.Files.taken c.answer_over_deck.new.files) c.answer_over_deck.result
+    c.answer_over_deck.ensures.whole
 
 pub returns-in-Alone-clause-told : goal.returns-in-Alone-clause-told
 returns-in-Alone-clause-told g c =

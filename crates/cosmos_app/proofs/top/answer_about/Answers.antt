@@ -4,6 +4,7 @@ use Rattle.port_edge.proofs.ResultLemmas.{at_ok}
 use Rattle.port_edge.proofs.TakenLemmas.{files_both}
 use Rattle.run_ends.specs.Stops.{faults_read}
 use Rattle.run_ends.proofs.EndLemmas.{read_none, untouched_none}
+use Rattle.sim_read.specs.Meaning.{netlist_of}
 use Rattle.command_line.specs.Requests.{question_seen}
 use Rattle.circuit_files.proofs.FeedingLemmas.{at_each}
 use Rattle.cosmos_app.proofs.NetLemmas.{means_as, told_over, told_refusal}
@@ -23,7 +24,7 @@ returns-in-Ok-clause-told g c =
 
 pub returns-in-Ok-clause-started : goal.returns-in-Ok-clause-started
 returns-in-Ok-clause-started g c =
-    starts_beside (g.F.Files.holds c.args.files.now) c.args.net.now (question_seen c.args.question) c.in-Ok.circuit
+    starts_beside netlist_of (g.F.Files.holds c.args.files.now) c.args.net.now (question_seen c.args.question) c.in-Ok.circuit
     (g.F.Files.started c.args.files.now)
     (g.F.Files.started c.read_circuit.new.files) (g.F.Files.started c.answer_in.new.files)
     (means_as (g.F.Files.holds c.args.files.now) c.args.net.now _ (Ok c.in-Ok.circuit) c.in-Ok.is c.in_ok-circuit.ensures.means)
@@ -32,7 +33,7 @@ returns-in-Ok-clause-started g c =
 pub returns-in-Ok-clause-whole : goal.returns-in-Ok-clause-whole
 returns-in-Ok-clause-whole g c =
     at_each c.answer_in.result
-    (λ ended after. whole_beside (g.F.Files.holds c.args.files.now) (g.F.Files.holds c.read_circuit.new.files) c.args.net.now
+    (λ ended after. whole_beside netlist_of (g.F.Files.holds c.args.files.now) (g.F.Files.holds c.read_circuit.new.files) c.args.net.now
     (question_seen c.args.question) c.in-Ok.circuit
     (g.F.Files.taken c.args.files.now) (g.F.Files.taken c.read_circuit.new.files) (g.F.Files.taken c.answer_in.new.files)
     (means_as (g.F.Files.holds c.args.files.now) c.args.net.now _ (Ok c.in-Ok.circuit) c.in-Ok.is c.in_ok-circuit.ensures.means)
@@ -50,7 +51,7 @@ returns-clause-told g c =
 pub returns-clause-whole : goal.returns-clause-whole
 returns-clause-whole g c =
     at_ok c.refuse_net.result
-    (whole_refused (g.F.Files.holds c.args.files.now) c.args.net.now (question_seen c.args.question) c.in-Err.refusal
+    (whole_refused netlist_of (g.F.Files.holds c.args.files.now) c.args.net.now (question_seen c.args.question) c.in-Err.refusal
     (g.F.Files.taken c.args.files.now) (g.F.Files.taken c.read_circuit.new.files)
     (means_as (g.F.Files.holds c.args.files.now) c.args.net.now _ (Err c.in-Err.refusal) c.in-Err.is c.in_ok-circuit.ensures.means)
     c.in_ok-circuit.ensures.whole)

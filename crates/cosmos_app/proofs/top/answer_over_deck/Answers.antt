@@ -1,0 +1,67 @@
+-- What was told of the circuit that was read, or of its refusal, is told of the deck.
+use Rattle.std.proofs.Common.{Ok, Err, ap, inl, inr, ◌∙◌}
+use Rattle.port_edge.proofs.ResultLemmas.{at_ok}
+use Rattle.port_edge.proofs.TakenLemmas.{files_both}
+use Rattle.spice_cards.specs.declared.fault.DeckFault.TheVariants.{At}
+use Rattle.spice_read.specs.Making.{circuit_of}
+use Rattle.run_ends.specs.Stops.{faults_read}
+use Rattle.command_line.specs.Requests.{question_seen}
+use Rattle.circuit_files.proofs.FeedingLemmas.{at_each}
+use Rattle.cosmos_app.proofs.DeckLemmas.{deck_means_as, told_over_deck, told_deck_refusal}
+use Rattle.cosmos_app.proofs.StartLemmas.{starts_beside}
+use Rattle.cosmos_app.proofs.WholeLemmas.{whole_beside, whole_refused}
+use Rattle.cosmos_app.proofs.top.answer_over_deck.Goals as goal
+
+pub returns-in-Ok-clause-told : goal.returns-in-Ok-clause-told
+returns-in-Ok-clause-told g c =
+    told_over_deck (g.F.Files.holds c.args.files.now) (g.F.Files.holds c.read_deck_file.new.files) (question_seen c.args.question) c.args.deck.now
+    (Ok c.in-Ok.circuit)
+    (g.S.Sink.written c.args.out.now) (g.S.Sink.written c.answer_in.new.out) (g.A.Analyst.analysed c.args.analyst.now)
+    (g.A.Analyst.analysed c.answer_in.new.analyst) c.answer_in.result
+    (deck_means_as (g.F.Files.holds c.args.files.now) c.args.deck.now _ (Ok c.in-Ok.circuit) c.in-Ok.is c.in_ok-circuit.ensures.means)
+    c.in_ok-circuit.ensures.holds c.answer_in.ensures.told
+
+pub returns-in-Ok-clause-started : goal.returns-in-Ok-clause-started
+returns-in-Ok-clause-started g c =
+    starts_beside circuit_of (g.F.Files.holds c.args.files.now) c.args.deck.now (question_seen c.args.question) c.in-Ok.circuit
+    (g.F.Files.started c.args.files.now) (g.F.Files.started c.read_deck_file.new.files) (g.F.Files.started c.answer_in.new.files)
+    (deck_means_as (g.F.Files.holds c.args.files.now) c.args.deck.now _ (Ok c.in-Ok.circuit) c.in-Ok.is c.in_ok-circuit.ensures.means)
+    c.in_ok-circuit.ensures.started c.answer_in.ensures.started
+
+pub returns-in-Ok-clause-whole : goal.returns-in-Ok-clause-whole
+returns-in-Ok-clause-whole g c =
+    at_each c.answer_in.result
+    (λ ended after. whole_beside circuit_of (g.F.Files.holds c.args.files.now) (g.F.Files.holds c.read_deck_file.new.files) c.args.deck.now
+    (question_seen c.args.question) c.in-Ok.circuit
+    (g.F.Files.taken c.args.files.now) (g.F.Files.taken c.read_deck_file.new.files) (g.F.Files.taken c.answer_in.new.files)
+    (deck_means_as (g.F.Files.holds c.args.files.now) c.args.deck.now _ (Ok c.in-Ok.circuit) c.in-Ok.is c.in_ok-circuit.ensures.means)
+    c.in_ok-circuit.ensures.holds c.in_ok-circuit.ensures.whole after)
+    c.answer_in.ensures.whole
+
+pub returns-in-Ok-clause-taken : goal.returns-in-Ok-clause-taken
+returns-in-Ok-clause-taken g c =
+    files_both (g.F.Files.taken c.args.files.now) (g.F.Files.taken c.read_deck_file.new.files) (g.F.Files.taken c.answer_in.new.files) _
+    c.in_ok-circuit.ensures.taken c.answer_in.ensures.taken
+
+pub returns-in-Ok-clause-read : goal.returns-in-Ok-clause-read
+returns-in-Ok-clause-read g c =
+    c.answer_in.ensures.read ∙ ap (λ n. faults_read n c.answer_in.result) c.in_ok-circuit.ensures.read
+
+pub returns-clause-told : goal.returns-clause-told
+returns-clause-told g c =
+    told_deck_refusal (g.F.Files.holds c.args.files.now) (question_seen c.args.question) c.args.deck.now c.in-Err.refusal.line c.in-Err.refusal.what
+    (g.S.Sink.written c.args.out.now) (g.S.Sink.written c.refuse_deck.new.out) (g.A.Analyst.analysed c.args.analyst.now) c.refuse_deck.result
+    (deck_means_as (g.F.Files.holds c.args.files.now) c.args.deck.now _ (Err c.in-Err.refusal) c.in-Err.is c.in_ok-circuit.ensures.means)
+    c.refuse_deck.ensures.told
+
+pub returns-clause-whole : goal.returns-clause-whole
+returns-clause-whole g c =
+    at_ok c.refuse_deck.result
+    (whole_refused circuit_of (g.F.Files.holds c.args.files.now) c.args.deck.now (question_seen c.args.question)
+    (At c.in-Err.refusal.line c.in-Err.refusal.what) (g.F.Files.taken c.args.files.now) (g.F.Files.taken c.read_deck_file.new.files)
+    (deck_means_as (g.F.Files.holds c.args.files.now) c.args.deck.now _ (Err c.in-Err.refusal) c.in-Err.is c.in_ok-circuit.ensures.means)
+    c.in_ok-circuit.ensures.whole)
+
+pub returns-clause-started : goal.returns-clause-started
+returns-clause-started g c =
+    inl (inr c.in_ok-circuit.ensures.started)
