@@ -5,3 +5,4 @@ pub mod MemberLemmas
 mod ApartLemmas
 pub mod ReadLemmas
 pub mod ChosenLemmas
+pub mod ToldLemmas

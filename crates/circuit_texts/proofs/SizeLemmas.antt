@@ -10,7 +10,7 @@ use Rattle.group_text.specs.declared.text.TextFault.{TextFault}
 use Rattle.group_text.specs.declared.text.TextFault.TheVariants as text
 use Rattle.circuit_texts.specs.declared.texts.BuildFault.{BuildFault}
 use Rattle.circuit_texts.specs.declared.texts.BuildFault.TheVariants.{GroupNodes, GroupSwitches, NoMemory}
-use Rattle.circuit_texts.specs.Sizes.{fault_in, at_node, IsTooLarge, IsFirstTooLarge, TellsTooLarge}
+use Rattle.circuit_texts.specs.Sizes.{fault_in, refused_in, at_node, IsTooLarge, IsRefused, IsFirstTooLarge, IsFirstRefused, TellsTooLarge}
 
 -- a group that no text was made of is too large, or there was want of memory
 pub refused : (group : Group) (cause : TextFault) → (cause ≡ text.NoMemory) ⊎ (fault_in group ≡ Some cause) →
@@ -24,6 +24,25 @@ pub first_refused : (groups : List Group) (k : ℕ) (group : Group) (fault : Bui
     (fault ≡ NoMemory) ⊎ IsFirstTooLarge groups fault
 first_refused groups k group fault inside stands fits (inl want) = inl want
 first_refused groups k group fault inside stands fits (inr told) =
+    inr (record {
+      k = k;
+      group = group;
+      stands = slice_get_read groups (length groups) k group refl inside stands;
+      cause = told.cause;
+      too_large = told.too_large;
+      named = told.named;
+      before = λ j other before there.
+          let inside_too : length (take k groups) ≡ k = length-take-le k groups (omega arith) in
+          let here = fits j other (omega arith) in
+          rw (get_or-take k groups j other before, get_or_from_slice_get groups j other other there) at here;
+    })
+
+-- and so with a bound
+pub first_refused_in : (large : ℕ) (groups : List Group) (k : ℕ) (group : Group) (fault : BuildFault) → k < length groups → group ≡ get_or groups k group →
+    All (λ group. refused_in large group ≡ None) (take k groups) → (fault ≡ NoMemory) ⊎ IsRefused large group fault →
+    (fault ≡ NoMemory) ⊎ IsFirstRefused large groups fault
+first_refused_in large groups k group fault inside stands fits (inl want) = inl want
+first_refused_in large groups k group fault inside stands fits (inr told) =
     inr (record {
       k = k;
       group = group;

@@ -1,4 +1,5 @@
 pub mod Sizes
+pub mod Told
 pub mod Parts
 pub mod Building
 pub mod Reading

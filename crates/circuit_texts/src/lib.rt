@@ -22,4 +22,4 @@ mod texts;
 
 pub use chosen::{reads_at, texts_at};
 pub use reads::reads_of;
-pub use texts::{BuildFault, GroupTexts, text_or_fault, texts_of};
+pub use texts::{BuildFault, GroupTexts, text_or_fault, text_up_to, texts_of};

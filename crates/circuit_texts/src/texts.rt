@@ -1,7 +1,8 @@
 ghost use Rattle.std.specs.Prelude.{◌≡◌, ◌⊎◌, None, map, All, IfOk, IfErr, OnOk};
 ghost use Rattle.group_meaning.specs.Groups.{AreGroups, IsGroup};
 ghost use Rattle.group_text.specs.Texts.{local_nodes, text_of_group};
-ghost use Rattle.circuit_texts.specs.Sizes.{IsFirstTooLarge, IsTooLarge, fault_in, at_node};
+ghost use Rattle.circuit_texts.specs.Sizes.{IsFirstTooLarge, IsTooLarge, IsRefused, fault_in, refused_in, at_node};
+ghost use Rattle.circuit_texts.specs.Told.{told_text, told_nodes};
 
 use crate::chosen::texts_at;
 use channel_groups::{Group, Groups};
@@ -81,6 +82,35 @@ pub fn text_or_fault(
     match text_of(alloc, graph, group.members(), group.switches()) {
         Ok(made) => Ok(made),
         Err(fault) => Err(fault_at(group.id().node(), fault)),
+    }
+}
+
+/// The text of a group, if it has one, and the nodes that a part of it stands for: those of the text's local nodes, or
+/// else its members.
+///
+/// A group that is too large has no text; it is refused if it has more members than `large`. With 0 each such group is
+/// refused.
+pub fn text_up_to(
+    alloc: Global,
+    graph: &Graph,
+    group: &Group,
+    large: usize,
+) -> Result<(Option<GroupText>, Vec<usize>), BuildFault>
+    requires { IsGroup graph.now group.now }
+    ensures text { IfOk result (λ made. made.0 ≡ told_text graph.now group.now) }
+    ensures nodes { IfOk result (λ made. made.1.items ≡ told_nodes graph.now group.now) }
+    ensures fits { OnOk result (refused_in large group.now ≡ None) }
+    ensures refused { IfErr result (λ fault. (fault ≡ BuildFault.NoMemory) ⊎ IsRefused large group.now fault) }
+{
+    match text_of(alloc, graph, group.members(), group.switches()) {
+        Ok((text, nodes)) => Ok((Some(text), nodes)),
+        Err(TextFault::NoMemory) => Err(BuildFault::NoMemory),
+        Err(fault) => {
+            if group.members().len() > large {
+                return Err(fault_at(group.id().node(), fault));
+            }
+            Ok((None, Vec::from_slice(alloc, group.members())?))
+        }
     }
 }
 

@@ -1,76 +1,24 @@
--- Each group before the next one has its text; the first that has none is too large.
-use Rattle.std.proofs.Common.{◌≡◌, ◌<◌, List, [], ◌∷◌, ◌++◌, length, map, take, get_or, true, None, Some, refl, ap, subst, sym, ◌∙◌, arith}
-use Rattle.std.specs.Result.{is_ok}
-use Rattle.std.proofs.lemmas.Result.{err_from_is_err_and}
-use Rattle.std.proofs.lemmas.List.{take_all, length-map, map-append}
-use Rattle.std.proofs.lemmas.List.Elements.{All-more}
-use Rattle.group_meaning.specs.Groups.{id_of}
-use Rattle.channel_groups.specs.declared.group.GroupId.{GroupId}
-use Rattle.channel_groups.proofs.HeldLemmas.{group_of_id, IsGroup-found}
-use Rattle.group_text.specs.FirstTexts.{first_texts, new_texts}
+-- With the bound 0 all groups fit, so all have their texts.
+use Rattle.std.proofs.Common.{◌≡◌, None, Some, map, All, ap, ◌∙◌}
+use Rattle.group_meaning.specs.Groups.{Group}
+use Rattle.group_text.specs.FirstTexts.{first_texts}
 use Rattle.group_text.specs.Texts.{local_nodes, text_of_group}
 use Rattle.circuit_texts.specs.Sizes.{fault_in}
-use Rattle.circuit_texts.proofs.SizeLemmas.{first_refused}
-use Rattle.circuit_texts.proofs.PairedLists.{mapped_more, map_pushed}
-use Rattle.kept_parts.proofs.NumberLemmas.{first_texts-more}
-use Rattle.kept_parts.proofs.numbered.numbered_texts.Goals.{After-deref-id-items, After-group}
+use Rattle.circuit_texts.specs.Told.{told, told_text, told_nodes}
+use Rattle.circuit_texts.proofs.ToldLemmas.{told_all, each_told, all_nodes}
+use Rattle.kept_parts.specs.Uses.{texts_used}
+use Rattle.kept_parts.proofs.ToldNumbers.{on_both}
 use Rattle.kept_parts.proofs.numbered.numbered_texts.Goals as goal
-
--- the ids are those of all groups
-all_ids : (c : After-deref-id-items) → map (λ (id : GroupId). id.node) c.deref-id-items.result.now ≡ map id_of c.args.groups.now.groups
-all_ids c = ap (λ (ids : List GroupId). map (λ (id : GroupId). id.node) ids) c.deref-id-items.ensures.value ∙ c.in_ok-ids.ensures.ids
-
--- so the next id is that of the next group
-next : (c : After-group) → map (λ (id : GroupId). id.node) c.deref-id-items.result.now ≡ map id_of c.args.groups.now.groups →
-    (c.loop-id.id-index < length c.args.groups.now.groups) × (get_or c.args.groups.now.groups c.loop-id.id-index c.group.result.now ≡ c.group.result.now)
-next c ids =
-    group_of_id c.args.groups.now.groups c.requires.ascending c.deref-id-items.result.now ids c.loop-id.id-index _ c.loop-id-test.true c.group.result.now
-    c.group.ensures
-
-pub text_or_fault-requires : goal.text_or_fault-requires
-text_or_fault-requires c = IsGroup-found c.args.graph.now c.args.groups.now.groups _ c.group.result.now c.requires.each c.group.ensures
-
-pub returns-in_err-text-clause-too_large : goal.returns-in_err-text-clause-too_large
-returns-in_err-text-clause-too_large c =
-    let begin = goal.at.returns-in_err-text-clause-too_large c in
-    let at = next begin.After-group (all_ids begin.After-deref-id-items) in
-    let told = err_from_is_err_and c.from_residual-in_err-text.result c.from_residual-in_err-text.ensures.1 in
-    rw (told.1, told.2) (first_refused c.args.groups.now.groups c.loop-id.id-index c.group.result.now c.in_err-text.field-0.0 at.0 (sym at.1)
-    c.loop-id.invariant.fits c.in_err-text.ensures.too_large)
-
-pub loop-id-preserved : goal.loop-id-preserved
-loop-id-preserved c =
-    let begin = goal.at.loop-id-preserved c in
-    let at = next begin.After-group (all_ids begin.After-deref-id-items) in
-    let groups = c.args.groups.now.groups in
-    let group = c.group.result.now in
-    let i = c.loop-id.id-index in
-    let graph = c.args.graph.now in
-    let text = c.in_ok-text.text in
-    let nodes = c.in_ok-text.nodes in
-    let front = map (text_of_group graph) (take i groups) in
-    let all = mapped_more (text_of_group graph) front text groups group i at.0 (sym at.1) refl c.in_ok-text.ensures.text in
-    let ok : is_ok c.push.result ≡ true = sym c.map_err.ensures.variant ∙ ap is_ok c.in_ok-map_err.was in
-    let pushed : c.push.new.self.items ≡ c.loop-id.maps.items ++ nodes ∷ [] = rw ok at c.push.ensures.items in
-    record {
-      texts = c.in_ok-push_text.ensures.texts
-          ∙ (ap (λ texts. texts ++ Some text ∷ []) c.loop-id.invariant.texts
-          ∙ (sym (map-append Some front (text ∷ [])) ∙ ap (map Some) all));
-      known = c.in_ok-push_text.ensures.known
-          ∙ (ap (λ known. known ++ new_texts known (text ∷ [])) c.loop-id.invariant.known
-          ∙ (first_texts-more front text ∙ ap first_texts all));
-      maps = rw pushed (map_pushed (λ nodes. nodes.items) (local_nodes graph) c.loop-id.maps.items nodes groups group i at.0 (sym at.1)
-          c.loop-id.invariant.maps c.in_ok-text.ensures.nodes);
-      fits = All-more (λ group. fault_in group ≡ None) groups i group at.0 c.loop-id.invariant.fits
-          (subst (λ group. fault_in group ≡ None) (sym at.1) c.in_ok-text.ensures.fits);
-    }
 
 pub returns : goal.returns
 returns c =
+    let g = c.args.graph.now in
     let groups = c.args.groups.now.groups in
-    let ids = all_ids (goal.at.returns c).After-deref-id-items in
-    let all : take c.loop-id.id-index groups ≡ groups =
-    take_all c.loop-id.id-index groups
-    (omega (arith, c.loop-id-test.false, ap length ids, length-map c.deref-id-items.result.now (λ (id : GroupId). id.node), length-map groups id_of)) in
-    let so_far = c.loop-id.invariant in
-    record { texts = rw all at so_far.texts; known = rw all at so_far.known; maps = rw all at so_far.maps; fits = rw all at so_far.fits; too_large = tt }
+    let made = c.numbered_up_to.ensures in
+    record {
+      texts = on_both _ _ _ c.numbered_up_to.result (λ one are fits. are ∙ each_told g groups fits) made.texts made.fits;
+      known = on_both _ _ _ c.numbered_up_to.result (λ one are fits. are ∙ ap first_texts (told_all g groups fits)) made.known made.fits;
+      maps = on_both _ _ _ c.numbered_up_to.result (λ one are fits. are ∙ all_nodes g groups fits) made.maps made.fits;
+      fits = made.fits;
+      too_large = made.refused;
+    }
