@@ -12,3 +12,4 @@ pub mod Sources
 pub mod Spreading
 pub mod Evaluating
 pub mod Stepping
+pub mod Wides

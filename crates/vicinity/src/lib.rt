@@ -12,8 +12,9 @@
 //!
 //! The layer above uses the contract of `step_awake`: each member of a group takes its steady state, or in a
 //! joining step the join with it, and what no touched node is near rests afterwards. The looks that it takes are
-//! at most 55 for each node that a touched node is near, and for each switch at it that isn't open. Nothing in
-//! the program uses it yet.
+//! at most 55 for each node that a touched node is near, and for each switch at it that isn't open. [`Wide`] has the
+//! graph, the lists and the touched nodes of such groups together, and finds and writes changes in turns with others
+//! that share the states. Nothing in the program uses it yet.
 //!
 //! ```text
 //! a bit line, and behind pass transistors with gates w0, w1, w2 the cells c0, c1, c2
@@ -44,6 +45,7 @@ mod spread;
 mod stepping;
 mod touching;
 mod turning;
+mod wide;
 
 pub use evaluation::{Scratch, evaluate};
 pub use laws::{
@@ -54,3 +56,4 @@ pub use node_set::NodeSet;
 pub use placing::place_awake;
 pub use stepping::step_awake;
 pub use touching::take_state;
+pub use wide::Wide;
