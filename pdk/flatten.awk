@@ -51,7 +51,7 @@ function write_transistor(fields, count, path, depth, at,   type, gate, source, 
     drain = node_of(fields[2], path, depth)
     gate = node_of(fields[3], path, depth)
     source = node_of(fields[4], path, depth)
-    if (!(gate in is_gate)) { is_gate[gate] = 1; gate_names[++gate_count] = gate }
+    if (!(gate in is_gate) && gate !~ /^(Gnd|gnd!?|vdd!?)$/) { is_gate[gate]; gate_names[++gate_count] = gate }
     lines[++line_count] = type " " gate " " source " " drain strength " " (path == "" ? "" : path ".") fields[1]
 }
 
@@ -100,9 +100,9 @@ END {
     expand("", "", 0)
     print "| units: 100 tech: deck format: MIT"
     count = split(tolower(one), list, ",")
-    for (i = 1; i <= count; i++) print "= Vdd " list[i]
+    for (i = 1; i <= count; i++) { print "= Vdd " list[i]; is_supply[list[i]] }
     count = split(tolower(zero), list, ",")
-    for (i = 1; i <= count; i++) print "= Gnd " list[i]
-    if (gates) for (i = 1; i <= gate_count; i++) print "A " gate_names[i] " size:" gates
+    for (i = 1; i <= count; i++) { print "= Gnd " list[i]; is_supply[list[i]] }
+    if (gates) for (i = 1; i <= gate_count; i++) if (!(gate_names[i] in is_supply)) print "A " gate_names[i] " size:" gates
     for (i = 1; i <= line_count; i++) print lines[i]
 }
