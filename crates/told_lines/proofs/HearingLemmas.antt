@@ -1,8 +1,8 @@
 -- Lines that are told one after the other: what of them was heard so far, and the rows of columns that are left.
-use Rattle.std.proofs.Common.{◌≡◌, ℕ, suc, ◌+◌, ◌-◌, ◌<◌, arith, List, [], ◌∷◌, ◌++◌, refl, sym, ap, subst, ◌∙◌, append-nil, append_assoc}
+use Rattle.std.proofs.Common.{◌≡◌, ℕ, suc, ◌+◌, ◌-◌, ◌<◌, inl, inr, arith, List, [], ◌∷◌, ◌++◌, refl, sym, ap, subst, ◌∙◌, append-nil, append_assoc}
 use Rattle.std.specs.Prelude.{Result, Ok, Err, OnOk, OnErr}
 use Rattle.told_lines.specs.Lines.{Line, Told}
-use Rattle.told_lines.specs.Hearing.{hear_all, HearsPart, Hears, SoFar, of_column, row_from}
+use Rattle.told_lines.specs.Hearing.{hear_all, HearsPart, Hears, SoFar, HearsFront, of_column, row_from}
 
 -- a front and the rest are heard one after the other
 pub hear_all-append : {H : Type 0} (hear : H → Told → H) (before : H) (front rest : List Told) →
@@ -47,6 +47,17 @@ so_far-stopped hear part start now after all left piece rest parted before stopp
   heard = subst (λ h. part h stopped.next after)
       (ap (λ h. hear_all hear h stopped.front) before.heard ∙ sym (hear_all-append hear start before.done stopped.front)) stopped.heard;
 }
+
+-- of a piece more a front was heard, and perhaps a part of its next line
+pub so_far-front : {H : Type 0} (hear : H → Told → H) (part : H → Told → H → Type 0) (start now after : H) (all left piece rest : List Told) →
+    left ≡ piece ++ rest → SoFar hear start now all left → HearsFront hear part now after piece → HearsFront hear part start after all
+so_far-front hear part start now after all left piece rest parted before (inl (more, heard)) = inl (
+  more ++ rest,
+  so_far-more hear start now after all left heard.done (more ++ rest)
+      (parted ∙ ap (λ (lines : List Told). lines ++ rest) heard.split ∙ append_assoc heard.done more rest) before heard.heard,
+)
+so_far-front hear part start now after all left piece rest parted before (inr stopped) =
+    inr (so_far-stopped hear part start now after all left piece rest parted before stopped)
 
 -- a column's lines and others are told one after the other
 pub of_column-append : (column : ℕ) (lines more : List Line) → of_column column (lines ++ more) ≡ of_column column lines ++ of_column column more

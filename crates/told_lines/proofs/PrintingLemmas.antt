@@ -1,11 +1,11 @@
 -- What a printer has written after lines: their text, and at a fault a part of it.
-use Rattle.std.proofs.Common.{◌≡◌, ℕ, Bool, false, List, [], ◌∷◌, ◌++◌, Option, refl, sym, ap, subst, ◌∙◌, append_assoc}
+use Rattle.std.proofs.Common.{◌≡◌, ℕ, Bool, false, inl, inr, List, [], ◌∷◌, ◌++◌, Option, refl, sym, ap, subst, ◌∙◌, append_assoc}
 use Rattle.std.specs.Prelude.{Result, Ok, Err, OnErr}
 use Rattle.std.specs.Io.KnownBytes.{append_known}
 use Rattle.port_edge.specs.Sending.{Sends, WritesPart}
 use Rattle.port_edge.proofs.SendingLemmas.{append_known-nil, append_known-append, sends_part}
 use Rattle.told_lines.specs.Lines.{Line, Told, line_text, text_of}
-use Rattle.told_lines.specs.Hearing.{hear_all, HearsPart, of_column}
+use Rattle.told_lines.specs.Hearing.{hear_all, HearsPart, HearsFront, of_column}
 use Rattle.told_lines.specs.Printing.{Page, print, PrintsPart, printed, text_printed}
 use Rattle.told_lines.specs.Laws.{LinesArePrinted}
 
@@ -54,6 +54,26 @@ written-part page after lines is =
     } in
     sends_part page.written (append_known page.written front) after.written (text_printed page.numbered lines) next rest sent part
 
+-- and where a front of them was heard, and perhaps a part of the next one
+pub written-front : (page after : Page) (lines : List Told) → HearsFront print PrintsPart page after lines →
+    WritesPart page.written after.written (text_printed page.numbered lines)
+written-front page after lines (inl (left, is)) = (
+  text_printed page.numbered left,
+  record {
+    sent = text_printed page.numbered is.done;
+    whole = ap (text_printed page.numbered) is.split ∙ text_printed-append page.numbered is.done left;
+    grew = ap (λ (now : Page). now.written) is.heard ∙ written-all page is.done;
+  },
+)
+written-front page after lines (inr is) = written-part page after lines is
+
+-- the text of lines and of others behind them
+pub text_of-append : (lines more : List Line) → text_of (lines ++ more) ≡ text_of lines ++ text_of more
+text_of-append [] more = refl
+text_of-append (line ∷ lines) more =
+    ap (λ (text : List ℕ). line_text line ++ text) (text_of-append lines more)
+    ∙ sym (append_assoc (line_text line) (text_of lines) (text_of more))
+
 -- the text of a column's lines without numbers
 pub text-plain : (column : ℕ) (lines : List Line) → text_printed false (of_column column lines) ≡ text_of lines
 text-plain column [] = refl
@@ -67,13 +87,18 @@ plain-all page column lines plain =
     ∙ ap (λ (numbered : Bool). append_known page.written (text_printed numbered (of_column column lines))) plain
     ∙ ap (append_known page.written) (text-plain column lines)
 
--- and where a part of them was heard, a part of their text
-pub plain-part : (page after : Page) (column : ℕ) (lines : List Line) → page.numbered ≡ false →
-    HearsPart print PrintsPart page after (of_column column lines) → WritesPart page.written after.written (text_of lines)
-plain-part page after column lines plain is =
+-- and where a front of them was heard, and perhaps a part of the next one
+pub plain-front : (page after : Page) (column : ℕ) (lines : List Line) → page.numbered ≡ false →
+    HearsFront print PrintsPart page after (of_column column lines) → WritesPart page.written after.written (text_of lines)
+plain-front page after column lines plain is =
     subst (WritesPart page.written after.written)
     (ap (λ (numbered : Bool). text_printed numbered (of_column column lines)) plain ∙ text-plain column lines)
-    (written-part page after (of_column column lines) is)
+    (written-front page after (of_column column lines) is)
+
+-- so where a part of them was heard
+pub plain-part : (page after : Page) (column : ℕ) (lines : List Line) → page.numbered ≡ false →
+    HearsPart print PrintsPart page after (of_column column lines) → WritesPart page.written after.written (text_of lines)
+plain-part page after column lines plain is = plain-front page after column lines plain (inr is)
 
 -- so a printer writes lines
 pub lines_printed : LinesArePrinted

@@ -1,5 +1,5 @@
 -- What lines that were told come to, by what one line more does.
-use Rattle.std.specs.Prelude.{◌≡◌, ℕ, zero, suc, ◌+◌, List, [], ◌∷◌, ◌++◌, map, Result, Ok, Err}
+use Rattle.std.specs.Prelude.{◌≡◌, ℕ, zero, suc, ◌+◌, ◌⊎◌, List, [], ◌∷◌, ◌++◌, map, Result, Ok, Err}
 use Rattle.told_lines.specs.Lines.{Line, Told}
 
 -- after these lines, one after the other
@@ -38,3 +38,7 @@ pub record SoFar {H : Type 0} (hear : H → Told → H) (start now : H) (all lef
   pub done : List Told
   pub split : all ≡ done ++ left
   pub heard : now ≡ hear_all hear start done
+
+-- of these lines a front was heard, and of the next one a part, or nothing
+abbrev pub HearsFront : {H : Type 0} → (H → Told → H) → (H → Told → H → Type 0) → H → H → List Told → Type 0
+HearsFront hear part before after lines = ((left : List Told) × SoFar hear before after lines left) ⊎ HearsPart hear part before after lines

@@ -3,7 +3,7 @@
 ghost use Rattle.std.specs.Prelude.{◌≡◌, ℕ, ◌≤◌, IsOk, OnOk, OnErr};
 ghost use Rattle.port_edge.specs.Ports.{faults_after, refusals_after};
 
-use port_edge::PortFault;
+use port_edge::{NotedFile, PortFault};
 use ternary::{NoMemory, Tern};
 use wave_print::{FaultCode, FaultPlace};
 
@@ -46,7 +46,8 @@ pub enum Line<'a> {
 ///
 /// Contracts see what was heard so far, and what a line more does to it; at a fault a part of the line was
 /// heard, or nothing. Two counts are as a sink's. Room for a line is taken before it is told, and it stays:
-/// so a hearer that writes lacks no memory of its own once it has its room.
+/// so a hearer that writes lacks no memory of its own once it has its room. A hearer may be given a note besides,
+/// for a human, which is no line.
 pub trait Lines {
     ghost use Rattle.told_lines.specs.Lines.{Told, IsShort, room_of, line_seen};
 
@@ -83,4 +84,14 @@ pub trait Lines {
         ensures part { OnErr result (part (heard self.old) (record { column = column; line = line_seen line.entry }) (heard self.new)) }
         ensures faults { faults self.new ≡ faults_after (faults self.old) result }
         ensures refusals { refusals self.new ≡ refusals_after (refusals self.old) result };
+
+    /// Notes for a human what a file has, by a text that follows the file's name.
+    ///
+    /// A note is no line, and may be passed over: nothing else is said of it.
+    fn note(&mut self, _file: NotedFile, _text: &[u8])
+        ensures room { room self.new ≡ room self.old }
+        ensures heard { heard self.new ≡ heard self.old }
+        ensures faults { faults self.new ≡ faults self.old }
+        ensures refusals { refusals self.new ≡ refusals self.old }
+    {}
 }

@@ -4,7 +4,7 @@ ghost use Rattle.told_lines.specs.Lines as spec;
 ghost use Rattle.told_lines.specs.Lines.{line_seen};
 
 use crate::lines::{Line, Lines};
-use port_edge::PortFault;
+use port_edge::{NotedFile, PortFault};
 use ternary::NoMemory;
 
 /// A hearer that passes all lines on to an inner one, and remembers whether one of them was of an expectation
@@ -40,6 +40,10 @@ impl<L: Lines + Drop> Lines for Met<L> {
     fn tell(&mut self, column: u32, line: Line) -> Result<(), PortFault> {
         self.missed |= is_unmet(line);
         self.inner.tell(column, line)
+    }
+
+    fn note(&mut self, file: NotedFile, text: &[u8]) {
+        self.inner.note(file, text);
     }
 }
 

@@ -3,7 +3,7 @@ ghost use Rattle.std.specs.Prelude.{◌≡◌, IfOk};
 
 use crate::lines::{Line, Lines};
 use crate::putting::put_told;
-use port_edge::{PortFault, Sink, send};
+use port_edge::{NotedFile, PortFault, Sink, send};
 use std::alloc::Global;
 use std::marker::Model;
 use ternary::NoMemory;
@@ -90,6 +90,10 @@ impl<S: Sink + Drop> Lines for Printer<S> {
         self.line.clear();
         sent
     }
+
+    fn note(&mut self, file: NotedFile, text: &[u8]) {
+        self.sink.note(file, text);
+    }
 }
 
 impl<S: Sink + Drop> Sink for Printer<S> {
@@ -101,5 +105,9 @@ impl<S: Sink + Drop> Sink for Printer<S> {
 
     fn write(&mut self, piece: &[u8]) -> Result<usize, PortFault> {
         self.sink.write(piece)
+    }
+
+    fn note(&mut self, file: NotedFile, text: &[u8]) {
+        self.sink.note(file, text);
     }
 }
