@@ -2,8 +2,8 @@
 //! do to them.
 //!
 //! The main type is `Session`, and the main call is `Session::apply`. The layer above uses its
-//! contract, in the words of `session_meaning`: an accepted command has its effect, `Effect`, the sink grew
-//! by its lines, and the analyst's list by the texts of groups that were new; a refused one has the first
+//! contract, in the words of `session_meaning`: an accepted command has its effect, `Effect`, its lines were
+//! heard, and the analyst's list grew by the texts of groups that were new; a refused one has the first
 //! refusal of its command, `refusal_of`, or else a group that is too large, and changes nothing.
 //!
 //! Unit steps are the compiled machine's. It is built at the first command that needs it, over the
@@ -14,7 +14,7 @@
 //!
 //! ```text
 //! let mut session = Session::new(alloc, circuit)?;
-//! session.apply(&command, analyst, out)?     for `set a=1`, then for `phase`: `1 1 10` is written
+//! session.apply(&command, analyst, out)?     for `set a=1`, then for `phase`: the line `1 1 10` is told
 //! ```
 //!
 //! After Bryant, "A Switch-Level Model and Simulator for MOS Digital Systems", 1984, and Bryant, Beatty,
@@ -40,4 +40,3 @@ pub use session::Session;
 pub use session_meaning::{
     ApplyFault, Clock, FIRST_LIMIT, MOST_WATCHED, Refusal, only_edits_lose_the_machine, places_of,
 };
-pub use waves::send_text;

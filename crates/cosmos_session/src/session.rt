@@ -11,12 +11,12 @@ ghost use Rattle.session_meaning.specs.Outcomes.{Obeys};
 use crate::stage::Stage;
 use analysis_cache::{Analyst, Kept};
 use netlist::Circuit;
-use port_edge::Sink;
 use script_lang::Command;
 use session_meaning::{ApplyFault, Clock, FIRST_LIMIT};
 use std::alloc::Global;
 use std::marker::Model;
 use ternary::{NoMemory, Tern};
+use told_lines::Lines;
 use unit_step::Machine;
 
 /// A simulation session: a circuit, the state of its nodes, the nodes that are watched, the clocks,
@@ -136,7 +136,7 @@ impl Session {
         self.stage.machine()
     }
 
-    /// Does a command, and writes its lines.
+    /// Does a command, and tells its lines.
     ///
     /// A refusal comes exactly where the command has one, the first of its causes, and changes nothing; a
     /// command that needs the circuit built is refused last where a group is too large, and the first such
@@ -149,21 +149,22 @@ impl Session {
     /// lacked memory for that, or most of the machine's parts were left by groups that earlier edits dissolved; it
     /// is accepted, and the next build makes another machine, without analysing again what is kept.
     ///
-    /// A fault of the sink ends the command: nothing is written after the one call that failed, so its count
-    /// rose by one, and at no other answer. Then a front of the command's lines was written, and the data are
-    /// as after a whole part of it: its effect, or of a `cycle` the phases at a front of its places. Want of
-    /// memory of the sink is alike. Want of memory of any other kind changes nothing but what is kept: all
-    /// memory is taken before the first unit step, a build last of all.
-    pub fn apply<A: Analyst, S: Sink>(
+    /// A fault of the hearer ends the command: nothing is told after the one call that failed, so its count
+    /// rose by one, and at no other answer. Then a front of the command's lines was heard, and of the next one a
+    /// part, and the data are as after a whole part of it: its effect, or of a `cycle` the phases at a front of its
+    /// places. Want of memory of the hearer while it is told a line is alike. Want of memory of any other kind
+    /// changes nothing but what is kept: all memory is taken before the first unit step, also the hearer's room
+    /// for a line, and a build last of all.
+    pub fn apply<A: Analyst, L: Lines>(
         &mut self,
         command: &Command,
         analyst: &mut A,
-        out: &mut S,
+        out: &mut L,
     ) -> Result<(), ApplyFault>
         requires { IsFormed command.now }
-        ensures obeys { Obeys self.old command.now self.new (S.written out.old) (S.written out.new)
-            (A.analysed analyst.old) (A.analysed analyst.new) (S.refusals out.old) (S.refusals out.new) result }
-        ensures faults { S.faults out.new ≡ faults_applied (S.faults out.old) result }
+        ensures obeys { Obeys L.hear L.part self.old command.now self.new (L.heard out.old) (L.heard out.new)
+            (A.analysed analyst.old) (A.analysed analyst.new) (L.refusals out.old) (L.refusals out.new) result }
+        ensures faults { L.faults out.new ≡ faults_applied (L.faults out.old) result }
         ensures machine { OnOk result (IsMachineAfter self.old command.now self.new) }
         ensures named { IfErr result (NamesNode self.new.core.circuit.graph) }
         ensures session { IsHeldSession self.new }
@@ -180,17 +181,17 @@ impl Session {
         let _ = &self.alloc;
     }
 
-    // Does a command, and writes its lines.
-    fn obey<A: Analyst, S: Sink>(
+    // Does a command, and tells its lines.
+    fn obey<A: Analyst, L: Lines>(
         &mut self,
         command: &Command,
         analyst: &mut A,
-        out: &mut S,
+        out: &mut L,
     ) -> Result<(), ApplyFault>
         requires { IsFormed command.now }
-        ensures obeys { Obeys self.old command.now self.new (S.written out.old) (S.written out.new)
-            (A.analysed analyst.old) (A.analysed analyst.new) (S.refusals out.old) (S.refusals out.new) result }
-        ensures faults { S.faults out.new ≡ faults_applied (S.faults out.old) result }
+        ensures obeys { Obeys L.hear L.part self.old command.now self.new (L.heard out.old) (L.heard out.new)
+            (A.analysed analyst.old) (A.analysed analyst.new) (L.refusals out.old) (L.refusals out.new) result }
+        ensures faults { L.faults out.new ≡ faults_applied (L.faults out.old) result }
         ensures machine { OnOk result (IsMachineAfter self.old command.now self.new) }
     {
         match command {

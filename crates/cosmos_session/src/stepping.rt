@@ -1,10 +1,11 @@
 //! The commands that have the circuit built: unit steps, phases and cycles, and their waveform lines.
 
-ghost use Rattle.std.specs.Prelude.{◌≡◌, ◌<◌, ◌≤◌, [], ◌∷◌, length, slice_set, All, IfErr, IfSome, OnOk};
+ghost use Rattle.std.specs.Prelude.{◌≡◌, ◌<◌, ◌≤◌, ◌+◌, [], ◌∷◌, length, slice_set, All, IfErr, IfSome, OnOk};
 ghost use Rattle.std.specs.List.{range_with_len};
 ghost use Rattle.path_meaning.specs.Graphs.{level_of};
 ghost use Rattle.path_meaning.specs.Switching.{state_at};
 ghost use Rattle.path_meaning.specs.declared.TheConstants.{RAILS};
+ghost use Rattle.wave_print.specs.declared.lines.TheConstants.{COLUMN_ROOM, WAVE_LINE_ROOM};
 ghost use Rattle.script_lang.specs.declared.command.Command.TheVariants as family;
 ghost use Rattle.script_lang.specs.declared.command.Run.TheVariants as asked;
 ghost use Rattle.script_lang.specs.Forms.{IsFormedRun, IsTimes};
@@ -22,23 +23,24 @@ use crate::waves::WaveRoom;
 use analysis_cache::Analyst;
 use oscillation_x::Settled;
 use path_meaning::{Graph, graphs_are_wired};
-use port_edge::Sink;
 use script_lang::Run;
 use session_meaning::{ApplyFault, Clock, places_of};
 use strength_order::INPUT_LEVEL;
+use told_lines::Lines;
+use wave_print::{COLUMN_ROOM, WAVE_LINE_ROOM};
 
 impl Session {
     /// Has the circuit built, and does what the command says.
-    pub(crate) fn run<A: Analyst, S: Sink>(
+    pub(crate) fn run<A: Analyst, L: Lines>(
         &mut self,
         run: &Run,
         analyst: &mut A,
-        out: &mut S,
+        out: &mut L,
     ) -> Result<(), ApplyFault>
         requires { IsFormedRun run.now }
-        ensures obeys { Obeys self.old (family.Run run.now) self.new (S.written out.old) (S.written out.new)
-            (A.analysed analyst.old) (A.analysed analyst.new) (S.refusals out.old) (S.refusals out.new) result }
-        ensures faults { S.faults out.new ≡ faults_applied (S.faults out.old) result }
+        ensures obeys { Obeys L.hear L.part self.old (family.Run run.now) self.new (L.heard out.old) (L.heard out.new)
+            (A.analysed analyst.old) (A.analysed analyst.new) (L.refusals out.old) (L.refusals out.new) result }
+        ensures faults { L.faults out.new ≡ faults_applied (L.faults out.old) result }
         ensures machine { OnOk result (RunsMachine self.old run.now self.new) }
     {
         match run {
@@ -50,70 +52,74 @@ impl Session {
     }
 
     // `step`: one unit step, and its waveform line.
-    fn step<A: Analyst, S: Sink>(&mut self, analyst: &mut A, out: &mut S) -> Result<(), ApplyFault>
-        ensures obeys { Obeys self.old (family.Run asked.Step) self.new (S.written out.old) (S.written out.new)
-            (A.analysed analyst.old) (A.analysed analyst.new) (S.refusals out.old) (S.refusals out.new) result }
-        ensures faults { S.faults out.new ≡ faults_applied (S.faults out.old) result }
+    fn step<A: Analyst, L: Lines>(&mut self, analyst: &mut A, out: &mut L) -> Result<(), ApplyFault>
+        ensures obeys { Obeys L.hear L.part self.old (family.Run asked.Step) self.new (L.heard out.old) (L.heard out.new)
+            (A.analysed analyst.old) (A.analysed analyst.new) (L.refusals out.old) (L.refusals out.new) result }
+        ensures faults { L.faults out.new ≡ faults_applied (L.faults out.old) result }
         ensures machine { OnOk result (StepsMachine self.old self.new) }
     {
         let mut room = WaveRoom::new(self.alloc, self.watched.len())?;
+        out.reserve(COLUMN_ROOM + WAVE_LINE_ROOM)?;
         self.prepare(analyst)?;
-        self.step_and_send(&mut room, out)
+        self.step_and_tell(&mut room, out)
     }
 
     // `phase`: unit steps until nothing changes, past the limit joining ones, and a waveform line.
     #[tactic(auto, using(session_meaning::proofs::OutcomeLemmas::on_ok, session_meaning::proofs::MoveLemmas::phase_readied))]
-    fn phase<A: Analyst, S: Sink>(&mut self, analyst: &mut A, out: &mut S) -> Result<(), ApplyFault>
-        ensures obeys { Obeys self.old (family.Run asked.Phase) self.new (S.written out.old) (S.written out.new)
-            (A.analysed analyst.old) (A.analysed analyst.new) (S.refusals out.old) (S.refusals out.new) result }
-        ensures faults { S.faults out.new ≡ faults_applied (S.faults out.old) result }
+    fn phase<A: Analyst, L: Lines>(&mut self, analyst: &mut A, out: &mut L) -> Result<(), ApplyFault>
+        ensures obeys { Obeys L.hear L.part self.old (family.Run asked.Phase) self.new (L.heard out.old) (L.heard out.new)
+            (A.analysed analyst.old) (A.analysed analyst.new) (L.refusals out.old) (L.refusals out.new) result }
+        ensures faults { L.faults out.new ≡ faults_applied (L.faults out.old) result }
         ensures machine { OnOk result (SettlesMachine self.old asked.Phase self.new) }
     {
         let mut room = WaveRoom::new(self.alloc, self.watched.len())?;
+        out.reserve(COLUMN_ROOM + WAVE_LINE_ROOM)?;
         self.prepare(analyst)?;
-        self.settle_and_send(&mut room, out)
+        self.settle_and_tell(&mut room, out)
     }
 
     // `cycle`: so many times, for each place of the clocks in order, sets their nodes and does what
     // a phase does.
-    fn cycle<A: Analyst, S: Sink>(
+    fn cycle<A: Analyst, L: Lines>(
         &mut self,
         times: u64,
         analyst: &mut A,
-        out: &mut S,
+        out: &mut L,
     ) -> Result<(), ApplyFault>
         requires { IsTimes times }
-        ensures obeys { Obeys self.old (family.Run (asked.Cycle times)) self.new (S.written out.old) (S.written out.new)
-            (A.analysed analyst.old) (A.analysed analyst.new) (S.refusals out.old) (S.refusals out.new) result }
-        ensures faults { S.faults out.new ≡ faults_applied (S.faults out.old) result }
+        ensures obeys { Obeys L.hear L.part self.old (family.Run (asked.Cycle times)) self.new (L.heard out.old) (L.heard out.new)
+            (A.analysed analyst.old) (A.analysed analyst.new) (L.refusals out.old) (L.refusals out.new) result }
+        ensures faults { L.faults out.new ≡ faults_applied (L.faults out.old) result }
         ensures machine { OnOk result (SettlesMachine self.old (asked.Cycle times) self.new) }
     {
         if let Some(refusal) = refusals::cycle_refusal(&self.circuit, &self.clocks) {
             return Err(ApplyFault::Refused(refusal));
         }
         let mut room = WaveRoom::new(self.alloc, self.watched.len())?;
+        out.reserve(COLUMN_ROOM + WAVE_LINE_ROOM)?;
         self.prepare(analyst)?;
         self.run_cycles(times, &mut room, out)
     }
 
     // Runs the clocks through all their places, so many times. The machine fits, and the clocks' nodes
     // are input nodes.
-    fn run_cycles<S: Sink>(
+    fn run_cycles<L: Lines>(
         &mut self,
         times: u64,
         room: &mut WaveRoom,
-        out: &mut S,
+        out: &mut L,
     ) -> Result<(), ApplyFault>
         requires built { IsBuilt self.old }
         requires inputs { All (λ clock. level_of self.old.core.circuit.graph clock.node ≡ INPUT_LEVEL) self.old.core.clocks }
         requires ready { IsReady self.old.core }
         requires room { length self.old.core.watched ≤ room.old }
-        ensures beats { TakesBeats (effect.places_in (places_of self.old.core.clocks) times) self.old.core self.new.core (S.written out.old) (S.written out.new) result }
+        requires line { COLUMN_ROOM + WAVE_LINE_ROOM ≤ L.room out.old }
+        ensures beats { TakesBeats L.hear L.part (effect.places_in (places_of self.old.core.clocks) times) self.old.core self.new.core (L.heard out.old) (L.heard out.new) result }
         ensures moves { OnOk result (BeatsMove (effect.places_in (places_of self.old.core.clocks) times) self.old self.new) }
         ensures built { IsBuilt self.new }
         ensures cause { IfErr result IsSinkFault }
-        ensures faults { S.faults out.new ≡ faults_applied (S.faults out.old) result }
-        ensures refusals { S.refusals out.new ≡ refusals_sent (S.refusals out.old) result }
+        ensures faults { L.faults out.new ≡ faults_applied (L.faults out.old) result }
+        ensures refusals { L.refusals out.new ≡ refusals_sent (L.refusals out.old) result }
     {
         for _cycle in 0..times {
             self.run_cycle(room, out)?;
@@ -123,22 +129,24 @@ impl Session {
 
     // Runs the clocks through all their places once. The machine fits, and the clocks' nodes are input
     // nodes.
-    fn run_cycle<S: Sink>(&mut self, room: &mut WaveRoom, out: &mut S) -> Result<(), ApplyFault>
+    fn run_cycle<L: Lines>(&mut self, room: &mut WaveRoom, out: &mut L) -> Result<(), ApplyFault>
         requires built { IsBuilt self.old }
         requires inputs { All (λ clock. level_of self.old.core.circuit.graph clock.node ≡ INPUT_LEVEL) self.old.core.clocks }
         requires room { length self.old.core.watched ≤ room.old }
-        ensures beats { TakesBeats (range_with_len 0 (places_of self.old.core.clocks)) self.old.core self.new.core (S.written out.old) (S.written out.new) result }
+        requires line { COLUMN_ROOM + WAVE_LINE_ROOM ≤ L.room out.old }
+        ensures beats { TakesBeats L.hear L.part (range_with_len 0 (places_of self.old.core.clocks)) self.old.core self.new.core (L.heard out.old) (L.heard out.new) result }
         ensures moves { OnOk result (BeatsMoveOn (range_with_len 0 (places_of self.old.core.clocks)) self.old self.new) }
         ensures room { room.new ≡ room.old }
+        ensures line { L.room out.new ≡ L.room out.old }
         ensures setup { SameSetup self.old.core self.new.core }
         ensures built { IsBuilt self.new }
         ensures cause { IfErr result IsSinkFault }
-        ensures faults { S.faults out.new ≡ faults_applied (S.faults out.old) result }
-        ensures refusals { S.refusals out.new ≡ refusals_sent (S.refusals out.old) result }
+        ensures faults { L.faults out.new ≡ faults_applied (L.faults out.old) result }
+        ensures refusals { L.refusals out.new ≡ refusals_sent (L.refusals out.old) result }
     {
         for place in 0..places_of(&self.clocks) {
             self.put_clocks(place);
-            self.settle_and_send(room, out)?;
+            self.settle_and_tell(room, out)?;
         }
         Ok(())
     }
@@ -155,18 +163,19 @@ impl Session {
         put_states(&self.clocks, place, self.circuit.graph(), &mut self.stage);
     }
 
-    // Takes a unit step, and sends its waveform line. The machine fits.
-    fn step_and_send<S: Sink>(&mut self, room: &mut WaveRoom, out: &mut S) -> Result<(), ApplyFault>
+    // Takes a unit step, and tells its waveform line. The machine fits.
+    fn step_and_tell<L: Lines>(&mut self, room: &mut WaveRoom, out: &mut L) -> Result<(), ApplyFault>
         requires built { IsBuilt self.old }
         requires room { length self.old.core.watched ≤ room.old }
-        ensures step { IsStepSent self.old.core self.new.core (S.written out.old) (S.written out.new) result }
+        requires line { COLUMN_ROOM + WAVE_LINE_ROOM ≤ L.room out.old }
+        ensures step { IsStepSent L.hear L.part self.old.core self.new.core (L.heard out.old) (L.heard out.new) result }
         ensures machine { StepsMachine self.old self.new }
         ensures cause { IfErr result IsSinkFault }
-        ensures faults { S.faults out.new ≡ faults_applied (S.faults out.old) result }
-        ensures refusals { S.refusals out.new ≡ refusals_sent (S.refusals out.old) result }
+        ensures faults { L.faults out.new ≡ faults_applied (L.faults out.old) result }
+        ensures refusals { L.refusals out.new ≡ refusals_sent (L.refusals out.old) result }
     {
         self.take_step();
-        self.send_wave(1, false, room, out)
+        self.tell_wave(1, false, room, out)
     }
 
     // Takes a unit step, and counts its waveform line. The machine fits.
@@ -179,25 +188,27 @@ impl Session {
         self.count = self.count.saturating_add(1);
     }
 
-    // Does what a phase does, and sends its waveform line. The machine fits.
-    fn settle_and_send<S: Sink>(
+    // Does what a phase does, and tells its waveform line. The machine fits.
+    fn settle_and_tell<L: Lines>(
         &mut self,
         room: &mut WaveRoom,
-        out: &mut S,
+        out: &mut L,
     ) -> Result<(), ApplyFault>
         requires built { IsBuilt self.old }
         requires room { length self.old.core.watched ≤ room.old }
-        ensures phase { IsPhaseSent self.old.core self.new.core (S.written out.old) (S.written out.new) result }
+        requires line { COLUMN_ROOM + WAVE_LINE_ROOM ≤ L.room out.old }
+        ensures phase { IsPhaseSent L.hear L.part self.old.core self.new.core (L.heard out.old) (L.heard out.new) result }
         ensures moves { PhaseMoves self.old self.new }
         ensures built { IsBuilt self.new }
         ensures setup { SameSetup self.old.core self.new.core }
         ensures room { room.new ≡ room.old }
+        ensures line { L.room out.new ≡ L.room out.old }
         ensures cause { IfErr result IsSinkFault }
-        ensures faults { S.faults out.new ≡ faults_applied (S.faults out.old) result }
-        ensures refusals { S.refusals out.new ≡ refusals_sent (S.refusals out.old) result }
+        ensures faults { L.faults out.new ≡ faults_applied (L.faults out.old) result }
+        ensures refusals { L.refusals out.new ≡ refusals_sent (L.refusals out.old) result }
     {
         let settled = self.settle();
-        self.send_wave(settled.steps, settled.joined, room, out)
+        self.tell_wave(settled.steps, settled.joined, room, out)
     }
 
     // Settles, and counts the waveform line. The machine fits.
@@ -211,23 +222,25 @@ impl Session {
         settled
     }
 
-    // Sends the waveform line of a step or a phase just done.
-    fn send_wave<S: Sink>(
+    // Tells the waveform line of a step or a phase just done.
+    fn tell_wave<L: Lines>(
         &self,
         k: u64,
         mark: bool,
         room: &mut WaveRoom,
-        out: &mut S,
+        out: &mut L,
     ) -> Result<(), ApplyFault>
-        requires { length self.now.core.watched ≤ room.old }
-        ensures sent { Sent (S.written out.old) (S.written out.new) (effect.wave_by self.now.core k mark ∷ []) result }
+        requires room { length self.now.core.watched ≤ room.old }
+        requires line { COLUMN_ROOM + WAVE_LINE_ROOM ≤ L.room out.old }
+        ensures sent { Sent L.hear L.part (L.heard out.old) (L.heard out.new) (effect.wave_by self.now.core k mark ∷ []) result }
         ensures room { room.new ≡ room.old }
+        ensures line { L.room out.new ≡ L.room out.old }
         ensures cause { IfErr result IsSinkFault }
-        ensures faults { S.faults out.new ≡ faults_applied (S.faults out.old) result }
-        ensures refusals { S.refusals out.new ≡ refusals_sent (S.refusals out.old) result }
+        ensures faults { L.faults out.new ≡ faults_applied (L.faults out.old) result }
+        ensures refusals { L.refusals out.new ≡ refusals_sent (L.refusals out.old) result }
     {
         let state = self.stage.state();
-        room.send(self.count, k, mark, state, &self.watched, out)
+        room.tell(self.count, k, mark, state, &self.watched, out)
     }
 }
 

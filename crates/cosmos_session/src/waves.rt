@@ -1,36 +1,34 @@
-//! The room of a waveform line, taken before the first unit step.
+//! Waveform lines: the room of one, taken before the first unit step, and how a line is told.
 
-ghost use Rattle.std.specs.Prelude.{◌≡◌, ◌<◌, ◌≤◌, ◌+◌, ◌++◌, length, map, vec_len, vec_capacity, All, OnOk, OnErr, IfErr, IfOk};
-ghost use Rattle.std.specs.Io.KnownBytes.{append_known};
-ghost use Rattle.port_edge.specs.Sending.{WritesPart};
+ghost use Rattle.std.specs.Prelude.{◌≡◌, ◌<◌, ◌≤◌, ◌+◌, ◌++◌, [], ◌∷◌, length, map, vec_len, vec_capacity, All, IfErr, IfOk};
 ghost use Rattle.path_meaning.specs.Switching.{state_at};
-ghost use Rattle.wave_print.specs.Lines.{wave_line_of};
+ghost use Rattle.wave_print.specs.declared.lines.TheConstants.{COLUMN_ROOM, WAVE_LINE_ROOM};
+ghost use Rattle.told_lines.specs.Lines.{Wave, IsShort, room_of, line_seen};
 ghost use Rattle.session_meaning.specs.Sinks.{IsSinkFault, faults_applied, refusals_sent};
+ghost use Rattle.session_meaning.specs.Outcomes.{Sent};
 
-use port_edge::{Sink, send};
 use session_meaning::{ApplyFault, MOST_WATCHED};
 use std::alloc::Global;
 use std::marker::Model;
 use ternary::{NoMemory, Tern};
-use wave_print::{LineBuf, WAVE_LINE_ROOM, wave_line};
+use told_lines::{Line, Lines};
 
-/// The room of one waveform line: for the states of so many nodes, and for the line's bytes.
+/// The room of one waveform line's values, the states of so many nodes.
 ///
 /// Contracts see for how many nodes. It is empty but within a call.
 #[derive(Drop)]
 pub(crate) struct WaveRoom {
     values: Vec<Tern>,
-    line: LineBuf,
 }
 
 impl Model for WaveRoom {
-    ghost use Rattle.std.specs.Prelude.{◌≡◌, ◌≤◌, ℕ, [], vec_capacity};
+    ghost use Rattle.std.specs.Prelude.{◌≡◌, ℕ, [], vec_capacity};
 
     ghost Value = { ℕ };
 
     ghost view = { λ room. vec_capacity room.values };
 
-    ghost invariant = { λ room. (room.values.items ≡ []) × (room.line.bytes ≡ []) × (300 ≤ room.line.spare) };
+    ghost invariant = { λ room. room.values.items ≡ [] };
 }
 
 impl WaveRoom {
@@ -40,48 +38,57 @@ impl WaveRoom {
     {
         Ok(WaveRoom {
             values: Vec::with_capacity(alloc, nodes)?,
-            line: LineBuf::new(alloc, WAVE_LINE_ROOM)?,
         })
     }
 
-    /// Sends the waveform line with this number, of so many steps, with the states of these nodes.
-    pub(crate) fn send<S: Sink>(
+    /// Tells the waveform line with this number, of so many steps, with the states of these nodes.
+    pub(crate) fn tell<L: Lines>(
         &mut self,
         n: u64,
         k: u64,
         mark: bool,
         state: &[Tern],
         nodes: &[usize],
-        out: &mut S,
+        out: &mut L,
     ) -> Result<(), ApplyFault>
         requires room { length nodes.now ≤ self.old }
+        requires line { COLUMN_ROOM + WAVE_LINE_ROOM ≤ L.room out.old }
         requires few { length nodes.now ≤ MOST_WATCHED }
         requires within { All (λ node. node < length state.now) nodes.now }
         ensures room { self.new ≡ self.old }
-        ensures ok { OnOk result (S.written out.new ≡ append_known (S.written out.old) (wave_line_of n k mark (map (state_at state.now) nodes.now))) }
-        ensures part { OnErr result (WritesPart (S.written out.old) (S.written out.new) (wave_line_of n k mark (map (state_at state.now) nodes.now))) }
+        ensures line { L.room out.new ≡ L.room out.old }
+        ensures sent { Sent L.hear L.part (L.heard out.old) (L.heard out.new) (Wave n k mark (map (state_at state.now) nodes.now) ∷ []) result }
         ensures cause { IfErr result IsSinkFault }
-        ensures faults { S.faults out.new ≡ faults_applied (S.faults out.old) result }
-        ensures refusals { S.refusals out.new ≡ refusals_sent (S.refusals out.old) result }
+        ensures faults { L.faults out.new ≡ faults_applied (L.faults out.old) result }
+        ensures refusals { L.refusals out.new ≡ refusals_sent (L.refusals out.old) result }
     {
         push_states(&mut self.values, state, nodes);
-        wave_line(&mut self.line, n, k, mark, &self.values);
-        let sent = send_text(out, self.line.bytes());
+        let values = &self.values;
+        let told = tell_line(
+            Line::Wave {
+                n,
+                k,
+                mark,
+                values,
+            },
+            out,
+        );
         self.values.clear();
-        self.line.clear();
-        sent
+        told
     }
 }
 
-/// Sends a text to the sink. A fault of the sink is what ends a command.
-pub fn send_text<S: Sink>(out: &mut S, text: &[u8]) -> Result<(), ApplyFault>
-    ensures ok { OnOk result (S.written out.new ≡ append_known (S.written out.old) text.now) }
-    ensures part { OnErr result (WritesPart (S.written out.old) (S.written out.new) text.now) }
+/// Tells a line. A fault of the hearer is what ends a command.
+pub(crate) fn tell_line<L: Lines>(line: Line, out: &mut L) -> Result<(), ApplyFault>
+    requires room { room_of (line_seen line) ≤ L.room out.old }
+    requires short { IsShort (line_seen line) }
+    ensures room { L.room out.new ≡ L.room out.old }
+    ensures sent { Sent L.hear L.part (L.heard out.old) (L.heard out.new) (line_seen line.entry ∷ []) result }
     ensures cause { IfErr result IsSinkFault }
-    ensures faults { S.faults out.new ≡ faults_applied (S.faults out.old) result }
-    ensures refusals { S.refusals out.new ≡ refusals_sent (S.refusals out.old) result }
+    ensures faults { L.faults out.new ≡ faults_applied (L.faults out.old) result }
+    ensures refusals { L.refusals out.new ≡ refusals_sent (L.refusals out.old) result }
 {
-    match send(out, text) {
+    match out.tell(0, line) {
         Ok(()) => Ok(()),
         Err(fault) => Err(ApplyFault::of_sink(fault)),
     }

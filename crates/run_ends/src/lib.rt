@@ -3,8 +3,8 @@
 //! The main types are `End`, how a run ends that meets no fault, `Stop`, what ends it before its answer is
 //! written, and `Status`, the exit status of the program. `refuse` writes the line of a refusal, and
 //! `refuse_size` that of the first group of a circuit that is too large; both note the cure for a human, as
-//! `note_cure` does, which is no part of what is written. An `Answer` is a status, a text, and the texts of
-//! groups that were analysed; the layers above use that `IsTold` says that a right one was
+//! `note_cure` does, which is no part of what is written; `cure_text` is what is noted. An `Answer` is a status, a
+//! text, and the texts of groups that were analysed; the layers above use that `IsTold` says that a right one was
 //! written, or a part of one, and `IsToldBy` that its texts were analysed besides.
 //!
 //! ```text
@@ -23,7 +23,7 @@ mod refusal;
 mod status;
 mod stop;
 
-pub use notes::note_cure;
+pub use notes::{cure_text, note_cure};
 pub use refusal::{refuse, refuse_size};
 pub use status::Status;
 pub use stop::{End, Stop};

@@ -31,8 +31,8 @@ pub fn note_cure<S: Sink>(
     out.note(file, &text);
 }
 
-// What is noted, as it follows the file's name: the line, the code, and the cure.
-fn cure_text(
+/// What is noted, as it follows the file's name: the line, the code, and the cure.
+pub fn cure_text(
     alloc: Global,
     line: Option<u64>,
     code: &[u8],

@@ -4,7 +4,7 @@ use Rattle.std.specs.Prelude.{◌⊎◌}
 use Rattle.group_text.specs.Texts.{GroupTextData}
 use Rattle.session_meaning.specs.Sessions.{SessionData}
 use Rattle.session_meaning.specs.Preparing.{builds}
-use Rattle.session_meaning.specs.Lines.{Line}
+use Rattle.told_lines.specs.Lines.{Line}
 use Rattle.run_ends.specs.Causes.{Cause}
 use Rattle.script_meaning.specs.Runs.{Reading, Outcome, Runs, IsRefused, at_end, refused_at, after_command}
 use Rattle.script_meaning.specs.Runs.Runs.{ends, passes, obeys, refuses}
@@ -58,8 +58,8 @@ ends-Runs : {reading : Reading} {cut : Option ℕ} {start : SessionData} {lines 
 ends-Runs (ends session) = inl (record { end = session; wrote = []; texts = []; obeyed = no_line session; told = refl })
 ends-Runs {reading} {cut} (passes session line lines rest asks runs) =
     later reading cut session session line lines [] [] rest (idle asks) (ends-Runs runs)
-ends-Runs {reading} {cut} (obeys session new line lines command text texts rest asks performs runs) =
-    later reading cut session new line lines performs.does.lines texts rest (done command new text texts asks performs) (ends-Runs runs)
+ends-Runs {reading} {cut} (obeys session new line lines command wrote texts rest asks performs runs) =
+    later reading cut session new line lines wrote texts rest (done command new wrote texts asks performs) (ends-Runs runs)
 ends-Runs (refuses session line lines cause is) = inr (record {
   before = [];
   line = line;
@@ -78,8 +78,8 @@ ends-Runs (refuses session line lines cause is) = inr (record {
 one_before : {reading : Reading} {cut : Option ℕ} {old mid : SessionData} {line : ℕ × List ℕ} {wrote : List Line} {texts : List GroupTextData} (lines : List (ℕ × List ℕ)) (outcome : Outcome)
     → IsObeyed reading cut old line mid wrote texts → Runs reading cut mid lines outcome → Runs reading cut old (line ∷ lines) (after_command wrote texts outcome)
 one_before {reading} {cut} {old} {mid} {line} lines outcome (idle asks) runs = passes old line lines outcome asks runs
-one_before {reading} {cut} {old} {mid} {line} lines outcome (done command new text texts asks performs) runs =
-    obeys old new line lines command text texts outcome asks performs runs
+one_before {reading} {cut} {old} {mid} {line} lines outcome (done command new wrote texts asks performs) runs =
+    obeys old new line lines command wrote texts outcome asks performs runs
 
 -- lines that are obeyed, and then what runs so
 all_before : {reading : Reading} {cut : Option ℕ} {old new : SessionData} {lines : List (ℕ × List ℕ)} {wrote : List Line} {texts : List GroupTextData} (others : List (ℕ × List ℕ)) (outcome : Outcome)
@@ -113,14 +113,14 @@ kept_apart (idle asks) (too_long past is) = true≢false (sym past ∙ asks.insi
 kept_apart (idle asks) (unread fault code inside other coded is) = absurd (cc (asks.nothing, other))
 kept_apart (idle asks) (refused command refusal other found is) = absurd (cc (asks.nothing, other.asked))
 kept_apart (idle asks) (too_large command fault other allowed building told named) = absurd (cc (asks.nothing, other.asked))
-kept_apart (done command new text texts asks performs) (too_long past is) = true≢false (sym past ∙ asks.inside)
-kept_apart (done command new text texts asks performs) (unread fault code inside other coded is) = absurd (cc (asks.asked, other))
-kept_apart {old = old} (done command new text texts asks performs) (refused other refusal asked found is) =
+kept_apart (done command new wrote texts asks performs) (too_long past is) = true≢false (sym past ∙ asks.inside)
+kept_apart (done command new wrote texts asks performs) (unread fault code inside other coded is) = absurd (cc (asks.asked, other))
+kept_apart {old = old} (done command new wrote texts asks performs) (refused other refusal asked found is) =
     let same : other ≡ command = cc (asks.asked, asked.asked) in
-    let allowed = performs-allowed old new command text texts performs in absurd (cc (allowed, found, same))
-kept_apart {old = old} (done command new text texts asks performs) (too_large other fault asked allowed building told named) =
+    let allowed = performs-allowed old new command wrote texts performs in absurd (cc (allowed, found, same))
+kept_apart {old = old} (done command new wrote texts asks performs) (too_large other fault asked allowed building told named) =
     let same : other ≡ command = cc (asks.asked, asked.asked) in
-    performs-fits old new command text texts fault performs (subst (λ one. builds one ≡ true) same building) told
+    performs-fits old new command wrote texts fault performs (subst (λ one. builds one ≡ true) same building) told
 
 pub not_refused : ObeyedIsNotRefused
 not_refused reading cut old new line wrote texts cause obeyed is = kept_apart obeyed is

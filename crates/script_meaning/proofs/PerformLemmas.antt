@@ -1,8 +1,9 @@
 -- A command that is performed isn't refused, neither by the data nor for the size of a group.
-use Rattle.std.proofs.Common.{◌≡◌, ℕ, Bool, true, false, List, None, refl, sym, subst, ◌∙◌}
+use Rattle.std.proofs.Common.{◌≡◌, Bool, true, false, List, None, refl, sym, subst, ◌∙◌}
 use Rattle.group_text.specs.Texts.{GroupTextData}
 use Rattle.circuit_texts.specs.declared.texts.BuildFault.{BuildFault}
 use Rattle.circuit_texts.specs.Sizes.{TellsTooLarge}
+use Rattle.told_lines.specs.Lines.{Line}
 use Rattle.script_lang.specs.declared.command.Command.{Command}
 use Rattle.session_meaning.specs.Sessions.{SessionData}
 use Rattle.session_meaning.specs.Refusals.{refusal_of}
@@ -24,14 +25,14 @@ refusal-built false old mid texts command (same, none) =
     subst (λ (session : SessionData). refusal_of session command ≡ refusal_of old command) (sym same) refl
 
 -- a command that is performed isn't refused
-pub performs-allowed : (old new : SessionData) (command : Command) (text : List ℕ) (texts : List GroupTextData) → Performs old command new text texts →
+pub performs-allowed : (old new : SessionData) (command : Command) (lines : List Line) (texts : List GroupTextData) → Performs old command new lines texts →
     refusal_of old command ≡ None
-performs-allowed old new command text texts performs =
+performs-allowed old new command lines texts performs =
     sym (refusal-built (builds command) old performs.mid texts command performs.prepares) ∙ performs.does.allowed
 
 -- nor is its circuit too large
-pub performs-fits : (old new : SessionData) (command : Command) (text : List ℕ) (texts : List GroupTextData) (fault : BuildFault) →
-    Performs old command new text texts → builds command ≡ true → ¬ TellsTooLarge old.circuit.graph fault
-performs-fits old new command text texts fault performs is told =
+pub performs-fits : (old new : SessionData) (command : Command) (lines : List Line) (texts : List GroupTextData) (fault : BuildFault) →
+    Performs old command new lines texts → builds command ≡ true → ¬ TellsTooLarge old.circuit.graph fault
+performs-fits old new command lines texts fault performs is told =
     let built : IsBuild old performs.mid texts = subst (λ building. BuildsIf building old performs.mid texts) is performs.prepares in
     not_both old.circuit.graph fault built.present told built.has

@@ -6,6 +6,7 @@ use Rattle.script_lang.specs.declared.command.Command.{Command}
 use Rattle.script_lang.specs.declared.command.ScriptFault.{ScriptFault}
 use Rattle.script_lang.specs.declared.command.ScriptFault.TheVariants as script
 use Rattle.group_text.specs.Texts.{GroupTextData}
+use Rattle.told_lines.specs.Lines.{Told}
 use Rattle.session_meaning.specs.declared.fault.ApplyFault.{ApplyFault}
 use Rattle.session_meaning.specs.declared.fault.ApplyFault.TheVariants.{Refused, GroupNodes, GroupSwitches, WriteFault, NoMemory}
 use Rattle.session_meaning.specs.Sessions.{SessionData, HeldSession}
@@ -17,24 +18,26 @@ use Rattle.script_meaning.specs.Runs.{Reading, Asks, IsRefused, unread, refused}
 use Rattle.run_ends.specs.Stops.{IsRefusedOnce}
 use Rattle.script_meaning.specs.Turns.{TakesTurn, turn_after}
 
--- a line that asks for a command comes to what the command comes to, and the sink lacked memory once at the most
-pub takes_turn : (reading : Reading) (cut : Option ℕ) (line : ℕ × List ℕ) (command : Command) (old new : HeldSession) (before after : Option (List ℕ)) (asked told : List GroupTextData)
-    (refusals now : ℕ) (ended : Result (Unit {0}) ApplyFault) → Asks reading cut old.core line command →
-    Obeys old command new before after asked told refusals now ended →
-    TakesTurn reading cut line old new before after asked told (turn_after ended) × IsRefusedOnce refusals now (turn_after ended)
-takes_turn reading cut line command old new before after asked told refusals now (Ok _) asks (accepts, same) =
-    (inr (record { command = command; asks = asks; accepts = accepts }), same)
-takes_turn reading cut line command old new before after asked told refusals now (Err (Refused refusal)) asks (refuses, same) =
-    ((refused command refusal asks refuses.cause refl, refuses.keeps), same)
-takes_turn reading cut line command old new before after asked told refusals now (Err (GroupNodes node count)) asks (refuses, same) =
-    (record { command = command; asks = asks; refuses = refuses }, same)
-takes_turn reading cut line command old new before after asked told refusals now (Err (GroupSwitches node count)) asks (refuses, same) =
-    (record { command = command; asks = asks; refuses = refuses }, same)
-takes_turn reading cut line command old new before after asked told refusals now (Err WriteFault) asks (begins, same) =
-    (inr (record { command = command; asks = asks; begins = begins }), same)
-takes_turn reading cut line command old new before after asked told refusals now (Err NoMemory) asks (inl (stays, same)) = (inl stays.unwritten, inl same)
-takes_turn reading cut line command old new before after asked told refusals now (Err NoMemory) asks (inr (begins, more)) =
-    (inr (record { command = command; asks = asks; begins = begins }), inr more)
+-- a line that asks for a command comes to what the command comes to, and the hearer lacked memory once at the most
+module _ {H : Type 0} (hear : H → Told → H) (part : H → Told → H → Type 0) where
+  pub takes_turn : (reading : Reading) (cut : Option ℕ) (line : ℕ × List ℕ) (command : Command) (old new : HeldSession) (before after : H)
+      (asked told : List GroupTextData) (refusals now : ℕ) (ended : Result (Unit {0}) ApplyFault) → Asks reading cut old.core line command →
+      Obeys hear part old command new before after asked told refusals now ended →
+      TakesTurn hear part reading cut line old new before after asked told (turn_after ended) × IsRefusedOnce refusals now (turn_after ended)
+  takes_turn reading cut line command old new before after asked told refusals now (Ok _) asks (accepts, same) =
+      (inr (record { command = command; asks = asks; accepts = accepts }), same)
+  takes_turn reading cut line command old new before after asked told refusals now (Err (Refused refusal)) asks (refuses, same) =
+      ((refused command refusal asks refuses.cause refl, refuses.keeps), same)
+  takes_turn reading cut line command old new before after asked told refusals now (Err (GroupNodes node count)) asks (refuses, same) =
+      (record { command = command; asks = asks; refuses = refuses }, same)
+  takes_turn reading cut line command old new before after asked told refusals now (Err (GroupSwitches node count)) asks (refuses, same) =
+      (record { command = command; asks = asks; refuses = refuses }, same)
+  takes_turn reading cut line command old new before after asked told refusals now (Err WriteFault) asks (begins, same) =
+      (inr (record { command = command; asks = asks; begins = begins }), same)
+  takes_turn reading cut line command old new before after asked told refusals now (Err NoMemory) asks (inl (stays, same)) =
+      (inl stays.unheard, inl same)
+  takes_turn reading cut line command old new before after asked told refusals now (Err NoMemory) asks (inr (begins, more)) =
+      (inr (record { command = command; asks = asks; begins = begins }), inr more)
 
 -- a line that can't be read is refused, where its fault has a code
 pub is_unread : (reading : Reading) (cut : Option ℕ) (session : SessionData) (line : ℕ × List ℕ) (fault : ScriptFault) (code : FaultCode) → is_cut cut line.0 ≡ false →

@@ -3,7 +3,7 @@ use Rattle.std.proofs.Common.{◌≡◌, ℕ, true, false, List, [], Option, ref
 use Rattle.group_text.specs.Texts.{GroupTextData}
 use Rattle.script_lang.specs.declared.command.Command.{Command}
 use Rattle.session_meaning.specs.Sessions.{SessionData}
-use Rattle.session_meaning.specs.Lines.{Line}
+use Rattle.told_lines.specs.Lines.{Line}
 use Rattle.session_meaning.proofs.UniqueBuilds.{TellsTooLarge-unique}
 use Rattle.session_meaning.proofs.UniqueEffects.{performs_unique}
 use Rattle.run_ends.specs.Causes.{Cause, plain_cause}
@@ -55,24 +55,24 @@ unique_runs : {reading : Reading} {cut : Option ℕ} {start : SessionData} {line
     Runs reading cut start lines outcome → Runs reading cut start lines other → outcome ≡ other
 unique_runs (ends session) (ends _) = refl
 unique_runs (passes session line lines rest is runs) (passes _ _ _ other also others) = unique_runs runs others
-unique_runs (passes session line lines rest is runs) (obeys _ new _ _ command text texts other asks performs others) =
+unique_runs (passes session line lines rest is runs) (obeys _ new _ _ command wrote texts other asks performs others) =
     absurd (cc (is.nothing, asks.asked))
 unique_runs {reading} {cut} (passes session line lines rest is runs) (refuses _ _ _ cause stops) =
     absurd (not_refused reading cut session session line [] [] cause (idle is) stops)
-unique_runs (obeys session new line lines command text texts rest asks performs runs) (passes _ _ _ other is others) =
+unique_runs (obeys session new line lines command wrote texts rest asks performs runs) (passes _ _ _ other is others) =
     absurd (cc (is.nothing, asks.asked))
-unique_runs {reading} {cut} (obeys session new line lines command text texts rest asks performs runs)
+unique_runs {reading} {cut} (obeys session new line lines command wrote texts rest asks performs runs)
     (obeys _ later _ _ asked more others other asks_so does beyond) =
-    let same = performs_unique session new later command asked text more texts others performs does (same_command asks asks_so) in
+    let same = performs_unique session new later command asked wrote more texts others performs does (same_command asks asks_so) in
     let after : rest ≡ other = unique_runs runs (subst (λ (at : SessionData). Runs reading cut at lines other) (sym same.end) beyond) in
-    ap (λ (wrote : List Line). after_command wrote texts rest) same.wrote
-    ∙ ap (λ (analysed : List GroupTextData). after_command does.does.lines analysed rest) same.analysed ∙ ap (after_command does.does.lines others) after
-unique_runs {reading} {cut} (obeys session new line lines command text texts rest asks performs runs) (refuses _ _ _ cause stops) =
-    absurd (not_refused reading cut session new line performs.does.lines texts cause (done command new text texts asks performs) stops)
+    ap (λ (lines : List Line). after_command lines texts rest) same.wrote
+    ∙ ap (λ (analysed : List GroupTextData). after_command more analysed rest) same.analysed ∙ ap (after_command more others) after
+unique_runs {reading} {cut} (obeys session new line lines command wrote texts rest asks performs runs) (refuses _ _ _ cause stops) =
+    absurd (not_refused reading cut session new line wrote texts cause (done command new wrote texts asks performs) stops)
 unique_runs {reading} {cut} (refuses session line lines cause stops) (passes _ _ _ other is others) =
     absurd (not_refused reading cut session session line [] [] cause (idle is) stops)
-unique_runs {reading} {cut} (refuses session line lines cause stops) (obeys _ new _ _ command text texts other asks performs others) =
-    absurd (not_refused reading cut session new line performs.does.lines texts cause (done command new text texts asks performs) stops)
+unique_runs {reading} {cut} (refuses session line lines cause stops) (obeys _ new _ _ command wrote texts other asks performs others) =
+    absurd (not_refused reading cut session new line wrote texts cause (done command new wrote texts asks performs) stops)
 unique_runs (refuses session line lines cause stops) (refuses _ _ _ other also) = ap (refused_at session line.0) (cause_unique stops also)
 
 pub runs_unique : RunsAreUnique

@@ -3,7 +3,7 @@ use Rattle.std.specs.Prelude.{◌≡◌, ◌⊎◌, ◌↔◌, ℕ, List, [], �
 use Rattle.group_text.specs.Texts.{GroupTextData}
 use Rattle.script_lang.specs.declared.command.Command.{Command}
 use Rattle.session_meaning.specs.Sessions.{SessionData}
-use Rattle.session_meaning.specs.Lines.{Line}
+use Rattle.told_lines.specs.Lines.{Line}
 use Rattle.session_meaning.specs.Outcomes.{Performs}
 use Rattle.run_ends.specs.Causes.{Cause}
 use Rattle.script_meaning.specs.Runs.{Reading, Outcome, Runs, IsIdle, Asks, IsRefused, at_end, refused_at, after_command}
@@ -11,8 +11,8 @@ use Rattle.script_meaning.specs.Runs.{Reading, Outcome, Runs, IsIdle, Asks, IsRe
 -- a line that is obeyed: it asks for nothing, or its command does what these lines tell, for which these texts are analysed
 pub data IsObeyed (reading : Reading) (cut : Option ℕ) (old : SessionData) (line : ℕ × List ℕ) : SessionData → List Line → List GroupTextData → Type 0 where
   idle : IsIdle reading cut old line → IsObeyed reading cut old line old [] []
-  done : (command : Command) (new : SessionData) (text : List ℕ) (texts : List GroupTextData) → Asks reading cut old line command →
-      (performs : Performs old command new text texts) → IsObeyed reading cut old line new performs.does.lines texts
+  done : (command : Command) (new : SessionData) (wrote : List Line) (texts : List GroupTextData) → Asks reading cut old line command →
+      Performs old command new wrote texts → IsObeyed reading cut old line new wrote texts
 
 -- lines that are obeyed one after the other: none leave the data as they are, and a line before others has its effect on them
 pub data AreObeyed (reading : Reading) (cut : Option ℕ) : SessionData → List (ℕ × List ℕ) → SessionData → List Line → List GroupTextData → Type 0 where

@@ -13,7 +13,7 @@ use Rattle.session_meaning.specs.declared.fault.Refusal.{Refusal}
 use Rattle.session_meaning.specs.Sessions.{SessionData}
 use Rattle.session_meaning.specs.Refusals.{refusal_of}
 use Rattle.session_meaning.specs.Preparing.{builds}
-use Rattle.session_meaning.specs.Lines.{Line, text_of}
+use Rattle.told_lines.specs.Lines.{Line, Refused, text_of}
 use Rattle.session_meaning.specs.Outcomes.{Performs}
 use Rattle.wave_print.specs.declared.faults.FaultPlace.TheVariants.{Script}
 use Rattle.wave_print.specs.declared.faults.FaultCode.{FaultCode}
@@ -87,12 +87,24 @@ pub data Runs (reading : Reading) (cut : Option ℕ) : SessionData → List (ℕ
   ends : (session : SessionData) → Runs reading cut session [] (at_end session)
   passes : (session : SessionData) (line : ℕ × List ℕ) (lines : List (ℕ × List ℕ)) (rest : Outcome) →
       IsIdle reading cut session line → Runs reading cut session lines rest → Runs reading cut session (line ∷ lines) rest
-  obeys : (session new : SessionData) (line : ℕ × List ℕ) (lines : List (ℕ × List ℕ)) (command : Command) (text : List ℕ)
-      (texts : List GroupTextData) (rest : Outcome) → Asks reading cut session line command →
-      (performs : Performs session command new text texts) → Runs reading cut new lines rest →
-      Runs reading cut session (line ∷ lines) (after_command performs.does.lines texts rest)
+  obeys : (session new : SessionData) (line : ℕ × List ℕ) (lines : List (ℕ × List ℕ)) (command : Command) (wrote : List Line)
+      (texts : List GroupTextData) (rest : Outcome) → Asks reading cut session line command → Performs session command new wrote texts →
+      Runs reading cut new lines rest → Runs reading cut session (line ∷ lines) (after_command wrote texts rest)
   refuses : (session : SessionData) (line : ℕ × List ℕ) (lines : List (ℕ × List ℕ)) (cause : Cause) →
       IsRefused reading cut session line cause → Runs reading cut session (line ∷ lines) (refused_at session line.0 cause)
+
+-- the line of a refusal, as a value
+abbrev pub refusal_line : RefusedLine → Line
+refusal_line stopped = Refused (Script stopped.line) stopped.cause.code stopped.cause.name stopped.cause.count
+
+-- the line of the refusal that ended a script, if one did
+abbrev pub refusal_lines : Option RefusedLine → List Line
+refusal_lines None = []
+refusal_lines (Some stopped) = refusal_line stopped ∷ []
+
+-- the lines that a script tells: those of its commands, and then that of the refusal that ended it, if one did
+abbrev pub lines_told : Outcome → List Line
+lines_told outcome = outcome.lines ++ refusal_lines outcome.refused
 
 -- the text of the refusal that ended a script: the fault's line is the last
 abbrev pub refusal_text : Option RefusedLine → List ℕ

@@ -1,8 +1,9 @@
--- What running one line of a script comes to, by how lines are read, with what it wrote and which texts of groups were analysed.
+-- What running one line of a script comes to, by how lines are read, with what was heard and which texts of groups were analysed.
 use Rattle.std.specs.Prelude.{◌≡◌, ℕ, ◌⊎◌, List, Option, Result, Ok, Err}
 use Rattle.group_text.specs.Texts.{GroupTextData}
 use Rattle.circuit_texts.specs.declared.texts.BuildFault.{BuildFault}
 use Rattle.circuit_texts.specs.declared.texts.BuildFault.TheVariants as build
+use Rattle.told_lines.specs.Lines.{Told}
 use Rattle.script_lang.specs.declared.command.Command.{Command}
 use Rattle.session_meaning.specs.Sessions.{HeldSession}
 use Rattle.session_meaning.specs.Outcomes.{Accepts, Begins, Keeps, RefusesSize}
@@ -17,38 +18,42 @@ use Rattle.script_meaning.specs.Codes.{refusal_code}
 use Rattle.script_meaning.specs.Runs.{Reading, IsIdle, Asks, IsRefused}
 
 -- the line asks for nothing, and nothing changes
-pub record Passes (reading : Reading) (cut : Option ℕ) (line : ℕ × List ℕ) (old new : HeldSession) (before after : Option (List ℕ)) (asked told : List GroupTextData) : Type 0 where
+pub record Passes {H : Type 0} (reading : Reading) (cut : Option ℕ) (line : ℕ × List ℕ) (old new : HeldSession) (before after : H)
+    (asked told : List GroupTextData) : Type 0 where
   pub idle : IsIdle reading cut old.core line
   pub keeps : Keeps old new before after asked told
 
 -- the line's command was accepted
-pub record Follows (reading : Reading) (cut : Option ℕ) (line : ℕ × List ℕ) (old new : HeldSession) (before after : Option (List ℕ)) (asked told : List GroupTextData) : Type 0 where
+pub record Follows {H : Type 0} (hear : H → Told → H) (reading : Reading) (cut : Option ℕ) (line : ℕ × List ℕ) (old new : HeldSession) (before after : H)
+    (asked told : List GroupTextData) : Type 0 where
   pub command : Command
   pub asks : Asks reading cut old.core line command
-  pub accepts : Accepts old command new before after asked told
+  pub accepts : Accepts hear old command new before after asked told
 
 -- the circuit can't be built for the line's command: this group is too large
-pub record Outgrows (reading : Reading) (cut : Option ℕ) (line : ℕ × List ℕ) (old new : HeldSession) (before after : Option (List ℕ)) (asked told : List GroupTextData)
-    (fault : BuildFault) : Type 0 where
+pub record Outgrows {H : Type 0} (reading : Reading) (cut : Option ℕ) (line : ℕ × List ℕ) (old new : HeldSession) (before after : H)
+    (asked told : List GroupTextData) (fault : BuildFault) : Type 0 where
   pub command : Command
   pub asks : Asks reading cut old.core line command
   pub refuses : RefusesSize old command new before after asked told fault
 
--- the line's command had begun, and a part of its lines was written
-pub record Starts (reading : Reading) (cut : Option ℕ) (line : ℕ × List ℕ) (old new : HeldSession) (before after : Option (List ℕ)) (asked told : List GroupTextData) : Type 0 where
+-- the line's command had begun, and a part of its lines was heard
+pub record Starts {H : Type 0} (hear : H → Told → H) (part : H → Told → H → Type 0) (reading : Reading) (cut : Option ℕ) (line : ℕ × List ℕ)
+    (old new : HeldSession) (before after : H) (asked told : List GroupTextData) : Type 0 where
   pub command : Command
   pub asks : Asks reading cut old.core line command
-  pub begins : Begins old command new before after asked told
+  pub begins : Begins hear part old command new before after asked told
 
 -- what one line comes to
-abbrev pub TakesTurn : Reading → Option ℕ → (ℕ × List ℕ) → HeldSession → HeldSession → Option (List ℕ) → Option (List ℕ) → List GroupTextData → List GroupTextData →
-    Result Turn Stop → Type 0
-TakesTurn reading cut line old new before after asked told (Ok Accepted) =
-    Passes reading cut line old new before after asked told ⊎ Follows reading cut line old new before after asked told
-TakesTurn reading cut line old new before after asked told (Ok (Refused code)) =
+abbrev pub TakesTurn : {H : Type 0} → (H → Told → H) → (H → Told → H → Type 0) → Reading → Option ℕ → (ℕ × List ℕ) → HeldSession → HeldSession → H → H →
+    List GroupTextData → List GroupTextData → Result Turn Stop → Type 0
+TakesTurn hear part reading cut line old new before after asked told (Ok Accepted) =
+    Passes reading cut line old new before after asked told ⊎ Follows hear reading cut line old new before after asked told
+TakesTurn hear part reading cut line old new before after asked told (Ok (Refused code)) =
     IsRefused reading cut old.core line (plain_cause code) × Keeps old new before after asked told
-TakesTurn reading cut line old new before after asked told (Ok (TooLarge fault)) = Outgrows reading cut line old new before after asked told fault
-TakesTurn reading cut line old new before after asked told (Err fault) = (after ≡ before) ⊎ Starts reading cut line old new before after asked told
+TakesTurn hear part reading cut line old new before after asked told (Ok (TooLarge fault)) = Outgrows reading cut line old new before after asked told fault
+TakesTurn hear part reading cut line old new before after asked told (Err fault) =
+    (after ≡ before) ⊎ Starts hear part reading cut line old new before after asked told
 
 -- what becomes of a line whose command ended so
 abbrev pub turn_after : Result (Unit {0}) ApplyFault → Result Turn Stop

@@ -1,9 +1,9 @@
-//! Laws of what a script writes.
+//! Laws of what a script tells.
 
 ghost use Rattle.script_meaning.specs.FirstRefused.{ObeyedIsNotRefused, RunsEndAtTheFirst};
 ghost use Rattle.script_meaning.specs.Laws.{RunsAreUnique, ScriptAnswersAreUnique};
 
-/// A law: a script writes what its lines write one after the other, to its end or to its first refused
+/// A law: a script tells what its lines tell one after the other, to its end or to its first refused
 /// line, which has no refused line before it.
 pub fn scripts_end_at_their_first_refused_line()
     ensures runs { RunsEndAtTheFirst }

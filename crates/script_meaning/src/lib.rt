@@ -3,7 +3,7 @@
 //! The main definition is the relation `Runs` of `specs/`: the lines of a script have their effects in order,
 //! to the end or to the first that is refused, and what comes of that is an `Outcome`. The reading of a line is
 //! a parameter of the relation, so the same one serves where a node is stuck. The layers above use it as
-//! `TellsHalt` in `specs/Halts` and `TellsRun` in `specs/Ends` have it, with what was written and analysed;
+//! `TellsHalt` in `specs/Halts` and `TellsRun` in `specs/Ends` have it, with what was heard and analysed;
 //! `TakesTurn` in `specs/Turns` says it of one line.
 //!
 //! The types are plain: `Halt`, how the lines of a script ended, and `Turn`, what became of one of them. No

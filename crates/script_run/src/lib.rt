@@ -1,14 +1,14 @@
 //! What a script does when it runs in a session, and what is answered of it.
 //!
-//! The main call is `obey_lines`, which obeys the lines of a script over any sink and tells how they
-//! end; `run_lines` writes the line of a refusal besides, and `run_line` runs one line. The layers above
+//! The main call is `obey_lines`, which obeys the lines of a script, tells what they tell to any hearer, and answers
+//! how they end; `run_lines` tells the line of a refusal besides, and `run_line` runs one line. The layers above
 //! use that these do what the relation `Runs` of `script_meaning` says: the lines have their effects in
 //! order, to the end or to the first that is refused. How a run ends, and what an answer is, stands in
 //! `run_ends`. All definitions, and the lemmas that the proofs here cite, stand in those two crates.
 //!
 //! ```text
 //! obey_lines(alloc, session, "set a=1\nphase\n", None, out, analyst)   is Ok(Halt::End)
-//! run_lines(alloc, session, "set b=1\n", out, analyst)                 writes `script line 1: E1 UnknownNode`
+//! run_lines(alloc, session, "set b=1\n", out, analyst)                 tells the line `script line 1: E1 UnknownNode`
 //! ```
 #![tactic(auto)]
 

@@ -1,46 +1,118 @@
 //! The line of the refusal at which a script ended.
 
-ghost use Rattle.std.specs.Prelude.{◌≡◌, ◌≢◌, IfErr};
-ghost use Rattle.run_ends.specs.Ends.{IsTold};
+ghost use Rattle.std.specs.Prelude.{◌≡◌, ◌≢◌, Some, IfErr};
+ghost use Rattle.circuit_texts.specs.Sizes.{TellsTooLarge};
+ghost use Rattle.run_ends.specs.Causes.{Cause, size_cause};
 ghost use Rattle.run_ends.specs.Stops.{faults_written, IsRefusedOnce};
-ghost use Rattle.script_meaning.specs.Halts.{IsCutShort, TellsCutShort};
+ghost use Rattle.script_meaning.specs.Halts.{IsCutShort, TellsCutShort, TellsRefusal};
 
+use circuit_texts::BuildFault;
 use netlist::Circuit;
-use port_edge::Sink;
+use port_edge::NotedFile;
 use refusal_words::script_word;
-use run_ends::{End, Stop, refuse, refuse_size};
+use run_ends::{End, Stop, cure_text};
 use script_meaning::Halt;
 use std::alloc::Global;
-use wave_print::FaultPlace;
+use told_lines::{Line, Lines};
+use wave_print::{COLUMN_ROOM, FAULT_LINE_ROOM, FaultCode, FaultPlace};
 
-/// Writes the line of the refusal at which the lines of a script ended in a circuit, and ends the run so.
+/// Tells the line of the refusal at which the lines of a script ended in a circuit, and ends the run so.
 ///
 /// The cure is noted besides, with a word of the refused line. For that alone the script's text is passed, and how
 /// many columns it is for.
-pub fn refuse_halt<S: Sink>(
+pub fn refuse_halt<L: Lines>(
     alloc: Global,
     circuit: &Circuit,
     halt: Halt,
     text: &[u8],
     columns: usize,
-    out: &mut S,
+    out: &mut L,
 ) -> Result<End, Stop>
     requires { IsCutShort circuit.now halt }
-    ensures told { IsTold (TellsCutShort circuit.now halt) (S.written out.old) (S.written out.new) result }
+    ensures told { TellsCutShort L.hear L.part circuit.now halt (L.heard out.old) (L.heard out.new) result }
     ensures no_read { IfErr result (λ stop. stop ≢ Stop.Read) }
-    ensures write { S.faults out.new ≡ faults_written (S.faults out.old) result }
-    ensures refused { IsRefusedOnce (S.refusals out.old) (S.refusals out.new) result }
+    ensures write { L.faults out.new ≡ faults_written (L.faults out.old) result }
+    ensures refused { IsRefusedOnce (L.refusals out.old) (L.refusals out.new) result }
 {
     match halt {
         Halt::End => unreachable!(),
         Halt::Refused(line, code) => {
-            let place = FaultPlace::Script(line);
             let word = script_word(code, text, line, circuit, columns);
-            refuse(alloc, place, code, word, End::ScriptRefused, out)
+            refuse_line(alloc, line, code, b"", 0, word, out)
         }
-        Halt::TooLarge(line, size) => {
-            let place = FaultPlace::Script(line);
-            refuse_size(alloc, place, circuit, size, End::ScriptRefused, out)
-        }
+        Halt::TooLarge(line, size) => refuse_size(alloc, line, circuit, size, out),
     }
+}
+
+// Tells the line of a refusal for the first group of a circuit that is too large.
+fn refuse_size<L: Lines>(
+    alloc: Global,
+    line: u64,
+    circuit: &Circuit,
+    size: BuildFault,
+    out: &mut L,
+) -> Result<End, Stop>
+    requires { TellsTooLarge circuit.now.graph size }
+    ensures told { (cause : Cause) × (size_cause circuit.now size ≡ Some cause)
+        × TellsRefusal L.hear L.part (L.heard out.old) (L.heard out.new) (record { line = line; cause = cause }) result }
+    ensures no_read { IfErr result (λ stop. stop ≢ Stop.Read) }
+    ensures write { L.faults out.new ≡ faults_written (L.faults out.old) result }
+    ensures refused { IsRefusedOnce (L.refusals out.old) (L.refusals out.new) result }
+{
+    match size {
+        BuildFault::GroupNodes { node, count } => {
+            let name = circuit.name_of(node);
+            refuse_line(alloc, line, FaultCode::G1GroupNodes, name, count, name, out)
+        }
+        BuildFault::GroupSwitches { node, count } => {
+            let name = circuit.name_of(node);
+            refuse_line(alloc, line, FaultCode::G2GroupSwitches, name, count, name, out)
+        }
+        BuildFault::NoMemory => unreachable!(),
+    }
+}
+
+// Tells the line of a refusal that tells of a node by its name, and a count, and notes the cure with this word.
+fn refuse_line<L: Lines>(
+    alloc: Global,
+    line: u64,
+    code: FaultCode,
+    name: &[u8],
+    count: u64,
+    word: &[u8],
+    out: &mut L,
+) -> Result<End, Stop>
+    ensures told { TellsRefusal L.hear L.part (L.heard out.old) (L.heard out.new)
+        (record { line = line; cause = record { code = code; name = name.now; count = count } }) result }
+    ensures no_read { IfErr result (λ stop. stop ≢ Stop.Read) }
+    ensures write { L.faults out.new ≡ faults_written (L.faults out.old) result }
+    ensures refused { IsRefusedOnce (L.refusals out.old) (L.refusals out.new) result }
+{
+    out.reserve(COLUMN_ROOM + (FAULT_LINE_ROOM + name.len()))?;
+    let place = FaultPlace::Script(line);
+    let refused = Line::Refused {
+        place,
+        code,
+        name,
+        count,
+    };
+    match out.tell(0, refused) {
+        Ok(()) => {
+            note_cure(alloc, line, code, word, out);
+            Ok(End::ScriptRefused)
+        }
+        Err(fault) => Err(Stop::of_write(fault)),
+    }
+}
+
+// Notes the cure of a refused line with this word; for want of memory it notes nothing.
+fn note_cure<L: Lines>(alloc: Global, line: u64, code: FaultCode, word: &[u8], out: &mut L)
+    ensures heard { L.heard out.new ≡ L.heard out.old }
+    ensures faults { L.faults out.new ≡ L.faults out.old }
+    ensures refusals { L.refusals out.new ≡ L.refusals out.old }
+{
+    let Ok(text) = cure_text(alloc, Some(line), code.text(), word) else {
+        return;
+    };
+    out.note(NotedFile::Script, &text);
 }

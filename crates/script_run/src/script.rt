@@ -19,29 +19,29 @@ use cosmos_session::{ApplyFault, Session};
 use fault_sim::read_masked;
 use group_analysis::Analyst;
 use line_words::{Line, cut_line, front, lines};
-use port_edge::Sink;
 use run_ends::{End, Stop};
 use script_meaning::{Halt, Turn};
 use std::alloc::Global;
 use ternary::Tern;
+use told_lines::Lines;
 use wave_print::FaultCode;
 
-/// Runs the lines of a script, in order, to the end or to the first that is refused, and writes the line
+/// Runs the lines of a script, in order, to the end or to the first that is refused, and tells the line
 /// of its refusal.
-pub fn run_lines<S: Sink, A: Analyst>(
+pub fn run_lines<L: Lines, A: Analyst>(
     alloc: Global,
     session: &mut Session,
     text: &[u8],
-    out: &mut S,
+    out: &mut L,
     analyst: &mut A,
 ) -> Result<End, Stop>
     requires { IsReady session.old.core }
-    ensures told { TellsRun plain_reading
+    ensures told { TellsRun L.hear L.part plain_reading
         (file.cut_line text.now) session.old.core (file.lines_in text.now) session.new.core
-        (S.written out.old) (S.written out.new) (A.analysed analyst.old) (A.analysed analyst.new) result }
+        (L.heard out.old) (L.heard out.new) (A.analysed analyst.old) (A.analysed analyst.new) result }
     ensures no_read { IfErr result (λ stop. stop ≢ Stop.Read) }
-    ensures write { S.faults out.new ≡ faults_written (S.faults out.old) result }
-    ensures refused { IsRefusedOnce (S.refusals out.old) (S.refusals out.new) result }
+    ensures write { L.faults out.new ≡ faults_written (L.faults out.old) result }
+    ensures refused { IsRefusedOnce (L.refusals out.old) (L.refusals out.new) result }
 {
     let halt = obey_lines(alloc, session, text, None, out, analyst)?;
     match halt {
@@ -50,25 +50,25 @@ pub fn run_lines<S: Sink, A: Analyst>(
     }
 }
 
-/// Obeys the lines of a script, in order, to the end or to the first that is refused, and tells which one
+/// Obeys the lines of a script, in order, to the end or to the first that is refused, and answers which one
 /// that is.
 ///
 /// While a node is stuck at a state each line is read as `fault_sim::read_masked` does.
-pub fn obey_lines<S: Sink, A: Analyst>(
+pub fn obey_lines<L: Lines, A: Analyst>(
     alloc: Global,
     session: &mut Session,
     text: &[u8],
     stuck: Option<(usize, Tern)>,
-    out: &mut S,
+    out: &mut L,
     analyst: &mut A,
 ) -> Result<Halt, Stop>
     requires { IsReady session.old.core }
-    ensures told { TellsHalt (masked_reading stuck)
+    ensures told { TellsHalt L.hear L.part (masked_reading stuck)
         (file.cut_line text.now) session.old.core (file.lines_in text.now) session.new.core
-        (S.written out.old) (S.written out.new) (A.analysed analyst.old) (A.analysed analyst.new) result }
+        (L.heard out.old) (L.heard out.new) (A.analysed analyst.old) (A.analysed analyst.new) result }
     ensures no_read { IfErr result (λ stop. stop ≢ Stop.Read) }
-    ensures write { S.faults out.new ≡ faults_written (S.faults out.old) result }
-    ensures refused { IsRefusedOnce (S.refusals out.old) (S.refusals out.new) result }
+    ensures write { L.faults out.new ≡ faults_written (L.faults out.old) result }
+    ensures refused { IsRefusedOnce (L.refusals out.old) (L.refusals out.new) result }
 {
     let cut = cut_line(text);
     for line in lines(front(text)) {
@@ -95,21 +95,21 @@ fn end_of(session: &Session) -> End
 /// Runs one line; the one that holds the first byte too many of the script is refused.
 ///
 /// While a node is stuck at a state the line is read as `fault_sim::read_masked` does.
-pub fn run_line<S: Sink, A: Analyst>(
+pub fn run_line<L: Lines, A: Analyst>(
     alloc: Global,
     session: &mut Session,
     cut: Option<u64>,
     line: Line<'_>,
     stuck: Option<(usize, Tern)>,
-    out: &mut S,
+    out: &mut L,
     analyst: &mut A,
 ) -> Result<Turn, Stop>
-    ensures turn { TakesTurn (masked_reading stuck)
+    ensures turn { TakesTurn L.hear L.part (masked_reading stuck)
         cut (line.entry.number, line.entry.bytes.now) session.old session.new
-        (S.written out.old) (S.written out.new) (A.analysed analyst.old) (A.analysed analyst.new) result }
+        (L.heard out.old) (L.heard out.new) (A.analysed analyst.old) (A.analysed analyst.new) result }
     ensures no_read { IfErr result (λ stop. stop ≢ Stop.Read) }
-    ensures write { S.faults out.new ≡ faults_written (S.faults out.old) result }
-    ensures refused { IsRefusedOnce (S.refusals out.old) (S.refusals out.new) result }
+    ensures write { L.faults out.new ≡ faults_written (L.faults out.old) result }
+    ensures refused { IsRefusedOnce (L.refusals out.old) (L.refusals out.new) result }
 {
     if cut == Some(line.number) {
         return Ok(Turn::Refused(FaultCode::S11TooLong));

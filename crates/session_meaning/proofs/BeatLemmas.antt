@@ -1,8 +1,8 @@
 -- A cycle, beat by beat.
--- The plan: a loop over the places of a cycle keeps what was done so far, the phases at the places before this one with their lines sent. At
+-- The plan: a loop over the places of a cycle keeps what was done so far, the phases at the places before this one with their lines heard. At
 -- the end these are all phases. After a fault the phases that are left were not done, but what they would have come to exists, since
--- every state settles: so what was sent is a part of the whole cycle's text.
-use Rattle.std.proofs.Common.{◌≡◌, ℕ, zero, suc, ◌+◌, ◌-◌, ◌*◌, ◌%◌, ◌<◌, ◌≤◌, true, List, [], ◌∷◌, ◌++◌, length, map, All, Option, Ok, Err, refl, sym, ap, subst, ◌∙◌, arith, append_assoc, append-nil}
+-- every state settles: so what was heard is a part of the whole cycle's lines.
+use Rattle.std.proofs.Common.{◌≡◌, ℕ, zero, suc, ◌+◌, ◌-◌, ◌*◌, ◌%◌, ◌<◌, ◌≤◌, true, List, [], ◌∷◌, ◌++◌, length, map, All, Ok, Err, refl, sym, ap, subst, ◌∙◌, arith, append_assoc, append-nil}
 use Rattle.std.specs.Prelude.{◌==◌}
 use Rattle.std.specs.List.{range_with_len, list_all}
 use Rattle.std.proofs.Math.Nat.{mul-add-mod_self_right, mod-eq_of_lt}
@@ -10,16 +10,14 @@ use Rattle.std.proofs.lemmas.List.{map-append}
 use Rattle.std.proofs.lemmas.List.Elements.{All-nil, All-cons}
 use Rattle.std.proofs.lemmas.Bool.{and_parts}
 use Rattle.std.proofs.lemmas.Bool.Decides.{nat_tests}
-use Rattle.std.specs.Io.KnownBytes.{append_known}
-use Rattle.port_edge.specs.Sending.{WritesPart}
-use Rattle.port_edge.proofs.SendingLemmas.{append_known-nil, append_known-append, sends_part}
 use Rattle.ternary.specs.declared.tern.Tern.{Tern}
+use Rattle.told_lines.specs.Lines.{Line, Told}
+use Rattle.told_lines.specs.Hearing.{hear_all, HearsPart, of_column}
+use Rattle.told_lines.proofs.HearingLemmas.{hear_all-append, of_column-append, so_far-stopped}
 use Rattle.session_meaning.specs.declared.fault.ApplyFault.{ApplyFault}
 use Rattle.session_meaning.specs.Sessions.{SessionData, ClockData, IsReady, places_of, have_places}
-use Rattle.session_meaning.specs.Lines.{Line, text_of}
 use Rattle.session_meaning.specs.Effects.{IsPhase, AreBeats, with_beat, places_in}
 use Rattle.session_meaning.specs.Outcomes.{FrontDone, BeatsBegun, TakesBeats, IsPhaseSent}
-use Rattle.session_meaning.proofs.LineLemmas.{text_of-append}
 use Rattle.session_meaning.proofs.EffectLemmas.{beats-ready, beats_exist}
 
 -- phases at places keep the clocks
@@ -40,83 +38,6 @@ beats-append (place ∷ first) second session mid new lines more (next, front, b
 pub one_beat : (session new : SessionData) (place : ℕ) (lines : List Line) → IsPhase (with_beat session place) new lines →
     AreBeats session (place ∷ []) new lines
 one_beat session new place lines phase = (new, lines, [], phase, (refl, refl), sym (append-nil lines))
-
--- the phases at the places that are done, with their lines sent
-pub record BeatsDone (start now : SessionData) (done : List ℕ) (before after : Option (List ℕ)) : Type 0 where
-  pub lines : List Line
-  pub beats : AreBeats start done now lines
-  pub grew : after ≡ append_known before (text_of lines)
-
--- more phases were done
-pub beats_joined : (start now next : SessionData) (done more : List ℕ) (before mid after : Option (List ℕ)) (lines : List Line) →
-    BeatsDone start now done before mid → AreBeats now more next lines → after ≡ append_known mid (text_of lines) →
-    BeatsDone start next (done ++ more) before after
-beats_joined start now next done more before mid after lines so_far beats grew = record {
-  lines = so_far.lines ++ lines;
-  beats = beats-append done more start now next so_far.lines lines so_far.beats beats;
-  grew = grew ∙ ap (λ known. append_known known (text_of lines)) so_far.grew ∙ append_known-append before (text_of so_far.lines) (text_of lines)
-      ∙ ap (append_known before) (sym (text_of-append so_far.lines lines));
-}
-
--- no cycle has no places
-pub no_cycle : (count : ℕ) → places_in count 0 ≡ []
-no_cycle count = let none : 0 * count ≡ 0 = omega arith in ap (λ (n : ℕ). map (λ i. i % count) (range_with_len 0 n)) none
-
--- at the start nothing is done
-pub beats_done-none : (session : SessionData) (count : ℕ) (before : Option (List ℕ)) → BeatsDone session session (places_in count 0) before before
-beats_done-none session count before =
-    subst (λ (places : List ℕ). BeatsDone session session places before before) (sym (no_cycle count))
-    (record { lines = []; beats = (refl, refl); grew = sym (append_known-nil before) })
-
--- one more phase was done
-pub beat_done : (start now next : SessionData) (state : List Tern) (done : List ℕ) (place : ℕ) (before mid after : Option (List ℕ)) →
-    BeatsDone start now done before mid → record now { state = state } ≡ with_beat now place →
-    IsPhaseSent (record now { state = state }) next mid after (Ok tt) → BeatsDone start next (done ++ place ∷ []) before after
-beat_done start now next state done place before mid after so_far beat sent =
-    beats_joined start now next done (place ∷ []) before mid after sent.lines so_far
-    (one_beat now next place sent.lines (subst (λ (s : SessionData). IsPhase s next sent.lines) beat sent.phase)) sent.sent
-
--- phases at a front of more places, after those that are done, are phases at a front of all
-front_more : (start now next : SessionData) (all done more rest : List ℕ) (before mid : Option (List ℕ)) → all ≡ done ++ (more ++ rest) →
-    BeatsDone start now done before mid → FrontDone more now next → FrontDone all start next
-front_more start now next all done more rest before mid split so_far front = record {
-  done = done ++ front.done;
-  left = front.left ++ rest;
-  split = split ∙ ap (λ places. done ++ (places ++ rest)) front.split ∙ ap (λ places. done ++ places) (append_assoc front.done front.left rest)
-      ∙ sym (append_assoc done front.done (front.left ++ rest));
-  lines = so_far.lines ++ front.lines;
-  beats = beats-append done front.done start now next so_far.lines front.lines so_far.beats front.beats;
-}
-
--- a part of the text of more phases was sent, and a front of them done: it is a part of the text of all
-beats_part : (start now next last : SessionData) (all done more rest : List ℕ) (before mid after : Option (List ℕ)) (lines : List Line) →
-    IsReady start → all ≡ done ++ (more ++ rest) → BeatsDone start now done before mid → AreBeats now more next lines →
-    WritesPart mid after (text_of lines) → FrontDone more now last → BeatsBegun all start last before after
-beats_part start now next last all done more rest before mid after lines ready split so_far beats part front =
-    let others = beats_exist rest next (beats-ready more now next lines beats (beats-ready done start now so_far.lines so_far.beats ready)) in
-    let back : List Line = lines ++ others.1 in
-    let whole : List Line = so_far.lines ++ back in record {
-      end = others.0;
-      lines = whole;
-      beats = subst (λ places. AreBeats start places others.0 whole) (sym split)
-          (beats-append done (more ++ rest) start now others.0 so_far.lines back so_far.beats
-          (beats-append more rest now next others.0 lines others.1 beats others.2));
-      written = sends_part before mid after (text_of whole) (text_of lines) (text_of others.1) (record {
-        sent = text_of so_far.lines;
-        whole = text_of-append so_far.lines back ∙ ap (λ text. text_of so_far.lines ++ text) (text_of-append lines others.1);
-        grew = so_far.grew;
-      }) part;
-      done = front_more start now last all done more rest before mid split so_far front;
-    }
-
--- the sink ended a phase
-pub beat_stopped : (start now next : SessionData) (state : List Tern) (all done rest : List ℕ) (place : ℕ) (before mid after : Option (List ℕ)) (cause : ApplyFault) →
-    IsReady start → all ≡ done ++ (place ∷ rest) → BeatsDone start now done before mid → record now { state = state } ≡ with_beat now place →
-    IsPhaseSent (record now { state = state }) next mid after (Err cause) → BeatsBegun all start next before after
-beat_stopped start now next state all done rest place before mid after cause ready split so_far beat sent =
-    let phase = one_beat now next place sent.lines (subst (λ (s : SessionData). IsPhase s next sent.lines) beat sent.phase) in
-    beats_part start now next next all done (place ∷ []) rest before mid after sent.lines ready split so_far phase sent.sent
-    (record { done = place ∷ []; left = []; split = refl; lines = sent.lines; beats = phase })
 
 -- numbers in order, so many and then more
 range-add : (first count more all next : ℕ) → count + more ≡ all → first + count ≡ next →
@@ -181,29 +102,9 @@ cycles-split count cycle times before =
           ∙ append_assoc (places_in count cycle) (range_with_len 0 count) (places_from count ((cycle + 1) * count) (left * count));
     }
 
--- one cycle more was run
-pub cycle_done : (start now next : SessionData) (cycle : ℕ) (before mid after : Option (List ℕ)) →
-    BeatsDone start now (places_in (places_of start.clocks) cycle) before mid →
-    TakesBeats (range_with_len 0 (places_of now.clocks)) now next mid after (Ok tt) →
-    BeatsDone start next (places_in (places_of start.clocks) (cycle + 1)) before after
-cycle_done start now next cycle before mid after so_far (lines, beats, grew) =
-    let count : ℕ = places_of start.clocks in
-    let same : places_of now.clocks ≡ count = ap places_of (clocks-beats (places_in count cycle) start now so_far.lines so_far.beats) in
-    rw (cycles-next count cycle) (beats_joined start now next (places_in count cycle) (range_with_len 0 count) before mid after lines so_far
-    (subst (λ n. AreBeats now (range_with_len 0 n) next lines) same beats) grew)
-
--- the sink ended a cycle
-pub cycle_stopped : (start now next : SessionData) (cycle times : ℕ) (before mid after : Option (List ℕ)) (cause : ApplyFault) →
-    IsReady start → cycle < times → BeatsDone start now (places_in (places_of start.clocks) cycle) before mid →
-    TakesBeats (range_with_len 0 (places_of now.clocks)) now next mid after (Err cause) →
-    BeatsBegun (places_in (places_of start.clocks) times) start next before after
-cycle_stopped start now next cycle times before mid after cause ready inside so_far begun =
-    let count : ℕ = places_of start.clocks in
-    let same : places_of now.clocks ≡ count = ap places_of (clocks-beats (places_in count cycle) start now so_far.lines so_far.beats) in
-    let others : CyclesSplit count cycle times = cycles-split count cycle times inside in
-    beats_part start now begun.end next (places_in count times) (places_in count cycle) (range_with_len 0 count) others.rest before mid after begun.lines
-    ready others.split so_far (subst (λ n. AreBeats now (range_with_len 0 n) begun.end begun.lines) same begun.beats) begun.written
-    (subst (λ n. FrontDone (range_with_len 0 n) now next) same begun.done)
+-- no cycle has no places
+pub no_cycle : (count : ℕ) → places_in count 0 ≡ []
+no_cycle count = let none : 0 * count ≡ 0 = omega arith in ap (λ (n : ℕ). map (λ i. i % count) (range_with_len 0 n)) none
 
 -- a place of a cycle is within each clock's states
 pub places_within : (clocks : List ClockData) (count place : ℕ) → have_places count clocks ≡ true → place < count →
@@ -212,3 +113,103 @@ places_within [] count place even inside = All-nil (λ (clock : ClockData). plac
 places_within (clock ∷ clocks) count place even inside =
     let both = and_parts (length clock.states == count) (list_all (λ (other : ClockData). length other.states == count) clocks) even in
     All-cons (λ (other : ClockData). place < length other.states) clock clocks (grind (arith, nat_tests, both.0)) (places_within clocks count place both.1 inside)
+
+-- ---- what was heard of them
+
+module _ {H : Type 0} (hear : H → Told → H) where
+  -- the phases at the places that are done, with their lines heard
+  pub record BeatsDone (start now : SessionData) (done : List ℕ) (before after : H) : Type 0 where
+    pub lines : List Line
+    pub beats : AreBeats start done now lines
+    pub heard : after ≡ hear_all hear before (of_column 0 lines)
+
+  -- more phases were done
+  pub beats_joined : (start now next : SessionData) (done more : List ℕ) (before mid after : H) (lines : List Line) →
+      BeatsDone start now done before mid → AreBeats now more next lines → after ≡ hear_all hear mid (of_column 0 lines) →
+      BeatsDone start next (done ++ more) before after
+  beats_joined start now next done more before mid after lines so_far beats heard = record {
+    lines = so_far.lines ++ lines;
+    beats = beats-append done more start now next so_far.lines lines so_far.beats beats;
+    heard = heard ∙ ap (λ h. hear_all hear h (of_column 0 lines)) so_far.heard
+        ∙ sym (hear_all-append hear before (of_column 0 so_far.lines) (of_column 0 lines))
+        ∙ ap (hear_all hear before) (sym (of_column-append 0 so_far.lines lines));
+  }
+
+  -- at the start nothing is done
+  pub beats_done-none : (session : SessionData) (count : ℕ) (before : H) → BeatsDone session session (places_in count 0) before before
+  beats_done-none session count before =
+      subst (λ (places : List ℕ). BeatsDone session session places before before) (sym (no_cycle count))
+      (record { lines = []; beats = (refl, refl); heard = refl })
+
+  -- phases at a front of more places, after those that are done, are phases at a front of all
+  front_more : (start now next : SessionData) (all done more rest : List ℕ) (before mid : H) → all ≡ done ++ (more ++ rest) →
+      BeatsDone start now done before mid → FrontDone more now next → FrontDone all start next
+  front_more start now next all done more rest before mid split so_far front = record {
+    done = done ++ front.done;
+    left = front.left ++ rest;
+    split = split ∙ ap (λ places. done ++ (places ++ rest)) front.split ∙ ap (λ places. done ++ places) (append_assoc front.done front.left rest)
+        ∙ sym (append_assoc done front.done (front.left ++ rest));
+    lines = so_far.lines ++ front.lines;
+    beats = beats-append done front.done start now next so_far.lines front.lines so_far.beats front.beats;
+  }
+
+  module _ (part : H → Told → H → Type 0) where
+    -- one more phase was done
+    pub beat_done : (start now next : SessionData) (state : List Tern) (done : List ℕ) (place : ℕ) (before mid after : H) →
+        BeatsDone start now done before mid → record now { state = state } ≡ with_beat now place →
+        IsPhaseSent hear part (record now { state = state }) next mid after (Ok tt) → BeatsDone start next (done ++ place ∷ []) before after
+    beat_done start now next state done place before mid after so_far beat sent =
+        beats_joined start now next done (place ∷ []) before mid after sent.lines so_far
+        (one_beat now next place sent.lines (subst (λ (s : SessionData). IsPhase s next sent.lines) beat sent.phase)) sent.sent
+
+    -- a part of the lines of more phases was heard, and a front of them done: it is a part of the lines of all
+    beats_part : (start now next last : SessionData) (all done more rest : List ℕ) (before mid after : H) (lines : List Line) →
+        IsReady start → all ≡ done ++ (more ++ rest) → BeatsDone start now done before mid → AreBeats now more next lines →
+        HearsPart hear part mid after (of_column 0 lines) → FrontDone more now last → BeatsBegun hear part all start last before after
+    beats_part start now next last all done more rest before mid after lines ready split so_far beats heard front =
+        let others = beats_exist rest next (beats-ready more now next lines beats (beats-ready done start now so_far.lines so_far.beats ready)) in
+        let back : List Line = lines ++ others.1 in
+        let whole : List Line = so_far.lines ++ back in record {
+          end = others.0;
+          lines = whole;
+          beats = subst (λ places. AreBeats start places others.0 whole) (sym split)
+              (beats-append done (more ++ rest) start now others.0 so_far.lines back so_far.beats
+              (beats-append more rest now next others.0 lines others.1 beats others.2));
+          heard = so_far-stopped hear part before mid after (of_column 0 whole) (of_column 0 back) (of_column 0 lines) (of_column 0 others.1)
+              (of_column-append 0 lines others.1)
+              (record { done = of_column 0 so_far.lines; split = of_column-append 0 so_far.lines back; heard = so_far.heard }) heard;
+          done = front_more start now last all done more rest before mid split so_far front;
+        }
+
+    -- the hearer ended a phase
+    pub beat_stopped : (start now next : SessionData) (state : List Tern) (all done rest : List ℕ) (place : ℕ) (before mid after : H) (cause : ApplyFault) →
+        IsReady start → all ≡ done ++ (place ∷ rest) → BeatsDone start now done before mid → record now { state = state } ≡ with_beat now place →
+        IsPhaseSent hear part (record now { state = state }) next mid after (Err cause) → BeatsBegun hear part all start next before after
+    beat_stopped start now next state all done rest place before mid after cause ready split so_far beat sent =
+        let phase = one_beat now next place sent.lines (subst (λ (s : SessionData). IsPhase s next sent.lines) beat sent.phase) in
+        beats_part start now next next all done (place ∷ []) rest before mid after sent.lines ready split so_far phase sent.sent
+        (record { done = place ∷ []; left = []; split = refl; lines = sent.lines; beats = phase })
+
+    -- one cycle more was run
+    pub cycle_done : (start now next : SessionData) (cycle : ℕ) (before mid after : H) →
+        BeatsDone start now (places_in (places_of start.clocks) cycle) before mid →
+        TakesBeats hear part (range_with_len 0 (places_of now.clocks)) now next mid after (Ok tt) →
+        BeatsDone start next (places_in (places_of start.clocks) (cycle + 1)) before after
+    cycle_done start now next cycle before mid after so_far (lines, beats, heard) =
+        let count : ℕ = places_of start.clocks in
+        let same : places_of now.clocks ≡ count = ap places_of (clocks-beats (places_in count cycle) start now so_far.lines so_far.beats) in
+        rw (cycles-next count cycle) (beats_joined start now next (places_in count cycle) (range_with_len 0 count) before mid after lines so_far
+        (subst (λ n. AreBeats now (range_with_len 0 n) next lines) same beats) heard)
+
+    -- the hearer ended a cycle
+    pub cycle_stopped : (start now next : SessionData) (cycle times : ℕ) (before mid after : H) (cause : ApplyFault) →
+        IsReady start → cycle < times → BeatsDone start now (places_in (places_of start.clocks) cycle) before mid →
+        TakesBeats hear part (range_with_len 0 (places_of now.clocks)) now next mid after (Err cause) →
+        BeatsBegun hear part (places_in (places_of start.clocks) times) start next before after
+    cycle_stopped start now next cycle times before mid after cause ready inside so_far begun =
+        let count : ℕ = places_of start.clocks in
+        let same : places_of now.clocks ≡ count = ap places_of (clocks-beats (places_in count cycle) start now so_far.lines so_far.beats) in
+        let others : CyclesSplit count cycle times = cycles-split count cycle times inside in
+        beats_part start now begun.end next (places_in count times) (places_in count cycle) (range_with_len 0 count) others.rest before mid after begun.lines
+        ready others.split so_far (subst (λ n. AreBeats now (range_with_len 0 n) begun.end begun.lines) same begun.beats) begun.heard
+        (subst (λ n. FrontDone (range_with_len 0 n) now next) same begun.done)

@@ -34,7 +34,7 @@ use Rattle.script_lang.specs.declared.command.Tell.TheVariants.{Expect}
 use Rattle.script_lang.specs.Forms.{IsFormed, IsFormedSetup, IsFormedTell}
 use Rattle.session_meaning.specs.Sessions.{SessionData, places_of}
 use Rattle.session_meaning.specs.Refusals.{refusal_of, refusal_of_edit, making_refusal, edit_refusal, strength_for}
-use Rattle.session_meaning.specs.Lines.{Line}
+use Rattle.told_lines.specs.Lines.{Line}
 use Rattle.session_meaning.specs.Effects.{Effect, RunEffect, IsPhase, AreBeats, circuit_after, setup_after, told_by, with_beat, is_state, unmet_lines, places_in, one_more}
 use Rattle.session_meaning.specs.Preparing.{builds, BuildsIf}
 use Rattle.session_meaning.specs.Outcomes.{Does, Performs}
@@ -223,21 +223,20 @@ bounded-built true old mid texts built bounded = record {
 bounded-built false old mid texts (same, none) bounded = subst IsBounded (sym same) bounded
 
 -- what a formed command does keeps the data bounded
-pub bounded-does : (old new : SessionData) (command : Command) (text : List ℕ) → IsBounded old → IsFormed command → Does old command new text →
+pub bounded-does : (old new : SessionData) (command : Command) (lines : List Line) → IsBounded old → IsFormed command → Does old command new lines →
     IsBounded new
-bounded-does old new command text bounded formed does =
-    let small = effect_small old new does.lines command bounded formed does.allowed does.effect in
-    record { ready = ready-does old new command text bounded.ready does; few = small.0; limit = small.1 }
+bounded-does old new command lines bounded formed does =
+    let small = effect_small old new lines command bounded formed does.allowed does.effect in
+    record { ready = ready-does old new command lines bounded.ready does; few = small.0; limit = small.1 }
 
 -- and so does all that is done for it
-pub bounded-performs : (old new : SessionData) (command : Command) (text : List ℕ) (texts : List GroupTextData) → IsBounded old → IsFormed command →
-    Performs old command new text texts → IsBounded new
-bounded-performs old new command text texts bounded formed performs =
-    bounded-does performs.mid new command text (bounded-built (builds command) old performs.mid texts performs.prepares bounded) formed performs.does
+pub bounded-performs : (old new : SessionData) (command : Command) (lines : List Line) (texts : List GroupTextData) → IsBounded old → IsFormed command →
+    Performs old command new lines texts → IsBounded new
+bounded-performs old new command lines texts bounded formed performs =
+    bounded-does performs.mid new command lines (bounded-built (builds command) old performs.mid texts performs.prepares bounded) formed performs.does
 
 -- its lines can be read again
-pub performs-readable : (old new : SessionData) (command : Command) (text : List ℕ) (texts : List GroupTextData) → IsBounded old → IsFormed command →
-    (performs : Performs old command new text texts) → All IsReadable performs.does.lines
-performs-readable old new command text texts bounded formed performs =
-    effect_readable performs.mid new performs.does.lines command
-    (bounded-built (builds command) old performs.mid texts performs.prepares bounded) formed performs.does.effect
+pub performs-readable : (old new : SessionData) (command : Command) (lines : List Line) (texts : List GroupTextData) → IsBounded old → IsFormed command →
+    Performs old command new lines texts → All IsReadable lines
+performs-readable old new command lines texts bounded formed performs =
+    effect_readable performs.mid new lines command (bounded-built (builds command) old performs.mid texts performs.prepares bounded) formed performs.does.effect

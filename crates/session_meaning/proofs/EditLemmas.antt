@@ -321,9 +321,7 @@ pub edit_does : (session : SessionData) (edit : Edit) (c : CircuitData) (stage :
     Does session (family.Edit edit) (record session { circuit = c; state = stage.state }) []
 edit_does session edit c stage allowed is grown = record {
   allowed = allowed;
-  lines = [];
   effect = (ap (λ (state : List Tern). record session { circuit = c; state = state }) grown ∙ ap (with_circuit session) is, refl);
-  text_is = refl;
 }
 
 -- and of one that makes no node, where the states stay
@@ -332,9 +330,7 @@ pub still_does : (session new : SessionData) (edit : Edit) (c : CircuitData) →
     Does session (family.Edit edit) new []
 still_does session new edit c allowed is few same = record {
   allowed = allowed;
-  lines = [];
   effect = (same ∙ kept_states session c few ∙ ap (with_circuit session) is, refl);
-  text_is = refl;
 }
 
 -- nodes that are made input nodes: what their command does

@@ -1,7 +1,7 @@
 -- Each command is refused or has an effect, and an effect keeps the data ready: the circuit well formed, and one state for each node.
 -- The plan: edits give nodes other than the rails a level, which keeps the circuit well formed; states are set and keep their number; steps,
 -- phases and cycles have an outcome because every state of a graph has a step and settles.
-use Rattle.std.proofs.Common.{◌≡◌, ℕ, ◌-◌, ◌≤◌, ◌++◌, ◌||◌, List, [], ◌∷◌, length, All, nat_lt, Option, None, Some, Bool, true, false, refl, ◌∙◌, inl, inr, arith}
+use Rattle.std.proofs.Common.{◌≡◌, ℕ, ◌-◌, ◌≤◌, ◌++◌, List, [], ◌∷◌, length, All, nat_lt, Option, None, Some, Bool, true, false, refl, ◌∙◌, inl, inr, arith}
 use Rattle.std.specs.Prelude.{if◌then◌else◌, ◌⊎◌}
 use Rattle.std.proofs.lemmas.List.{length-set, length-replicate}
 use Rattle.std.proofs.lemmas.List.Elements.{All-nil}
@@ -41,12 +41,12 @@ use Rattle.session_meaning.specs.declared.fault.Refusal.TheVariants.{Rail, BadSi
 use Rattle.session_meaning.specs.Sessions.{SessionData, ClockData, IsReady, start_of, places_of}
 use Rattle.session_meaning.specs.Refusals.{refusal_of, refusal_of_edit, refusal_of_give, refusal_of_setup, first_refusal, rail_refusal, store_refusal, length_refusal, strength_for}
 use Rattle.session_meaning.specs.Preparing.{builds, with_present, IsBuild, BuildsIf}
-use Rattle.session_meaning.specs.Lines.{Line, Reported, text_of}
-use Rattle.session_meaning.specs.Effects.{Effect, RunEffect, IsPhase, AreBeats, circuit_after, given_by, setup_after, told_by, misses, with_inputs, assigned, with_beat, moved_to, wave_by, places_in, with_circuit}
+use Rattle.told_lines.specs.Lines.{Line, Reported}
+use Rattle.session_meaning.specs.Effects.{Effect, RunEffect, IsPhase, AreBeats, circuit_after, given_by, setup_after, with_told, told_by, with_inputs, assigned, with_beat, moved_to, wave_by, places_in, with_circuit}
 use Rattle.session_meaning.specs.Outcomes.{Does, Performs}
 use Rattle.session_meaning.proofs.RefusalLemmas.{first_refusal-none, or_else-none}
 use Rattle.session_meaning.proofs.StateLemmas.{length-assigned, length-states_with, length-settles, set_past, charged_past, clocks_past, sound-assigned, sound-states_with, sound-step, sound-settles}
-use Rattle.session_meaning.proofs.OutcomeLemmas.{does_effect, refusal_of-built, built_performs, still_performs}
+use Rattle.session_meaning.proofs.OutcomeLemmas.{built_performs, still_performs}
 use Rattle.session_meaning.proofs.SizeLemmas.{texts_or_size}
 use Rattle.session_meaning.proofs.EditLemmas.{IsReady-grown, nodes-with_inputs, unrefused_add, unrefused_strength}
 
@@ -176,7 +176,7 @@ effect_exists session ready (family.Give give) has =
 effect_exists session ready (family.Setup setup) has = (setup_after session setup, [], (refl, refl))
 effect_exists session ready (family.Run run) has = run_exists session ready run (has refl)
 effect_exists session ready (family.Tell tell) has =
-    (record session { missed = session.missed || misses session tell }, told_by session tell, (refl, refl))
+    (with_told session (told_by session tell), told_by session tell, (refl, refl))
 
 -- a build keeps the data ready
 pub ready-build : (old mid : SessionData) (texts : List GroupTextData) → IsBuild old mid texts → IsReady old → IsReady mid
@@ -188,15 +188,14 @@ pub data Ends (session : SessionData) (command : Command) : Type 0 where
   refused : (refusal : Refusal) → refusal_of session command ≡ Some refusal → Ends session command
   too_large : (fault : BuildFault) → refusal_of session command ≡ None → builds command ≡ true → TellsTooLarge session.circuit.graph fault →
       Ends session command
-  performed : (new : SessionData) (text : List ℕ) (texts : List GroupTextData) → Performs session command new text texts → Ends session command
+  performed : (new : SessionData) (lines : List Line) (texts : List GroupTextData) → Performs session command new lines texts → Ends session command
 
 -- a command that builds nothing is done where it isn't refused
 still_ends : (session : SessionData) (command : Command) → IsReady session → builds command ≡ false → refusal_of session command ≡ None →
     Ends session command
 still_ends session command ready still allowed =
     let outcome = effect_exists session ready command (λ building. absurd (cc)) in
-    performed outcome.0 (text_of outcome.1) []
-    (still_performs session outcome.0 command (text_of outcome.1) still (does_effect session outcome.0 command outcome.1 allowed outcome.2))
+    performed outcome.0 outcome.1 [] (still_performs session outcome.0 command outcome.1 still allowed outcome.2)
 
 -- one that builds is done where moreover the circuit's groups have texts
 built_ends : (session : SessionData) (command : Command) (texts : List GroupTextData) → IsReady session → builds command ≡ true →
@@ -206,9 +205,7 @@ built_ends session command texts ready building allowed has =
     let mid : SessionData = with_present session texts in
     let build : IsBuild session mid fresh = record { present = texts; has = has; news = refl; used = refl } in
     let outcome = effect_exists mid (ready-build session mid fresh build ready) command (λ builds. (texts, has)) in
-    performed outcome.0 (text_of outcome.1) fresh
-    (built_performs session mid outcome.0 command (text_of outcome.1) fresh building build
-    (does_effect mid outcome.0 command outcome.1 (refusal_of-built session mid command fresh build ∙ allowed) outcome.2))
+    performed outcome.0 outcome.1 fresh (built_performs session mid outcome.0 command outcome.1 fresh building build allowed outcome.2)
 
 -- each formed command ends
 pub ends : (session : SessionData) (command : Command) → IsReady session → IsFormed command → Ends session command
@@ -267,8 +264,8 @@ ready-effect old new (family.Tell tell) lines allowed effect ready =
     rw (effect.0) (record { netlist = ready.netlist; states = ready.states; sound = ready.sound; free = ready.free })
 
 -- what a command does keeps the data ready
-pub ready-does : (session new : SessionData) (command : Command) (text : List ℕ) → IsReady session → Does session command new text → IsReady new
-ready-does session new command text ready does = ready-effect session new command does.lines does.allowed does.effect ready
+pub ready-does : (session new : SessionData) (command : Command) (lines : List Line) → IsReady session → Does session command new lines → IsReady new
+ready-does session new command lines ready does = ready-effect session new command lines does.allowed does.effect ready
 
 -- what stands before an effect keeps the data ready
 ready-prepared : (does : Bool) (old mid : SessionData) (texts : List GroupTextData) → BuildsIf does old mid texts → IsReady old → IsReady mid
@@ -276,10 +273,10 @@ ready-prepared true old mid texts build ready = ready-build old mid texts build 
 ready-prepared false old mid texts still ready = rw (still.0) ready
 
 -- and so does all that is done for a command
-pub ready-performs : (session new : SessionData) (command : Command) (text : List ℕ) (texts : List GroupTextData) → IsReady session →
-    Performs session command new text texts → IsReady new
-ready-performs session new command text texts ready performs =
-    ready-does performs.mid new command text (ready-prepared (builds command) session performs.mid texts performs.prepares ready) performs.does
+pub ready-performs : (session new : SessionData) (command : Command) (lines : List Line) (texts : List GroupTextData) → IsReady session →
+    Performs session command new lines texts → IsReady new
+ready-performs session new command lines texts ready performs =
+    ready-does performs.mid new command lines (ready-prepared (builds command) session performs.mid texts performs.prepares ready) performs.does
 
 -- a session starts ready
 pub ready-start : (circuit : CircuitData) → IsCircuit circuit → IsReady (start_of circuit)

@@ -6,7 +6,7 @@ use Rattle.script_lang.specs.declared.command.Setup.TheVariants.{Watch}
 use Rattle.script_lang.specs.declared.command.Run.{Run}
 use Rattle.script_lang.specs.declared.command.Run.TheVariants.{Step, Phase, Cycle, Report}
 use Rattle.session_meaning.specs.Sessions.{SessionData, places_of}
-use Rattle.session_meaning.specs.Lines.{Line}
+use Rattle.told_lines.specs.Lines.{Line}
 use Rattle.session_meaning.specs.Effects.{RunEffect, IsPhase, AreBeats, setup_after, moved_to, with_beat, places_in}
 
 -- the circuit, the watch list, the bound and what is kept are as before

@@ -1,22 +1,24 @@
--- Lines: the text of lines that are joined, and the lines of expectations that aren't met, item by item.
-use Rattle.std.proofs.Common.{◌≡◌, ℕ, ◌+◌, ◌<◌, Bool, true, false, ◌||◌, List, [], ◌∷◌, ◌++◌, length, get_or, drop, refl, sym, ap, ◌∙◌, append_assoc}
-use Rattle.std.proofs.lemmas.List.{drop_more}
-use Rattle.std.proofs.lemmas.List.Elements.{filter_map-append}
+-- The lines of expectations that aren't met, item by item.
+use Rattle.std.proofs.Common.{◌≡◌, ℕ, ◌+◌, ◌<◌, ◌≤◌, Bool, true, false, ◌||◌, List, [], ◌∷◌, ◌++◌, length, All, get_or, take, drop, refl, sym, ap, ◌∙◌, arith}
+use Rattle.std.specs.List.{list_any}
+use Rattle.std.proofs.lemmas.List.{drop_more, take_more}
+use Rattle.std.proofs.lemmas.List.Elements.{filter_map-append, All-nil, All-cons, All-append, All-weaker}
+use Rattle.std.proofs.lemmas.List.Folds.{list_any-append}
 use Rattle.ternary.specs.declared.tern.Tern.{Tern}
+use Rattle.path_meaning.specs.Switching.{state_at}
+use Rattle.netlist.specs.Edits.{node_named}
+use Rattle.wave_print.specs.declared.lines.TheConstants.{COLUMN_ROOM, EXPECT_LINE_ROOM}
+use Rattle.told_lines.specs.Lines.{Line, Unmet, is_unmet}
+use Rattle.told_lines.specs.Hearing.{of_column}
+use Rattle.told_lines.proofs.HearingLemmas.{of_column-append}
 use Rattle.session_meaning.specs.Sessions.{SessionData}
-use Rattle.session_meaning.specs.Lines.{Line, line_text, text_of}
-use Rattle.session_meaning.specs.Effects.{unmet_line, unmet_lines, has_lines}
+use Rattle.session_meaning.specs.Effects.{is_state, unmet_line, unmet_lines}
+use Rattle.session_meaning.specs.Stages.{AreInRoom}
 
--- the text of lines and then others is the text of all
-pub text_of-append : (lines more : List Line) → text_of (lines ++ more) ≡ text_of lines ++ text_of more
-text_of-append [] more = refl
-text_of-append (line ∷ lines) more =
-    ap (λ text. line_text line ++ text) (text_of-append lines more) ∙ sym (append_assoc (line_text line) (text_of lines) (text_of more))
-
--- there is a line among some and others where there is one among either
-has_lines-append : (lines more : List Line) → has_lines (lines ++ more) ≡ has_lines lines || has_lines more
-has_lines-append [] more = refl
-has_lines-append (line ∷ lines) more = refl
+-- an assignment whose node is in another state than is wanted has a line
+pub unmet-one : (session : SessionData) (name : List ℕ) (want got : Tern) → got ≡ state_at session.state (node_named session.circuit name) →
+    is_state got want ≡ false → Unmet name want got session.count ∷ [] ≡ unmet_lines session ((name, want) ∷ [])
+unmet-one session name want got is other = rw (← is, other) refl
 
 -- the lines from one item on are its own and those after it
 unmet_lines-next : (session : SessionData) (list : List (List ℕ × Tern)) (place : ℕ) (item : List ℕ × Tern) → place < length list →
@@ -27,30 +29,39 @@ unmet_lines-next session list place item inside is =
     ∙ ap (λ (first : List ℕ × Tern). unmet_lines session (first ∷ drop (place + 1) list)) (sym is)
     ∙ filter_map-append (unmet_line session) (item ∷ []) (drop (place + 1) list)
 
--- where the bytes so far and the lines from one item on are all, so are they with that item's lines, and the lines after it
-pub unmet_text-next : (session : SessionData) (list : List (List ℕ × Tern)) (place : ℕ) (item : List ℕ × Tern) (before now all : List ℕ) →
-    place < length list → item ≡ get_or list place item → now ≡ before ++ text_of (unmet_lines session (item ∷ [])) →
-    before ++ text_of (unmet_lines session (drop place list)) ≡ all → now ++ text_of (unmet_lines session (drop (place + 1) list)) ≡ all
-unmet_text-next session list place item before now all inside is put so_far =
-    let one : List Line = unmet_lines session (item ∷ []) in
-    let rest : List Line = unmet_lines session (drop (place + 1) list) in
-    ap (λ bytes. bytes ++ text_of rest) put ∙ append_assoc before (text_of one) (text_of rest)
-    ∙ ap (λ text. before ++ text) (sym (text_of-append one rest))
-    ∙ ap (λ lines. before ++ text_of lines) (sym (unmet_lines-next session list place item inside is)) ∙ so_far
+-- so they are told
+pub unmet-next : (session : SessionData) (list : List (List ℕ × Tern)) (place : ℕ) (item : List ℕ × Tern) → place < length list →
+    item ≡ get_or list place item →
+    of_column 0 (unmet_lines session (drop place list))
+    ≡ of_column 0 (unmet_lines session (item ∷ [])) ++ of_column 0 (unmet_lines session (drop (place + 1) list))
+unmet-next session list place item inside is =
+    ap (of_column 0) (unmet_lines-next session list place item inside is)
+    ∙ of_column-append 0 (unmet_lines session (item ∷ [])) (unmet_lines session (drop (place + 1) list))
 
 -- `or` groups as one likes
 or_assoc : (a b c : Bool) → (a || b) || c ≡ a || (b || c)
 or_assoc true b c = refl
 or_assoc false b c = refl
 
--- likewise whether there is a line
+-- likewise whether one of them is of an expectation that isn't met
 pub unmet_any-next : (session : SessionData) (list : List (List ℕ × Tern)) (place : ℕ) (item : List ℕ × Tern) (before one all : Bool) →
-    place < length list → item ≡ get_or list place item → one ≡ has_lines (unmet_lines session (item ∷ [])) →
-    before || has_lines (unmet_lines session (drop place list)) ≡ all →
-    (before || one) || has_lines (unmet_lines session (drop (place + 1) list)) ≡ all
+    place < length list → item ≡ get_or list place item → one ≡ list_any is_unmet (unmet_lines session (item ∷ [])) →
+    before || list_any is_unmet (unmet_lines session (drop place list)) ≡ all →
+    (before || one) || list_any is_unmet (unmet_lines session (drop (place + 1) list)) ≡ all
 unmet_any-next session list place item before one all inside is put so_far =
     let first : List Line = unmet_lines session (item ∷ []) in
     let rest : List Line = unmet_lines session (drop (place + 1) list) in
-    ap (λ any. (before || any) || has_lines rest) put ∙ or_assoc before (has_lines first) (has_lines rest)
-    ∙ ap (λ any. before || any) (sym (has_lines-append first rest))
-    ∙ ap (λ lines. before || has_lines lines) (sym (unmet_lines-next session list place item inside is)) ∙ so_far
+    ap (λ any. (before || any) || list_any is_unmet rest) put ∙ or_assoc before (list_any is_unmet first) (list_any is_unmet rest)
+    ∙ ap (λ any. before || any) (sym (list_any-append is_unmet first rest))
+    ∙ ap (λ lines. before || list_any is_unmet lines) (sym (unmet_lines-next session list place item inside is)) ∙ so_far
+
+-- the room of the longest name so far, or of a longer one, is enough for all so far
+pub in_room-next : (list : List (List ℕ × Tern)) (place : ℕ) (item : List ℕ × Tern) (most next : ℕ) → place < length list →
+    item ≡ get_or list place item → most ≤ next → length item.0 ≤ next → AreInRoom (COLUMN_ROOM + (EXPECT_LINE_ROOM + most)) (take place list) →
+    AreInRoom (COLUMN_ROOM + (EXPECT_LINE_ROOM + next)) (take (place + 1) list)
+in_room-next list place item most next inside is more fits so_far =
+    let fit : ℕ → List ℕ × Tern → Type 0 = λ room one. COLUMN_ROOM + (EXPECT_LINE_ROOM + length one.0) ≤ COLUMN_ROOM + (EXPECT_LINE_ROOM + room) in
+    rw (take_more list place item inside, ← is)
+    (All-append (fit next) (take place list) (item ∷ [])
+    (All-weaker (fit most) (fit next) (λ one short. omega (arith, short, more)) (take place list) so_far)
+    (All-cons (fit next) item [] (omega (arith, fits)) (All-nil (fit next))))

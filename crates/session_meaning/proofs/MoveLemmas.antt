@@ -1,6 +1,7 @@
 -- The moves of a machine through phases: they add up along the lines, and where the last line tells of rest no part is marked.
 use Rattle.std.proofs.Common.{◌≡◌, ℕ, ◌+◌, ◌<◌, Bool, false, List, [], ◌∷◌, ◌++◌, Option, None, Some, refl, sym, ap, subst, ◌∙◌, arith, append_assoc}
 use Rattle.std.specs.List.{range_with_len}
+use Rattle.std.proofs.lemmas.List.Sums.{sum_by-append}
 use Rattle.ternary.specs.declared.tern.Tern.{Tern}
 use Rattle.ternary.specs.Counts.{raised}
 use Rattle.ternary.proofs.CountsLemmas.{raised-more, raised-none}
@@ -11,7 +12,8 @@ use Rattle.script_lang.specs.declared.command.Run.{Run}
 use Rattle.script_lang.specs.declared.command.Run.TheVariants.{Phase, Cycle}
 use Rattle.group_text.specs.Texts.{GroupTextData}
 use Rattle.session_meaning.specs.Sessions.{SessionData, HeldSession, places_of}
-use Rattle.session_meaning.specs.Lines.{Line, Wave, Unmet, Reported}
+use Rattle.told_lines.specs.Lines.{Line, Wave}
+use Rattle.told_lines.specs.Sums.{steps_of}
 use Rattle.session_meaning.specs.Effects.{RunEffect, IsPhase, AreBeats, with_beat, wave_by, places_in}
 use Rattle.session_meaning.specs.Machines.{FitsIn, IsBuilt, EndsAtRest, MovesMachine, StepsMachine, SettlesMachine, moves_of, placed_of, steps_in}
 use Rattle.session_meaning.specs.Stages.{Readied, IsSettled, PhaseMoves, BeatsMove, BeatsMoveOn, StaysPut, SameSetup}
@@ -21,10 +23,7 @@ use Rattle.session_meaning.proofs.BeatLemmas.{beats-append, one_beat, clocks-bea
 
 -- the steps of lines and then others are those of all
 steps_in-append : (front back : List Line) → steps_in (front ++ back) ≡ steps_in front + steps_in back
-steps_in-append [] back = omega arith
-steps_in-append (Wave n k mark values ∷ front) back = omega (arith, steps_in-append front back)
-steps_in-append (Unmet name want got n ∷ front) back = steps_in-append front back
-steps_in-append (Reported groups texts new ∷ front) back = steps_in-append front back
+steps_in-append front back = sum_by-append steps_of front back
 
 -- the last line, if there is one
 abbrev last_line : List Line → Option Line

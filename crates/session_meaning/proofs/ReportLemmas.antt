@@ -9,7 +9,7 @@ use Rattle.circuit_texts.specs.Building.{HasTexts}
 use Rattle.machine_parts.specs.Parts.{has_members}
 use Rattle.machine_laws.specs.Machines.{MachineData}
 use Rattle.session_meaning.specs.Sessions.{SessionData}
-use Rattle.session_meaning.specs.Lines.{Reported}
+use Rattle.told_lines.specs.Lines.{Reported}
 use Rattle.session_meaning.specs.Effects.{IsReported}
 use Rattle.session_meaning.specs.Machines.{FitsIn}
 

@@ -1,4 +1,4 @@
--- A command has one effect on some data, and one alone is performed: its data, its lines, their text and the texts that are analysed for it.
+-- A command has one effect on some data, and one alone is performed: its data, its lines and the texts that are analysed for it.
 -- The plan: a step, a phase and a report are determined, since a state has one step and settles in one way, and a graph's groups have one list of
 -- texts; a cycle is phases; each other command's effect is a function.
 use Rattle.std.proofs.Common.{◌≡◌, ℕ, Bool, false, List, [], ◌∷◌, ◌++◌, length, refl, sym, ap, subst, ◌∙◌}
@@ -12,8 +12,8 @@ use Rattle.script_lang.specs.declared.command.Run.{Run}
 use Rattle.script_lang.specs.declared.command.Run.TheVariants.{Step, Phase, Cycle, Report}
 use Rattle.session_meaning.specs.Sessions.{SessionData, places_of}
 use Rattle.session_meaning.specs.Preparing.{builds, BuildsIf}
-use Rattle.session_meaning.specs.Lines.{Line, Reported, text_of}
-use Rattle.session_meaning.specs.Effects.{Effect, RunEffect, IsUnitStep, IsPhase, AreBeats, IsReported, moved_to, wave_by, with_beat, places_in}
+use Rattle.told_lines.specs.Lines.{Line, Reported}
+use Rattle.session_meaning.specs.Effects.{Effect, RunEffect, IsUnitStep, IsPhase, AreBeats, IsReported, moved_to, wave_by, with_beat, with_told, places_in}
 use Rattle.session_meaning.specs.Outcomes.{Performs}
 use Rattle.session_meaning.specs.Laws.{EffectsAreUnique, CommandsPerformOneThing}
 use Rattle.session_meaning.proofs.UniqueBuilds.{HasTexts-unique, built_unique}
@@ -79,7 +79,8 @@ effect_unique old new other (family.Edit edit) lines more one two = same_as _ ne
 effect_unique old new other (family.Give give) lines more one two = same_as _ new other [] lines more one two
 effect_unique old new other (family.Setup setup) lines more one two = same_as _ new other [] lines more one two
 effect_unique old new other (family.Run run) lines more one two = run_unique old new other run lines more one two
-effect_unique old new other (family.Tell tell) lines more one two = same_as _ new other _ lines more one two
+effect_unique old new other (family.Tell tell) lines more one two =
+    let same : lines ≡ more = one.1 ∙ sym two.1 in (one.0 ∙ ap (with_told old) same ∙ sym two.0, same)
 
 -- and what two performances of it come to is the same, by its two names
 pub record IsOnePerformance (new other : SessionData) (lines more : List Line) (texts others : List GroupTextData) : Type 0 where
@@ -87,20 +88,18 @@ pub record IsOnePerformance (new other : SessionData) (lines more : List Line) (
   pub wrote : lines ≡ more
   pub analysed : texts ≡ others
 
-pub performs_unique : (old new other : SessionData) (command asked : Command) (text more : List ℕ) (texts others : List GroupTextData)
-    (one : Performs old command new text texts) (two : Performs old asked other more others) → command ≡ asked →
-    IsOnePerformance new other one.does.lines two.does.lines texts others
-performs_unique old new other command asked text more texts others one two same =
+pub performs_unique : (old new other : SessionData) (command asked : Command) (lines more : List Line) (texts others : List GroupTextData) →
+    Performs old command new lines texts → Performs old asked other more others → command ≡ asked → IsOnePerformance new other lines more texts others
+performs_unique old new other command asked lines more texts others one two same =
     let built = built_unique (builds command) old one.mid two.mid texts others one.prepares
     (subst (λ (it : Command). BuildsIf (builds it) old two.mid others) (sym same) two.prepares) in
-    let effect : Effect one.mid command other two.does.lines =
-    subst (λ (session : SessionData). Effect session command other two.does.lines) (sym built.0)
-    (subst (λ (it : Command). Effect two.mid it other two.does.lines) (sym same) two.does.effect) in
-    let did = effect_unique one.mid new other command one.does.lines two.does.lines one.does.effect effect in
+    let effect : Effect one.mid command other more =
+    subst (λ (session : SessionData). Effect session command other more) (sym built.0)
+    (subst (λ (it : Command). Effect two.mid it other more) (sym same) two.does.effect) in
+    let did = effect_unique one.mid new other command lines more one.does.effect effect in
     record { end = did.0; wrote = did.1; analysed = built.1 }
 
 -- so it comes to one thing
 pub performs_one : CommandsPerformOneThing
-performs_one old new other command text more texts others one two =
-    let same = performs_unique old new other command command text more texts others one two refl in
-    (same.end, one.does.text_is ∙ ap text_of same.wrote ∙ sym two.does.text_is, same.analysed)
+performs_one old new other command lines more texts others one two =
+    let same = performs_unique old new other command command lines more texts others one two refl in (same.end, same.wrote, same.analysed)

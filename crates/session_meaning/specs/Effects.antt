@@ -1,8 +1,8 @@
--- The effect of each command that isn't refused: the new data, and the lines that are written.
+-- The effect of each command that isn't refused: the new data, and the lines that are told.
 -- A unit step gives every node its steady state by unblocked paths, all at once; a phase settles by such steps.
 -- After Bryant, "A Switch-Level Model and Simulator for MOS Digital Systems", 1984; the commands are this project's own.
 use Rattle.std.specs.Prelude.{◌≡◌, ℕ, Bool, true, false, ◌||◌, ◌+◌, ◌*◌, ◌-◌, ◌%◌, ◌^◌, min, List, [], ◌∷◌, ◌++◌, length, replicate, map, filter_map, slice_set, Option, Some, None, if◌then◌else◌}
-use Rattle.std.specs.List.{range_with_len}
+use Rattle.std.specs.List.{range_with_len, list_any}
 use Rattle.ternary.specs.declared.tern.Tern.{Tern}
 use Rattle.ternary.specs.declared.tern.Tern.TheVariants.{Zero, One, Unk}
 use Rattle.path_meaning.specs.Switching.{state_at}
@@ -28,7 +28,7 @@ use Rattle.script_lang.specs.declared.command.Tell.{Tell}
 use Rattle.script_lang.specs.declared.command.Tell.TheVariants.{Expect}
 use Rattle.session_meaning.specs.Sessions.{SessionData, ClockData, places_of}
 use Rattle.session_meaning.specs.Refusals.{strength_for}
-use Rattle.session_meaning.specs.Lines.{Line, Wave, Unmet, Reported}
+use Rattle.told_lines.specs.Lines.{Line, Wave, Unmet, Reported, is_unmet}
 
 -- the circuit with the named nodes as input nodes
 abbrev pub with_inputs : CircuitData → List (List ℕ) → CircuitData
@@ -111,11 +111,6 @@ unmet_line session item =
 abbrev pub unmet_lines : SessionData → List (List ℕ × Tern) → List Line
 unmet_lines session list = filter_map (unmet_line session) list
 
--- there is a line
-abbrev pub has_lines : List Line → Bool
-has_lines [] = false
-has_lines (line ∷ lines) = true
-
 -- the data with this circuit in place of theirs: each node that is new is X
 abbrev pub with_circuit : SessionData → CircuitData → SessionData
 with_circuit old c = record old { circuit = c; state = old.state ++ replicate (nodes c.graph - length old.state) Unk }
@@ -162,9 +157,9 @@ RunEffect old Report new lines = IsReported old new lines
 abbrev pub told_by : SessionData → Tell → List Line
 told_by session (Expect list) = unmet_lines session list
 
--- an expectation of it wasn't met
-abbrev pub misses : SessionData → Tell → Bool
-misses session (Expect list) = has_lines (unmet_lines session list)
+-- the data after these lines were told: whether one of them was of an expectation that isn't met is remembered
+abbrev pub with_told : SessionData → List Line → SessionData
+with_told old lines = record old { missed = old.missed || list_any is_unmet lines }
 
 -- the effect of a command: from the data before it, the data after it and its lines
 abbrev pub Effect : SessionData → Command → SessionData → List Line → Type 0
@@ -172,4 +167,4 @@ Effect old (family.Edit edit) new lines = (new ≡ with_circuit old (circuit_aft
 Effect old (family.Give give) new lines = (new ≡ record old { state = assigned old.circuit old.state (given_by give) }) × (lines ≡ [])
 Effect old (family.Setup setup) new lines = (new ≡ setup_after old setup) × (lines ≡ [])
 Effect old (family.Run run) new lines = RunEffect old run new lines
-Effect old (family.Tell tell) new lines = (new ≡ record old { missed = old.missed || misses old tell }) × (lines ≡ told_by old tell)
+Effect old (family.Tell tell) new lines = (new ≡ with_told old lines) × (lines ≡ told_by old tell)

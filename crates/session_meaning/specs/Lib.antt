@@ -1,7 +1,6 @@
 pub mod Sessions
 pub mod Refusals
 pub mod Preparing
-pub mod Lines
 pub mod Effects
 pub mod Sinks
 pub mod Switches

@@ -1,6 +1,6 @@
 -- The machine of a session: what it is at any moment, and what a command does to it.
 -- After Bryant, Beatty, Brace, Cho and Sheffler, "COSMOS: A Compiled Simulator for MOS Circuits", 1987.
-use Rattle.std.specs.Prelude.{◌≡◌, ◌≢◌, ℕ, ◌+◌, ◌<◌, ◌⊎◌, Bool, true, false, List, [], ◌∷◌, ◌++◌, map, All, Contains, IsTrue, Option, None, Some, IfSome, is_some}
+use Rattle.std.specs.Prelude.{◌≡◌, ◌≢◌, ℕ, ◌<◌, ◌⊎◌, Bool, true, false, List, [], ◌∷◌, ◌++◌, map, sum_by, All, Contains, IsTrue, Option, None, Some, IfSome, is_some}
 use Rattle.ternary.specs.declared.tern.Tern.{Tern}
 use Rattle.ternary.specs.Counts.{raised}
 use Rattle.path_meaning.specs.Graphs.{GraphData}
@@ -21,7 +21,8 @@ use Rattle.script_lang.specs.declared.command.Give.TheVariants.{Set, Charge}
 use Rattle.script_lang.specs.declared.command.Run.{Run}
 use Rattle.script_lang.specs.declared.command.Run.TheVariants.{Step, Phase, Cycle, Report}
 use Rattle.session_meaning.specs.Sessions.{SessionData, HeldSession, IsSession}
-use Rattle.session_meaning.specs.Lines.{Line, Wave, Unmet, Reported}
+use Rattle.told_lines.specs.Lines.{Line, Wave}
+use Rattle.told_lines.specs.Sums.{steps_of}
 use Rattle.session_meaning.specs.Effects.{RunEffect}
 
 -- a machine as contracts of a session see it: how much room it has for new nodes isn't told
@@ -78,10 +79,7 @@ placed_of (Some machine) = machine.placed
 
 -- how many steps changed something, by the waveform lines
 abbrev pub steps_in : List Line → ℕ
-steps_in [] = 0
-steps_in (Wave n k mark values ∷ lines) = k + steps_in lines
-steps_in (Unmet name want got n ∷ lines) = steps_in lines
-steps_in (Reported groups texts new ∷ lines) = steps_in lines
+steps_in lines = sum_by steps_of lines
 
 -- the last line has no mark, and fewer steps than the limit
 pub record EndsAtRest (limit : ℕ) (lines : List Line) : Type 0 where

@@ -1,5 +1,5 @@
 -- The state of a session's nodes, and the machine that moves it, where there is one: what calls inside the session do to both.
-use Rattle.std.specs.Prelude.{◌≡◌, ◌≢◌, ℕ, ◌<◌, ◌⊎◌, Bool, true, false, List, ◌++◌, All, Option, None, Some, is_some, Result, Ok, Err}
+use Rattle.std.specs.Prelude.{◌≡◌, ◌≢◌, ℕ, ◌+◌, ◌<◌, ◌≤◌, ◌⊎◌, Bool, true, false, List, ◌++◌, length, All, Option, None, Some, is_some, Result, Ok, Err}
 use Rattle.ternary.specs.declared.tern.Tern.{Tern}
 use Rattle.ternary.specs.Counts.{raised}
 use Rattle.strength_order.specs.declared.TheConstants.{INPUT_LEVEL}
@@ -21,12 +21,13 @@ use Rattle.channel_groups.specs.declared.change.Change.{Change}
 use Rattle.netlist.specs.Circuits.{CircuitData}
 use Rattle.netlist.specs.Names.{node_of}
 use Rattle.netlist.specs.Edits.{node_named}
+use Rattle.wave_print.specs.declared.lines.TheConstants.{COLUMN_ROOM, EXPECT_LINE_ROOM}
 use Rattle.script_lang.specs.declared.command.Tell.{Tell}
 use Rattle.script_lang.specs.declared.command.Tell.TheVariants.{Expect}
 use Rattle.session_meaning.specs.declared.fault.ApplyFault.{ApplyFault}
 use Rattle.session_meaning.specs.declared.fault.ApplyFault.TheVariants.{Refused, GroupNodes, GroupSwitches, WriteFault, NoMemory}
 use Rattle.session_meaning.specs.Sessions.{SessionData, HeldSession, ClockData}
-use Rattle.session_meaning.specs.Lines.{Line, text_of}
+use Rattle.told_lines.specs.Lines.{Line, Told}
 use Rattle.session_meaning.specs.Effects.{IsUnitStep, IsPhase, AreBeats, IsReported, moved_to}
 use Rattle.session_meaning.specs.Preparing.{IsBuild}
 use Rattle.session_meaning.specs.Machines.{ConcernsNamed, BuildsMachine, MovesMachine, moves_of, placed_of}
@@ -35,6 +36,14 @@ use Rattle.session_meaning.specs.Outcomes.{Sent}
 -- the names of a command that tells are in use
 abbrev pub IsToldKnown : CircuitData → Tell → Type 0
 IsToldKnown c (Expect list) = All (λ item. is_some (node_of c.names item.0) ≡ true) list
+
+-- there is room for the line of each of these names
+abbrev pub AreInRoom : ℕ → List (List ℕ × Tern) → Type 0
+AreInRoom room list = All (λ item. COLUMN_ROOM + (EXPECT_LINE_ROOM + length item.0) ≤ room) list
+
+-- there is room for each line of a command that tells
+abbrev pub IsToldInRoom : ℕ → Tell → Type 0
+IsToldInRoom room (Expect list) = AreInRoom room list
 
 -- the state, the machine, where there is one, and for how many nodes more there is room
 pub record StageData : Type 0 where
@@ -196,11 +205,12 @@ pub record IsSettled (old new : HeldSession) (steps : ℕ) (joined : Bool) : Typ
   pub placed : machine.placed ≡ placed_of old.machine
   pub rests : joined ≡ false → steps < old.core.limit → (k : ℕ) → ¬ IsMarked machine.marks k
 
--- a unit step was done, and its line sent, or a part of it from the start
-pub record IsStepSent (old new : SessionData) (before after : Option (List ℕ)) (result : Result (Unit {0}) ApplyFault) : Type 0 where
+-- a unit step was done, and its line heard, or a part of it
+pub record IsStepSent {H : Type 0} (hear : H → Told → H) (part : H → Told → H → Type 0) (old new : SessionData) (before after : H)
+    (result : Result (Unit {0}) ApplyFault) : Type 0 where
   pub lines : List Line
   pub step : IsUnitStep old new lines
-  pub sent : Sent before after lines result
+  pub sent : Sent hear part before after lines result
 
 -- a phase was done by the machine
 pub record PhaseMoves (old new : HeldSession) : Type 0 where
@@ -214,11 +224,12 @@ pub record BeatsMove (places : List ℕ) (old new : HeldSession) : Type 0 where
   pub beats : AreBeats old.core places new.core lines
   pub moves : MovesMachine old.core.limit old.machine new.machine lines
 
--- a report was done, and its line put behind these bytes
-pub record IsReportPut (old new : HeldSession) (before after : List ℕ) : Type 0 where
+-- a report was done, and its line heard, or a part of it
+pub record IsReportSent {H : Type 0} (hear : H → Told → H) (part : H → Told → H → Type 0) (old new : SessionData) (before after : H)
+    (result : Result (Unit {0}) ApplyFault) : Type 0 where
   pub lines : List Line
-  pub report : IsReported old.core new.core lines
-  pub put : after ≡ before ++ text_of lines
+  pub report : IsReported old new lines
+  pub sent : Sent hear part before after lines result
 
 -- behind phases at any places the machine did those at these
 abbrev pub BeatsMoveOn : List ℕ → HeldSession → HeldSession → Type 0

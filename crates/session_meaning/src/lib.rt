@@ -4,8 +4,8 @@
 //! The main types are `Refusal` and `ApplyFault`: why a command is refused, or was not done. The crates above
 //! use the definitions in `specs/`. `SessionData` are a session's data, and `HeldSession` has the machine too,
 //! where there is one. `refusal_of` is the first refusal of a command; `Effect` is what one that isn't refused
-//! does, and the lines that it writes; `Obeys` is what a call comes to, to the data, to the bytes that are
-//! written and to the texts that are analysed. `IsMachineAfter` is what each command does to the machine, and
+//! does, and the lines that it tells; `Obeys` is what a call comes to, to the data, to what is heard of the
+//! lines and to the texts that are analysed. `IsMachineAfter` is what each command does to the machine, and
 //! the law `only_edits_lose_the_machine` says that no others end without the one that was there. By the law
 //! `commands_have_one_effect` what a command does is determined.
 //!

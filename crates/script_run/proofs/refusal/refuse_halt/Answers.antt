@@ -1,7 +1,6 @@
 -- Lines that were cut short ended at a refused line, whose refusal is told.
-use Rattle.std.proofs.Common.{inr, sym, subst}
+use Rattle.std.proofs.Common.{sym, subst}
 use Rattle.script_meaning.specs.declared.halt.Halt.{Halt}
-use Rattle.run_ends.specs.Ends.{IsTold}
 use Rattle.script_meaning.specs.Halts.{IsCutShort, TellsCutShort}
 use Rattle.script_run.proofs.refusal.refuse_halt.Goals as goal
 
@@ -9,14 +8,14 @@ pub unreachable-requires : goal.unreachable-requires
 unreachable-requires g c = subst (IsCutShort c.args.circuit.now) c.in-End.is c.requires
 
 pub refuse_size-requires : goal.refuse_size-requires
-refuse_size-requires g c = inr (subst (IsCutShort c.args.circuit.now) c.in-TooLarge.is c.requires)
+refuse_size-requires g c = subst (IsCutShort c.args.circuit.now) c.in-TooLarge.is c.requires
 
 pub returns-in-Refused-clause-told : goal.returns-in-Refused-clause-told
 returns-in-Refused-clause-told g c =
-    subst (λ (halt : Halt). IsTold (TellsCutShort c.args.circuit.now halt) (g.S.Sink.written c.args.out.now) (g.S.Sink.written c.refuse.new.out) c.refuse.result)
-    (sym c.in-Refused.is) c.refuse.ensures.told
+    subst (λ (halt : Halt). TellsCutShort g.L.Lines.hear g.L.Lines.part c.args.circuit.now halt (g.L.Lines.heard c.args.out.now)
+        (g.L.Lines.heard c.refuse_line.new.out) c.refuse_line.result) (sym c.in-Refused.is) c.refuse_line.ensures.told
 
 pub returns-in-TooLarge-clause-told : goal.returns-in-TooLarge-clause-told
 returns-in-TooLarge-clause-told g c =
-    subst (λ (halt : Halt). IsTold (TellsCutShort c.args.circuit.now halt) (g.S.Sink.written c.args.out.now) (g.S.Sink.written c.refuse_size.new.out) c.refuse_size.result)
-    (sym c.in-TooLarge.is) c.refuse_size.ensures.told
+    subst (λ (halt : Halt). TellsCutShort g.L.Lines.hear g.L.Lines.part c.args.circuit.now halt (g.L.Lines.heard c.args.out.now)
+        (g.L.Lines.heard c.refuse_size.new.out) c.refuse_size.result) (sym c.in-TooLarge.is) c.refuse_size.ensures.told

@@ -6,8 +6,8 @@ use Rattle.script_run.proofs.script.obey_lines.Given as goal
 
 abbrev pub invariant-loop-line : goal.invariant-loop-line
 invariant-loop-line g l = record {
-  come : HasCome (masked_reading l.stuck) l.cut l.fn.session.core (file.lines_in l.text) (g.S.Sink.written l.fn.out) (g.A.Analyst.analysed l.fn.analyst)
-      l.session.core l.line-iterator (g.S.Sink.written l.out) (g.A.Analyst.analysed l.analyst);
-  faults : g.S.Sink.faults l.out ≡ g.S.Sink.faults l.fn.out;
-  refusals : g.S.Sink.refusals l.out ≡ g.S.Sink.refusals l.fn.out;
+  come : HasCome g.L.Lines.hear (masked_reading l.stuck) l.cut l.fn.session.core (file.lines_in l.text) (g.L.Lines.heard l.fn.out) (g.A.Analyst.analysed l.fn.analyst)
+      l.session.core l.line-iterator (g.L.Lines.heard l.out) (g.A.Analyst.analysed l.analyst);
+  faults : g.L.Lines.faults l.out ≡ g.L.Lines.faults l.fn.out;
+  refusals : g.L.Lines.refusals l.out ≡ g.L.Lines.refusals l.fn.out;
 }

@@ -12,16 +12,16 @@ use Rattle.script_run.proofs.script.run_line.Goals as goal
 
 -- the line's command has ended
 command_ended : (g : Over) (c : After-turn_of g) →
-    TakesTurn (masked_reading c.args.stuck) c.args.cut (c.args.line.number, c.args.line.bytes.now) c.args.session.now c.apply.new.self
-    (g.S.Sink.written c.args.out.now) (g.S.Sink.written c.apply.new.out) (g.A.Analyst.analysed c.args.analyst.now) (g.A.Analyst.analysed c.apply.new.analyst)
+    TakesTurn g.L.Lines.hear g.L.Lines.part (masked_reading c.args.stuck) c.args.cut (c.args.line.number, c.args.line.bytes.now) c.args.session.now c.apply.new.self
+    (g.L.Lines.heard c.args.out.now) (g.L.Lines.heard c.apply.new.out) (g.A.Analyst.analysed c.args.analyst.now) (g.A.Analyst.analysed c.apply.new.analyst)
     c.turn_of.result
-    × IsRefusedOnce (g.S.Sink.refusals c.args.out.now) (g.S.Sink.refusals c.apply.new.out) c.turn_of.result
+    × IsRefusedOnce (g.L.Lines.refusals c.args.out.now) (g.L.Lines.refusals c.apply.new.out) c.turn_of.result
 command_ended g c =
     let inside = is_inside c.args.cut c.args.line.number c.eq.result c.eq.ensures c.if-eq.false in
     let asked = ap (λ (circuit : CircuitData). masked_reading c.args.stuck circuit c.args.line.bytes.now) (sym c.circuit.ensures.value)
     ∙ c.in-Ok-Some.ensures.ok ∙ ap Ok c.in-Ok-Some.field-0-is in
     rw c.turn_of.ensures.turn
-    (takes_turn (masked_reading c.args.stuck) _ _ c.in-Ok-Some.command _ _ _ _ _ _ _ _ c.apply.result (record { inside = inside; asked = asked })
+    (takes_turn g.L.Lines.hear g.L.Lines.part (masked_reading c.args.stuck) _ _ c.in-Ok-Some.command _ _ _ _ _ _ _ _ c.apply.result (record { inside = inside; asked = asked })
     c.apply.ensures.obeys)
 
 pub returns-in-Ok-Some-clause-turn : goal.returns-in-Ok-Some-clause-turn
@@ -37,5 +37,5 @@ returns-in-Some-clause-turn g c =
     let unread = subst (λ (circuit : CircuitData). (c.in-Err.fault ≡ NoMemory) ⊎ (masked_reading c.args.stuck circuit c.args.line.bytes.now ≡ Err c.in-Err.fault))
     c.circuit.ensures.value c.in-Err.ensures.refused in (
       is_unread reading _ _ _ c.in-Err.fault _ inside unread (sym c.script_code.ensures ∙ c.in-Some.is),
-      record { same = refl; unwritten = refl; unasked = refl },
+      record { same = refl; unheard = refl; unasked = refl },
     )

@@ -11,19 +11,20 @@ pub returns-in_err-halt-clause-told : goal.returns-in_err-halt-clause-told
 returns-in_err-halt-clause-told g c =
     let p = err_from_is_err_and c.from_residual.result c.from_residual.ensures.1 in
     rw p.1
-    (told_broken _ _ _ _ c.obey_lines.new.session.core _ _ (g.A.Analyst.analysed c.args.analyst.now) (g.A.Analyst.analysed c.obey_lines.new.analyst)
-    masked-plain c.in_err-halt.ensures.told)
+    (told_broken g.L.Lines.hear g.L.Lines.part _ _ _ _ c.obey_lines.new.session.core _ _ (g.A.Analyst.analysed c.args.analyst.now)
+    (g.A.Analyst.analysed c.obey_lines.new.analyst) masked-plain c.in_err-halt.field-0.0 c.in_err-halt.ensures.told)
 
 pub returns-in-End-clause-told : goal.returns-in-End-clause-told
 returns-in-End-clause-told g c =
-    told_end _ _ _ _ _ _ _ _ _ masked-plain c.end_of.result c.in_ok-halt.halt c.in_ok-halt.ensures.told c.in-End.is c.end_of.ensures
+    told_end g.L.Lines.hear g.L.Lines.part _ _ _ _ _ _ _ _ _ masked-plain c.end_of.result c.in_ok-halt.halt c.in_ok-halt.ensures.told c.in-End.is
+    c.end_of.ensures
 
 pub refuse_halt-requires : goal.refuse_halt-requires
 refuse_halt-requires g c =
     subst (λ (circuit : CircuitData). IsCutShort circuit c.in_ok-halt.halt) (sym c.circuit.ensures.value)
-    (cut_short _ _ _ _ c.obey_lines.new.session.core _ _ _ _ c.in_ok-halt.halt c.in_default.not-End c.in_ok-halt.ensures.told)
+    (cut_short g.L.Lines.hear g.L.Lines.part _ _ _ _ c.obey_lines.new.session.core _ _ _ _ c.in_ok-halt.halt c.in_default.not-End c.in_ok-halt.ensures.told)
 
 pub returns-in_default-clause-told : goal.returns-in_default-clause-told
 returns-in_default-clause-told g c =
-    told_cut _ _ _ _ _ _ _ _ _ masked-plain (g.S.Sink.written c.refuse_halt.new.out) c.refuse_halt.result c.in_ok-halt.halt _ c.in_ok-halt.ensures.told
-    c.circuit.ensures.value c.refuse_halt.ensures.told
+    told_cut g.L.Lines.hear g.L.Lines.part _ _ _ _ _ _ _ _ _ masked-plain (g.L.Lines.heard c.refuse_halt.new.out) c.refuse_halt.result c.in_ok-halt.halt _
+    c.in_ok-halt.ensures.told c.circuit.ensures.value c.refuse_halt.ensures.told

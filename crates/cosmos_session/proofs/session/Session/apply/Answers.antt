@@ -3,4 +3,5 @@ use Rattle.cosmos_session.proofs.session.Session.apply.Goals as goal
 
 pub returns-clause-named : goal.returns-clause-named
 returns-clause-named g c =
-    names_node c.args.self.now c.obey-outcome.new.self c.args.command.now _ _ _ _ _ _ c.obey-outcome.result c.obey-outcome.ensures.obeys
+    names_node g.L.Lines.hear g.L.Lines.part c.args.self.now c.obey-outcome.new.self c.args.command.now _ _ _ _ _ _ c.obey-outcome.result
+    c.obey-outcome.ensures.obeys

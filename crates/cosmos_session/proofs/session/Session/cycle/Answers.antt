@@ -20,8 +20,9 @@ returns-clause-obeys g c =
     let none : cycle_refusal c.self.inside.circuit c.self.inside.clocks.items ≡ None =
     sym (rw (c.in_default.is, c.deref.ensures.value) at c.cycle_refusal.ensures) in
     let allowed = subst (λ (s : HeldSession). cycle_refusal s.core.circuit s.core.clocks ≡ None) c.self.view_is none in
-    cycle_obeys c.args.self.now c.prepare.new.self c.run_cycles.new.self c.args.times _ _ _ _ _ _ c.run_cycles.result allowed
-    c.in_ok-prepare.ensures c.run_cycles.ensures.beats c.run_cycles.ensures.cause c.run_cycles.ensures.refusals
+    cycle_obeys g.L.Lines.hear g.L.Lines.part c.args.self.now c.prepare.new.self c.run_cycles.new.self c.args.times _ _ _ _ _ _ c.run_cycles.result allowed
+    c.in_ok-prepare.ensures (rw c.reserve.ensures.heard at c.run_cycles.ensures.beats) c.run_cycles.ensures.cause
+    (rw c.reserve.ensures.refusals at c.run_cycles.ensures.refusals)
 
 pub returns-clause-machine : goal.returns-clause-machine
 returns-clause-machine g c =

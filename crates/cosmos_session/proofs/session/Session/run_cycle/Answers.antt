@@ -1,4 +1,4 @@
--- The clocks stay through a cycle, so each place is within it; a fault in a phase leaves a part of the whole cycle's text.
+-- The clocks stay through a cycle, so each place is within it; a fault in a phase leaves a part of the whole cycle's lines.
 use Rattle.std.proofs.Common.{length, ap, subst, ◌∙◌, refl, arith}
 use Rattle.std.specs.List.{range_with_len}
 use Rattle.std.proofs.lemmas.Result.{err_from_is_err_and}
@@ -14,31 +14,31 @@ put_clocks-requires-clause-place g c = omega (arith, ap places_of c.loop-place.i
 pub put_clocks-requires-clause-inputs : goal.put_clocks-requires-clause-inputs
 put_clocks-requires-clause-inputs g c = rw (c.loop-place.invariant.setup.clocks, c.loop-place.invariant.setup.circuit) c.requires.inputs
 
-pub settle_and_send-requires-clause-room : goal.settle_and_send-requires-clause-room
-settle_and_send-requires-clause-room g c =
+pub settle_and_tell-requires-clause-room : goal.settle_and_tell-requires-clause-room
+settle_and_tell-requires-clause-room g c =
     let setup = setup-put c.args.self.now.core c.loop-place.self.core c.put_clocks.new.self.core c.loop-place.place c.loop-place.invariant.setup
     c.put_clocks.ensures.beat in
     omega (arith, ap length setup.watched, c.loop-place.invariant.room, c.requires.room)
 
-pub returns-in_err-settle_and_send-clause-beats : goal.returns-in_err-settle_and_send-clause-beats
-returns-in_err-settle_and_send-clause-beats g c =
+pub returns-in_err-settle_and_tell-clause-beats : goal.returns-in_err-settle_and_tell-clause-beats
+returns-in_err-settle_and_tell-clause-beats g c =
     let stopped = err_from_is_err_and c.from_residual.result c.from_residual.ensures.1 in
     let start = c.args.self.now.core in
     let now = c.loop-place.self.core in
     let count = places_of start.clocks in
     let place = c.loop-place.place in
     let beat : SessionData = with_beat now place in
-    rw stopped.1 (beat_stopped start now c.settle_and_send.new.self.core beat.state (range_with_len 0 count)
-    (range_with_len 0 place) _ place (g.S.Sink.written c.args.out.now) (g.S.Sink.written c.loop-place.out)
-    (g.S.Sink.written c.settle_and_send.new.out) c.in_err-settle_and_send.field-0.0
+    rw stopped.1 (beat_stopped g.L.Lines.hear g.L.Lines.part start now c.settle_and_tell.new.self.core beat.state (range_with_len 0 count)
+    (range_with_len 0 place) _ place (g.L.Lines.heard c.args.out.now) (g.L.Lines.heard c.loop-place.out)
+    (g.L.Lines.heard c.settle_and_tell.new.out) c.in_err-settle_and_tell.field-0.0
     (subst (λ (s : HeldSession). IsReady s.core) c.self.view_is c.self.invariant.0.core.ready) (places-split place count (omega (arith, c.loop-place.invariant.end)))
     c.loop-place.invariant.done refl
-    (rw c.put_clocks.ensures.beat at c.in_err-settle_and_send.ensures.phase))
+    (rw c.put_clocks.ensures.beat at c.in_err-settle_and_tell.ensures.phase))
 
-pub returns-in_err-settle_and_send-clause-setup : goal.returns-in_err-settle_and_send-clause-setup
-returns-in_err-settle_and_send-clause-setup g c =
-    setup-phase c.args.self.now.core c.loop-place.self.core c.put_clocks.new.self.core c.settle_and_send.new.self.core c.loop-place.place
-    c.loop-place.invariant.setup c.put_clocks.ensures.beat c.settle_and_send.ensures.setup
+pub returns-in_err-settle_and_tell-clause-setup : goal.returns-in_err-settle_and_tell-clause-setup
+returns-in_err-settle_and_tell-clause-setup g c =
+    setup-phase c.args.self.now.core c.loop-place.self.core c.put_clocks.new.self.core c.settle_and_tell.new.self.core c.loop-place.place
+    c.loop-place.invariant.setup c.put_clocks.ensures.beat c.settle_and_tell.ensures.setup
 
 pub loop-place-preserved : goal.loop-place-preserved
 loop-place-preserved g c =
@@ -46,19 +46,20 @@ loop-place-preserved g c =
     let start = c.args.self.now in
     let now = c.loop-place.self in
     let put = c.put_clocks.new.self in
-    let next = c.settle_and_send.new.self in
+    let next = c.settle_and_tell.new.self in
     let beat : SessionData = with_beat now.core place in
     record {
       end = c.loop-place.invariant.end;
-      done = rw (places-next place) (beat_done start.core now.core next.core beat.state
-          (range_with_len 0 place) place (g.S.Sink.written c.args.out.now) (g.S.Sink.written c.loop-place.out)
-          (g.S.Sink.written c.settle_and_send.new.out) c.loop-place.invariant.done refl
-          (rw c.put_clocks.ensures.beat at c.in_ok-settle_and_send.ensures.phase));
+      done = rw (places-next place) (beat_done g.L.Lines.hear g.L.Lines.part start.core now.core next.core beat.state
+          (range_with_len 0 place) place (g.L.Lines.heard c.args.out.now) (g.L.Lines.heard c.loop-place.out)
+          (g.L.Lines.heard c.settle_and_tell.new.out) c.loop-place.invariant.done refl
+          (rw c.put_clocks.ensures.beat at c.in_ok-settle_and_tell.ensures.phase));
       moves = rw (places-next place) (beats_on-more start now put next (range_with_len 0 place) place c.loop-place.invariant.moves
-          c.put_clocks.ensures.beat c.put_clocks.ensures.stays c.settle_and_send.ensures.moves);
-      built = c.settle_and_send.ensures.built;
-      setup = setup-phase start.core now.core put.core next.core place c.loop-place.invariant.setup c.put_clocks.ensures.beat c.settle_and_send.ensures.setup;
-      room = c.settle_and_send.ensures.room ∙ c.loop-place.invariant.room;
-      faults = c.in_ok-settle_and_send.ensures.faults ∙ c.loop-place.invariant.faults;
-      refusals = c.in_ok-settle_and_send.ensures.refusals ∙ c.loop-place.invariant.refusals;
+          c.put_clocks.ensures.beat c.put_clocks.ensures.stays c.settle_and_tell.ensures.moves);
+      built = c.settle_and_tell.ensures.built;
+      setup = setup-phase start.core now.core put.core next.core place c.loop-place.invariant.setup c.put_clocks.ensures.beat c.settle_and_tell.ensures.setup;
+      room = c.settle_and_tell.ensures.room ∙ c.loop-place.invariant.room;
+      line = c.settle_and_tell.ensures.line ∙ c.loop-place.invariant.line;
+      faults = c.in_ok-settle_and_tell.ensures.faults ∙ c.loop-place.invariant.faults;
+      refusals = c.in_ok-settle_and_tell.ensures.refusals ∙ c.loop-place.invariant.refusals;
     }

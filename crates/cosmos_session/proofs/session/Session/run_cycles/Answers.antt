@@ -1,4 +1,4 @@
--- A fault in a cycle leaves a part of the text of all cycles.
+-- A fault in a cycle leaves a part of the lines of all cycles.
 use Rattle.std.proofs.Common.{ℕ, List, length, refl, sym, ap, subst, ◌∙◌, arith}
 use Rattle.std.proofs.lemmas.Result.{err_from_is_err_and}
 use Rattle.session_meaning.specs.Sessions.{places_of}
@@ -11,12 +11,13 @@ pub loop-cycle-init : goal.loop-cycle-init
 loop-cycle-init g c =
     let start = c.args.self.now in
     record {
-      done = beats_done-none start.core (places_of start.core.clocks) (g.S.Sink.written c.args.out.now);
+      done = beats_done-none g.L.Lines.hear start.core (places_of start.core.clocks) (g.L.Lines.heard c.args.out.now);
       moves = subst (λ (places : List ℕ). BeatsMove places start start) (sym (no_cycle (places_of start.core.clocks)))
           (beats_move-none start c.requires.built);
       built = c.requires.built;
       setup = setup-same start.core;
       room = refl;
+      line = refl;
       faults = refl;
       refusals = refl;
     }
@@ -31,20 +32,21 @@ run_cycle-requires-clause-room g c =
 pub returns-in_err-run_cycle-clause-beats : goal.returns-in_err-run_cycle-clause-beats
 returns-in_err-run_cycle-clause-beats g c =
     let stopped = err_from_is_err_and c.from_residual.result c.from_residual.ensures.1 in
-    rw stopped.1 (cycle_stopped c.args.self.now.core c.loop-cycle.self.core c.run_cycle.new.self.core c.loop-cycle._cycle c.args.times
-    (g.S.Sink.written c.args.out.now) (g.S.Sink.written c.loop-cycle.out) (g.S.Sink.written c.run_cycle.new.out)
+    rw stopped.1 (cycle_stopped g.L.Lines.hear g.L.Lines.part c.args.self.now.core c.loop-cycle.self.core c.run_cycle.new.self.core c.loop-cycle._cycle c.args.times
+    (g.L.Lines.heard c.args.out.now) (g.L.Lines.heard c.loop-cycle.out) (g.L.Lines.heard c.run_cycle.new.out)
     c.in_err-run_cycle.field-0.0 c.requires.ready c.loop-cycle-test.true c.loop-cycle.invariant.done c.in_err-run_cycle.ensures.beats)
 
 pub loop-cycle-preserved : goal.loop-cycle-preserved
 loop-cycle-preserved g c = record {
-  done = cycle_done c.args.self.now.core c.loop-cycle.self.core c.run_cycle.new.self.core c.loop-cycle._cycle
-      (g.S.Sink.written c.args.out.now) (g.S.Sink.written c.loop-cycle.out) (g.S.Sink.written c.run_cycle.new.out)
+  done = cycle_done g.L.Lines.hear g.L.Lines.part c.args.self.now.core c.loop-cycle.self.core c.run_cycle.new.self.core c.loop-cycle._cycle
+      (g.L.Lines.heard c.args.out.now) (g.L.Lines.heard c.loop-cycle.out) (g.L.Lines.heard c.run_cycle.new.out)
       c.loop-cycle.invariant.done c.in_ok-run_cycle.ensures.beats;
   moves = cycle_moves c.args.self.now c.loop-cycle.self c.run_cycle.new.self c.loop-cycle._cycle c.loop-cycle.invariant.moves
       c.in_ok-run_cycle.ensures.moves;
   built = c.run_cycle.ensures.built;
   setup = setup-more c.args.self.now.core c.loop-cycle.self.core c.run_cycle.new.self.core c.loop-cycle.invariant.setup c.run_cycle.ensures.setup;
   room = c.run_cycle.ensures.room ∙ c.loop-cycle.invariant.room;
+  line = c.run_cycle.ensures.line ∙ c.loop-cycle.invariant.line;
   faults = c.in_ok-run_cycle.ensures.faults ∙ c.loop-cycle.invariant.faults;
   refusals = c.in_ok-run_cycle.ensures.refusals ∙ c.loop-cycle.invariant.refusals;
 }

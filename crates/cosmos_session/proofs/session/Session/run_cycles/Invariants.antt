@@ -1,4 +1,4 @@
--- The cycles before this one are run, with their lines sent, by the machine that is there.
+-- The cycles before this one are run, with their lines heard, by the machine that is there.
 use Rattle.std.proofs.Common.{◌≡◌}
 use Rattle.session_meaning.specs.Sessions.{places_of}
 use Rattle.session_meaning.specs.Effects.{places_in}
@@ -9,11 +9,12 @@ use Rattle.cosmos_session.proofs.session.Session.run_cycles.Given as goal
 
 abbrev pub invariant-loop-cycle : goal.invariant-loop-cycle
 invariant-loop-cycle g l = record {
-  done : BeatsDone l.fn.self.core l.self.core (places_in (places_of l.fn.self.core.clocks) l._cycle) (g.S.Sink.written l.fn.out) (g.S.Sink.written l.out);
+  done : BeatsDone g.L.Lines.hear l.fn.self.core l.self.core (places_in (places_of l.fn.self.core.clocks) l._cycle) (g.L.Lines.heard l.fn.out) (g.L.Lines.heard l.out);
   moves : BeatsMove (places_in (places_of l.fn.self.core.clocks) l._cycle) l.fn.self l.self;
   built : IsBuilt l.self;
   setup : SameSetup l.fn.self.core l.self.core;
   room : l.room ≡ l.fn.room;
-  faults : g.S.Sink.faults l.out ≡ g.S.Sink.faults l.fn.out;
-  refusals : g.S.Sink.refusals l.out ≡ g.S.Sink.refusals l.fn.out;
+  line : g.L.Lines.room l.out ≡ g.L.Lines.room l.fn.out;
+  faults : g.L.Lines.faults l.out ≡ g.L.Lines.faults l.fn.out;
+  refusals : g.L.Lines.refusals l.out ≡ g.L.Lines.refusals l.fn.out;
 }

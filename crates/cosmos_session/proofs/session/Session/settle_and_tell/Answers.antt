@@ -1,6 +1,6 @@
 use Rattle.session_meaning.specs.Effects.{one_more}
 use Rattle.session_meaning.proofs.MoveLemmas.{phase-moves, setup-stated}
-use Rattle.cosmos_session.proofs.session.Session.settle_and_send.Goals as goal
+use Rattle.cosmos_session.proofs.session.Session.settle_and_tell.Goals as goal
 
 pub returns-clause-moves : goal.returns-clause-moves
 returns-clause-moves g c =

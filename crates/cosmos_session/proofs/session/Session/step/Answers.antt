@@ -7,11 +7,12 @@ use Rattle.cosmos_session.proofs.session.Session.step.Goals as goal
 
 pub returns-clause-obeys : goal.returns-clause-obeys
 returns-clause-obeys g c =
-    let sent = c.step_and_send.ensures.step in
-    ready_obeys c.args.self.now c.prepare.new.self c.step_and_send.new.self (family.Run asked.Step) sent.lines _ _ _ _ _ _ c.step_and_send.result refl refl
-    c.in_ok-prepare.ensures sent.step (sent.lines, sent.step) sent.sent c.step_and_send.ensures.cause c.step_and_send.ensures.refusals
+    let sent = c.step_and_tell.ensures.step in
+    ready_obeys g.L.Lines.hear g.L.Lines.part c.args.self.now c.prepare.new.self c.step_and_tell.new.self (family.Run asked.Step) sent.lines _ _ _ _ _ _ c.step_and_tell.result refl refl
+    c.in_ok-prepare.ensures sent.step (sent.lines, sent.step) (rw c.reserve.ensures.heard at sent.sent)
+    c.step_and_tell.ensures.cause (rw c.reserve.ensures.refusals at c.step_and_tell.ensures.refusals)
 
 pub returns-clause-machine : goal.returns-clause-machine
 returns-clause-machine g c =
-    on_ok _ c.step_and_send.result
-    (step-readied c.args.self.now c.prepare.new.self c.step_and_send.new.self _ _ c.in_ok-prepare.ensures c.step_and_send.ensures.machine)
+    on_ok _ c.step_and_tell.result
+    (step-readied c.args.self.now c.prepare.new.self c.step_and_tell.new.self _ _ c.in_ok-prepare.ensures c.step_and_tell.ensures.machine)

@@ -1,15 +1,30 @@
-use Rattle.std.proofs.Common.{arith}
-use Rattle.session_meaning.proofs.LineLemmas.{unmet_text-next, unmet_any-next}
-use Rattle.cosmos_session.proofs.session.Session.put_unmet.Goals as goal
+use Rattle.std.proofs.Common.{◌∙◌, arith}
+use Rattle.std.proofs.lemmas.Result.{err_from_is_err_and}
+use Rattle.told_lines.proofs.HearingLemmas.{so_far-more, so_far-stopped}
+use Rattle.session_meaning.proofs.LineLemmas.{unmet-next}
+use Rattle.cosmos_session.proofs.session.Session.tell_unmet.Goals as goal
 
-pub put_if_unmet-requires : goal.put_if_unmet-requires
-put_if_unmet-requires c =
-    rw (c.items.ensures, c.loop-name-item.is) (c.requires c.loop-name.name-index c.loop-name-item.result (omega arith))
+pub tell_if_unmet-requires-clause-known : goal.tell_if_unmet-requires-clause-known
+tell_if_unmet-requires-clause-known g c =
+    rw (c.items.ensures, c.loop-name-item.is) (c.requires.known c.loop-name.name-index c.loop-name-item.result (omega arith))
+
+pub tell_if_unmet-requires-clause-room : goal.tell_if_unmet-requires-clause-room
+tell_if_unmet-requires-clause-room g c =
+    rw (c.loop-name.invariant.room, c.items.ensures, c.loop-name-item.is) (c.requires.room c.loop-name.name-index c.loop-name-item.result (omega arith))
+
+pub returns-in_err-tell_if_unmet-clause-sent : goal.returns-in_err-tell_if_unmet-clause-sent
+returns-in_err-tell_if_unmet-clause-sent g c =
+    let stopped = err_from_is_err_and c.from_residual.result c.from_residual.ensures.1 in
+    rw stopped.1 (so_far-stopped g.L.Lines.hear g.L.Lines.part _ _ _ _ _ _ _
+    (unmet-next c.args.self.now.core c.args.list.now c.loop-name.name-index c.loop-name-item.result (omega arith) c.loop-name-item.is)
+    c.loop-name.invariant.heard (rw c.items.ensures at c.in_err-tell_if_unmet.ensures.sent))
 
 pub loop-name-preserved : goal.loop-name-preserved
-loop-name-preserved c = record {
-  bytes = unmet_text-next c.args.self.now.core c.args.list.now c.loop-name.name-index c.loop-name-item.result c.loop-name.lines.bytes
-      c.put_if_unmet.new.lines.bytes _ (omega arith) c.loop-name-item.is (rw c.items.ensures at c.in_ok-any.ensures.bytes) c.loop-name.invariant.bytes;
-  any = unmet_any-next c.args.self.now.core c.args.list.now c.loop-name.name-index c.loop-name-item.result c.loop-name.any
-      c.in_ok-any.field-0 _ (omega arith) c.loop-name-item.is (rw c.items.ensures at c.in_ok-any.ensures.any) c.loop-name.invariant.any;
+loop-name-preserved g c = record {
+  heard = so_far-more g.L.Lines.hear _ _ _ _ _ _ _
+      (unmet-next c.args.self.now.core c.args.list.now c.loop-name.name-index c.loop-name-item.result (omega arith) c.loop-name-item.is)
+      c.loop-name.invariant.heard (rw c.items.ensures at c.in_ok-tell_if_unmet.ensures.sent);
+  room = c.tell_if_unmet.ensures.room ∙ c.loop-name.invariant.room;
+  faults = c.in_ok-tell_if_unmet.ensures.faults ∙ c.loop-name.invariant.faults;
+  refusals = c.in_ok-tell_if_unmet.ensures.refusals ∙ c.loop-name.invariant.refusals;
 }

@@ -1,9 +1,12 @@
-use Rattle.std.proofs.Common.{◌≡◌, map, rules}
+use Rattle.std.proofs.Common.{◌≡◌, [], ◌∷◌, List, map, rules, subst}
+use Rattle.ternary.specs.declared.tern.Tern.{Tern}
 use Rattle.path_meaning.specs.Switching.{state_at}
-use Rattle.wave_print.specs.Lines.{wave_line_of}
-use Rattle.cosmos_session.proofs.waves.WaveRoom.send.Goals as goal
+use Rattle.told_lines.specs.Lines.{Wave}
+use Rattle.session_meaning.specs.Outcomes.{Sent}
+use Rattle.cosmos_session.proofs.waves.WaveRoom.tell.Goals as goal
 
-pub returns-clause-part : goal.returns-clause-part
-returns-clause-part g c =
-    let line : c.bytes.result.now ≡ wave_line_of c.args.n c.args.k c.args.mark (map (state_at c.args.state.now) c.args.nodes.now) = search rules in
-    rw line at c.send_text-sent.ensures.part
+pub returns-clause-sent : goal.returns-clause-sent
+returns-clause-sent g c =
+    let same : c.push_states.new.values.items ≡ map (state_at c.args.state.now) c.args.nodes.now = search rules in
+    subst (λ (values : List Tern). Sent g.L.Lines.hear g.L.Lines.part (g.L.Lines.heard c.args.out.now) (g.L.Lines.heard c.tell_line-told.new.out)
+        (Wave c.args.n c.args.k c.args.mark values ∷ []) c.tell_line-told.result) same c.tell_line-told.ensures.sent
