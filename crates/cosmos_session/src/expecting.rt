@@ -88,15 +88,7 @@ impl Session {
             return Ok(());
         }
         let n = self.count;
-        tell_line(
-            Line::Unmet {
-                name,
-                want,
-                got,
-                n,
-            },
-            out,
-        )
+        tell_line(Line::Unmet { name, want, got, n }, out)
     }
 
     // Whether a line is told of an expectation that isn't met. The names are in use.

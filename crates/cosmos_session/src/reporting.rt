@@ -15,7 +15,6 @@ use crate::session::Session;
 use crate::waves::tell_line;
 use analysis_cache::Analyst;
 use session_meaning::ApplyFault;
-use std::mem;
 use told_lines::{Line, Lines};
 use wave_print::{COLUMN_ROOM, REPORT_LINE_ROOM};
 
@@ -51,7 +50,8 @@ impl Session {
     {
         let groups = self.stage.groups() as u64;
         let texts = self.stage.texts() as u64;
-        let fresh = mem::replace(&mut self.fresh, 0);
+        let fresh = self.fresh;
+        self.fresh = 0;
         tell_line(
             Line::Reported {
                 groups,

@@ -66,7 +66,11 @@ impl Session {
 
     // `phase`: unit steps until nothing changes, past the limit joining ones, and a waveform line.
     #[tactic(auto, using(session_meaning::proofs::OutcomeLemmas::on_ok, session_meaning::proofs::MoveLemmas::phase_readied))]
-    fn phase<A: Analyst, L: Lines>(&mut self, analyst: &mut A, out: &mut L) -> Result<(), ApplyFault>
+    fn phase<A: Analyst, L: Lines>(
+        &mut self,
+        analyst: &mut A,
+        out: &mut L,
+    ) -> Result<(), ApplyFault>
         ensures obeys { Obeys L.hear L.part self.old (family.Run asked.Phase) self.new (L.heard out.old) (L.heard out.new)
             (A.analysed analyst.old) (A.analysed analyst.new) (L.refusals out.old) (L.refusals out.new) result }
         ensures faults { L.faults out.new ≡ faults_applied (L.faults out.old) result }
@@ -164,7 +168,11 @@ impl Session {
     }
 
     // Takes a unit step, and tells its waveform line. The machine fits.
-    fn step_and_tell<L: Lines>(&mut self, room: &mut WaveRoom, out: &mut L) -> Result<(), ApplyFault>
+    fn step_and_tell<L: Lines>(
+        &mut self,
+        room: &mut WaveRoom,
+        out: &mut L,
+    ) -> Result<(), ApplyFault>
         requires built { IsBuilt self.old }
         requires room { length self.old.core.watched ≤ room.old }
         requires line { COLUMN_ROOM + WAVE_LINE_ROOM ≤ L.room out.old }

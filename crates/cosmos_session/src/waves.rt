@@ -64,15 +64,7 @@ impl WaveRoom {
     {
         push_states(&mut self.values, state, nodes);
         let values = &self.values;
-        let told = tell_line(
-            Line::Wave {
-                n,
-                k,
-                mark,
-                values,
-            },
-            out,
-        );
+        let told = tell_line(Line::Wave { n, k, mark, values }, out);
         self.values.clear();
         told
     }

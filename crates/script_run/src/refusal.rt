@@ -66,7 +66,15 @@ fn refuse_size<L: Lines>(
         }
         BuildFault::GroupSwitches { node, count } => {
             let name = circuit.name_of(node);
-            refuse_line(alloc, line, FaultCode::G2GroupSwitches, name, count, name, out)
+            refuse_line(
+                alloc,
+                line,
+                FaultCode::G2GroupSwitches,
+                name,
+                count,
+                name,
+                out,
+            )
         }
         BuildFault::NoMemory => unreachable!(),
     }

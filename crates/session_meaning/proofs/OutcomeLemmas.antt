@@ -118,17 +118,16 @@ module _ {H : Type 0} (hear : H → Told → H) (part : H → Told → H → Typ
       TakesBeats hear part (places_in (places_of mid.core.clocks) times) mid.core new.core before after result → IfErr result IsSinkFault →
       now ≡ refusals_sent refusals result → Obeys hear part old (family.Run (Cycle times)) new before after asked told refusals now result
   unfolding built_performs
-  cycle_obeys old mid new times before after asked told refusals now (Ok finished) allowed ready (lines, beats, heard) cause counted =
-      (
-        record {
-          lines = lines;
-          texts = ready.texts;
-          performs = built_performs old.core mid.core new.core (family.Run (Cycle times)) lines ready.texts refl ready.build allowed beats;
-          heard = heard;
-          analysed = ready.analysed;
-        },
-        counted,
-      )
+  cycle_obeys old mid new times before after asked told refusals now (Ok finished) allowed ready (lines, beats, heard) cause counted = (
+    record {
+      lines = lines;
+      texts = ready.texts;
+      performs = built_performs old.core mid.core new.core (family.Run (Cycle times)) lines ready.texts refl ready.build allowed beats;
+      heard = heard;
+      analysed = ready.analysed;
+    },
+    counted,
+  )
   cycle_obeys old mid new times before after asked told refusals now (Err fault) allowed ready begun cause counted =
       begun_obeys old new (family.Run (Cycle times)) before after asked told refusals now fault (record {
         end = begun.end;

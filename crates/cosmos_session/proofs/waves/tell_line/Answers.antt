@@ -1,4 +1,4 @@
-use Rattle.told_lines.proofs.HearingLemmas.{one_heard}
+use Rattle.std.proofs.Common.{[], refl}
 use Rattle.told_lines.specs.Lines.{line_seen}
 use Rattle.cosmos_session.proofs.waves.tell_line.Goals as goal
 

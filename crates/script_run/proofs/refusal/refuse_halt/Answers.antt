@@ -13,9 +13,9 @@ refuse_size-requires g c = subst (IsCutShort c.args.circuit.now) c.in-TooLarge.i
 pub returns-in-Refused-clause-told : goal.returns-in-Refused-clause-told
 returns-in-Refused-clause-told g c =
     subst (λ (halt : Halt). TellsCutShort g.L.Lines.hear g.L.Lines.part c.args.circuit.now halt (g.L.Lines.heard c.args.out.now)
-        (g.L.Lines.heard c.refuse_line.new.out) c.refuse_line.result) (sym c.in-Refused.is) c.refuse_line.ensures.told
+    (g.L.Lines.heard c.refuse_line.new.out) c.refuse_line.result) (sym c.in-Refused.is) c.refuse_line.ensures.told
 
 pub returns-in-TooLarge-clause-told : goal.returns-in-TooLarge-clause-told
 returns-in-TooLarge-clause-told g c =
     subst (λ (halt : Halt). TellsCutShort g.L.Lines.hear g.L.Lines.part c.args.circuit.now halt (g.L.Lines.heard c.args.out.now)
-        (g.L.Lines.heard c.refuse_size.new.out) c.refuse_size.result) (sym c.in-TooLarge.is) c.refuse_size.ensures.told
+    (g.L.Lines.heard c.refuse_size.new.out) c.refuse_size.result) (sym c.in-TooLarge.is) c.refuse_size.ensures.told

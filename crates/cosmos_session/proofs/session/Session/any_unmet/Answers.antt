@@ -2,11 +2,11 @@ use Rattle.std.proofs.Common.{arith}
 use Rattle.session_meaning.proofs.LineLemmas.{unmet_any-next}
 use Rattle.cosmos_session.proofs.session.Session.any_unmet.Goals as goal
 
-pub is_unmet-requires : goal.is_unmet-requires
-is_unmet-requires c =
+pub is_unmet-any-requires : goal.is_unmet-any-requires
+is_unmet-any-requires c =
     rw (c.items.ensures, c.loop-name-item.is) (c.requires c.loop-name.name-index c.loop-name-item.result (omega arith))
 
 pub loop-name-preserved : goal.loop-name-preserved
 loop-name-preserved c =
-    unmet_any-next c.args.self.now.core c.args.list.now c.loop-name.name-index c.loop-name-item.result c.loop-name.any c.is_unmet.result _ (omega arith)
-    c.loop-name-item.is (rw c.items.ensures at c.is_unmet.ensures) c.loop-name.invariant
+    unmet_any-next c.args.self.now.core c.args.list.now c.loop-name.name-index c.loop-name-item.result c.loop-name.any c.is_unmet-any.result _ (omega arith)
+    c.loop-name-item.is (rw c.items.ensures at c.is_unmet-any.ensures) c.loop-name.invariant

@@ -16,12 +16,12 @@ returns-in-Some-clause-obeys g c = λ texts. (
   refl,
 )
 
-pub tell_lines-requires-clause-known : goal.tell_lines-requires-clause-known
-tell_lines-requires-clause-known g c =
+pub tell_lines-told-requires-clause-known : goal.tell_lines-told-requires-clause-known
+tell_lines-told-requires-clause-known g c =
     rw (← c.self.view_is) (told_known c.self.inside.circuit c.args.tell.now (sym (rw c.in_default.is at c.tell_refusal.ensures)))
 
-pub misses-requires : goal.misses-requires
-misses-requires g c =
+pub misses-missed-requires : goal.misses-missed-requires
+misses-missed-requires g c =
     rw (← c.self.view_is) (told_known c.self.inside.circuit c.args.tell.now (sym (rw c.in_default.is at c.tell_refusal.ensures)))
 
 pub returns-clause-obeys : goal.returns-clause-obeys

@@ -7,6 +7,6 @@ use Rattle.cosmos_session.proofs.waves.WaveRoom.tell.Goals as goal
 
 pub returns-clause-sent : goal.returns-clause-sent
 returns-clause-sent g c =
-    let same : c.push_states.new.values.items ≡ map (state_at c.args.state.now) c.args.nodes.now = search rules in
+    let same : c.deref.result.now ≡ map (state_at c.args.state.now) c.args.nodes.now = search rules in
     subst (λ (values : List Tern). Sent g.L.Lines.hear g.L.Lines.part (g.L.Lines.heard c.args.out.now) (g.L.Lines.heard c.tell_line-told.new.out)
-        (Wave c.args.n c.args.k c.args.mark values ∷ []) c.tell_line-told.result) same c.tell_line-told.ensures.sent
+    (Wave c.args.n c.args.k c.args.mark values ∷ []) c.tell_line-told.result) same c.tell_line-told.ensures.sent
