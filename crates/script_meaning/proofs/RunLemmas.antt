@@ -127,7 +127,7 @@ module _ {H : Type 0} {hear : H → Told → H} where
       })
 
 -- at a line, after those before it; what is told of the whole is told where the line that is too far is known in other words
-module _ {H : Type 0} {hear : H → Told → H} {part : H → Told → H → Type 0} {reading : Reading} {cut : Option ℕ} {start : SessionData}
+module _ {H : Type 0} {hear : H → Told → H} (part : H → Told → H → Type 0) {reading : Reading} {cut : Option ℕ} {start : SessionData}
     {all : List (ℕ × List ℕ)} {before : H} {asked : List GroupTextData} (now : HeldSession) {line : ℕ × List ℕ} {left : List (ℕ × List ℕ)} {after : H}
     {told : List GroupTextData} (come : HasCome hear reading cut start all before asked now.core (line ∷ left) after told) where
   -- past a line that asks for nothing

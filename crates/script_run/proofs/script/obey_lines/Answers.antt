@@ -22,12 +22,12 @@ returns-in_err-run_line-clause-told g c =
     let come = comes_to c.loop-line.invariant.come c.in-Some.ensures.steps in
     let p = err_from_is_err_and c.from_residual.result c.from_residual.ensures.1 in
     rw p.1
-    (inr (halts_stop c.loop-line.session come (masked-sound c.args.stuck) c.run_line.new.session (g.L.Lines.heard c.run_line.new.out)
+    (inr (halts_stop g.L.Lines.part c.loop-line.session come (masked-sound c.args.stuck) c.run_line.new.session (g.L.Lines.heard c.run_line.new.out)
     (g.A.Analyst.analysed c.run_line.new.analyst) c.in_err-run_line.field-0.0 c.in_err-run_line.ensures.turn c.cut_line-cut.ensures))
 
 pub loop-line-preserved : goal.loop-line-preserved
 loop-line-preserved g c = record {
-  come = comes_on c.loop-line.session (comes_to c.loop-line.invariant.come c.in-Some.ensures.steps) c.run_line.new.session
+  come = comes_on g.L.Lines.part c.loop-line.session (comes_to c.loop-line.invariant.come c.in-Some.ensures.steps) c.run_line.new.session
       (g.L.Lines.heard c.run_line.new.out) (g.A.Analyst.analysed c.run_line.new.analyst) c.in_ok-run_line.ensures.turn c.in-Accepted.is;
   faults = c.in_ok-run_line.ensures.write ∙ c.loop-line.invariant.faults;
   refusals = c.in_ok-run_line.ensures.refused ∙ c.loop-line.invariant.refusals;
@@ -35,13 +35,13 @@ loop-line-preserved g c = record {
 
 pub returns-in-Refused-clause-told : goal.returns-in-Refused-clause-told
 returns-in-Refused-clause-told g c =
-    halts_refused c.loop-line.session (comes_to c.loop-line.invariant.come c.in-Some.ensures.steps) c.run_line.new.session
+    halts_refused g.L.Lines.part c.loop-line.session (comes_to c.loop-line.invariant.come c.in-Some.ensures.steps) c.run_line.new.session
     (g.L.Lines.heard c.run_line.new.out) (g.A.Analyst.analysed c.run_line.new.analyst) c.in_ok-run_line.ensures.turn c.in-Refused.is
     c.cut_line-cut.ensures
 
 pub returns-in-TooLarge-clause-told : goal.returns-in-TooLarge-clause-told
 returns-in-TooLarge-clause-told g c =
-    halts_large c.loop-line.session (comes_to c.loop-line.invariant.come c.in-Some.ensures.steps) c.run_line.new.session
+    halts_large g.L.Lines.part c.loop-line.session (comes_to c.loop-line.invariant.come c.in-Some.ensures.steps) c.run_line.new.session
     (g.L.Lines.heard c.run_line.new.out) (g.A.Analyst.analysed c.run_line.new.analyst) c.in_ok-run_line.ensures.turn c.in-TooLarge.is
     c.cut_line-cut.ensures
 
