@@ -1,6 +1,6 @@
 //! The commands that tell of what is there: expectations, and the lines of those that aren't met.
 
-ghost use Rattle.std.specs.Prelude.{◌≡◌, ◌≤◌, ◌<◌, ◌+◌, ◌^◌, ℕ, List, [], ◌∷◌, is_some, true, length, All, IfErr};
+ghost use Rattle.std.specs.Prelude.{◌≡◌, ◌≤◌, ◌<◌, ◌+◌, ◌^◌, List, [], ◌∷◌, is_some, true, length, All, IfErr};
 ghost use Rattle.std.specs.List.{list_any};
 ghost use Rattle.group_text.specs.Texts.{GroupTextData};
 ghost use Rattle.netlist.specs.Names.{node_of};

@@ -11,7 +11,7 @@ use Rattle.script_meaning.specs.declared.halt.Halt.{Halt}
 use Rattle.script_meaning.specs.declared.halt.Halt.TheVariants.{End, Refused, TooLarge}
 use Rattle.run_ends.specs.declared.stop.Stop.{Stop}
 use Rattle.run_ends.specs.declared.stop.End as end
-use Rattle.run_ends.specs.Causes.{Cause, plain_cause, cause_line}
+use Rattle.run_ends.specs.Causes.{plain_cause}
 use Rattle.script_meaning.specs.Runs.{Reading, RefusedLine, Outcome, refusal_line, refusal_lines, refusal_text, lines_told, answer_told, status_told}
 use Rattle.script_meaning.specs.Halts.{HasObeyed, HaltsAt, BreaksOff, IsCutShort, TellsRefusal, TellsCutShort}
 use Rattle.run_ends.specs.Ends.{status_of}

@@ -5,4 +5,5 @@ pub mod FirstRefusedLemmas
 pub mod TurnLemmas
 pub mod RunLemmas
 pub mod HaltLemmas
+pub mod PrintedLemmas
 pub mod UniqueRuns

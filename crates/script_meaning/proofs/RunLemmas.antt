@@ -1,7 +1,7 @@
 -- How a script runs: something comes of it from everywhere, and what was heard so far is where its lines begin.
 -- The plan: a record of how far a script has come says that each outcome from here, after what was told and analysed before it, is an
 -- outcome from the start. Each line takes it one step on; at the end, at a refused line and at a fault it gives what is told of the whole.
-use Rattle.std.proofs.Common.{◌≡◌, ◌≢◌, ℕ, ◌⊎◌, inl, inr, Bool, true, false, List, [], ◌∷◌, ◌++◌, Option, None, Some, Result, Ok, Err, refl, sym, ap, subst, ◌∙◌, append_assoc, append-nil}
+use Rattle.std.proofs.Common.{◌≡◌, ◌≢◌, ℕ, inl, inr, Bool, true, false, List, [], ◌∷◌, ◌++◌, Option, None, Some, Result, Ok, Err, refl, sym, ap, subst, ◌∙◌, append_assoc, append-nil}
 use Rattle.line_words.specs.Files.{is_cut}
 use Rattle.group_text.specs.Texts.{GroupTextData}
 use Rattle.circuit_texts.specs.declared.texts.BuildFault.{BuildFault}

@@ -15,9 +15,10 @@
 //! ```
 //!
 //! For the proofs of crates above: `FirstRefusedLemmas`, how what comes of a script's lines joins;
-//! `HaltLemmas`, what the refusal of a line tells; `ReadingLemmas`, that lines are read as ever where
-//! no node is stuck; `LowerLemmas`, that a session starts ready; `RunLemmas`, that something comes of each
-//! script. They cite `TurnLemmas` and `UniqueRuns` too, whose heads say what they are of.
+//! `HaltLemmas`, what the refusal of a line tells; `PrintedLemmas`, what a printer has written of a script;
+//! `ReadingLemmas`, that lines are read as ever where no node is stuck; `LowerLemmas`, that a session starts
+//! ready; `RunLemmas`, that something comes of each script. They cite `TurnLemmas` and `UniqueRuns` too, whose
+//! heads say what they are of.
 #![tactic(auto)]
 
 mod halt;
