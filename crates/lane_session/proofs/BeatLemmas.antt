@@ -9,7 +9,7 @@ use Rattle.port_edge.specs.Sending.{WritesPart}
 use Rattle.port_edge.proofs.SendingLemmas.{append_known-nil, append_known-append, sends_part}
 use Rattle.session_meaning.specs.declared.fault.ApplyFault.{ApplyFault}
 use Rattle.session_meaning.specs.Sessions.{SessionData, IsReady, places_of}
-use Rattle.session_meaning.specs.Lines.{Line}
+use Rattle.told_lines.specs.Lines.{Line}
 use Rattle.session_meaning.specs.Effects.{AreBeats, places_in}
 use Rattle.session_meaning.specs.Outcomes.{FrontDone}
 use Rattle.session_meaning.proofs.BeatLemmas.{beats-append, cycles-next, cycles-split, CyclesSplit, no_cycle, places-next, places-split}

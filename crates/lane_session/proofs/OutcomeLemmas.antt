@@ -22,15 +22,15 @@ use Rattle.session_meaning.specs.declared.fault.ApplyFault.TheVariants.{Refused,
 use Rattle.session_meaning.specs.Sessions.{SessionData, places_of}
 use Rattle.session_meaning.specs.Refusals.{refusal_of}
 use Rattle.session_meaning.specs.Preparing.{builds, BuildsIf, Prepares, NamesNode}
-use Rattle.session_meaning.specs.Lines.{Line, text_of}
+use Rattle.told_lines.specs.Lines.{Line}
 use Rattle.session_meaning.specs.Effects.{Effect, IsUnitStep, places_in, wave_by}
 use Rattle.session_meaning.specs.Sinks.{IsSinkFault, faults_applied, refusals_sent}
-use Rattle.session_meaning.specs.Outcomes.{DoesPart}
+use Rattle.session_meaning.specs.Outcomes.{Performs, DoesPart}
 use Rattle.session_meaning.proofs.OutcomeLemmas.{refusal_of-built}
 use Rattle.circuit_texts.proofs.SizeLemmas.{told_node}
 use Rattle.lane_session.specs.LaneSessions.{LaneSessionData, session_in, Stands}
 use Rattle.lane_session.specs.Rows.{Interleaves, row_text}
-use Rattle.lane_session.specs.Outcomes.{Tells, PerformsTogether, BeginsTogether, RefusesSizeTogether, ObeysTogether}
+use Rattle.lane_session.specs.Outcomes.{PerformsTogether, BeginsTogether, RefusesSizeTogether, ObeysTogether}
 use Rattle.lane_session.specs.Stages.{HeldLanes, QuietlyTogether, ReadiedTogether, ReadiesTogether, StepTaken, PhasesSent, SentText, TakesBeatsTogether, BeatsBegunTogether, TooLargeTogether, count_in, wave_in}
 use Rattle.lane_session.proofs.RowLemmas.{rows-none, rows-one}
 use Rattle.lane_session.proofs.RefusalLemmas.{builds_alike}
@@ -45,12 +45,9 @@ prepared building old mid command texts does built = subst (λ (b : Bool). Build
 
 -- the command has its effect then, and tells its lines
 abbrev tells_effect : (old mid new : SessionData) (command : Command) (lines : List Line) (texts : List GroupTextData) → Prepares old command mid texts →
-    refusal_of mid command ≡ None → Effect mid command new lines → Tells old command new lines texts
-tells_effect old mid new command lines texts prepares allowed effect = record {
-  text = text_of lines;
-  performs = record { mid = mid; prepares = prepares; does = record { allowed = allowed; lines = lines; effect = effect; text_is = refl } };
-  lines_are = refl;
-}
+    refusal_of mid command ≡ None → Effect mid command new lines → Performs old command new lines texts
+tells_effect old mid new command lines texts prepares allowed effect =
+    record { mid = mid; prepares = prepares; does = record { allowed = allowed; effect = effect } }
 
 -- ---- commands that write nothing
 

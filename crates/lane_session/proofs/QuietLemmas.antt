@@ -23,7 +23,7 @@ use Rattle.session_meaning.specs.Sessions.{SessionData, HeldSession, ClockData, 
 use Rattle.session_meaning.specs.Refusals.{refusal_of}
 use Rattle.session_meaning.specs.Machines.{edits}
 use Rattle.session_meaning.specs.Preparing.{builds, BuildsIf}
-use Rattle.session_meaning.specs.Lines.{Line}
+use Rattle.told_lines.specs.Lines.{Line, Told}
 use Rattle.session_meaning.specs.Effects.{Effect, clock_of}
 use Rattle.session_meaning.specs.Sinks.{faults_applied}
 use Rattle.session_meaning.specs.Outcomes.{Obeys}
@@ -53,25 +53,25 @@ quiet_effect (family.Give give) old new lines silent effect = (effect.0, refl)
 quiet_effect (family.Setup setup) old new lines silent effect = (effect.0, refl)
 quiet_effect other old new lines silent effect = absurd (cc)
 
--- what a plain session does of such a command, over a sink that takes everything
-pub obeys_shared : (old new : HeldSession) (command : Command) (before after : Option (List ℕ)) (asked told : List GroupTextData) (result : Result (Unit {0}) ApplyFault) →
-    is_silent command ≡ true → Obeys old command new before after asked told 0 0 result → 0 ≡ faults_applied 0 result →
+-- what a plain session does of such a command, over a hearer that drops all
+pub obeys_shared : {H : Type 0} (hear : H → Told → H) (part : H → Told → H → Type 0) (old new : HeldSession) (command : Command) (before after : H) (asked told : List GroupTextData) (result : Result (Unit {0}) ApplyFault) →
+    is_silent command ≡ true → Obeys hear part old command new before after asked told 0 0 result → 0 ≡ faults_applied 0 result →
     Shares old.core command new.core result
-obeys_shared old new command before after asked told (Ok done) silent (accepts, same) none =
+obeys_shared hear part old new command before after asked told (Ok done) silent (accepts, same) none =
     let prepares : (accepts.performs.mid ≡ old.core) × (accepts.texts ≡ []) =
     subst (λ (b : Bool). BuildsIf b old.core accepts.performs.mid accepts.texts) (silent_still command silent) accepts.performs.prepares in
     let does = accepts.performs.does in
     subst (λ (s : SessionData). (refusal_of s command ≡ None) × Effect s command new.core []) prepares.0
-    (does.allowed, quiet_effect command accepts.performs.mid new.core does.lines silent does.effect)
-obeys_shared old new command before after asked told (Err (Refused refusal)) silent (refuses, same) none =
+    (does.allowed, quiet_effect command accepts.performs.mid new.core accepts.lines silent does.effect)
+obeys_shared hear part old new command before after asked told (Err (Refused refusal)) silent (refuses, same) none =
     (refuses.cause, ap (λ (s : HeldSession). s.core) refuses.keeps.same)
-obeys_shared old new command before after asked told (Err (GroupNodes node count)) silent (refuses, same) none =
+obeys_shared hear part old new command before after asked told (Err (GroupNodes node count)) silent (refuses, same) none =
     let both : true ≡ false = sym refuses.building ∙ silent_still command silent in absurd (cc)
-obeys_shared old new command before after asked told (Err (GroupSwitches node count)) silent (refuses, same) none =
+obeys_shared hear part old new command before after asked told (Err (GroupSwitches node count)) silent (refuses, same) none =
     let both : true ≡ false = sym refuses.building ∙ silent_still command silent in absurd (cc)
-obeys_shared old new command before after asked told (Err WriteFault) silent obeys none = absurd (omega (arith, none))
-obeys_shared old new command before after asked told (Err NoMemory) silent (inl (stays, same)) none = stays.core
-obeys_shared old new command before after asked told (Err NoMemory) silent (inr (begins, more)) none = absurd (omega (arith, more))
+obeys_shared hear part old new command before after asked told (Err WriteFault) silent obeys none = absurd (omega (arith, none))
+obeys_shared hear part old new command before after asked told (Err NoMemory) silent (inl (stays, same)) none = stays.core
+obeys_shared hear part old new command before after asked told (Err NoMemory) silent (inr (begins, more)) none = absurd (omega (arith, more))
 
 -- no fault of a sink ends a command that writes nothing
 pub quietly_faults : (old new : LaneSessionData) (command : LaneCommand) (faults : ℕ) (result : Result (Unit {0}) ApplyFault) → QuietlyTogether old command new result →

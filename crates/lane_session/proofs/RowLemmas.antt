@@ -2,7 +2,7 @@
 use Rattle.std.proofs.Common.{◌≡◌, ℕ, zero, suc, ◌<◌, ◌≤◌, List, [], ◌∷◌, ◌++◌, length, refl, sym, ap, subst, ◌∙◌, append_assoc, append-nil, arith, inl, inr}
 use Rattle.std.proofs.lemmas.Bool.{cases_lt}
 use Rattle.std.specs.Prelude.{◌⊎◌}
-use Rattle.session_meaning.specs.Lines.{Line, Reported}
+use Rattle.told_lines.specs.Lines.{Line, Reported}
 use Rattle.lane_session.specs.Rows.{Interleaves, lane_line, row_text}
 use Rattle.lane_session.specs.Rows.Interleaves.{no_row, one_more}
 

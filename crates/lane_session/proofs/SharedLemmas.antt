@@ -64,4 +64,4 @@ module _ (plain after : SessionData) (state : List Tern) (count : ℕ) (kept : L
   -- so the column does what its command says
   pub does-shared : (command : LaneCommand) (new : SessionData) → refusal_of plain (in_column 0 command) ≡ None →
       Effect old (in_column lane command) new [] → Does old (in_column lane command) new []
-  does-shared command new allowed effect = record { allowed = refusal-shared command ∙ allowed; lines = []; effect = effect; text_is = refl }
+  does-shared command new allowed effect = record { allowed = refusal-shared command ∙ allowed; effect = effect }

@@ -14,21 +14,15 @@ use Rattle.session_meaning.specs.declared.fault.ApplyFault.{ApplyFault}
 use Rattle.session_meaning.specs.Sessions.{SessionData}
 use Rattle.session_meaning.specs.Refusals.{refusal_of}
 use Rattle.session_meaning.specs.Preparing.{builds}
-use Rattle.session_meaning.specs.Lines.{Line}
+use Rattle.told_lines.specs.Lines.{Line}
 use Rattle.session_meaning.specs.Outcomes.{Outcome, Performs, DoesPart}
 use Rattle.lane_session.specs.LaneSessions.{LaneSessionData, session_in, Stands}
 use Rattle.lane_session.specs.Rows.{Interleaves}
 
--- a command of a plain script is performed, for which these texts are analysed, and tells these lines
-pub record Tells (old : SessionData) (command : Command) (new : SessionData) (lines : List Line) (texts : List GroupTextData) : Type 0 where
-  pub text : List ℕ
-  pub performs : Performs old command new text texts
-  pub lines_are : performs.does.lines ≡ lines
-
 -- in each column the column's command is performed, for which the same texts are analysed in all; row by row their lines are this text
 pub record PerformsTogether (lanes : ℕ) (old : ℕ → SessionData) (command : LaneCommand) (new : ℕ → SessionData) (text : List ℕ) (texts : List GroupTextData) : Type 0 where
   pub lines : ℕ → List Line
-  pub each : (lane : ℕ) → lane < lanes → Tells (old lane) (in_column lane command) (new lane) (lines lane) texts
+  pub each : (lane : ℕ) → lane < lanes → Performs (old lane) (in_column lane command) (new lane) (lines lane) texts
   pub rows : Interleaves lanes lines text
 
 -- the command has its effect in each column, the sink grew by the columns' lines, and the analyst's list by the texts that it analysed
@@ -73,7 +67,7 @@ pub record BeginsTogether (old : LaneSessionData) (command : LaneCommand) (new :
   pub texts : List GroupTextData
   pub performs : PerformsTogether old.lanes (session_in old) command end text texts
   pub written : WritesPart before after text
-  pub done : (lane : ℕ) → (inside : lane < old.lanes) → DoesPart (performs.each lane inside).performs.mid (in_column lane command) (session_in new lane)
+  pub done : (lane : ℕ) → (inside : lane < old.lanes) → DoesPart (performs.each lane inside).mid (in_column lane command) (session_in new lane)
   pub analysed : told ≡ asked ++ texts
 
 -- what a command comes to: where the command itself wants memory, all is as before but for what is kept

@@ -1,6 +1,6 @@
 -- The text that columns write: row by row, the lines of all columns.
 use Rattle.std.specs.Prelude.{◌≡◌, ℕ, zero, suc, ◌+◌, ◌<◌, List, [], ◌∷◌, ◌++◌, codes, decimal}
-use Rattle.session_meaning.specs.Lines.{Line, line_text}
+use Rattle.told_lines.specs.Lines.{Line, line_text}
 
 -- a column's line: the column's number from 1, a blank, and the line
 abbrev pub lane_line : ℕ → Line → List ℕ

@@ -34,7 +34,7 @@ use Rattle.session_meaning.specs.declared.fault.ApplyFault.{ApplyFault}
 use Rattle.session_meaning.specs.declared.fault.ApplyFault.TheVariants.{Refused, GroupNodes, GroupSwitches, WriteFault, NoMemory}
 use Rattle.session_meaning.specs.Sessions.{SessionData, ClockData}
 use Rattle.session_meaning.specs.Refusals.{refusal_of}
-use Rattle.session_meaning.specs.Lines.{Line, Wave}
+use Rattle.told_lines.specs.Lines.{Line, Wave}
 use Rattle.session_meaning.specs.Effects.{Effect, AreBeats, one_more, states_with, wave_by}
 use Rattle.session_meaning.specs.Outcomes.{FrontDone}
 use Rattle.lane_session.specs.declared.rows.TheConstants.{LANE_LINE_ROOM}

@@ -6,15 +6,15 @@ ghost use Rattle.oscillation_x.specs.declared.settling.Settled.{Settled};
 ghost use Rattle.lane_machine.specs.Columns.{column};
 ghost use Rattle.session_meaning.specs.declared.TheConstants.{MOST_WATCHED};
 ghost use Rattle.session_meaning.specs.Sinks.{IsSinkFault, faults_applied, refusals_sent};
-ghost use Rattle.session_meaning.specs.Lines.{Wave};
+ghost use Rattle.told_lines.specs.Lines.{Wave};
 ghost use Rattle.lane_session.specs.Rows.{row_text, lane_line};
 ghost use Rattle.lane_session.specs.Stages.{IsRoomFor, SentText, wave_of};
 
 use crate::words::{Words, state_in};
-use cosmos_session::{ApplyFault, MOST_WATCHED, send_text};
+use cosmos_session::{ApplyFault, MOST_WATCHED};
 use itoa::Buffer;
 use oscillation_x::Settled;
-use port_edge::Sink;
+use port_edge::{Sink, send};
 use std::alloc::Global;
 use std::marker::Model;
 use ternary::{NoMemory, Tern};
@@ -159,5 +159,18 @@ fn push_states(values: &mut Vec<Tern>, lane: usize, hi: &[u64], lo: &[u64], node
             lo: lo[node],
         };
         values.push_reserved(state_in(words, lane));
+    }
+}
+
+// Sends a text to the sink. A fault of the sink is what ends a command.
+fn send_text<S: Sink>(out: &mut S, text: &[u8]) -> Result<(), ApplyFault>
+    ensures sent { SentText (S.written out.old) (S.written out.new) text.now result }
+    ensures cause { IfErr result IsSinkFault }
+    ensures faults { S.faults out.new ≡ faults_applied (S.faults out.old) result }
+    ensures refusals { S.refusals out.new ≡ refusals_sent (S.refusals out.old) result }
+{
+    match send(out, text) {
+        Ok(()) => Ok(()),
+        Err(fault) => Err(ApplyFault::of_sink(fault)),
     }
 }

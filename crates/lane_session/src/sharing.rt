@@ -21,10 +21,10 @@ use crate::words::value_words;
 use cosmos_session::{ApplyFault, Clock, Session};
 use lane_script::{LaneCommand, ValueCommand};
 use netlist::Circuit;
-use port_edge::DropSink;
 use script_lang::{ClockList, Command, Name, NameList, Setup, StateList};
 use std::alloc::Global;
 use ternary::NoMemory;
+use told_lines::Silence;
 
 impl LaneSession {
     /// Does a command that takes no step, in each column.
@@ -142,7 +142,7 @@ fn share(first: &Command, plain: &mut Session) -> Result<(), ApplyFault>
 {
     // a call for the proof alone: a session keeps itself well formed
     let _circuit = plain.circuit();
-    plain.apply(first, &mut Unasked {}, &mut DropSink::new())
+    plain.apply(first, &mut Unasked {}, &mut Silence::new())
 }
 
 // Gives these named nodes, which are in use and no rails, their states in each column, from left to right.
