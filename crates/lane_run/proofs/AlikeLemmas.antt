@@ -15,7 +15,7 @@ use Rattle.lane_script.specs.Forms.{IsFormed}
 use Rattle.session_meaning.specs.Sessions.{SessionData, places_of}
 use Rattle.session_meaning.specs.Refusals.{refusal_of}
 use Rattle.session_meaning.specs.Preparing.{with_present, BuildsIf}
-use Rattle.session_meaning.specs.Lines.{Line}
+use Rattle.told_lines.specs.Lines.{Line}
 use Rattle.session_meaning.specs.Effects.{Effect, RunEffect, AreBeats, circuit_after, setup_after, one_more, places_in}
 use Rattle.session_meaning.proofs.UniqueBuilds.{HasTexts-unique}
 use Rattle.lane_session.proofs.RefusalLemmas.{refused_alike}

@@ -13,14 +13,14 @@ use Rattle.session_meaning.specs.declared.fault.Refusal.{Refusal}
 use Rattle.session_meaning.specs.Sessions.{SessionData, IsReady, places_of}
 use Rattle.session_meaning.specs.Refusals.{refusal_of}
 use Rattle.session_meaning.specs.Preparing.{builds, IsBuild, BuildsIf}
-use Rattle.session_meaning.specs.Lines.{Line}
+use Rattle.told_lines.specs.Lines.{Line}
 use Rattle.session_meaning.specs.Outcomes.{Performs}
 use Rattle.session_meaning.proofs.EffectLemmas as effects
 use Rattle.session_meaning.proofs.SizeLemmas.{texts_or_size}
 use Rattle.session_meaning.proofs.UniqueBuilds.{HasTexts-unique}
 use Rattle.run_ends.proofs.SizeLemmas.{not_both}
 use Rattle.script_meaning.proofs.LowerLemmas.{command_ends, ready-performs}
-use Rattle.lane_session.specs.Outcomes.{Tells, PerformsTogether}
+use Rattle.lane_session.specs.Outcomes.{PerformsTogether}
 use Rattle.lane_session.proofs.RowLemmas.{rows_exist, choose}
 use Rattle.lane_session.proofs.RefusalLemmas.{builds_alike}
 use Rattle.lane_session.proofs.FormLemmas.{formed_in}
@@ -51,7 +51,7 @@ module _ (lanes : ℕ) (columns : ℕ → SessionData) (are : AreReady lanes col
 
   -- what a column's command comes to
   record Told (fresh : List GroupTextData) (lane : ℕ) (end : SessionData × List Line) : Type 0 where
-    pub tells : Tells (columns lane) (in_column lane command) end.0 end.1 fresh
+    pub performs : Performs (columns lane) (in_column lane command) end.0 end.1 fresh
     pub counted : length end.1 ≡ lines_told command (places_of (columns 0).clocks)
 
   -- what stands before an effect keeps the clocks
@@ -60,21 +60,17 @@ module _ (lanes : ℕ) (columns : ℕ → SessionData) (are : AreReady lanes col
   same_clocks false old mid texts still = ap (λ (s : SessionData). s.clocks) (still.0)
 
   -- a command that is performed in a column
-  told : (fresh : List GroupTextData) (lane : ℕ) → lane < lanes → (new : SessionData) (text : List ℕ) (texts : List GroupTextData) → texts ≡ fresh →
-      Performs (columns lane) (in_column lane command) new text texts → (end : SessionData × List Line) × Told fresh lane end
-  told fresh lane inside new text texts same performs = (
-    (new, performs.does.lines),
+  told : (fresh : List GroupTextData) (lane : ℕ) → lane < lanes → (new : SessionData) (lines : List Line) (texts : List GroupTextData) → texts ≡ fresh →
+      Performs (columns lane) (in_column lane command) new lines texts → (end : SessionData × List Line) × Told fresh lane end
+  told fresh lane inside new lines texts same performs = (
+    (new, lines),
     record {
-      tells = record {
-        text = text;
-        performs = record {
-          mid = performs.mid;
-          prepares = subst (BuildsIf (builds (in_column lane command)) (columns lane) performs.mid) same performs.prepares;
-          does = performs.does;
-        };
-        lines_are = refl;
+      performs = record {
+        mid = performs.mid;
+        prepares = subst (BuildsIf (builds (in_column lane command)) (columns lane) performs.mid) same performs.prepares;
+        does = performs.does;
       };
-      counted = length-effect lanes command formed lane performs.mid new performs.does.lines performs.does.effect
+      counted = length-effect lanes command formed lane performs.mid new lines performs.does.effect
           ∙ ap (λ clocks. lines_told command (places_of clocks))
           (same_clocks (builds (in_column lane command)) (columns lane) performs.mid texts performs.prepares
           ∙ ap (λ (s : SessionData). s.clocks) (beside (columns 0) (columns lane) (are.alike lane inside)));
@@ -88,7 +84,7 @@ module _ (lanes : ℕ) (columns : ℕ → SessionData) (are : AreReady lanes col
       choose lanes (Told fresh) (λ lane. (columns lane, [])) each in
       let rows = rows_exist lanes (lines_told command (places_of (columns 0).clocks)) (λ lane. (all.0 lane).1) (λ lane inside. (all.1 lane inside).counted) in
       all_performed (λ lane. (all.0 lane).0) rows.0 fresh
-      (record { lines = λ lane. (all.0 lane).1; each = λ lane inside. (all.1 lane inside).tells; rows = rows.1 })
+      (record { lines = λ lane. (all.0 lane).1; each = λ lane inside. (all.1 lane inside).performs; rows = rows.1 })
 
   -- a command that builds nothing
   still_end : builds (in_column 0 command) ≡ false → refusal_of (columns 0) (in_column 0 command) ≡ None → EndsTogether lanes columns command
@@ -102,8 +98,8 @@ module _ (lanes : ℕ) (columns : ℕ → SessionData) (are : AreReady lanes col
           elim (command_ends (columns lane) (in_column lane command) (are.ready lane inside) (formed_in lanes lane command formed)) [
             | effects.refused refusal is ↦ let no : None ≡ Some refusal = sym (same_refusal None allowed lane inside) ∙ is in absurd (cc)
             | effects.too_large fault allows building first ↦ let no : true ≡ false = sym building ∙ none lane in absurd (cc)
-            | effects.performed new text texts performs ↦
-                told [] lane inside new text texts
+            | effects.performed new wrote texts performs ↦
+                told [] lane inside new wrote texts
                 (subst (λ (does : Bool). BuildsIf does (columns lane) performs.mid texts) (none lane) performs.prepares).1 performs
           ]
 
@@ -132,8 +128,8 @@ module _ (lanes : ℕ) (columns : ℕ → SessionData) (are : AreReady lanes col
           elim (command_ends (columns lane) (in_column lane command) (are.ready lane inside) (formed_in lanes lane command formed)) [
             | effects.refused refusal is ↦ let no : None ≡ Some refusal = sym (same_refusal None allowed lane inside) ∙ is in absurd (cc)
             | effects.too_large fault allows does first ↦ absurd (not_both (columns lane).circuit.graph fault texts first (has_in lane inside))
-            | effects.performed new text others performs ↦
-                told (new_texts (columns 0).kept texts) lane inside new text others
+            | effects.performed new wrote others performs ↦
+                told (new_texts (columns 0).kept texts) lane inside new wrote others
                 (same_fresh lane inside performs.mid others (subst (λ (does : Bool). BuildsIf does (columns lane) performs.mid others) (some lane) performs.prepares)) performs
           ]
 
@@ -157,13 +153,12 @@ pub ready_together : (lanes : ℕ) (columns new : ℕ → SessionData) (command 
 ready_together lanes columns new command formed text texts are performs = record {
   some = are.some;
   alike = λ lane inside.
-      let first = (performs.each 0 are.some).performs in
-      let other = (performs.each lane inside).performs in
-      alike-effect lanes command formed 0 lane first.mid other.mid (new 0) (new lane) first.does.lines other.does.lines
+      let first = performs.each 0 are.some in
+      let other = performs.each lane inside in
+      alike-effect lanes command formed 0 lane first.mid other.mid (new 0) (new lane) (performs.lines 0) (performs.lines lane)
       (alike-built (builds (in_column 0 command)) (columns 0) (columns lane) first.mid other.mid texts texts (are.alike lane inside) first.prepares
       (subst (λ (does : Bool). BuildsIf does (columns lane) other.mid texts) (builds_alike command lane 0) other.prepares))
       first.does.effect other.does.effect;
   ready = λ lane inside.
-      let tells = performs.each lane inside in
-      ready-performs (columns lane) (new lane) (in_column lane command) tells.text texts (are.ready lane inside) tells.performs;
+      ready-performs (columns lane) (new lane) (in_column lane command) (performs.lines lane) texts (are.ready lane inside) (performs.each lane inside);
 }

@@ -83,9 +83,8 @@ module _ (lanes : ℕ) (cut : Option ℕ) where
       together-obeyed new command wrote fresh asks performs runs = record {
         outcome = λ lane. after_command (performs.lines lane) fresh (runs.outcome lane);
         runs = λ lane inside.
-            let tells = performs.each lane inside in
-            subst (λ told. Runs (reading_in lanes lane) cut (columns lane) (line ∷ lines) (after_command told fresh (runs.outcome lane))) tells.lines_are
-            (obeys (columns lane) (new lane) line lines (in_column lane command) tells.text fresh (runs.outcome lane) (asks.each lane inside) tells.performs (runs.runs lane inside));
+            obeys (columns lane) (new lane) line lines (in_column lane command) (performs.lines lane) fresh (runs.outcome lane) (asks.each lane inside)
+            (performs.each lane inside) (runs.runs lane inside);
         analysed = λ lane inside. ap (λ (others : List GroupTextData). fresh ++ others) (runs.analysed lane inside);
         ended = runs.ended;
         rows = rows-append (λ lane. (runs.outcome lane).lines) text performs.rows runs.rows;

@@ -17,22 +17,23 @@ use run_ends::{End, Stop};
 use script_meaning::{Halt, Turn};
 use script_run::{refuse_halt, script_code, turn_of};
 use std::alloc::Global;
+use told_lines::Printer;
 use wave_print::FaultCode;
 
 /// Runs the lines of a script in each column, in order, to the end or to the first that is refused, and writes the
 /// line of its refusal.
-pub fn run_batch<S: Sink, A: Analyst>(
+pub fn run_batch<S: Sink + Drop, A: Analyst>(
     alloc: Global,
     session: &mut LaneSession,
     text: &[u8],
-    out: &mut S,
+    out: &mut Printer<S>,
     analyst: &mut A,
 ) -> Result<End, Stop>
     ensures told { IsToldBy (IsBatchAnswer session.old.core.lanes (file.cut_line text.now) (session_in session.old.core) (file.lines_in text.now))
-        (S.written out.old) (S.written out.new) (A.analysed analyst.old) (A.analysed analyst.new) result }
+        out.old.page.written out.new.page.written (A.analysed analyst.old) (A.analysed analyst.new) result }
     ensures no_read { IfErr result (λ stop. stop ≢ Stop.Read) }
-    ensures write { S.faults out.new ≡ faults_written (S.faults out.old) result }
-    ensures refused { IsRefusedOnce (S.refusals out.old) (S.refusals out.new) result }
+    ensures write { out.new.faults ≡ faults_written out.old.faults result }
+    ensures refused { IsRefusedOnce out.old.refusals out.new.refusals result }
 {
     let halt = obey_batch(alloc, session, text, out, analyst)?;
     match halt {

@@ -1,5 +1,4 @@
-mod WaveLemmas
-mod AlikeLemmas
-mod CountingLemmas
+mod UnfailingLemmas
+mod SummedLemmas
 mod ReasonedLemmas
 pub mod UniqueAnswers

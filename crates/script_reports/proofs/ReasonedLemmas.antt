@@ -1,32 +1,35 @@
 -- What was told of a node at the end of a script, or of the refusal that ended it, is told of the answer to `why`.
-use Rattle.std.proofs.Common.{◌≡◌, ◌≢◌, ℕ, inl, inr, List, Option, None, Some, Result, Ok, Err, IfOk, IfErr, refl, sym, ap, subst, arith}
+use Rattle.std.proofs.Common.{◌≡◌, ℕ, inl, inr, Bool, true, false, List, [], ◌∷◌, Option, None, Some, Result, Ok, Err, refl, sym, ap, subst, ◌∙◌, append-nil}
+use Rattle.std.specs.Io.KnownBytes.{append_known}
+use Rattle.port_edge.specs.Sending.{WritesPart}
 use Rattle.line_words.specs.Files.{lines_in, cut_line}
 use Rattle.netlist.specs.Circuits.{CircuitData}
 use Rattle.netlist.specs.Names.{node_of}
 use Rattle.group_text.specs.Texts.{GroupTextData}
 use Rattle.circuit_texts.specs.declared.texts.BuildFault.{BuildFault}
 use Rattle.wave_print.specs.declared.faults.FaultPlace.TheVariants.{Script}
+use Rattle.told_lines.specs.Hearing.{of_column}
+use Rattle.told_lines.specs.Printing.{Page, print, PrintsPart, text_printed}
+use Rattle.told_lines.proofs.PrintingLemmas.{written-all, written-front}
 use Rattle.session_meaning.specs.Sessions.{SessionData, start_of}
 use Rattle.run_ends.specs.declared.status.Status.TheVariants.{Done, Usage, ScriptRefused}
 use Rattle.script_meaning.specs.declared.halt.Halt.{Halt}
 use Rattle.script_meaning.specs.declared.halt.Halt.TheVariants.{End, Refused, TooLarge}
 use Rattle.run_ends.specs.declared.stop.End as end
 use Rattle.run_ends.specs.declared.stop.Stop.{Stop}
-use Rattle.run_ends.specs.declared.stop.Stop.TheVariants.{Read, Write, Memory}
-use Rattle.run_ends.specs.Causes.{Cause, plain_cause}
-use Rattle.script_meaning.specs.Runs.{Reading, RefusedLine, plain_reading}
+use Rattle.run_ends.specs.Causes.{Cause, plain_cause, cause_line}
+use Rattle.script_meaning.specs.Runs.{RefusedLine, plain_reading, refusal_line}
 use Rattle.run_ends.specs.Answers.{Answer, plain_answer, IsRefusalFor, IsTooLarge}
-use Rattle.script_meaning.specs.Halts.{HasObeyed, HasOutgrown, HaltsAt, TellsHalt}
-use Rattle.run_ends.specs.Stops.{faults_written}
-use Rattle.run_ends.specs.Ends.{IsTold, IsToldBy}
+use Rattle.script_meaning.specs.Halts.{HasObeyed, HasOutgrown, HaltsAt, TellsRefusal}
+use Rattle.run_ends.specs.Ends.{IsTold, IsToldBy, status_of}
 use Rattle.run_ends.proofs.EndLemmas.{told_as}
 use Rattle.script_reports.specs.Reasoned.{unknown_node_line, ExplainsNode, IsExplained, IsExplainedAt, IsReasoned}
-use Rattle.script_reports.specs.Explaining.{TellsSize, IsHaltExplained}
+use Rattle.script_reports.specs.Explaining.{TellsSize, IsHaltExplained, hear_nothing}
 
 module _ (script name : List ℕ) (circuit : CircuitData) (new : SessionData) (old last : Option (List ℕ)) (asked told : List GroupTextData) where
   -- the lines were obeyed to here
   abbrev Obeyed : Option RefusedLine → Type 0
-  Obeyed stopped = HasObeyed plain_reading (cut_line script) (start_of circuit) (lines_in script) new None None asked told stopped
+  Obeyed stopped = HasObeyed hear_nothing plain_reading (cut_line script) (start_of circuit) (lines_in script) new tt tt asked told stopped
 
   -- a status and a text that explain the node where the script ended, with the texts that were analysed, are a right answer
   reasoned : (stopped : Option RefusedLine) (obeyed : Obeyed stopped) (answer : Answer) → IsExplainedAt name new stopped answer.status answer.text →
@@ -72,7 +75,7 @@ module _ (script name : List ℕ) (circuit : CircuitData) (new : SessionData) (o
 
   -- and of a line for which the circuit is too large
   pub told_size : (number : ℕ) (fault : BuildFault) (result : Result end.End Stop) →
-      HasOutgrown plain_reading (cut_line script) (start_of circuit) (lines_in script) new None None asked told number fault →
+      HasOutgrown hear_nothing plain_reading (cut_line script) (start_of circuit) (lines_in script) new tt tt asked told number fault →
       IsTold (IsTooLarge new.circuit (Script number) ScriptRefused) old last result → IsToldBy (IsReasoned script name circuit) old last asked told result
   told_size number fault (Ok ending) outgrown written =
       let large = written.right in
@@ -85,7 +88,7 @@ module _ (script name : List ℕ) (circuit : CircuitData) (new : SessionData) (o
       (inr (record { answer = begun.answer; right = large.told; part = begun.part }))
 
   -- of an answer about where the lines ended
-  pub told_halt : (halt : Halt) (result : Result end.End Stop) → HaltsAt plain_reading (cut_line script) (start_of circuit) (lines_in script) new None None asked told halt →
+  pub told_halt : (halt : Halt) (result : Result end.End Stop) → HaltsAt hear_nothing plain_reading (cut_line script) (start_of circuit) (lines_in script) new tt tt asked told halt →
       IsTold (IsHaltExplained name new halt) old last result → IsToldBy (IsReasoned script name circuit) old last asked told result
   told_halt End result halts written = told_node result halts written
   told_halt (Refused number code) result halts written = told_line number (plain_cause code) result halts written
@@ -93,25 +96,33 @@ module _ (script name : List ℕ) (circuit : CircuitData) (new : SessionData) (o
 
 -- lines that end since a group is too large tell the first such group
 pub halted_size : (script : List ℕ) (circuit : CircuitData) (new : SessionData) (asked told : List GroupTextData) (halt : Halt) →
-    HaltsAt plain_reading (cut_line script) (start_of circuit) (lines_in script) new None None asked told halt → TellsSize new.circuit.graph halt
+    HaltsAt hear_nothing plain_reading (cut_line script) (start_of circuit) (lines_in script) new tt tt asked told halt → TellsSize new.circuit.graph halt
 halted_size script circuit new asked told End halts = tt
 halted_size script circuit new asked told (Refused number code) halts = tt
 halted_size script circuit new asked told (TooLarge number fault) halts = halts.first
 
--- lines whose text is dropped end as they do
-pub dropped : (reading : Reading) → reading ≡ plain_reading → (cut : Option ℕ) (start : SessionData) (lines : List (ℕ × List ℕ)) (new : SessionData) (asked told : List GroupTextData) (result : Result Halt Stop) →
-    TellsHalt reading cut start lines new None None asked told result →
-    IfOk result (λ halt. HaltsAt plain_reading cut start lines new None None asked told halt)
-dropped reading plain cut start lines new asked told (Ok halt) tells =
-    subst (λ (reading : Reading). HaltsAt reading cut start lines new None None asked told halt) plain tells
-dropped reading plain cut start lines new asked told (Err stop) tells = tt
+-- the line of a refusal is printed alike with the number of its column and without
+refusal-printed : (numbered : Bool) (stopped : RefusedLine) →
+    text_printed numbered (of_column 0 (refusal_line stopped ∷ [])) ≡ cause_line (Script stopped.line) stopped.cause
+refusal-printed true stopped = append-nil (cause_line (Script stopped.line) stopped.cause)
+refusal-printed false stopped = append-nil (cause_line (Script stopped.line) stopped.cause)
 
--- over a sink that never fails a run stops by want of memory alone
-pub dropped_stop : {T : Type 0} (result : Result T Stop) → IfErr result (λ stop. stop ≢ Read) → 0 ≡ faults_written 0 result → IfErr result (λ stop. stop ≡ Memory)
-dropped_stop (Ok value) other none = tt
-dropped_stop (Err Read) other none = absurd (other refl)
-dropped_stop (Err Write) other none = absurd (omega (arith, none))
-dropped_stop (Err Memory) other none = refl
+-- so where a printer was told of a refusal, its line was written
+pub printed_refusal : (page after : Page) (stopped : RefusedLine) (result : Result end.End Stop) → TellsRefusal print PrintsPart page after stopped result →
+    IsTold (IsRefusalFor (Script stopped.line) stopped.cause ScriptRefused) page.written after.written result
+printed_refusal page after stopped (Ok ending) (is, heard) = record {
+  answer = plain_answer ScriptRefused (cause_line (Script stopped.line) stopped.cause);
+  right = refl;
+  ended = sym (ap status_of is);
+  grew = ap (λ (now : Page). now.written) heard ∙ written-all page (of_column 0 (refusal_line stopped ∷ []))
+      ∙ ap (append_known page.written) (refusal-printed page.numbered stopped);
+}
+printed_refusal page after stopped (Err stop) heard = inr (record {
+  answer = plain_answer ScriptRefused (cause_line (Script stopped.line) stopped.cause);
+  right = refl;
+  part = subst (WritesPart page.written after.written) (refusal-printed page.numbered stopped)
+      (written-front page after (of_column 0 (refusal_line stopped ∷ [])) heard);
+})
 
 -- a name that isn't in use is refused
 pub told_unknown : (new : SessionData) (name : List ℕ) (old last : Option (List ℕ)) (result : Result end.End Stop) → node_of new.circuit.names name ≡ None →

@@ -6,12 +6,17 @@ use Rattle.channel_groups.specs.Grouping.{GroupsData}
 use Rattle.netlist.specs.Names.{node_of}
 use Rattle.wave_print.specs.declared.faults.FaultPlace.TheVariants.{Script}
 use Rattle.circuit_texts.specs.Sizes.{TellsTooLarge}
+use Rattle.told_lines.specs.Lines.{Told}
 use Rattle.session_meaning.specs.Sessions.{SessionData}
 use Rattle.script_meaning.specs.declared.halt.Halt.{Halt}
 use Rattle.script_meaning.specs.declared.halt.Halt.TheVariants.{End, Refused, TooLarge}
 use Rattle.run_ends.specs.declared.status.Status.TheVariants.{ScriptRefused}
 use Rattle.run_ends.specs.Answers.{Answer, IsRefusal, IsTooLarge}
 use Rattle.script_reports.specs.Reasoned.{IsExplained}
+
+-- nobody hears a line
+abbrev pub hear_nothing : Unit {0} → Told → Unit {0}
+hear_nothing before told = tt
 
 -- these are the groups of the graph, with its count of nodes
 abbrev pub AreGroupsOf : GraphData → GroupsData → Type 0

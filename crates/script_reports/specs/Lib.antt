@@ -1,5 +1,4 @@
 pub mod Summaries
-pub mod Countings
 pub mod Reasoned
 pub mod Explaining
 pub mod Answers

@@ -1,6 +1,6 @@
 //! What `why` writes: the reasons of a node at the end of a script.
 
-ghost use Rattle.std.specs.Prelude.{◌≡◌, ◌≢◌, ◌<◌, None, IfOk, IfErr, IfSome};
+ghost use Rattle.std.specs.Prelude.{◌≡◌, ◌≢◌, ◌<◌, IfOk, IfErr, IfSome};
 ghost use Rattle.path_meaning.specs.Graphs.{nodes};
 ghost use Rattle.path_meaning.specs.Spread.{rail_of};
 ghost use Rattle.line_words.specs.Files as file;
@@ -14,45 +14,46 @@ ghost use Rattle.run_ends.specs.Ends.{IsTold, IsToldBy};
 ghost use Rattle.run_ends.specs.Stops.{faults_written, IsRefusedOnce};
 ghost use Rattle.run_ends.specs.declared.status.Status.TheVariants as status;
 ghost use Rattle.script_reports.specs.Reasoned.{ExplainsRail, ExplainsNode, IsExplained, IsReasoned};
-ghost use Rattle.script_reports.specs.Explaining.{AreGroupsOf, TellsSize, IsHaltExplained};
+ghost use Rattle.script_reports.specs.Explaining.{AreGroupsOf, TellsSize, IsHaltExplained, hear_nothing};
 
 use channel_groups::Groups;
 use cosmos_session::Session;
 use group_analysis::Analyst;
 use netlist::Circuit;
 use path_meaning::Walk;
-use port_edge::{DropSink, Sink, send};
+use port_edge::{Sink, send};
 use run_ends::{End, Stop, refuse};
 use script_meaning::Halt;
 use script_run::{obey_lines, refuse_halt};
 use std::alloc::Global;
 use ternary::NoMemory;
+use told_lines::{Printer, Silence};
 use wave_print::{FaultCode, FaultPlace};
 use why_path::{group_reason, reason_line};
 
 /// Runs the lines of a script from the start in a circuit, none of which is written, and explains the node
 /// of this name in the circuit and the state at their end; or writes the line of the refusal that ended them.
-pub fn explain<S: Sink, A: Analyst>(
+pub fn explain<S: Sink + Drop, A: Analyst>(
     alloc: Global,
     circuit: Circuit,
     text: &[u8],
     name: &str,
-    out: &mut S,
+    out: &mut Printer<S>,
     analyst: &mut A,
 ) -> Result<End, Stop>
     requires { IsCircuit circuit }
     ensures told { IsToldBy (IsReasoned text.now name.now circuit)
-        (S.written out.old) (S.written out.new) (A.analysed analyst.old) (A.analysed analyst.new) result }
+        out.old.page.written out.new.page.written (A.analysed analyst.old) (A.analysed analyst.new) result }
     ensures no_read { IfErr result (λ stop. stop ≢ Stop.Read) }
-    ensures write { S.faults out.new ≡ faults_written (S.faults out.old) result }
-    ensures refused { IsRefusedOnce (S.refusals out.old) (S.refusals out.new) result }
+    ensures write { out.new.faults ≡ faults_written out.old.faults result }
+    ensures refused { IsRefusedOnce out.old.refusals out.new.refusals result }
 {
     let mut session = Session::new(alloc, circuit)?;
     let halt = run_unwritten(alloc, &mut session, text, analyst)?;
     explain_at(alloc, &session, halt, text, name, out)
 }
 
-// Runs the lines of a script, whose text is dropped.
+// Obeys the lines of a script, which nobody hears.
 fn run_unwritten<A: Analyst>(
     alloc: Global,
     session: &mut Session,
@@ -60,31 +61,31 @@ fn run_unwritten<A: Analyst>(
     analyst: &mut A,
 ) -> Result<Halt, Stop>
     requires { IsReady session.old.core }
-    ensures halts { IfOk result (HaltsAt plain_reading
+    ensures halts { IfOk result (HaltsAt hear_nothing plain_reading
         (file.cut_line text.now) session.old.core (file.lines_in text.now) session.new.core
-        None None (A.analysed analyst.old) (A.analysed analyst.new)) }
+        tt tt (A.analysed analyst.old) (A.analysed analyst.new)) }
     ensures memory { IfErr result (λ stop. stop ≡ Stop.Memory) }
 {
-    let mut unwritten = DropSink::new();
-    obey_lines(alloc, session, text, None, &mut unwritten, analyst)
+    let mut nobody = Silence::new();
+    obey_lines(alloc, session, text, None, &mut nobody, analyst)
 }
 
 // Explains the node of this name where the lines of a script ended, or writes the line of the refusal that
 // ended them.
-fn explain_at<S: Sink>(
+fn explain_at<S: Sink + Drop>(
     alloc: Global,
     session: &Session,
     halt: Halt,
     text: &[u8],
     name: &str,
-    out: &mut S,
+    out: &mut Printer<S>,
 ) -> Result<End, Stop>
     requires { TellsSize session.now.core.circuit.graph halt }
     ensures told { IsTold (IsHaltExplained name.now session.now.core halt)
-        (S.written out.old) (S.written out.new) result }
+        out.old.page.written out.new.page.written result }
     ensures no_read { IfErr result (λ stop. stop ≢ Stop.Read) }
-    ensures write { S.faults out.new ≡ faults_written (S.faults out.old) result }
-    ensures refused { IsRefusedOnce (S.refusals out.old) (S.refusals out.new) result }
+    ensures write { out.new.faults ≡ faults_written out.old.faults result }
+    ensures refused { IsRefusedOnce out.old.refusals out.new.refusals result }
 {
     match halt {
         Halt::End => explain_name(alloc, session, name, out),

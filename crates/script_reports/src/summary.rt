@@ -6,16 +6,18 @@ ghost use Rattle.line_words.specs.Files as file;
 ghost use Rattle.netlist.specs.Circuits.{IsCircuit};
 ghost use Rattle.sim_read.specs.Meaning.{netlist_of};
 ghost use Rattle.wave_print.specs.Lines.{summary_line_of};
+ghost use Rattle.told_lines.specs.Sums.{counted, summary_of};
+ghost use Rattle.session_meaning.specs.Sessions.{IsReady};
+ghost use Rattle.script_meaning.specs.Runs.{plain_reading};
+ghost use Rattle.script_meaning.specs.Halts.{HaltsAt};
 ghost use Rattle.command_line.specs.Samples as samples;
 ghost use Rattle.script_reports.specs.Answers.{IsSampleSummary, IsSummary};
 ghost use Rattle.run_ends.specs.Answers.{plain_answer};
-ghost use Rattle.script_reports.specs.Summaries.{summary_of, IsSummedUp};
-ghost use Rattle.script_reports.specs.Countings.{IsBlank};
+ghost use Rattle.script_reports.specs.Summaries.{IsBlank, IsSummedUp};
 ghost use Rattle.run_ends.specs.Ends.{IsTold, IsToldBy};
 ghost use Rattle.run_ends.specs.Stops.{faults_written, IsRefusedOnce};
 ghost use Rattle.run_ends.specs.declared.status.Status.TheVariants as status;
 
-use crate::counting::count_lines;
 use circuit_reports::{refuse_net, switches};
 use command_line::Sample;
 use cosmos_session::Session;
@@ -25,9 +27,11 @@ use netlist::Circuit;
 use port_edge::{Sink, send};
 use run_ends::{End, Stop, refuse, refuse_size};
 use script_meaning::Halt;
+use script_run::obey_lines;
 use sim_read::{NetFault, NetRefusal, read_netlist};
 use std::alloc::Global;
 use table_keys::TableKeys;
+use told_lines::Sums;
 use wave_print::{FaultPlace, LineBuf, SUMMARY_LINE_ROOM, Summary, summary_line};
 
 /// Runs the script of a sample in the circuit of its netlist, and writes the line that sums it up.
@@ -117,11 +121,12 @@ fn sum_up_lines<S: Sink, A: Analyst>(
     alloc: Global,
     session: &mut Session,
     text: &[u8],
-    mut summary: Summary,
+    summary: Summary,
     out: &mut S,
     analyst: &mut A,
 ) -> Result<End, Stop>
-    requires { IsBlank summary }
+    requires blank { IsBlank summary }
+    requires ready { IsReady session.old.core }
     ensures told { IsToldBy
         (IsSummedUp summary.nodes summary.switches (file.cut_line text.now) session.old.core (file.lines_in text.now))
         (S.written out.old) (S.written out.new) (A.analysed analyst.old) (A.analysed analyst.new) result }
@@ -129,8 +134,9 @@ fn sum_up_lines<S: Sink, A: Analyst>(
     ensures write { S.faults out.new ≡ faults_written (S.faults out.old) result }
     ensures refused { IsRefusedOnce (S.refusals out.old) (S.refusals out.new) result }
 {
-    match count_lines(alloc, session, text, &mut summary, analyst)? {
-        Halt::End => write_summary(alloc, summary, out),
+    let mut sums = Sums { summary };
+    match count_lines(alloc, session, text, &mut sums, analyst)? {
+        Halt::End => write_summary(alloc, sums.summary, out),
         Halt::Refused(line, code) => {
             let place = FaultPlace::Script(line);
             refuse(alloc, place, code, &[], End::ScriptRefused, out)
@@ -147,6 +153,23 @@ fn sum_up_lines<S: Sink, A: Analyst>(
             )
         }
     }
+}
+
+// Obeys the lines of a script, whose waveform lines are counted as they are told.
+fn count_lines<A: Analyst>(
+    alloc: Global,
+    session: &mut Session,
+    text: &[u8],
+    sums: &mut Sums,
+    analyst: &mut A,
+) -> Result<Halt, Stop>
+    requires { IsReady session.old.core }
+    ensures halts { IfOk result (HaltsAt counted plain_reading
+        (file.cut_line text.now) session.old.core (file.lines_in text.now) session.new.core
+        sums.old.summary sums.new.summary (A.analysed analyst.old) (A.analysed analyst.new)) }
+    ensures memory { IfErr result (λ stop. stop ≡ Stop.Memory) }
+{
+    obey_lines(alloc, session, text, None, sums, analyst)
 }
 
 // Writes the line of a summary.

@@ -21,5 +21,5 @@ refuse_halt-requires g c =
 
 pub returns-in_default-clause-told : goal.returns-in_default-clause-told
 returns-in_default-clause-told g c =
-    told_cut _ _ _ _ _ _ _ _ c.obey_batch.new.session.core.circuit c.in_ok-halt.halt _ c.refuse_halt.result c.in_default.not-End c.in_ok-halt.ensures.told
-    (rw (← c.circuit.ensures.value) c.refuse_halt.ensures.told)
+    told_cut _ _ _ _ _ c.obey_batch.new.out.page c.refuse_halt.new.out.page _ _ c.obey_batch.new.session.core.circuit c.in_ok-halt.halt c.refuse_halt.result
+    c.in_ok-halt.ensures.told (rw (← c.circuit.ensures.value) c.refuse_halt.ensures.told)

@@ -1,11 +1,12 @@
 -- What was told of where the lines ended is told of the answer.
-use Rattle.std.proofs.Common.{None, refl, ap, subst}
+use Rattle.std.proofs.Common.{refl, ap, subst}
 use Rattle.std.proofs.lemmas.Result.{err_from_is_err_and}
 use Rattle.line_words.specs.Files as file
 use Rattle.session_meaning.specs.Sessions.{HeldSession, SessionData}
 use Rattle.script_meaning.specs.Runs.{plain_reading}
 use Rattle.script_meaning.specs.Halts.{HaltsAt}
 use Rattle.script_meaning.proofs.LowerLemmas.{ready-start}
+use Rattle.script_reports.specs.Explaining.{hear_nothing}
 use Rattle.script_reports.proofs.ReasonedLemmas.{told_halt, halted_size}
 use Rattle.script_reports.proofs.reasons.explain.Goals as goal
 
@@ -19,7 +20,7 @@ explain_at-requires g c =
     let told = g.A.Analyst.analysed c.run_unwritten.new.analyst in
     let halt = c.in_ok-halt.halt in
     halted_size c.args.text.now c.args.circuit new asked told halt
-    (subst (λ (start : SessionData). HaltsAt plain_reading (file.cut_line c.args.text.now) start (file.lines_in c.args.text.now) new None None asked told halt)
+    (subst (λ (start : SessionData). HaltsAt hear_nothing plain_reading (file.cut_line c.args.text.now) start (file.lines_in c.args.text.now) new tt tt asked told halt)
     (ap (λ (session : HeldSession). session.core) c.in_ok-session.ensures) c.in_ok-halt.ensures.halts)
 
 pub returns-clause-told : goal.returns-clause-told
@@ -28,9 +29,9 @@ returns-clause-told g c =
     let asked = g.A.Analyst.analysed c.args.analyst.now in
     let told = g.A.Analyst.analysed c.run_unwritten.new.analyst in
     let halt = c.in_ok-halt.halt in
-    told_halt c.args.text.now c.args.name.now c.args.circuit new (g.S.Sink.written c.args.out.now) (g.S.Sink.written c.explain_at.new.out) asked told halt
+    told_halt c.args.text.now c.args.name.now c.args.circuit new c.args.out.now.page.written c.explain_at.new.out.page.written asked told halt
     c.explain_at.result
-    (subst (λ (start : SessionData). HaltsAt plain_reading (file.cut_line c.args.text.now) start (file.lines_in c.args.text.now) new None None asked told halt)
+    (subst (λ (start : SessionData). HaltsAt hear_nothing plain_reading (file.cut_line c.args.text.now) start (file.lines_in c.args.text.now) new tt tt asked told halt)
     (ap (λ (session : HeldSession). session.core) c.in_ok-session.ensures) c.in_ok-halt.ensures.halts)
     c.explain_at.ensures.told
 

@@ -5,14 +5,17 @@ use Rattle.net_gen.specs.declared.families.GenPart.TheVariants.{Script}
 use Rattle.session_meaning.specs.Sessions.{HeldSession}
 use Rattle.wave_print.specs.declared.lines.Summary.{Summary}
 use Rattle.line_words.specs.Files as file
-use Rattle.script_reports.specs.Countings.{IsBlank}
 use Rattle.command_line.specs.Samples.{sample_seen, text_of}
-use Rattle.script_reports.specs.Summaries.{IsSummedUp}
+use Rattle.script_meaning.proofs.LowerLemmas.{ready-start}
+use Rattle.script_reports.specs.Summaries.{IsBlank, IsSummedUp}
 use Rattle.run_ends.specs.Ends.{IsToldBy}
 use Rattle.script_reports.proofs.summary.sum_up_in.Goals as goal
 
-pub sum_up_lines-requires : goal.sum_up_lines-requires
-sum_up_lines-requires g c = subst IsBlank (sym c.summary_at_start-summary.ensures) refl
+pub sum_up_lines-requires-clause-blank : goal.sum_up_lines-requires-clause-blank
+sum_up_lines-requires-clause-blank g c = subst IsBlank (sym c.summary_at_start-summary.ensures) refl
+
+pub sum_up_lines-requires-clause-ready : goal.sum_up_lines-requires-clause-ready
+sum_up_lines-requires-clause-ready g c = rw c.in_ok-session.ensures (ready-start c.args.circuit c.requires)
 
 pub returns-clause-told : goal.returns-clause-told
 returns-clause-told g c =
