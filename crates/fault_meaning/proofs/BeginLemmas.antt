@@ -1,4 +1,4 @@
--- The commands of a fault build and write nothing, and none of them is refused: so each run under a fault has a start.
+-- The commands of a fault build and tell nothing, and none of them is refused: so each run under a fault has a start.
 use Rattle.std.proofs.Common.{◌≡◌, ℕ, ◌<◌, ◌≤◌, ◌==◌, ◌++◌, Bool, true, false, List, [], ◌∷◌, All, Option, Some, None, IfSome, Result, Ok, Err, is_some, nat_lt, if◌then◌else◌, refl, sym, ap, subst, ◌∙◌, arith, append-nil, get_or-set_same}
 use Rattle.std.specs.Prelude.{unwrap_or, codes}
 use Rattle.std.proofs.lemmas.Bool.Decides.{nat_tests}
@@ -25,7 +25,7 @@ use Rattle.session_meaning.specs.Refusals.{refusal_of, or_else, rail_refusal, se
 use Rattle.session_meaning.specs.Effects.{assigned, with_circuit}
 use Rattle.session_meaning.specs.Preparing.{BuildsIf}
 use Rattle.session_meaning.specs.Sinks.{faults_with, faults_applied}
-use Rattle.session_meaning.specs.Lines.{text_of}
+use Rattle.told_lines.specs.Lines.{Told}
 use Rattle.session_meaning.specs.Outcomes.{Does, Accepts, Obeys}
 use Rattle.session_meaning.proofs.EffectLemmas.{ready-start, ready-does}
 use Rattle.fault_sim.specs.declared.fault.Fault.{Fault}
@@ -48,46 +48,46 @@ quiet_commands c (Stuck node state) =
     (All-cons IsQuiet (family.Give (Set (item ∷ []))) [] (record { still = refl; silent = λ old new lines effect. effect.1 }) (All-nil IsQuiet))
 
 -- what is done for a quiet command is its effect alone
-pub quiet_done : (old new : HeldSession) (command : Command) (before after : Option (List ℕ)) (asked told : List GroupTextData) → IsQuiet command →
-    Accepts old command new before after asked told → Does old.core command new.core [] × (told ≡ asked)
-quiet_done old new command before after asked told quiet accepts =
+pub quiet_done : {H : Type 0} (hear : H → Told → H) (old new : HeldSession) (command : Command) (before after : H) (asked told : List GroupTextData) →
+    IsQuiet command → Accepts hear old command new before after asked told → Does old.core command new.core [] × (told ≡ asked)
+quiet_done hear old new command before after asked told quiet accepts =
     let performs = accepts.performs in
     let still : (performs.mid ≡ old.core) × (accepts.texts ≡ []) =
     subst (λ building. BuildsIf building old.core performs.mid accepts.texts) quiet.still performs.prepares in
-    let none = quiet.silent performs.mid new.core performs.does.lines performs.does.effect in
-    let nothing : accepts.text ≡ [] = performs.does.text_is ∙ ap text_of none in (
+    let nothing = quiet.silent performs.mid new.core accepts.lines performs.does.effect in (
       subst (λ (session : SessionData). Does session command new.core []) still.0
           (subst (Does performs.mid command new.core) nothing performs.does),
       accepts.analysed ∙ ap (λ (texts : List GroupTextData). asked ++ texts) still.1 ∙ append-nil asked,
     )
 
 -- the same of what a call comes to
-pub quiet_call : (old new : HeldSession) (command : Command) (before after : Option (List ℕ)) (asked told : List GroupTextData) (refusals now : ℕ) →
-    IsQuiet command → Obeys old command new before after asked told refusals now (Ok tt) → Does old.core command new.core [] × (told ≡ asked)
-quiet_call old new command before after asked told refusals now quiet obeys =
-    quiet_done old new command before after asked told quiet obeys.0
+pub quiet_call : {H : Type 0} (hear : H → Told → H) (part : H → Told → H → Type 0) (old new : HeldSession) (command : Command) (before after : H)
+    (asked told : List GroupTextData) (refusals now : ℕ) → IsQuiet command →
+    Obeys hear part old command new before after asked told refusals now (Ok tt) → Does old.core command new.core [] × (told ≡ asked)
+quiet_call hear part old new command before after asked told refusals now quiet obeys =
+    quiet_done hear old new command before after asked told quiet obeys.0
 
--- what a call comes to, and that its sink didn't fail
-abbrev pub CallComesTo : HeldSession → Command → HeldSession → Option (List ℕ) → Option (List ℕ) → List GroupTextData → List GroupTextData → ℕ → ℕ →
-    Result (Unit {0}) ApplyFault → Type 0
-CallComesTo old command new before after asked told refusals now result =
-    Obeys old command new before after asked told refusals now result × (0 ≡ faults_applied 0 result)
+-- what a call comes to, and that its hearer didn't fail
+abbrev pub CallComesTo : {H : Type 0} → (H → Told → H) → (H → Told → H → Type 0) → HeldSession → Command → HeldSession → H → H → List GroupTextData →
+    List GroupTextData → ℕ → ℕ → Result (Unit {0}) ApplyFault → Type 0
+CallComesTo hear part old command new before after asked told refusals now result =
+    Obeys hear part old command new before after asked told refusals now result × (0 ≡ faults_applied 0 result)
 
 -- a quiet command that isn't refused can lack memory alone
-pub quiet_fault : (old new : HeldSession) (command : Command) (before after : Option (List ℕ)) (asked told : List GroupTextData) (refusals now : ℕ)
-    (fault : ApplyFault) → IsQuiet command → refusal_of old.core command ≡ None → 0 ≡ faults_with 0 fault →
-    Obeys old command new before after asked told refusals now (Err fault) → fault ≡ apply.NoMemory
-quiet_fault old new command before after asked told refusals now (apply.Refused refusal) quiet allowed unfailed obeys =
+pub quiet_fault : {H : Type 0} (hear : H → Told → H) (part : H → Told → H → Type 0) (old new : HeldSession) (command : Command) (before after : H)
+    (asked told : List GroupTextData) (refusals now : ℕ) (fault : ApplyFault) → IsQuiet command → refusal_of old.core command ≡ None →
+    0 ≡ faults_with 0 fault → Obeys hear part old command new before after asked told refusals now (Err fault) → fault ≡ apply.NoMemory
+quiet_fault hear part old new command before after asked told refusals now (apply.Refused refusal) quiet allowed unfailed obeys =
     let cause = obeys.0.cause in
     absurd (cc)
-quiet_fault old new command before after asked told refusals now (apply.GroupNodes node count) quiet allowed unfailed obeys =
+quiet_fault hear part old new command before after asked told refusals now (apply.GroupNodes node count) quiet allowed unfailed obeys =
     let building : true ≡ false = sym obeys.0.building ∙ quiet.still in
     absurd (cc)
-quiet_fault old new command before after asked told refusals now (apply.GroupSwitches node count) quiet allowed unfailed obeys =
+quiet_fault hear part old new command before after asked told refusals now (apply.GroupSwitches node count) quiet allowed unfailed obeys =
     let building : true ≡ false = sym obeys.0.building ∙ quiet.still in
     absurd (cc)
-quiet_fault old new command before after asked told refusals now apply.WriteFault quiet allowed unfailed obeys = absurd (omega (arith, unfailed))
-quiet_fault old new command before after asked told refusals now apply.NoMemory quiet allowed unfailed obeys = refl
+quiet_fault hear part old new command before after asked told refusals now apply.WriteFault quiet allowed unfailed obeys = absurd (omega (arith, unfailed))
+quiet_fault hear part old new command before after asked told refusals now apply.NoMemory quiet allowed unfailed obeys = refl
 
 -- ---- names
 
@@ -188,9 +188,7 @@ has_start c kept (Some (Open number)) is faulty =
     let new : SessionData = with_circuit old (without_switch c number) in
     let does : Does old (family.Edit (Del number)) new [] = record {
       allowed = there_edited (is_some (switch_numbered c number)) faulty;
-      lines = [];
       effect = (refl, refl);
-      text_is = refl;
     } in
     record { start = new; begins = (new, does, refl); ready = one_done c kept (family.Edit (Del number)) new is does }
 has_start c kept (Some (Closed number)) is faulty =
@@ -198,9 +196,7 @@ has_start c kept (Some (Closed number)) is faulty =
     let new : SessionData = with_circuit old (with_kind c number Always) in
     let does : Does old (family.Edit (Kind number Always)) new [] = record {
       allowed = there_edited (is_some (switch_numbered c number)) faulty;
-      lines = [];
       effect = (refl, refl);
-      text_is = refl;
     } in
     record { start = new; begins = (new, does, refl); ready = one_done c kept (family.Edit (Kind number Always)) new is does }
 has_start c kept (Some (Stuck node state)) is faulty =
@@ -212,15 +208,11 @@ has_start c kept (Some (Stuck node state)) is faulty =
     let new : SessionData = record mid { state = assigned mid.circuit mid.state (item ∷ []) } in
     let inputs : Does old (family.Edit (Input (name ∷ []))) mid [] = record {
       allowed = input_allowed c name node faulty.0 found;
-      lines = [];
       effect = (refl, refl);
-      text_is = refl;
     } in
     let sets : Does mid (family.Give (Set (item ∷ []))) new [] = record {
       allowed = set_allowed c name node faulty.0 faulty.1 found;
-      lines = [];
       effect = (refl, refl);
-      text_is = refl;
     } in
     record {
       start = new;

@@ -5,7 +5,7 @@ use Rattle.netlist.specs.Circuits.{CircuitData}
 use Rattle.group_text.specs.Texts.{GroupTextData}
 use Rattle.session_meaning.specs.Sessions.{SessionData}
 use Rattle.fault_sim.specs.declared.fault.Fault.{Fault}
-use Rattle.fault_sim.specs.declared.trace.Trace.{Trace}
+use Rattle.fault_sim.specs.Traces.{Trace}
 use Rattle.fault_sim.specs.declared.verdicts.Verdict.{Verdict}
 use Rattle.fault_sim.specs.Benches.{JudgesBy}
 use Rattle.fault_meaning.specs.Traces.{AreDone, IsTrace, commands_under, start_with, stuck_under}

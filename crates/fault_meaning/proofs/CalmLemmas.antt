@@ -16,7 +16,7 @@ use Rattle.script_lang.specs.declared.command.ScriptFault.{ScriptFault}
 use Rattle.script_lang.specs.Commands.{reading_of}
 use Rattle.session_meaning.specs.Sessions.{SessionData, HeldSession}
 use Rattle.session_meaning.specs.Preparing.{IsBuild, BuildsIf, builds}
-use Rattle.session_meaning.specs.Lines.{Line}
+use Rattle.told_lines.specs.Lines.{Line, Told}
 use Rattle.session_meaning.specs.Effects.{Effect}
 use Rattle.session_meaning.specs.Outcomes.{Performs}
 use Rattle.session_meaning.proofs.LeavingLemmas.{run_leaves, setup_leaves}
@@ -95,11 +95,11 @@ building_line line is command asked =
     subst (λ one. unsettles one ≡ false) same (building_calm is.command is.building)
 
 -- after a command that builds a build would find nothing new
-performs_built : (old new : SessionData) (command : Command) (text : List ℕ) (texts : List GroupTextData) → builds command ≡ true →
-    Performs old command new text texts → IsCurrent new
-performs_built old new command text texts building performs =
+performs_built : (old new : SessionData) (command : Command) (lines : List Line) (texts : List GroupTextData) → builds command ≡ true →
+    Performs old command new lines texts → IsCurrent new
+performs_built old new command lines texts building performs =
     let build = subst (λ does. BuildsIf does old performs.mid texts) building performs.prepares in
-    let left = effect_leaves performs.mid new command performs.does.lines (building_calm command building) performs.does.effect in
+    let left = effect_leaves performs.mid new command lines (building_calm command building) performs.does.effect in
     left_current performs.mid new left (built_current old performs.mid texts build)
 
 -- nothing was analysed, what is kept is as before, and a build would find nothing new
@@ -122,11 +122,11 @@ prepares_calm false old mid texts current still = record {
   kept = ap (λ (session : SessionData). session.kept) still.0;
 }
 
-performs_calm : (old new : SessionData) (command : Command) (text : List ℕ) (texts : List GroupTextData) → IsCurrent old → unsettles command ≡ false →
-    Performs old command new text texts → GoesOn old new texts
-performs_calm old new command text texts current calm performs =
+performs_calm : (old new : SessionData) (command : Command) (lines : List Line) (texts : List GroupTextData) → IsCurrent old → unsettles command ≡ false →
+    Performs old command new lines texts → GoesOn old new texts
+performs_calm old new command lines texts current calm performs =
     let first = prepares_calm (builds command) old performs.mid texts current performs.prepares in
-    let left = effect_leaves performs.mid new command performs.does.lines calm performs.does.effect in
+    let left = effect_leaves performs.mid new command lines calm performs.does.effect in
     record {
       current = left_current performs.mid new left first.current;
       none = first.none;
@@ -161,28 +161,26 @@ asked_building c stuck line is =
 
 -- ---- lines
 
--- what one line comes to that is obeyed: where it builds, a build would find nothing new then
-pub line_built : (stuck : Option (ℕ × Tern)) (cut : Option ℕ) (old new : HeldSession) (line : ℕ × List ℕ) (before after : Option (List ℕ))
-    (asked told : List GroupTextData) → IsBuilding line.1 →
-    TakesTurn (masked_reading stuck) cut line old new before after asked told (Ok Accepted) → IsCurrent new.core
-line_built stuck cut old new line before after asked told is (inl passed) =
-    let nothing = sym passed.idle.nothing ∙ asked_building old.core.circuit stuck line.1 is in
-    absurd (cc)
-line_built stuck cut old new line before after asked told is (inr follows) =
-    let both = sym follows.asks.asked ∙ asked_building old.core.circuit stuck line.1 is in
-    let same : is.command ≡ follows.command = cc in
-    performs_built old.core new.core follows.command follows.accepts.text follows.accepts.texts
-    (subst (λ command. builds command ≡ true) same is.building) follows.accepts.performs
+module _ {H : Type 0} (hear : H → Told → H) (part : H → Told → H → Type 0) (stuck : Option (ℕ × Tern)) (cut : Option ℕ) (old new : HeldSession)
+    (line : ℕ × List ℕ) (before after : H) (asked told : List GroupTextData) where
+  -- what one line comes to that is obeyed: where it builds, a build would find nothing new then
+  pub line_built : IsBuilding line.1 → TakesTurn hear part (masked_reading stuck) cut line old new before after asked told (Ok Accepted) → IsCurrent new.core
+  line_built is (inl passed) =
+      let nothing = sym passed.idle.nothing ∙ asked_building old.core.circuit stuck line.1 is in
+      absurd (cc)
+  line_built is (inr follows) =
+      let both = sym follows.asks.asked ∙ asked_building old.core.circuit stuck line.1 is in
+      let same : is.command ≡ follows.command = cc in
+      performs_built old.core new.core follows.command follows.accepts.lines follows.accepts.texts
+      (subst (λ command. builds command ≡ true) same is.building) follows.accepts.performs
 
--- and where it is calm, that stays so
-pub line_calm : (stuck : Option (ℕ × Tern)) (cut : Option ℕ) (old new : HeldSession) (line : ℕ × List ℕ) (before after : Option (List ℕ))
-    (asked told : List GroupTextData) → IsCalm line.1 → IsCurrent old.core →
-    TakesTurn (masked_reading stuck) cut line old new before after asked told (Ok Accepted) → IsCurrent new.core
-line_calm stuck cut old new line before after asked told calm current (inl passed) =
-    subst (λ (session : HeldSession). IsCurrent session.core) (sym passed.keeps.same) current
-line_calm stuck cut old new line before after asked told calm current (inr follows) =
-    (performs_calm old.core new.core follows.command follows.accepts.text follows.accepts.texts current
-    (asked_calm old.core.circuit stuck line.1 follows.command calm follows.asks.asked) follows.accepts.performs).current
+  -- and where it is calm, that stays so
+  pub line_calm : IsCalm line.1 → IsCurrent old.core →
+      TakesTurn hear part (masked_reading stuck) cut line old new before after asked told (Ok Accepted) → IsCurrent new.core
+  line_calm calm current (inl passed) = subst (λ (session : HeldSession). IsCurrent session.core) (sym passed.keeps.same) current
+  line_calm calm current (inr follows) =
+      (performs_calm old.core new.core follows.command follows.accepts.lines follows.accepts.texts current
+      (asked_calm old.core.circuit stuck line.1 follows.command calm follows.asks.asked) follows.accepts.performs).current
 
 -- all lines: nothing is analysed, and what is kept stays
 pub runs_calm : (stuck : Option (ℕ × Tern)) (cut : Option ℕ) (session : SessionData) (lines : List (ℕ × List ℕ)) (outcome : Outcome) →
@@ -191,9 +189,9 @@ pub runs_calm : (stuck : Option (ℕ × Tern)) (cut : Option ℕ) (session : Ses
 runs_calm stuck cut _ _ _ current calm (ends session) = (refl, refl)
 runs_calm stuck cut _ _ _ current calm (passes session line lines rest idle runs) =
     runs_calm stuck cut session lines rest current (All-tail (λ (one : ℕ × List ℕ). IsCalm one.1) line lines calm) runs
-runs_calm stuck cut _ _ _ current calm (obeys session new line lines command text texts rest asks performs runs) =
+runs_calm stuck cut _ _ _ current calm (obeys session new line lines command wrote texts rest asks performs runs) =
     let here = All-head (λ (one : ℕ × List ℕ). IsCalm one.1) line lines calm in
-    let goes = performs_calm session new command text texts current (asked_calm session.circuit stuck line.1 command here asks.asked) performs in
+    let goes = performs_calm session new command wrote texts current (asked_calm session.circuit stuck line.1 command here asks.asked) performs in
     let left = runs_calm stuck cut new lines rest goes.current (All-tail (λ (one : ℕ × List ℕ). IsCalm one.1) line lines calm) runs in (
       ap (λ (first : List GroupTextData). first ++ rest.texts) goes.none ∙ left.0,
       left.1 ∙ goes.kept,

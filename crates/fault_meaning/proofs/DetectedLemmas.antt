@@ -2,10 +2,8 @@
 use Rattle.std.proofs.Common.{◌≡◌, ℕ, ◌<◌, ◌++◌, zero, suc, inl, inr, List, [], ◌∷◌, length, slice_get, true, Bool, refl, sym, subst, ◌∙◌, arith}
 use Rattle.std.proofs.lemmas.Option.{slice_get_within}
 use Rattle.ternary.specs.declared.tern.Tern.{Tern}
-use Rattle.fault_sim.specs.declared.trace.Trace.{Trace}
-use Rattle.fault_sim.specs.declared.verdicts.Verdict.{Verdict}
-use Rattle.fault_sim.specs.declared.verdicts.Verdict.TheVariants.{Detected, Refused, Possible, Undetected}
-use Rattle.fault_sim.specs.Traces.{IsBefore, IsDifference, FirstInRow, IsVerdict}
+use Rattle.fault_sim.specs.declared.verdicts.Verdict.TheVariants.{Detected}
+use Rattle.fault_sim.specs.Traces.{Trace, IsBefore, IsDifference, FirstInRow, IsVerdict}
 
 -- what stands at a place of a front
 slice_get-front : {X : Type 0} (front back : List X) (i : ℕ) → i < length front → slice_get (front ++ back) i ≡ slice_get front i
@@ -59,11 +57,3 @@ pub detected_in_all : (good bad whole : Trace) (back : List (List Tern)) (number
     IsVerdict good bad (Detected number entry) → IsVerdict good whole (Detected number entry)
 detected_in_all good bad whole back number entry rows is =
     subst (λ all. FirstInRow true good.rows all number entry) (sym rows) (first_in_all true good.rows bad.rows back number entry is)
-
--- a verdict is one whatever the names of a trace are
-pub whatever_names : (good bad : Trace) (names : List (List ℕ)) (verdict : Verdict) → IsVerdict good bad verdict →
-    IsVerdict good (record bad { names = names }) verdict
-whatever_names good bad names (Detected number entry) is = is
-whatever_names good bad names (Refused line) is = is
-whatever_names good bad names (Possible number entry) is = is
-whatever_names good bad names Undetected is = is

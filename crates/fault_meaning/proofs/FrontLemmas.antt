@@ -5,7 +5,7 @@ use Rattle.line_words.proofs.FileLemmas.{cut_line-front_of, lines_in-front_of}
 use Rattle.netlist.specs.Circuits.{CircuitData}
 use Rattle.group_text.specs.Texts.{GroupTextData}
 use Rattle.fault_sim.specs.declared.fault.Fault.{Fault}
-use Rattle.fault_sim.specs.declared.trace.Trace.{Trace}
+use Rattle.fault_sim.specs.Traces.{Trace}
 use Rattle.fault_sim.specs.Masks.{masked_reading}
 use Rattle.run_ends.specs.Answers.{Answer}
 use Rattle.script_meaning.specs.Runs.{Outcome, Runs}

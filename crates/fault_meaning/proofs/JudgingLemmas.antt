@@ -1,20 +1,21 @@
 -- How far the faults of a list were judged: the verdicts so far, whose lines were written, and all that can follow them.
 -- The plan: each fault takes it one step on; where a step stops, what was written is where the text of an answer begins, since each fault
 -- that is left has a run and a verdict.
-use Rattle.std.proofs.Common.{◌≡◌, ◌≢◌, ℕ, ◌+◌, ◌<◌, ◌≤◌, inl, inr, List, [], ◌∷◌, ◌++◌, length, drop, get_or, All, Option, Some, None, Result, Ok, Err, refl, sym, ap, subst, ◌∙◌, arith, append_assoc, append-nil, length-append}
+use Rattle.std.proofs.Common.{◌≡◌, ◌≢◌, ℕ, ◌+◌, ◌<◌, ◌≤◌, inl, inr, false, List, [], ◌∷◌, ◌++◌, length, drop, get_or, All, Option, Some, None, Result, Ok, Err, refl, sym, ap, subst, ◌∙◌, arith, append_assoc, append-nil, length-append}
 use Rattle.std.proofs.lemmas.List.{drop_all, drop_more}
 use Rattle.std.proofs.lemmas.List.Elements.{All-drop, All-get_or}
 use Rattle.std.specs.Io.KnownBytes.{append_known}
 use Rattle.port_edge.specs.Sending.{WritesPart}
 use Rattle.port_edge.proofs.SendingLemmas.{append_known-nil, append_known-append, sends_part, part_whole, part_longer}
 use Rattle.netlist.specs.Circuits.{CircuitData, IsCircuit}
-use Rattle.circuit_texts.specs.declared.texts.BuildFault.{BuildFault}
 use Rattle.session_meaning.specs.Sessions.{SessionData}
 use Rattle.wave_print.specs.Verdicts.{faults_line_of}
 use Rattle.wave_print.specs.declared.faults.FaultPlace.TheVariants.{Script}
+use Rattle.told_lines.specs.Printing.{Page, print, PrintsPart}
+use Rattle.told_lines.proofs.PrintingLemmas.{plain-all, plain-front}
 use Rattle.group_text.specs.Texts.{GroupTextData}
 use Rattle.fault_sim.specs.declared.fault.Fault.TheVariants.{Open}
-use Rattle.fault_sim.specs.declared.trace.Trace.{Trace}
+use Rattle.fault_sim.specs.Traces.{Trace}
 use Rattle.fault_sim.specs.declared.verdicts.Verdict.{Verdict}
 use Rattle.fault_sim.specs.Benches.{JudgesBy}
 use Rattle.fault_sim.specs.Faults.{IsFault}
@@ -24,14 +25,15 @@ use Rattle.run_ends.specs.declared.status.Status.TheVariants as status
 use Rattle.run_ends.specs.declared.stop.Stop.{Stop}
 use Rattle.run_ends.specs.declared.stop.End as end
 use Rattle.run_ends.specs.Causes.{Cause, plain_cause, cause_line}
-use Rattle.run_ends.specs.Answers.{Answer, IsStopped, IsWritten, IsAnalysed, IsRefusalFor, IsTooLarge}
-use Rattle.run_ends.specs.Ends.{IsTold, IsToldBy}
-use Rattle.script_meaning.specs.Halts.{IsCutShort, TellsCutShort}
+use Rattle.run_ends.specs.Answers.{Answer, IsStopped, IsWritten, IsAnalysed}
+use Rattle.run_ends.specs.Ends.{IsToldBy, status_of}
+use Rattle.script_meaning.specs.Runs.{refusal_line}
+use Rattle.script_meaning.specs.Halts.{IsCutShort, TellsRefusal, TellsCutShort}
 use Rattle.fault_meaning.specs.declared.listed.ListedFault.{ListedFault}
 use Rattle.fault_meaning.specs.declared.counts.VerdictCounts.{VerdictCounts}
 use Rattle.fault_meaning.specs.Judging.{LineVerdict, verdict_line, verdict_lines, counts_line, AreJudged, no_fault, one_more, IsJudgement}
 use Rattle.fault_meaning.specs.Counts.{counts_of, total, with_verdict}
-use Rattle.fault_meaning.specs.Runnings.{BenchData, HasTraced, HasRun, HasOutgrown, RunsTo, TellsJudged}
+use Rattle.fault_meaning.specs.Runnings.{BenchData, HasTraced, HasRun, RunsTo, TellsJudged}
 use Rattle.fault_meaning.proofs.CountLemmas.{counts_of-more, total-counts_of}
 use Rattle.fault_meaning.proofs.RunLemmas.{judged_exists}
 
@@ -304,6 +306,10 @@ module _ (c : CircuitData) (script : List ℕ) (faults : List ListedFault) (new 
       (subst (RunsTo c script [] None new asked mid good) is
       (subst (λ (texts : List GroupTextData). RunsTo c script texts None new asked mid good halt) none ran)) written
 
+-- ---- where the good run was cut short
+
+module _ (c : CircuitData) (script : List ℕ) (faults : List ListedFault) (new : SessionData) (page after : Page) (plain : page.numbered ≡ false)
+    (asked mid : List GroupTextData) (good : Trace) where
   refused_right : (number : ℕ) (cause : Cause) (ran : HasRun c script [] None new asked mid good (Some (record { line = number; cause = cause }))) →
       IsJudgement c script faults (refusal_answer number cause ran.outcome.texts)
   refused_right number cause ran = record {
@@ -315,50 +321,36 @@ module _ (c : CircuitData) (script : List ℕ) (faults : List ListedFault) (new 
   -- a line that is refused in the good run is the whole answer
   told_refused : (result : Result end.End Stop) (number : ℕ) (cause : Cause) →
       HasRun c script [] None new asked mid good (Some (record { line = number; cause = cause })) →
-      IsTold (IsRefusalFor (Script number) cause status.ScriptRefused) before last result →
-      IsToldBy (IsJudgement c script faults) before last asked mid result
-  told_refused (Ok ending) number cause ran written = record {
+      TellsRefusal print PrintsPart page after (record { line = number; cause = cause }) result →
+      IsToldBy (IsJudgement c script faults) page.written after.written asked mid result
+  told_refused (Ok ending) number cause ran (is, heard) = record {
     answer = refusal_answer number cause ran.outcome.texts;
     right = (refused_right number cause ran, ran.analysed);
-    ended = sym (ap (λ (one : Answer). one.status) written.right) ∙ written.ended;
-    grew = written.grew ∙ ap (λ (one : Answer). append_known before one.text) written.right;
+    ended = sym (ap status_of is);
+    grew = ap (λ (now : Page). now.written) heard ∙ plain-all page 0 (refusal_line (record { line = number; cause = cause }) ∷ []) plain
+        ∙ ap (append_known page.written) (append-nil (cause_line (Script number) cause));
   }
-  told_refused (Err stop) number cause ran (inl same) = inl same
-  told_refused (Err stop) number cause ran (inr begun) = inr (record {
+  told_refused (Err stop) number cause ran heard = inr (record {
     answer = refusal_answer number cause ran.outcome.texts;
     right = refused_right number cause ran;
-    part = subst (λ (one : Answer). WritesPart before last one.text) begun.right begun.part;
+    part = subst (WritesPart page.written after.written) (append-nil (cause_line (Script number) cause))
+        (plain-front page after 0 (refusal_line (record { line = number; cause = cause }) ∷ []) plain heard);
   })
-
-  -- so is that of a group that is too large
-  told_outgrown : (result : Result end.End Stop) (number : ℕ) (size : BuildFault) → HasOutgrown c script [] None new asked mid good number size →
-      IsTold (IsTooLarge new.circuit (Script number) status.ScriptRefused) before last result →
-      IsToldBy (IsJudgement c script faults) before last asked mid result
-  told_outgrown (Ok ending) number size outgrown written =
-      let large = written.right in
-      told_refused (Ok ending) number large.cause (outgrown.halted large.fault large.cause large.first large.named)
-      (record { answer = written.answer; right = large.told; ended = written.ended; grew = written.grew })
-  told_outgrown (Err stop) number size outgrown (inl same) = inl same
-  told_outgrown (Err stop) number size outgrown (inr begun) =
-      let large = begun.right in
-      told_refused (Err stop) number large.cause (outgrown.halted large.fault large.cause large.first large.named)
-      (inr (record { answer = begun.answer; right = large.told; part = begun.part }))
 
   -- however the good run was cut short
   cut_short_told : (result : Result end.End Stop) (halt : Halt) → RunsTo c script [] None new asked mid good halt →
-      IsTold (TellsCutShort new.circuit halt) before last result → IsToldBy (IsJudgement c script faults) before last asked mid result
-  cut_short_told (Ok ending) End ran written = absurd written.right
-  cut_short_told (Err stop) End ran (inl same) = inl same
-  cut_short_told (Err stop) End ran (inr begun) = absurd begun.right
+      TellsCutShort print PrintsPart new.circuit halt page after result → IsToldBy (IsJudgement c script faults) page.written after.written asked mid result
+  cut_short_told result End ran told = absurd told
   cut_short_told result (Refused number code) ran told = told_refused result number (plain_cause code) ran told
-  cut_short_told result (TooLarge number size) outgrown told = told_outgrown result number size outgrown told
+  cut_short_told result (TooLarge number size) outgrown (cause, named, told) =
+      told_refused result number cause (outgrown.halted size cause outgrown.first named) told
 
   pub told_cut_short : (at : CircuitData) (result : Result end.End Stop) (kept : List GroupTextData) (halt : Halt) → kept ≡ [] →
-      RunsTo c script kept None new asked mid good halt → at ≡ new.circuit → IsTold (TellsCutShort at halt) before last result →
-      IsToldBy (IsJudgement c script faults) before last asked mid result
+      RunsTo c script kept None new asked mid good halt → at ≡ new.circuit → TellsCutShort print PrintsPart at halt page after result →
+      IsToldBy (IsJudgement c script faults) page.written after.written asked mid result
   told_cut_short at result kept halt none ran here told =
       cut_short_told result halt (subst (λ (texts : List GroupTextData). RunsTo c script texts None new asked mid good halt) none ran)
-      (subst (λ (circuit : CircuitData). IsTold (TellsCutShort circuit halt) before last result) here told)
+      (subst (λ (circuit : CircuitData). TellsCutShort print PrintsPart circuit halt page after result) here told)
 
 -- a run that didn't come to its end was cut short
 pub cut_short : (c : CircuitData) (script : List ℕ) (kept : List GroupTextData) (new : SessionData) (asked mid : List GroupTextData) (good : Trace) (halt : Halt) → halt ≢ End →

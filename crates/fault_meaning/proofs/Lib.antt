@@ -1,5 +1,4 @@
 pub mod ListLemmas
-pub mod TextLemmas
 pub mod BeginLemmas
 pub mod VerdictLemmas
 pub mod RunLemmas

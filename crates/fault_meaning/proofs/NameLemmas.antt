@@ -19,13 +19,13 @@ use Rattle.script_lang.specs.declared.command.Tell.{Tell}
 use Rattle.script_lang.specs.declared.command.Tell.TheVariants.{Expect}
 use Rattle.session_meaning.specs.Sessions.{SessionData, places_of}
 use Rattle.session_meaning.specs.Preparing.{BuildsIf, builds}
-use Rattle.session_meaning.specs.Lines.{Line, Wave, Unmet, Reported}
+use Rattle.told_lines.specs.Lines.{Line, Wave, Unmet, Reported, Refused}
+use Rattle.told_lines.specs.Noting.{rows_of, states_of}
 use Rattle.session_meaning.specs.Effects.{Effect, RunEffect, IsPhase, AreBeats, setup_after, told_by, with_beat, places_in, wave_by, is_state, unmet_line, unmet_lines}
 use Rattle.session_meaning.specs.Outcomes.{Performs}
 use Rattle.script_meaning.specs.Runs.{Reading, Outcome, Runs, ends, passes, obeys, refuses}
 use Rattle.fault_sim.specs.declared.fault.Fault.{Fault}
-use Rattle.fault_sim.specs.declared.trace.Trace.{Trace}
-use Rattle.fault_meaning.specs.Rows.{row_of}
+use Rattle.fault_sim.specs.Traces.{Trace}
 use Rattle.fault_meaning.specs.Traces.{IsTrace}
 
 -- a waveform line has no more values than so many
@@ -33,6 +33,7 @@ abbrev FitsIn : ℕ → Line → Type 0
 FitsIn most (Wave n k mark values) = length values ≤ most
 FitsIn most (Unmet name want got n) = Unit {0}
 FitsIn most (Reported groups texts new) = Unit {0}
+FitsIn most (Refused place code name count) = Unit {0}
 
 -- the watch list grew, and no line has more values than it has entries
 record AreFitting (old new : SessionData) (lines : List Line) : Type 0 where
@@ -44,6 +45,7 @@ module _ (some most : ℕ) (low : some ≤ most) where
   wider (Wave n k mark values) fits = omega (arith, fits, low)
   wider (Unmet name want got n) fits = tt
   wider (Reported groups texts new) fits = tt
+  wider (Refused place code name count) fits = tt
 
   all_wider : (lines : List Line) → All (FitsIn some) lines → All (FitsIn most) lines
   all_wider lines all = All-weaker (FitsIn some) (FitsIn most) wider lines all
@@ -105,6 +107,7 @@ unmet_fitting most session list = All-filter_map (FitsIn most) (unmet_line sessi
         absurd (no_wave (is_state got item.1) item.0 item.1 got session.count n k mark values is)
     each item (Unmet name want got n) is = tt
     each item (Reported groups texts new) is = tt
+    each item (Refused place code name count) is = tt
 
 set_fitting : (old new : SessionData) (setup : Setup) (lines : List Line) → new ≡ setup_after old setup → lines ≡ [] → AreFitting old new lines
 set_fitting old new (Watch names) lines same none =
@@ -148,31 +151,32 @@ built_watched : (does : Bool) (old mid : SessionData) (texts : List GroupTextDat
 built_watched true old mid texts build = ap (λ (session : SessionData). session.watched) build.used
 built_watched false old mid texts still = ap (λ (session : SessionData). session.watched) still.0
 
-performs_fitting : (old new : SessionData) (command : Command) (text : List ℕ) (texts : List GroupTextData) →
-    (performs : Performs old command new text texts) → AreFitting old new performs.does.lines
-performs_fitting old new command text texts performs =
+performs_fitting : (old new : SessionData) (command : Command) (lines : List Line) (texts : List GroupTextData) → Performs old command new lines texts →
+    AreFitting old new lines
+performs_fitting old new command lines texts performs =
     let long : length performs.mid.watched ≡ length old.watched = ap length (built_watched (builds command) old performs.mid texts performs.prepares) in
-    let done = effect_fitting performs.mid new command performs.does.lines performs.does.effect in
+    let done = effect_fitting performs.mid new command lines performs.does.effect in
     record { grows = omega (arith, long, done.grows); fit = done.fit }
 
 runs_fitting : (reading : Reading) (cut : Option ℕ) (session : SessionData) (lines : List (ℕ × List ℕ)) (outcome : Outcome) →
     Runs reading cut session lines outcome → AreFitting session outcome.end outcome.lines
 runs_fitting reading cut _ _ _ (ends session) = still_fitting session session [] refl refl
 runs_fitting reading cut _ _ _ (passes session line lines rest idle runs) = runs_fitting reading cut session lines rest runs
-runs_fitting reading cut _ _ _ (obeys session new line lines command text texts rest asks performs runs) =
-    both_fitting session new rest.end performs.does.lines rest.lines (performs_fitting session new command text texts performs)
+runs_fitting reading cut _ _ _ (obeys session new line lines command wrote texts rest asks performs runs) =
+    both_fitting session new rest.end wrote rest.lines (performs_fitting session new command wrote texts performs)
     (runs_fitting reading cut new lines rest runs)
 runs_fitting reading cut _ _ _ (refuses session line lines cause is) = still_fitting session session [] refl refl
 
 -- ---- rows
 
-rows_fitting : (most : ℕ) (lines : List Line) → All (FitsIn most) lines → All (λ row. length row ≤ most) (filter_map row_of lines)
+rows_fitting : (most : ℕ) (lines : List Line) → All (FitsIn most) lines → All (λ row. length row ≤ most) (states_of (rows_of lines))
 rows_fitting most [] all = All-nil (λ (row : List Tern). length row ≤ most)
 rows_fitting most (Wave n k mark values ∷ lines) all =
-    All-cons (λ (row : List Tern). length row ≤ most) values (filter_map row_of lines) (All-head (FitsIn most) (Wave n k mark values) lines all)
+    All-cons (λ (row : List Tern). length row ≤ most) values (states_of (rows_of lines)) (All-head (FitsIn most) (Wave n k mark values) lines all)
     (rows_fitting most lines (All-tail (FitsIn most) (Wave n k mark values) lines all))
 rows_fitting most (Unmet name want got n ∷ lines) all = rows_fitting most lines (All-tail (FitsIn most) (Unmet name want got n) lines all)
 rows_fitting most (Reported groups texts new ∷ lines) all = rows_fitting most lines (All-tail (FitsIn most) (Reported groups texts new) lines all)
+rows_fitting most (Refused place code name count ∷ lines) all = rows_fitting most lines (All-tail (FitsIn most) (Refused place code name count) lines all)
 
 pub entries_named : (circuit : CircuitData) (script : List ℕ) (kept : List GroupTextData) (fault : Option Fault) (trace : Trace)
     (texts after : List GroupTextData) → IsTrace circuit script kept fault trace texts after → (row entry : ℕ) (values : List Tern) (value : Tern) →

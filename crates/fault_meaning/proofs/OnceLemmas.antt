@@ -27,7 +27,7 @@ use Rattle.script_lang.specs.declared.command.ScriptFault.{ScriptFault}
 use Rattle.script_lang.specs.Commands.{reading_of}
 use Rattle.session_meaning.specs.Sessions.{SessionData}
 use Rattle.session_meaning.specs.Preparing.{BuildsIf, builds}
-use Rattle.session_meaning.specs.Lines.{Line}
+use Rattle.told_lines.specs.Lines.{Line}
 use Rattle.session_meaning.specs.Effects.{Effect, setup_after}
 use Rattle.session_meaning.specs.Outcomes.{Performs}
 use Rattle.session_meaning.proofs.LeavingLemmas.{run_leaves, setup_leaves}
@@ -35,7 +35,7 @@ use Rattle.run_ends.specs.Answers.{Answer}
 use Rattle.script_meaning.specs.Runs.{Outcome, Runs, ends, passes, obeys, refuses}
 use Rattle.fault_sim.specs.declared.fault.Fault.{Fault}
 use Rattle.fault_sim.specs.declared.fault.Fault.TheVariants.{Open, Closed, Stuck}
-use Rattle.fault_sim.specs.declared.trace.Trace.{Trace}
+use Rattle.fault_sim.specs.Traces.{Trace}
 use Rattle.fault_sim.specs.Masks.{masked_edit, masked_give, masked_setup, masked_of, masked_reading_by, masked_reading}
 use Rattle.fault_meaning.specs.declared.listed.ListedFault.{ListedFault}
 use Rattle.fault_meaning.specs.declared.listed.ListRefusal.{ListRefusal}
@@ -200,13 +200,13 @@ prepares_unbound : (does : Bool) (old mid : SessionData) (texts : List GroupText
 prepares_unbound true old mid texts build = ap (λ (session : SessionData). session.bound) build.used
 prepares_unbound false old mid texts still = ap (λ (session : SessionData). session.bound) still.0
 
-performs_once : (old new : SessionData) (command : Command) (text : List ℕ) (texts : List GroupTextData) → old.bound ≡ None →
-    bounds command ≡ false → Performs old command new text texts → IsOnce old.kept texts new.kept × (new.bound ≡ None)
-performs_once old new command text texts free never performs =
+performs_once : (old new : SessionData) (command : Command) (lines : List Line) (texts : List GroupTextData) → old.bound ≡ None →
+    bounds command ≡ false → Performs old command new lines texts → IsOnce old.kept texts new.kept × (new.bound ≡ None)
+performs_once old new command lines texts free never performs =
     let built = prepares_once (builds command) old performs.mid texts free performs.prepares in
-    let same = effect_keeps performs.mid new command performs.does.lines performs.does.effect in (
+    let same = effect_keeps performs.mid new command lines performs.does.effect in (
       subst (IsOnce old.kept texts) (sym same) built,
-      effect_unbound performs.mid new command performs.does.lines never performs.does.effect
+      effect_unbound performs.mid new command lines never performs.does.effect
           ∙ prepares_unbound (builds command) old performs.mid texts performs.prepares ∙ free,
     )
 
@@ -256,9 +256,9 @@ runs_once : (stuck : Option (ℕ × Tern)) (cut : Option ℕ) (session : Session
 runs_once stuck cut _ _ _ free never (ends session) = none_new session.kept session.kept refl
 runs_once stuck cut _ _ _ free never (passes session line lines rest idle runs) =
     runs_once stuck cut session lines rest free (All-tail AsksNoBound line lines never) runs
-runs_once stuck cut _ _ _ free never (obeys session new line lines command text texts rest asks performs runs) =
+runs_once stuck cut _ _ _ free never (obeys session new line lines command wrote texts rest asks performs runs) =
     let here = asked_never session.circuit stuck (reading_of line.1) command (All-head AsksNoBound line lines never) asks.asked in
-    let first = performs_once session new command text texts free here performs in
+    let first = performs_once session new command wrote texts free here performs in
     both_new session.kept texts new.kept rest.texts rest.end.kept first.0
     (runs_once stuck cut new lines rest first.1 (All-tail AsksNoBound line lines never) runs)
 runs_once stuck cut _ _ _ free never (refuses session line lines cause is) = none_new session.kept session.kept refl
@@ -281,8 +281,8 @@ done_keeps : (commands : List Command) (old new : SessionData) → All Never com
 done_keeps [] old new never same = (ap (λ (session : SessionData). session.kept) same, ap (λ (session : SessionData). session.bound) same)
 done_keeps (command ∷ commands) old new never (mid, does, done) =
     let rest = done_keeps commands mid new (All-tail Never command commands never) done in (
-      rest.0 ∙ effect_keeps old mid command does.lines does.effect,
-      rest.1 ∙ effect_unbound old mid command does.lines (All-head Never command commands never) does.effect,
+      rest.0 ∙ effect_keeps old mid command [] does.effect,
+      rest.1 ∙ effect_unbound old mid command [] (All-head Never command commands never) does.effect,
     )
 
 under_once : (c : CircuitData) (script : List ℕ) (kept : List GroupTextData) (fault : Option Fault) (outcome : Outcome) → NeverKeeps script →

@@ -8,6 +8,7 @@ use Rattle.ternary.specs.declared.tern.Tern.{Tern}
 use Rattle.line_words.specs.Files.{front_of, lines_in}
 use Rattle.line_words.specs.Lines.{lines_of}
 use Rattle.group_text.specs.Texts.{GroupTextData}
+use Rattle.told_lines.specs.Lines.{Told}
 use Rattle.session_meaning.specs.Sessions.{SessionData, HeldSession}
 use Rattle.script_meaning.specs.declared.turn.Turn.TheVariants.{Accepted}
 use Rattle.script_meaning.specs.Turns.{TakesTurn}
@@ -53,7 +54,9 @@ calm_past number next (text ∷ rest) low lasts =
     (calm_past number (next + 1) rest (omega (arith, low)) (All-tail (Lasts number) line left lasts))
 
 -- one more line was obeyed
-module _ (stuck : Option (ℕ × Tern)) (cut : Option ℕ) (from : Option ℕ) (old new : HeldSession) (line : ℕ × List ℕ) (left : List (ℕ × List ℕ)) (before after : Option (List ℕ)) (asked told : List GroupTextData) (placed : IsPlaced from (line ∷ left) old.core) (turn : TakesTurn (masked_reading stuck) cut line old new before after asked told (Ok Accepted)) where
+module _ {H : Type 0} (hear : H → Told → H) (part : H → Told → H → Type 0) (stuck : Option (ℕ × Tern)) (cut : Option ℕ) (from : Option ℕ) (old new : HeldSession)
+    (line : ℕ × List ℕ) (left : List (ℕ × List ℕ)) (before after : H) (asked told : List GroupTextData) (placed : IsPlaced from (line ∷ left) old.core)
+    (turn : TakesTurn hear part (masked_reading stuck) cut line old new before after asked told (Ok Accepted)) where
   -- where it is one from which on all is calm, a build would find nothing new after it
   current_then : (number : ℕ) → All (Lasts number) (line ∷ left) → (number < placed.next → IsCurrent old.core) → number ≤ placed.next → IsCurrent new.core
   current_then number lasts current low =
@@ -64,10 +67,10 @@ module _ (stuck : Option (ℕ × Tern)) (cut : Option ℕ) (from : Option ℕ) (
       by : line.0 ≡ placed.next → Lasts number line → (past : Bool) → nat_lt number placed.next ≡ past → IsCurrent new.core
       by at is true past =
           let high : number < placed.next = grind (arith, nat_tests) in
-          line_calm stuck cut old new line before after asked told (is.calm (omega (arith, at, low))) (current high) turn
+          line_calm hear part stuck cut old new line before after asked told (is.calm (omega (arith, at, low))) (current high) turn
       by at is false past =
           let same : number ≡ placed.next = grind (arith, nat_tests) in
-          line_built stuck cut old new line before after asked told (is.building (at ∙ sym same)) turn
+          line_built hear part stuck cut old new line before after asked told (is.building (at ∙ sym same)) turn
 
   pub placed_on : IsPlaced from left new.core
   placed_on =

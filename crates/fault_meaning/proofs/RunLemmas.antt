@@ -1,89 +1,69 @@
--- What a run under a fault comes to: its lines can be read again, so the rows that are read from its text are its own; and each fault has
--- a run, with a trace and a verdict.
-use Rattle.std.proofs.Common.{◌≡◌, ℕ, List, [], ◌∷◌, ◌++◌, map, All, Option, None, Some, IfSome, refl, sym, ap, subst, ◌∙◌}
-use Rattle.std.specs.Prelude.{filter_map}
+-- What a run comes to: the rows that were noted of it are its own; and each fault has a run, with a trace and a verdict.
+use Rattle.std.proofs.Common.{◌≡◌, ℕ, List, [], ◌∷◌, ◌++◌, map, All, Option, None, Some, IfSome, refl, sym, ap, ◌∙◌}
 use Rattle.std.specs.Option.{option_map}
-use Rattle.std.proofs.lemmas.List.Elements.{All-nil, All-append, All-head, All-tail}
+use Rattle.std.proofs.lemmas.List.Elements.{All-head, All-tail}
 use Rattle.line_words.specs.Files.{cut_line, lines_in}
-use Rattle.line_words.specs.Lines.{lines_of}
 use Rattle.netlist.specs.Circuits.{CircuitData, IsCircuit, called}
 use Rattle.group_text.specs.Texts.{GroupTextData}
 use Rattle.session_meaning.specs.Sessions.{SessionData}
-use Rattle.session_meaning.specs.Lines.{text_of}
-use Rattle.session_meaning.specs.Bounds.{IsBounded, IsReadable}
-use Rattle.session_meaning.proofs.BoundLemmas.{bounded-performs, performs-readable}
+use Rattle.told_lines.specs.Noting.{WaveRowData, note, rows_of, states_of}
+use Rattle.told_lines.proofs.NotingLemmas.{rows_noted}
 use Rattle.fault_sim.specs.declared.fault.Fault.{Fault}
-use Rattle.fault_sim.specs.declared.trace.Trace.{Trace}
+use Rattle.fault_sim.specs.Traces.{Trace}
 use Rattle.fault_sim.specs.Faults.{IsFault}
 use Rattle.fault_sim.specs.Masks.{masked_reading}
-use Rattle.fault_sim.specs.Rows.{AreRows}
 use Rattle.script_meaning.specs.declared.halt.Halt.{Halt}
 use Rattle.script_meaning.specs.declared.halt.Halt.TheVariants.{End, Refused, TooLarge}
 use Rattle.run_ends.specs.Causes.{plain_cause}
-use Rattle.script_meaning.specs.Runs.{Reading, RefusedLine, Outcome, Runs, ends, passes, obeys, refuses}
+use Rattle.script_meaning.specs.Runs.{RefusedLine, Outcome}
 use Rattle.script_meaning.specs.Halts.{HasObeyed, HaltsAt}
-use Rattle.script_meaning.proofs.ReadingLemmas.{IsSound, masked-sound}
+use Rattle.script_meaning.proofs.ReadingLemmas.{masked-sound}
 use Rattle.script_meaning.proofs.RunLemmas.{outcome_exists}
 use Rattle.run_ends.proofs.SizeLemmas.{size_caused}
 use Rattle.fault_meaning.specs.declared.listed.ListedFault.{ListedFault}
-use Rattle.fault_meaning.specs.Rows.{row_of}
 use Rattle.fault_meaning.specs.Traces.{start_with, commands_under, stuck_under, AreDone, RunsUnder, Shows}
 use Rattle.fault_meaning.specs.Judging.{LineVerdict, AreJudged, no_fault, one_more}
 use Rattle.fault_meaning.specs.Runnings.{TellsTrace, line_of, HasRun, RunsTo, IsTraced}
-use Rattle.fault_meaning.proofs.TextLemmas.{rows_shown}
 use Rattle.fault_meaning.proofs.BeginLemmas.{has_start}
 use Rattle.fault_meaning.proofs.VerdictLemmas.{verdict_exists}
 
--- the lines of a script can be read again
-pub runs-readable : (reading : Reading) → IsSound reading → (cut : Option ℕ) (session : SessionData) (lines : List (ℕ × List ℕ)) (outcome : Outcome) →
-    Runs reading cut session lines outcome → IsBounded session → All IsReadable outcome.lines
-runs-readable reading sound cut _ _ _ (ends session) bounded = All-nil IsReadable
-runs-readable reading sound cut _ _ _ (passes session line lines rest idle runs) bounded =
-    runs-readable reading sound cut session lines rest runs bounded
-runs-readable reading sound cut _ _ _ (obeys session new line lines command text texts rest asks performs runs) bounded =
-    let formed = sound.formed session.circuit line.1 command asks.asked in
-    All-append IsReadable performs.does.lines rest.lines (performs-readable session new command text texts bounded formed performs)
-    (runs-readable reading sound cut new lines rest runs (bounded-performs session new command text texts bounded formed performs))
-runs-readable reading sound cut _ _ _ (refuses session line lines cause is) bounded = All-nil IsReadable
-
 -- ---- a run
 
-module _ (c : CircuitData) (script : List ℕ) (kept : List GroupTextData) (fault : Option Fault) (mid new : SessionData) (text : List ℕ) (asked told : List GroupTextData) (trace : Trace) (halt : Halt) (begins : AreDone (start_with c kept) (commands_under c fault) mid) (bounded : IsBounded mid) (tells : TellsTrace new halt text trace) where
+module _ (c : CircuitData) (script : List ℕ) (kept : List GroupTextData) (fault : Option Fault) (mid new : SessionData) (noted : List WaveRowData)
+    (asked told : List GroupTextData) (trace : Trace) (halt : Halt) (begins : AreDone (start_with c kept) (commands_under c fault) mid)
+    (tells : TellsTrace new halt noted trace) where
   -- to its end, or to a line that is refused
   ran_to : (last : Option RefusedLine) → option_map (λ stopped. stopped.line) last ≡ line_of halt →
-      HasObeyed (masked_reading (stuck_under fault)) (cut_line script) mid (lines_in script) new (Some []) (Some text) asked told last →
+      HasObeyed note (masked_reading (stuck_under fault)) (cut_line script) mid (lines_in script) new [] noted asked told last →
       HasRun c script kept fault new asked told trace last
-  ran_to last same obeyed =
-      let wrote : text ≡ text_of obeyed.outcome.lines = let e : Some text ≡ Some (text_of obeyed.outcome.lines) = obeyed.grew in cc in
-      let readable = runs-readable (masked_reading (stuck_under fault)) (masked-sound (stuck_under fault)) (cut_line script) mid (lines_in script)
-      obeyed.outcome obeyed.runs bounded in
-      record {
-        outcome = obeyed.outcome;
-        runs = record { start = mid; begins = begins; runs = obeyed.runs };
-        reached = obeyed.reached;
-        stopped = obeyed.stopped;
-        shows = record {
-          rows = rows_shown obeyed.outcome.lines trace.rows readable (subst (λ t. AreRows (lines_of t) trace.rows) wrote tells.rows);
-          names = tells.names ∙ ap (λ (end : SessionData). map (called end.circuit) end.watched) (sym obeyed.reached);
-          refused = tells.refused ∙ sym same ∙ ap (option_map (λ (stopped : RefusedLine). stopped.line)) (sym obeyed.stopped);
-        };
-        analysed = obeyed.analysed;
-      }
+  ran_to last same obeyed = record {
+    outcome = obeyed.outcome;
+    runs = record { start = mid; begins = begins; runs = obeyed.runs };
+    reached = obeyed.reached;
+    stopped = obeyed.stopped;
+    shows = record {
+      rows = tells.rows ∙ ap states_of (obeyed.heard ∙ rows_noted 0 [] obeyed.outcome.lines);
+      names = tells.names ∙ ap (λ (end : SessionData). map (called end.circuit) end.watched) (sym obeyed.reached);
+      refused = tells.refused ∙ sym same ∙ ap (option_map (λ (stopped : RefusedLine). stopped.line)) (sym obeyed.stopped);
+    };
+    analysed = obeyed.analysed;
+  }
 
 -- what obeying the script comes to is what the run comes to
-pub runs_to : (c : CircuitData) (script : List ℕ) (kept : List GroupTextData) (fault : Option Fault) (mid new : SessionData) (text : List ℕ) (asked told : List GroupTextData) (trace : Trace) (halt : Halt) →
-    AreDone (start_with c kept) (commands_under c fault) mid → IsBounded mid → TellsTrace new halt text trace →
-    HaltsAt (masked_reading (stuck_under fault)) (cut_line script) mid (lines_in script) new (Some []) (Some text) asked told halt →
+pub runs_to : (c : CircuitData) (script : List ℕ) (kept : List GroupTextData) (fault : Option Fault) (mid new : SessionData) (noted : List WaveRowData)
+    (asked told : List GroupTextData) (trace : Trace) (halt : Halt) → AreDone (start_with c kept) (commands_under c fault) mid →
+    TellsTrace new halt noted trace →
+    HaltsAt note (masked_reading (stuck_under fault)) (cut_line script) mid (lines_in script) new [] noted asked told halt →
     RunsTo c script kept fault new asked told trace halt
-runs_to c script kept fault mid new text asked told trace End begins bounded tells obeyed =
-    ran_to c script kept fault mid new text asked told trace End begins bounded tells None refl obeyed
-runs_to c script kept fault mid new text asked told trace (Refused number code) begins bounded tells obeyed =
-    ran_to c script kept fault mid new text asked told trace (Refused number code) begins bounded tells
+runs_to c script kept fault mid new noted asked told trace End begins tells obeyed =
+    ran_to c script kept fault mid new noted asked told trace End begins tells None refl obeyed
+runs_to c script kept fault mid new noted asked told trace (Refused number code) begins tells obeyed =
+    ran_to c script kept fault mid new noted asked told trace (Refused number code) begins tells
     (Some (record { line = number; cause = plain_cause code })) refl obeyed
-runs_to c script kept fault mid new text asked told trace (TooLarge number size) begins bounded tells outgrown = record {
+runs_to c script kept fault mid new noted asked told trace (TooLarge number size) begins tells outgrown = record {
   first = outgrown.first;
   halted = λ other cause first named.
-      ran_to c script kept fault mid new text asked told trace (TooLarge number size) begins bounded tells
+      ran_to c script kept fault mid new noted asked told trace (TooLarge number size) begins tells
       (Some (record { line = number; cause = cause })) refl (outgrown.halted other cause first named);
 }
 
@@ -118,7 +98,7 @@ traced c script kept fault new asked told trace (TooLarge number size) outgrown 
 -- what an outcome shows
 pub trace_of : Outcome → Trace
 trace_of outcome = record {
-  rows = filter_map row_of outcome.lines;
+  rows = states_of (rows_of outcome.lines);
   names = map (called outcome.end.circuit) outcome.end.watched;
   refused = option_map (λ stopped. stopped.line) outcome.refused;
 }

@@ -13,10 +13,9 @@ use Rattle.script_meaning.proofs.UniqueRuns.{runs_unique}
 use Rattle.run_ends.specs.declared.status.Status.TheVariants as status
 use Rattle.run_ends.specs.Answers.{Answer}
 use Rattle.fault_sim.specs.declared.fault.Fault.{Fault}
-use Rattle.fault_sim.specs.declared.trace.Trace.{Trace}
 use Rattle.fault_sim.specs.declared.verdicts.Verdict.{Verdict}
 use Rattle.fault_sim.specs.Masks.{masked_reading}
-use Rattle.fault_sim.specs.Traces.{IsVerdict}
+use Rattle.fault_sim.specs.Traces.{Trace, IsVerdict}
 use Rattle.fault_sim.proofs.UniqueVerdicts.{verdict_unique}
 use Rattle.fault_meaning.specs.declared.listed.ListedFault.{ListedFault}
 use Rattle.fault_meaning.specs.declared.listed.ListRefusal.{ListRefusal}
@@ -32,7 +31,7 @@ use Rattle.fault_meaning.specs.Laws.{JudgementsAreUnique}
 done_unique : (commands : List Command) (old new other : SessionData) → AreDone old commands new → AreDone old commands other → new ≡ other
 done_unique [] old new other one two = one ∙ sym two
 done_unique (command ∷ commands) old new other (mid, does, rest) (then, did, others) =
-    let same : mid ≡ then = (effect_unique old mid then command does.lines did.lines does.effect did.effect).0 in
+    let same : mid ≡ then = (effect_unique old mid then command [] [] does.effect did.effect).0 in
     done_unique commands mid new other rest (subst (λ (session : SessionData). AreDone session commands other) (sym same) others)
 
 -- so a script runs in one way under a fault, or without one

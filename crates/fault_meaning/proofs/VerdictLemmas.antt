@@ -3,10 +3,9 @@
 use Rattle.std.proofs.Common.{◌≡◌, ℕ, ◌+◌, ◌<◌, ◌⊎◌, zero, suc, Bool, true, false, List, length, Option, Some, None, slice_get, inl, inr, refl, sym, ◌∙◌, subst, arith, below_more}
 use Rattle.std.proofs.lemmas.Option.{slice_get_within}
 use Rattle.ternary.specs.declared.tern.Tern.{Tern}
-use Rattle.fault_sim.specs.declared.trace.Trace.{Trace}
 use Rattle.fault_sim.specs.declared.verdicts.Verdict.{Verdict}
 use Rattle.fault_sim.specs.declared.verdicts.Verdict.TheVariants.{Detected, Refused, Possible, Undetected}
-use Rattle.fault_sim.specs.Traces.{differs, DifferAt, DifferFirstAt, AreAlikeRows, IsDifference, AreAlike, FirstInRow, IsVerdict}
+use Rattle.fault_sim.specs.Traces.{Trace, differs, DifferAt, DifferFirstAt, AreAlikeRows, IsDifference, AreAlike, FirstInRow, IsVerdict}
 use Rattle.fault_sim.proofs.DifferenceLemmas.{FirstInRow-found}
 
 -- what is decided at each number holds at a first one below a bound, or at none

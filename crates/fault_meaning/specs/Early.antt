@@ -1,8 +1,7 @@
 -- Where a run under a fault can end before the script does: at a strong difference, once no later line changes what is built or kept.
-use Rattle.std.specs.Prelude.{◌≡◌, ℕ, ◌<◌, ◌≤◌, ◌++◌, Bool, true, false, List, All, Option, Some, None, Ok, nat_le}
+use Rattle.std.specs.Prelude.{◌≡◌, ℕ, ◌<◌, ◌≤◌, ◌++◌, Bool, true, false, List, All, Option, Some, None, Ok, is_some, nat_le}
 use Rattle.ternary.specs.declared.tern.Tern.{Tern}
 use Rattle.line_words.specs.Files.{cut_line, lines_in}
-use Rattle.line_words.specs.Lines.{lines_of}
 use Rattle.group_text.specs.Texts.{GroupTextData}
 use Rattle.script_lang.specs.declared.command.Command.{Command}
 use Rattle.script_lang.specs.declared.command.Command.TheVariants as family
@@ -15,15 +14,13 @@ use Rattle.session_meaning.specs.Preparing.{builds}
 use Rattle.script_meaning.specs.declared.turn.Turn.{Turn}
 use Rattle.script_meaning.specs.declared.turn.Turn.TheVariants.{Accepted, Refused, TooLarge}
 use Rattle.script_meaning.specs.Runs.{Outcome, Runs}
-use Rattle.fault_sim.specs.declared.trace.Trace.{Trace}
 use Rattle.fault_sim.specs.declared.verdicts.Verdict.{Verdict}
 use Rattle.fault_sim.specs.Masks.{masked_reading}
-use Rattle.fault_sim.specs.Rows.{AreRows}
-use Rattle.fault_sim.specs.Traces.{IsVerdict}
+use Rattle.fault_sim.specs.Traces.{Trace, IsVerdict}
+use Rattle.told_verdicts.specs.Comparing.{CompareData, verdict_by}
 use Rattle.fault_meaning.specs.declared.bearing.Bearing.{Bearing}
 use Rattle.fault_meaning.specs.declared.bearing.Bearing.TheVariants.{Unsettles, Builds, Stays}
 use Rattle.fault_meaning.specs.Traces.{Shows}
-use Rattle.fault_meaning.specs.Judging.{is_detected}
 
 -- it is `keep`
 abbrev pub sets_bound : Setup → Bool
@@ -79,27 +76,22 @@ abbrev pub is_from : Option ℕ → ℕ → Bool
 is_from None number = false
 is_from (Some from) number = nat_le from number
 
--- a written text was judged beside a good trace: this is the verdict on its rows and on the line that was refused, where one was
-pub record JudgesText (good : Trace) (text : List ℕ) (refused : Option ℕ) (verdict : Verdict) : Type 0 where
-  pub bad : Trace
-  pub rows : AreRows (lines_of text) bad.rows
-  pub stopped : bad.refused ≡ refused
-  pub judged : IsVerdict good bad verdict
+-- the verdict by what a comparison has come to, where this line of the script was refused, if one was
+abbrev pub verdict_of : CompareData → Option ℕ → Verdict
+verdict_of now refused = verdict_by now.strong refused now.weak
 
--- the verdict on a text so far is that it shows a strong difference, where what follows is calm
-pub record IsEarly (good : Trace) (text : List ℕ) (calm : Bool) (verdict : Verdict) : Type 0 where
+-- the verdict by what was compared so far is that on the whole: there is a strong difference, and what follows is calm
+pub record IsEarly (now : CompareData) (calm : Bool) (verdict : Verdict) : Type 0 where
   pub still : calm ≡ true
-  pub detected : is_detected verdict ≡ true
-  pub judges : JudgesText good text None verdict
+  pub apart : is_some now.strong ≡ true
+  pub judged : verdict ≡ verdict_of now None
 
--- after a line that came to this turn, with this text so far, the run ends with a verdict or goes on
-abbrev pub TellsAfter : Trace → Turn → ℕ → List ℕ → Bool → Option Verdict → Type 0
-TellsAfter good Accepted number text calm None = Unit {0}
-TellsAfter good Accepted number text calm (Some verdict) = IsEarly good text calm verdict
-TellsAfter good (Refused code) number text calm None = ⊥
-TellsAfter good (Refused code) number text calm (Some verdict) = JudgesText good text (Some number) verdict
-TellsAfter good (TooLarge size) number text calm None = ⊥
-TellsAfter good (TooLarge size) number text calm (Some verdict) = JudgesText good text (Some number) verdict
+-- after a line that came to this turn, where this was compared by then, the run ends with a verdict or goes on
+abbrev pub TellsAfter : CompareData → Turn → ℕ → Bool → Option Verdict → Type 0
+TellsAfter now Accepted number calm None = Unit {0}
+TellsAfter now Accepted number calm (Some verdict) = IsEarly now calm verdict
+TellsAfter now (Refused code) number calm found = found ≡ Some (verdict_of now (Some number))
+TellsAfter now (TooLarge size) number calm found = found ≡ Some (verdict_of now (Some number))
 
 -- the lines of a script were judged beside a good trace, from these data on: this is the verdict on what an outcome of theirs shows, whose
 -- texts were analysed, and at whose end the same is kept

@@ -4,10 +4,9 @@ use Rattle.netlist.specs.Circuits.{CircuitData}
 use Rattle.group_text.specs.Texts.{GroupTextData}
 use Rattle.wave_print.specs.declared.faults.FaultPlace.TheVariants as place
 use Rattle.wave_print.specs.Verdicts.{detected_line_of, possible_line_of, refused_line_of, undetected_line_of, faults_line_of}
-use Rattle.fault_sim.specs.declared.trace.Trace.{Trace}
 use Rattle.fault_sim.specs.declared.verdicts.Verdict.{Verdict}
 use Rattle.fault_sim.specs.declared.verdicts.Verdict.TheVariants.{Detected, Refused, Possible, Undetected}
-use Rattle.fault_sim.specs.Traces.{IsVerdict}
+use Rattle.fault_sim.specs.Traces.{Trace, IsVerdict}
 use Rattle.run_ends.specs.declared.status.Status.TheVariants as status
 use Rattle.run_ends.specs.Answers.{Answer, IsRefusal}
 use Rattle.script_meaning.specs.Runs.{RefusedLine, Outcome, refusal_text}

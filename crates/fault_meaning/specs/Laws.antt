@@ -10,7 +10,7 @@ use Rattle.script_lang.specs.declared.command.Setup.TheVariants.{Keep}
 use Rattle.script_lang.specs.Commands.{reading_of}
 use Rattle.run_ends.specs.Answers.{Answer}
 use Rattle.fault_sim.specs.declared.fault.Fault.{Fault}
-use Rattle.fault_sim.specs.declared.trace.Trace.{Trace}
+use Rattle.fault_sim.specs.Traces.{Trace}
 use Rattle.fault_meaning.specs.Traces.{IsTrace}
 use Rattle.fault_meaning.specs.Judging.{AreJudgedFaults}
 

@@ -1,4 +1,3 @@
-pub mod Rows
 pub mod Lists
 pub mod Traces
 pub mod Judging

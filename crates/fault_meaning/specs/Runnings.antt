@@ -1,6 +1,5 @@
 -- Inside the program: what a run of the script under a fault comes to, in a session that goes on from run to run.
 use Rattle.std.specs.Prelude.{◌≡◌, ℕ, false, List, [], ◌∷◌, ◌++◌, map, Option, Some, None}
-use Rattle.line_words.specs.Lines.{lines_of}
 use Rattle.netlist.specs.Circuits.{CircuitData, called}
 use Rattle.group_text.specs.Texts.{GroupTextData}
 use Rattle.circuit_texts.specs.declared.texts.BuildFault.{BuildFault}
@@ -9,7 +8,8 @@ use Rattle.script_lang.specs.declared.command.Command.{Command}
 use Rattle.session_meaning.specs.Sessions.{SessionData, HeldSession}
 use Rattle.session_meaning.specs.Refusals.{refusal_of}
 use Rattle.session_meaning.specs.Preparing.{builds}
-use Rattle.session_meaning.specs.Lines.{Line}
+use Rattle.told_lines.specs.Lines.{Line}
+use Rattle.told_lines.specs.Noting.{WaveRowData, states_of}
 use Rattle.session_meaning.specs.Effects.{Effect}
 use Rattle.session_meaning.specs.Outcomes.{Does}
 use Rattle.script_meaning.specs.declared.halt.Halt.{Halt}
@@ -19,8 +19,7 @@ use Rattle.run_ends.specs.Answers.{Answer}
 use Rattle.script_meaning.specs.Runs.{RefusedLine, Outcome}
 use Rattle.run_ends.specs.declared.status.Status.TheVariants as status
 use Rattle.fault_sim.specs.declared.fault.Fault.{Fault}
-use Rattle.fault_sim.specs.declared.trace.Trace.{Trace}
-use Rattle.fault_sim.specs.Rows.{AreRows}
+use Rattle.fault_sim.specs.Traces.{Trace}
 use Rattle.fault_meaning.specs.declared.listed.ListedFault.{ListedFault}
 use Rattle.fault_meaning.specs.Traces.{RunsUnder, Shows, IsTrace, start_with}
 use Rattle.fault_meaning.specs.Judging.{LineVerdict, AreJudged, verdict_lines, counts_line}
@@ -82,7 +81,7 @@ pub record IsTraced (circuit : CircuitData) (script : List ℕ) (kept : List Gro
   pub is : IsTrace circuit script kept fault trace texts new.kept
   pub analysed : told ≡ asked ++ texts
 
--- the command builds nothing and writes nothing
+-- the command builds nothing and tells nothing
 pub record IsQuiet (command : Command) : Type 0 where
   pub still : builds command ≡ false
   pub silent : (old new : SessionData) (lines : List Line) → Effect old command new lines → lines ≡ []
@@ -99,9 +98,9 @@ line_of End = None
 line_of (Refused number code) = Some number
 line_of (TooLarge number size) = Some number
 
--- the trace of a run that ended so with these data, and wrote this text
-pub record TellsTrace (end : SessionData) (halt : Halt) (text : List ℕ) (trace : Trace) : Type 0 where
-  pub rows : AreRows (lines_of text) trace.rows
+-- the trace of a run that ended so with these data, and whose waveform lines had these rows
+pub record TellsTrace (end : SessionData) (halt : Halt) (noted : List WaveRowData) (trace : Trace) : Type 0 where
+  pub rows : trace.rows ≡ states_of noted
   pub names : trace.names ≡ map (called end.circuit) end.watched
   pub refused : trace.refused ≡ line_of halt
 

@@ -1,5 +1,5 @@
 -- What a run of a script shows under a fault: the fault's commands have their effects, and then the script runs as a stuck node changes it.
-use Rattle.std.specs.Prelude.{◌≡◌, ℕ, List, [], ◌∷◌, map, filter_map, Option, Some, None}
+use Rattle.std.specs.Prelude.{◌≡◌, ℕ, List, [], ◌∷◌, map, Option, Some, None}
 use Rattle.std.specs.Option.{option_map}
 use Rattle.ternary.specs.declared.tern.Tern.{Tern}
 use Rattle.line_words.specs.Files.{cut_line, lines_in}
@@ -9,11 +9,11 @@ use Rattle.script_lang.specs.declared.command.Command.{Command}
 use Rattle.session_meaning.specs.Sessions.{SessionData, start_of}
 use Rattle.session_meaning.specs.Outcomes.{Does}
 use Rattle.script_meaning.specs.Runs.{Outcome, Runs}
+use Rattle.told_lines.specs.Noting.{rows_of, states_of}
 use Rattle.fault_sim.specs.declared.fault.Fault.{Fault}
-use Rattle.fault_sim.specs.declared.trace.Trace.{Trace}
+use Rattle.fault_sim.specs.Traces.{Trace}
 use Rattle.fault_sim.specs.Changes.{commands_of, stuck_by}
 use Rattle.fault_sim.specs.Masks.{masked_reading}
-use Rattle.fault_meaning.specs.Rows.{row_of}
 
 -- the data at the start in a circuit, with texts of groups whose analyses are kept from earlier runs
 abbrev pub start_with : CircuitData → List GroupTextData → SessionData
@@ -29,7 +29,7 @@ abbrev pub stuck_under : Option Fault → Option (ℕ × Tern)
 stuck_under None = None
 stuck_under (Some fault) = stuck_by fault
 
--- commands have their effects one after the other, and write nothing
+-- commands have their effects one after the other, and tell nothing
 abbrev pub AreDone : SessionData → List Command → SessionData → Type 0
 AreDone old [] new = new ≡ old
 AreDone old (command ∷ commands) new = (mid : SessionData) × Does old command mid [] × AreDone mid commands new
@@ -43,7 +43,7 @@ pub record RunsUnder (circuit : CircuitData) (script : List ℕ) (kept : List Gr
 
 -- what an outcome shows: the rows of its waveform lines, the first names of the watched nodes at its end, and the line that was refused
 pub record Shows (outcome : Outcome) (trace : Trace) : Type 0 where
-  pub rows : trace.rows ≡ filter_map row_of outcome.lines
+  pub rows : trace.rows ≡ states_of (rows_of outcome.lines)
   pub names : trace.names ≡ map (called outcome.end.circuit) outcome.end.watched
   pub refused : trace.refused ≡ option_map (λ stopped. stopped.line) outcome.refused
 

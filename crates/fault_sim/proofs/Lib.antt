@@ -1,5 +1,4 @@
 pub mod ChangeLemmas
 pub mod DifferenceLemmas
 pub mod MaskLemmas
-pub mod RowLemmas
 pub mod UniqueVerdicts

@@ -2,10 +2,9 @@
 use Rattle.std.proofs.Common.{◌≡◌, ℕ, ◌+◌, Bool, true, false, List, Option, None, Some, inl, inr, refl, sym, ap, ◌∙◌, arith}
 use Rattle.std.proofs.lemmas.Bool.{cases_lt}
 use Rattle.ternary.specs.declared.tern.Tern.{Tern}
-use Rattle.fault_sim.specs.declared.trace.Trace.{Trace}
 use Rattle.fault_sim.specs.declared.verdicts.Verdict.{Verdict}
 use Rattle.fault_sim.specs.declared.verdicts.Verdict.TheVariants.{Detected, Refused, Possible, Undetected}
-use Rattle.fault_sim.specs.Traces.{DifferFirst, FirstInRow, AreAlike, IsVerdict}
+use Rattle.fault_sim.specs.Traces.{Trace, DifferFirst, FirstInRow, AreAlike, IsVerdict}
 
 -- of two first places neither stands before the other, so they are one
 first_unique : (strong : Bool) (good bad : List (List Tern)) (row entry other_row other_entry : ℕ) → DifferFirst strong good bad row entry →

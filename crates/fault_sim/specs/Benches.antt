@@ -1,7 +1,6 @@
 -- What a bench says of a fault.
-use Rattle.fault_sim.specs.declared.trace.Trace.{Trace}
 use Rattle.fault_sim.specs.declared.verdicts.Verdict.{Verdict}
-use Rattle.fault_sim.specs.Traces.{IsVerdict}
+use Rattle.fault_sim.specs.Traces.{Trace, IsVerdict}
 
 -- the verdict is that on a trace that a run under the fault may have, beside the good one
 pub record JudgesBy (gives : Trace → Type 0) (good : Trace) (verdict : Verdict) : Type 0 where

@@ -2,5 +2,4 @@ pub mod Benches
 pub mod Changes
 pub mod Faults
 pub mod Masks
-pub mod Rows
 pub mod Traces

@@ -1,10 +1,16 @@
--- Where the traces of two runs differ, and the verdict on that.
-use Rattle.std.specs.Prelude.{◌≡◌, ℕ, ◌+◌, ◌<◌, ◌⊎◌, Bool, true, false, List, slice_get, Some, None}
+-- What a run of a script shows, where the traces of two runs differ, and the verdict on that.
+use Rattle.std.specs.Prelude.{◌≡◌, ℕ, ◌+◌, ◌<◌, ◌⊎◌, Bool, true, false, List, slice_get, Option, Some, None}
 use Rattle.ternary.specs.declared.tern.Tern.{Tern}
 use Rattle.ternary.specs.declared.tern.Tern.TheVariants.{Zero, One, Unk}
-use Rattle.fault_sim.specs.declared.trace.Trace.{Trace}
 use Rattle.fault_sim.specs.declared.verdicts.Verdict.{Verdict}
 use Rattle.fault_sim.specs.declared.verdicts.Verdict.TheVariants.{Detected, Refused, Possible, Undetected}
+
+-- the trace of a run: what its waveform lines show, a row for each, what the nodes of the watch list are called at its end, and the line of
+-- the script that was refused, if one was
+pub record Trace : Type 0 where
+  pub rows : List (List Tern)
+  pub names : List (List ℕ)
+  pub refused : Option ℕ
 
 -- the good value and the fault's differ: strongly where one is 0 and the other 1, weakly where the good one is 0 or 1 and the fault's is X
 abbrev pub differs : Bool → Tern → Tern → Bool

@@ -5,8 +5,7 @@ use Rattle.ternary.specs.declared.tern.Tern.{Tern}
 use Rattle.told_lines.specs.Lines.{Line, Wave, Unmet, Reported, Refused}
 use Rattle.told_lines.specs.Hearing.{hear_all, of_column}
 use Rattle.told_lines.specs.Noting.{WaveRowData, rows_of, states_of}
-use Rattle.fault_sim.specs.declared.trace.Trace.{Trace}
-use Rattle.fault_sim.specs.Traces.{AreAlike, AreAlikeRows, DifferFirstAt, FirstInRow, IsBefore, IsDifference, IsVerdict}
+use Rattle.fault_sim.specs.Traces.{Trace, AreAlike, AreAlikeRows, DifferFirstAt, FirstInRow, IsBefore, IsDifference, IsVerdict}
 use Rattle.fault_sim.proofs.DifferenceLemmas.{FirstInRow-found, none_so_far}
 use Rattle.told_verdicts.specs.declared.compare.Place.{Place}
 use Rattle.told_verdicts.specs.Comparing.{CompareData, compared, first_entry, place_in, place_or, uncompared, verdict_by}

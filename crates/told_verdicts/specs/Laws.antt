@@ -3,8 +3,7 @@ use Rattle.std.specs.Prelude.{◌≡◌, ℕ, List}
 use Rattle.told_lines.specs.Lines.{Line}
 use Rattle.told_lines.specs.Hearing.{hear_all, of_column}
 use Rattle.told_lines.specs.Noting.{WaveRowData, rows_of, states_of}
-use Rattle.fault_sim.specs.declared.trace.Trace.{Trace}
-use Rattle.fault_sim.specs.Traces.{IsVerdict}
+use Rattle.fault_sim.specs.Traces.{Trace, IsVerdict}
 use Rattle.told_verdicts.specs.Comparing.{uncompared, compared, verdict_by}
 
 -- the verdict on a trace beside a good one is what the comparison of the run's lines with the good rows comes to, with the line that was refused,
