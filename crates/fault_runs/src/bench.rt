@@ -8,9 +8,9 @@ ghost use Rattle.fault_meaning.specs.Runnings.{HasTraced};
 ghost use Rattle.fault_meaning.specs.Traces.{start_with};
 
 use crate::early::{calm_from, judge_under};
-use crate::running::run_under;
+use crate::good::GoodRun;
 use cosmos_session::Session;
-use fault_sim::{Bench, Fault, Trace, Verdict, judge};
+use fault_sim::{Fault, Verdict};
 use group_analysis::Analyst;
 use netlist::Circuit;
 use std::alloc::Global;
@@ -82,7 +82,7 @@ impl<'a> FaultBench<'a> {
     /// beside the good one. Where it can, the run ends early.
     pub(crate) fn judge<A: Analyst>(
         &mut self,
-        good: &Trace,
+        good: &GoodRun,
         fault: Fault,
         analyst: &mut A,
     ) -> Result<Verdict, NoMemory>
@@ -92,9 +92,6 @@ impl<'a> FaultBench<'a> {
         ensures start { self.new.start ≡ self.old.start }
         ensures script { self.new.script ≡ self.old.script }
     {
-        if !self.can_end_early() {
-            return judge(self, good, fault, analyst);
-        }
         let mut session = self.session_at_start()?;
         let told = judge_under(
             self.alloc,
@@ -108,35 +105,5 @@ impl<'a> FaultBench<'a> {
         );
         self.session = Some(session);
         told
-    }
-
-    // Whether there is a line of the script from which on nothing more is analysed, and what is kept stays.
-    fn can_end_early(&self) -> bool {
-        self.calm_from.is_some()
-    }
-}
-
-impl<'a, A: Analyst> Bench<A> for FaultBench<'a> {
-    ghost use Rattle.fault_meaning.specs.Runnings.{HasTraced};
-
-    ghost start = { λ bench. bench.start };
-
-    ghost script = { λ bench. bench.script };
-
-    ghost gives = { λ old before fault trace new after. HasTraced old (A.analysed before) fault trace new (A.analysed after) };
-
-    fn run(&mut self, fault: Option<Fault>, analyst: &mut A) -> Result<Trace, NoMemory> {
-        let mut session = self.session_at_start()?;
-        let ran = run_under(
-            self.alloc,
-            &mut session,
-            self.start,
-            self.script,
-            fault,
-            analyst,
-        );
-        self.session = Some(session);
-        let (trace, _) = ran?;
-        Ok(trace)
     }
 }

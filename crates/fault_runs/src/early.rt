@@ -1,27 +1,27 @@
 //! A run under a fault that ends at its first strong difference, where nothing after it is wanted.
 
-ghost use Rattle.std.specs.Prelude.{◌≡◌, Some, IfOk, IfSome, IsTrue};
+ghost use Rattle.std.specs.Prelude.{◌≡◌, Some, IfOk, IfSome};
 ghost use Rattle.netlist.specs.Circuits.{HasVisibleNames};
-ghost use Rattle.session_meaning.specs.Bounds.{IsBounded};
+ghost use Rattle.session_meaning.specs.Sessions.{IsReady};
 ghost use Rattle.fault_sim.specs.Benches.{JudgesBy};
 ghost use Rattle.fault_sim.specs.Faults.{IsFault};
 ghost use Rattle.fault_meaning.specs.Early as spec;
 ghost use Rattle.fault_meaning.specs.Runnings.{IsTraced, StandsAtStart};
 
-use crate::running::{are_bounded, put_fault, stuck_under};
+use crate::good::{GoodRun, is_ready};
+use crate::running::put_fault;
 use cosmos_session::Session;
 use fault_meaning::Bearing;
-use fault_sim::{Fault, Names, Trace, Verdict, read_rows, verdict};
+use fault_sim::{Fault, Verdict, stuck_node};
 use group_analysis::Analyst;
 use line_words::{cut_line, front, lines};
 use netlist::Circuit;
-use port_edge::HonestSink;
 use script_lang::{Command, ScriptFault, Setup, read_command};
 use script_meaning::Turn;
 use script_run::run_line;
 use std::alloc::Global;
 use ternary::{NoMemory, Tern};
-use wave_print::wave_values;
+use told_verdicts::Compare;
 
 /// The number of the first line of a script that builds and after which no line edits the circuit or is
 /// `keep`, where there is one.
@@ -78,7 +78,7 @@ fn command_bearing(command: &Command) -> Bearing
 }
 
 /// Runs a script under a fault, in a session that stands at the start, and gives the verdict on its trace beside
-/// a good one.
+/// a good one. The run is compared with the good one as its lines are told, and no row of it is held.
 ///
 /// Where no line of the script edits the circuit or is `keep` from one on that builds, the run ends at its first
 /// strong difference after that: nothing that follows can change the verdict, what was analysed, or what is kept.
@@ -89,7 +89,7 @@ pub(crate) fn judge_under<A: Analyst>(
     script: &[u8],
     calm_from: Option<u64>,
     fault: Fault,
-    good: &Trace,
+    good: &GoodRun,
     analyst: &mut A,
 ) -> Result<Verdict, NoMemory>
     requires stands { StandsAtStart start.now session.old }
@@ -99,15 +99,14 @@ pub(crate) fn judge_under<A: Analyst>(
     ensures { IfOk result (JudgesBy (IsTraced start.now script.now session.old.core.kept (Some fault) session.new.core
         (A.analysed analyst.old) (A.analysed analyst.new)) good.now) }
 {
-    let fault = Some(fault);
     put_fault(alloc, session, start, fault, analyst)?;
-    are_bounded(session);
-    let stuck = stuck_under(fault);
+    is_ready(session);
+    let stuck = stuck_node(fault);
     judge_lines(alloc, session, script, calm_from, stuck, good, analyst)
 }
 
 // Runs the lines of a script in a session while a node may be stuck, and gives the verdict on what they
-// show beside the good trace.
+// show beside the good run.
 //
 // From the line with the number on, the run ends at the first strong difference: the verdict is that on the
 // whole run then, and nothing after it would be analysed or kept.
@@ -117,53 +116,49 @@ fn judge_lines<A: Analyst>(
     script: &[u8],
     calm_from: Option<u64>,
     stuck: Option<(usize, Tern)>,
-    good: &Trace,
+    good: &GoodRun,
     analyst: &mut A,
 ) -> Result<Verdict, NoMemory>
-    requires bounded { IsBounded session.old.core }
+    requires ready { IsReady session.old.core }
     requires calm { IfSome calm_from (spec.IsCalmFrom script.now) }
     ensures { IfOk result (spec.JudgesLines stuck script.now session.old.core good.now session.new.core
         (A.analysed analyst.old) (A.analysed analyst.new)) }
 {
     let cut = cut_line(script);
-    let mut out = HonestSink::new(alloc);
-    let mut watch = Watch::new();
+    let good_rows = good.rows();
+    let mut out = Compare::new(good_rows);
     for line in lines(front(script)) {
         let Ok(turn) = run_line(alloc, session, cut, line, stuck, &mut out, analyst) else {
             return Err(NoMemory);
         };
         let calm = is_from(calm_from, line.number);
-        let text = out.written();
-        let found = verdict_after(alloc, good, turn, line.number, text, &mut watch, calm)?;
+        let found = verdict_after(&out, turn, line.number, calm);
         match found {
             Some(verdict) => return Ok(verdict),
             None => {}
         }
     }
-    judge_text(alloc, good, out.written(), None)
+    Ok(out.verdict(None))
 }
 
-// The verdict on what a text shows so far, where the run ends after a line that came to this turn.
-fn verdict_after(
-    alloc: Global,
-    good: &Trace,
-    turn: Turn,
-    number: u64,
-    text: &[u8],
-    watch: &mut Watch,
-    calm: bool,
-) -> Result<Option<Verdict>, NoMemory>
-    ensures { IfOk result (spec.TellsAfter good.now turn number text.now calm) }
+// The verdict on what was compared so far, where the run ends after a line that came to this turn.
+fn verdict_after(out: &Compare<'_>, turn: Turn, number: u64, calm: bool) -> Option<Verdict>
+    ensures { spec.TellsAfter out.now turn number calm result }
 {
     match turn {
-        Turn::Accepted => {
-            watch.look(good, text);
-            early_verdict(alloc, good, text, *watch, calm)
-        }
-        _ => {
-            let told = judge_text(alloc, good, text, Some(number))?;
-            Ok(Some(told))
-        }
+        Turn::Accepted => early_verdict(out, calm),
+        Turn::Refused(_) | Turn::TooLarge(_) => Some(out.verdict(Some(number))),
+    }
+}
+
+// The verdict on it, where all that follows is calm and a row differs strongly.
+fn early_verdict(out: &Compare<'_>, calm: bool) -> Option<Verdict>
+    ensures { IfSome result (spec.IsEarly out.now calm) }
+{
+    if calm && out.strong().is_some() {
+        Some(out.verdict(None))
+    } else {
+        None
     }
 }
 
@@ -174,102 +169,5 @@ fn is_from(from: Option<u64>, number: u64) -> bool
     match from {
         Some(from) => from <= number,
         None => false,
-    }
-}
-
-// The verdict on what a text shows that a run wrote, which this line ended where one was refused.
-fn judge_text(
-    alloc: Global,
-    good: &Trace,
-    text: &[u8],
-    refused: Option<u64>,
-) -> Result<Verdict, NoMemory>
-    ensures { IfOk result (spec.JudgesText good.now text.now refused) }
-{
-    let bad = Trace {
-        rows: read_rows(alloc, text)?,
-        // the names don't count here
-        names: Names::new(alloc),
-        refused,
-    };
-    Ok(verdict(good, &bad))
-}
-
-// The verdict on what a text shows so far, where all that follows is calm and a row differs strongly.
-fn early_verdict(
-    alloc: Global,
-    good: &Trace,
-    text: &[u8],
-    watch: Watch,
-    calm: bool,
-) -> Result<Option<Verdict>, NoMemory>
-    ensures { IfOk result (λ found. IfSome found (spec.IsEarly good.now text.now calm)) }
-{
-    if watch.apart && calm {
-        let told = judge_text(alloc, good, text, None)?;
-        if let Verdict::Detected { .. } = told {
-            return Ok(Some(told));
-        }
-    }
-    Ok(None)
-}
-
-// What was seen of the text of a run: how many bytes, and whether a row in them differs strongly from the
-// good one. It is a hint, which spares reading the whole text after each line: the verdict decides.
-#[derive(Clone, Copy)]
-struct Watch {
-    bytes: usize,
-    apart: bool,
-}
-
-impl Watch {
-    // Nothing was seen.
-    fn new() -> Watch {
-        Watch {
-            bytes: 0,
-            apart: false,
-        }
-    }
-
-    // Looks at what a text has more.
-    fn look(&mut self, good: &Trace, text: &[u8]) {
-        if self.bytes < text.len() {
-            self.apart = self.apart || has_apart(good, &text[self.bytes..]);
-        }
-        self.bytes = text.len();
-    }
-}
-
-// Whether one of these lines shows a row that differs strongly from the good one of its number.
-fn has_apart(good: &Trace, text: &[u8]) -> bool {
-    for line in lines(text) {
-        if let Some((number, values)) = wave_values(line.bytes) {
-            if is_apart(good, number, values) {
-                return true;
-            }
-        }
-    }
-    false
-}
-
-// Whether the values of the waveform line with this number differ strongly from the good ones.
-fn is_apart(good: &Trace, number: u64, values: &[u8]) -> bool {
-    let row = number.saturating_sub(1) as usize;
-    match good.rows.items().get(row) {
-        Some(states) => states
-            .items()
-            .iter()
-            .zip(values)
-            .any(|(state, letter)| is_opposite(*state, *letter)),
-        None => false,
-    }
-}
-
-// Whether one is 0 and the other 1.
-fn is_opposite(state: Tern, letter: u8) -> bool {
-    match state {
-        Tern::Zero => letter == b'1',
-        Tern::One => letter == b'0',
-        Tern::Unk => false,
     }
 }

@@ -1,6 +1,6 @@
 //! Judging the faults of a list.
 
-ghost use Rattle.std.specs.Prelude.{◌≡◌, ◌≢◌, ◌≤◌, ◌++◌, None, All, length, IfOk, IfErr, OnOk, OnErr};
+ghost use Rattle.std.specs.Prelude.{◌≡◌, ◌≢◌, None, All, IfOk, IfErr, OnOk, OnErr};
 ghost use Rattle.std.specs.Io.KnownBytes.{append_known};
 ghost use Rattle.port_edge.specs.Sending.{WritesPart};
 ghost use Rattle.netlist.specs.Circuits.{HasVisibleNames, IsCircuit};
@@ -9,15 +9,15 @@ ghost use Rattle.session_meaning.specs.Sessions.{start_of};
 ghost use Rattle.fault_sim.specs.Faults.{IsFault};
 ghost use Rattle.run_ends.specs.Ends.{IsToldBy};
 ghost use Rattle.run_ends.specs.Stops.{faults_written, IsRefusedOnce};
-ghost use Rattle.fault_meaning.specs.Judging.{AnswersList, AreJudgedFaults, IsJudgement, named_entry, verdict_line};
+ghost use Rattle.fault_meaning.specs.Judging.{AreJudgedFaults, IsJudgement, verdict_line};
 ghost use Rattle.fault_meaning.specs.Runnings.{TellsJudged};
 
 use crate::bench::FaultBench;
+use crate::good::{GoodRun, run_good};
 use crate::list::{FaultList, read_list};
-use crate::running::run_under;
 use cosmos_session::Session;
 use fault_meaning::VerdictCounts;
-use fault_sim::{Trace, Verdict};
+use fault_sim::Verdict;
 use group_analysis::Analyst;
 use netlist::Circuit;
 use port_edge::{Sink, send};
@@ -27,6 +27,7 @@ use script_meaning::Halt;
 use script_run::refuse_halt;
 use std::alloc::Global;
 use ternary::NoMemory;
+use told_lines::Printer;
 use wave_print::{
     FAULTS_LINE_ROOM, FaultPlace, LineBuf, VERDICT_LINE_ROOM, detected_line, faults_line,
     possible_line, refused_line, undetected_line,
@@ -37,20 +38,20 @@ use wave_print::{
 ///
 /// The first refused line of the list ends it before any run, and a line of the script that is refused in the
 /// good run before any verdict: its line is then the whole text.
-pub fn judge_faults<S: Sink, A: Analyst>(
+pub fn judge_faults<S: Sink + Drop, A: Analyst>(
     alloc: Global,
     circuit: Circuit,
     script: &[u8],
     list: &[u8],
-    out: &mut S,
+    out: &mut Printer<S>,
     analyst: &mut A,
 ) -> Result<End, Stop>
     requires { HasVisibleNames circuit }
-    ensures told { IsToldBy (AreJudgedFaults script.now list.now circuit) (S.written out.old) (S.written out.new)
+    ensures told { IsToldBy (AreJudgedFaults script.now list.now circuit) out.old.page.written out.new.page.written
         (A.analysed analyst.old) (A.analysed analyst.new) result }
     ensures no_read { IfErr result (λ stop. stop ≢ Stop.Read) }
-    ensures write { S.faults out.new ≡ faults_written (S.faults out.old) result }
-    ensures refused { IsRefusedOnce (S.refusals out.old) (S.refusals out.new) result }
+    ensures write { out.new.faults ≡ faults_written out.old.faults result }
+    ensures refused { IsRefusedOnce out.old.refusals out.new.refusals result }
 {
     match read_list(alloc, &circuit, list)? {
         Ok(faults) => judge_listed(alloc, circuit, script, &faults, out, analyst),
@@ -63,21 +64,21 @@ pub fn judge_faults<S: Sink, A: Analyst>(
 }
 
 // Runs the script without a fault, and judges the faults beside that; or writes the line at which it is refused.
-fn judge_listed<S: Sink, A: Analyst>(
+fn judge_listed<S: Sink + Drop, A: Analyst>(
     alloc: Global,
     circuit: Circuit,
     script: &[u8],
     faults: &FaultList,
-    out: &mut S,
+    out: &mut Printer<S>,
     analyst: &mut A,
 ) -> Result<End, Stop>
     requires visible { HasVisibleNames circuit }
     requires faults { All (λ listed. IsFault circuit listed.fault) faults.now }
-    ensures told { IsToldBy (IsJudgement circuit script.now faults.now) (S.written out.old) (S.written out.new)
+    ensures told { IsToldBy (IsJudgement circuit script.now faults.now) out.old.page.written out.new.page.written
         (A.analysed analyst.old) (A.analysed analyst.new) result }
     ensures no_read { IfErr result (λ stop. stop ≢ Stop.Read) }
-    ensures write { S.faults out.new ≡ faults_written (S.faults out.old) result }
-    ensures refused { IsRefusedOnce (S.refusals out.old) (S.refusals out.new) result }
+    ensures write { out.new.faults ≡ faults_written out.old.faults result }
+    ensures refused { IsRefusedOnce out.old.refusals out.new.refusals result }
 {
     let session = first_session(alloc, &circuit)?;
     judge_from(alloc, &circuit, script, session, faults, out, analyst)
@@ -91,29 +92,32 @@ fn first_session(alloc: Global, circuit: &Circuit) -> Result<Session, NoMemory>
 }
 
 // The same, where the good run goes on in a session at the start in the circuit.
-fn judge_from<S: Sink, A: Analyst>(
+fn judge_from<S: Sink + Drop, A: Analyst>(
     alloc: Global,
     circuit: &Circuit,
     script: &[u8],
     session: Session,
     faults: &FaultList,
-    out: &mut S,
+    out: &mut Printer<S>,
     analyst: &mut A,
 ) -> Result<End, Stop>
     requires start { session.core ≡ start_of circuit.now }
     requires visible { HasVisibleNames circuit.now }
     requires faults { All (λ listed. IsFault circuit.now listed.fault) faults.now }
-    ensures told { IsToldBy (IsJudgement circuit.now script.now faults.now) (S.written out.old) (S.written out.new)
+    ensures told { IsToldBy (IsJudgement circuit.now script.now faults.now) out.old.page.written out.new.page.written
         (A.analysed analyst.old) (A.analysed analyst.new) result }
     ensures no_read { IfErr result (λ stop. stop ≢ Stop.Read) }
-    ensures write { S.faults out.new ≡ faults_written (S.faults out.old) result }
-    ensures refused { IsRefusedOnce (S.refusals out.old) (S.refusals out.new) result }
+    ensures write { out.new.faults ≡ faults_written out.old.faults result }
+    ensures refused { IsRefusedOnce out.old.refusals out.new.refusals result }
 {
     let mut session = session;
-    let (good, halt) = run_under(alloc, &mut session, circuit, script, None, analyst)?;
+    let (good, halt) = run_good(alloc, &mut session, script, analyst)?;
     match halt {
         Halt::End => judge_beside(alloc, circuit, script, session, &good, faults, out, analyst),
-        _ => refuse_halt(alloc, session.circuit(), halt, script, 1, out),
+        _ => {
+            out.set_numbered(false);
+            refuse_halt(alloc, session.circuit(), halt, script, 1, out)
+        }
     }
 }
 
@@ -123,7 +127,7 @@ fn judge_beside<S: Sink, A: Analyst>(
     circuit: &Circuit,
     script: &[u8],
     session: Session,
-    good: &Trace,
+    good: &GoodRun,
     faults: &FaultList,
     out: &mut S,
     analyst: &mut A,
@@ -146,7 +150,7 @@ fn judge_beside<S: Sink, A: Analyst>(
 fn judge_each<S: Sink, A: Analyst>(
     alloc: Global,
     bench: &mut FaultBench<'_>,
-    good: &Trace,
+    good: &GoodRun,
     faults: &FaultList,
     out: &mut S,
     analyst: &mut A,
@@ -173,7 +177,7 @@ fn judge_each<S: Sink, A: Analyst>(
 // Writes the line of a verdict.
 fn send_verdict<S: Sink>(
     line: &mut LineBuf,
-    good: &Trace,
+    good: &GoodRun,
     number: u64,
     verdict: Verdict,
     out: &mut S,
@@ -195,7 +199,7 @@ fn send_verdict<S: Sink>(
 // Puts the line of a verdict in place of what the buffer holds.
 fn put_verdict(
     line: &mut LineBuf,
-    good: &Trace,
+    good: &GoodRun,
     number: u64,
     verdict: Verdict,
 ) -> Result<(), NoMemory>
@@ -204,7 +208,7 @@ fn put_verdict(
     line.clear();
     match verdict {
         Verdict::Detected { row, entry } => {
-            let name = entry_name(good, entry);
+            let name = good.entry_name(entry);
             line.reserve(VERDICT_LINE_ROOM + name.len())?;
             detected_line(line, number, row, name);
         }
@@ -213,7 +217,7 @@ fn put_verdict(
             refused_line(line, number, at);
         }
         Verdict::Possible { row, entry } => {
-            let name = entry_name(good, entry);
+            let name = good.entry_name(entry);
             line.reserve(VERDICT_LINE_ROOM + name.len())?;
             possible_line(line, number, row, name);
         }
@@ -223,16 +227,6 @@ fn put_verdict(
         }
     }
     Ok(())
-}
-
-// The name of an entry of the watch list at the end of the good run.
-fn entry_name(good: &Trace, entry: usize) -> &[u8]
-    ensures { result.now ≡ named_entry good.now entry }
-{
-    match good.names.items().get(entry) {
-        Some(name) => name.items(),
-        None => b"",
-    }
 }
 
 // Writes the line that counts the verdicts.

@@ -2,9 +2,9 @@
 //!
 //! The main call is `judge_faults`. It reads the list in the circuit that a netlist gives, runs the script
 //! without a fault, and then once more under each fault of the list, from the start in a copy of the
-//! circuit; the analyses of groups are kept from run to run. Each run's trace is judged by `fault_sim`
-//! beside the good one, and its verdict is written as soon as it is known. A run ends at its first strong
-//! difference, where nothing after it would be analysed or kept (`early`).
+//! circuit; the analyses of groups are kept from run to run. The rows of the good run are held (`good`). Each other
+//! run is compared with it while its lines are told, by `told_verdicts`, and its verdict is written as soon as it is
+//! known. A run ends at its first strong difference, where nothing after it would be analysed or kept (`early`).
 //!
 //! The layer above rests on its contract `told`, which is `AreJudgedFaults` of `fault_meaning`: the first
 //! refused line of the list alone, or the line of the script that is refused in the good run alone, or a
@@ -21,6 +21,7 @@
 
 mod bench;
 mod early;
+mod good;
 mod judging;
 mod list;
 mod running;

@@ -18,7 +18,7 @@ returns g c =
     let told = g.A.Analyst.analysed c.judge_lines.new.analyst in
     let begins = subst (λ (first : SessionData). AreDone first (commands_under start (Some c.args.fault)) mid) c.requires.stands c.in_ok-put_fault.ensures.done in
     let stuck = subst (λ (at : Option (ℕ × Tern)). IfOk c.judge_lines.result (JudgesLines at script mid good end
-    (g.A.Analyst.analysed c.put_fault.new.analyst) told)) c.stuck_under-stuck.ensures c.judge_lines.ensures in
+    (g.A.Analyst.analysed c.put_fault.new.analyst) told)) c.stuck_node-stuck.ensures c.judge_lines.ensures in
     let lines = subst (λ (texts : List GroupTextData). IfOk c.judge_lines.result (JudgesLines (stuck_under (Some c.args.fault)) script mid good end texts told))
     c.in_ok-put_fault.ensures.analysed stuck in
     judges_under start script c.args.session.now.core.kept c.args.fault mid end good (g.A.Analyst.analysed c.args.analyst.now) told c.judge_lines.result begins lines

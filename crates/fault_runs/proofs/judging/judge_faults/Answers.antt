@@ -11,14 +11,14 @@ use Rattle.fault_runs.proofs.judging.judge_faults.Goals as goal
 pub returns-in-Ok-clause-told : goal.returns-in-Ok-clause-told
 returns-in-Ok-clause-told g c =
     subst (λ read. IsToldBy (AnswersList c.args.circuit c.args.script.now read)
-    (g.S.Sink.written c.args.out.now) (g.S.Sink.written c.judge_listed.new.out)
+    c.args.out.now.page.written c.judge_listed.new.out.page.written
     (g.A.Analyst.analysed c.args.analyst.now) (g.A.Analyst.analysed c.judge_listed.new.analyst) c.judge_listed.result)
     (sym (c.in_ok-faults.ensures.value ∙ c.in-Ok.is)) c.judge_listed.ensures.told
 
 pub returns-in-Err-clause-told : goal.returns-in-Err-clause-told
 returns-in-Err-clause-told g c =
-    let old = g.S.Sink.written c.args.out.now in
-    let new = g.S.Sink.written c.refuse.new.out in
+    let old = c.args.out.now.page.written in
+    let new = c.refuse.new.out.page.written in
     let asked = g.A.Analyst.analysed c.args.analyst.now in
     let refusal = c.in-Err.refusal in
     subst (λ read. IsToldBy (AnswersList c.args.circuit c.args.script.now read) old new asked asked c.refuse.result)
