@@ -23,8 +23,8 @@
 //! number of the refused line, its code and the cure, as `help_texts` has it; for 5, 6 and 7 a line that says
 //! more. No clause speaks of standard error.
 //!
-//! `answer_over` makes that call, over any opener of files and any outlet, and has its clauses for all of them;
-//! `main` hands it the files of the system and standard output.
+//! `answer_over` makes that call, over any opener of files and a printer to any outlet, and has its clauses for all of
+//! them; `main` hands it the files of the system and a printer to standard output.
 //!
 //! ```text
 //! cosmos sim inverter.sim inverter.cmd
@@ -45,12 +45,14 @@ use cosmos_app::{Status, run};
 use group_analysis::Analyst;
 use node_elimination::SymbolicAnalyst;
 use port_edge::{FilesOver, Open, Outlet, SinkOver, real_files, real_outlet};
+use std::alloc::Global;
 use std::hash::RandomState;
 use std::process::ExitCode;
 use std::{env, io};
 use table_keys::TableKeys;
 use telling::{tell_start, tell_stop};
 use told::Told;
+use told_lines::Printer;
 
 fn main(rt: HostRuntime) -> ExitCode {
     ExitCode::from(status(&rt).code())
@@ -85,39 +87,38 @@ fn answer_drawn(rt: &HostRuntime, words: &[String]) -> Status {
     }
 }
 
-// Answers the words over the files of the system and the standard output.
+// Answers the words over the files of the system and the standard output, and says on standard error why a run
+// stopped: of a file that can't be read the name that was started last.
 fn answer(rt: &HostRuntime, words: &[String], keys: TableKeys) -> Status {
+    let sink = SinkOver::new(Told::over(real_outlet(rt), rt, words));
+    let Ok(mut out) = Printer::new(rt.alloc(), sink, false) else {
+        tell_stop(rt, words, Status::NoMemory, None, None, None);
+        return Status::NoMemory;
+    };
     let mut files = real_files(rt, keys);
-    let mut out = SinkOver::new(Told::over(real_outlet(rt), rt, words));
     let mut analyst = SymbolicAnalyst::with_keys(rt.alloc(), keys);
-    answer_over(rt, words, &mut files, &mut out, &mut analyst)
+    let status = answer_over(rt.alloc(), words, &mut files, &mut out, &mut analyst);
+    let sink = out.into_sink();
+    sink.outlet().finish();
+    let (of_file, of_output) = (files.reason(), sink.reason());
+    tell_stop(rt, words, status, files.name(), of_file, of_output);
+    status
 }
 
-// Answers the words over the files of an opener and an outlet that tells how far it is, and says on standard
-// error why a run stopped: of a file that can't be read the name that was started last.
-fn answer_over<O: Open + Drop, W: Outlet, A: Analyst>(
-    rt: &HostRuntime,
+// Answers the words over the files of an opener and a printer to an outlet.
+fn answer_over<O: Open + Drop, W: Outlet + Drop, A: Analyst>(
+    alloc: Global,
     words: &[String],
     files: &mut FilesOver<O>,
-    out: &mut SinkOver<Told<'_, '_, W>>,
+    out: &mut Printer<SinkOver<W>>,
     analyst: &mut A,
 ) -> Status
     ensures answer { IfSome (O.holds files.old.opener) (λ holds. IsAnswered (names_of words.now) holds
-        out.old.contents out.new.contents (A.analysed analyst.old) (A.analysed analyst.new) result) }
+        out.old.page.written out.new.page.written (A.analysed analyst.old) (A.analysed analyst.new) result) }
     ensures started { RequestStarts (request_of (names_of words.now))
         (O.holds files.old.opener) (Some files.old.started) (Some files.new.started) }
     ensures read { files.new.faults ≡ files_count files.old.faults result }
     ensures write { out.new.faults ≡ sink_count out.old.faults result }
 {
-    let status = run(rt.alloc(), words, files, out, analyst);
-    out.outlet().finish();
-    tell_stop(
-        rt,
-        words,
-        status,
-        files.name(),
-        files.reason(),
-        out.reason(),
-    );
-    status
+    run(alloc, words, files, out, analyst)
 }

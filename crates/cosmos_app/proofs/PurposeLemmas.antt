@@ -1,9 +1,10 @@
 -- The run of a script for a purpose: what is told of the text that was read is told of the file, and of the question for the run.
-use Rattle.std.proofs.Common.{◌≡◌, ℕ, List, [], ◌∷◌, Option, None, Some, IfSome, Result, Ok, Err, refl, subst, ◌∙◌}
+use Rattle.std.proofs.Common.{◌≡◌, ℕ, false, List, [], ◌∷◌, Option, None, Some, IfSome, Result, refl, ap, subst, ◌∙◌}
 use Rattle.line_words.specs.Files.{front_of, lines_in, cut_line}
 use Rattle.line_words.proofs.FileLemmas.{cut_line-front_of, lines_in-front_of}
 use Rattle.netlist.specs.Circuits.{CircuitData}
 use Rattle.group_text.specs.Texts.{GroupTextData}
+use Rattle.told_lines.specs.Printing.{Page, PrinterData, print, PrintsPart}
 use Rattle.session_meaning.specs.Sessions.{SessionData, start_of}
 use Rattle.lane_session.specs.LaneSessions.{LaneSessionData, session_in, IsStart}
 use Rattle.lane_run.specs.Batches.{IsBatchAnswer}
@@ -11,9 +12,10 @@ use Rattle.lane_run.proofs.RunLemmas.{together-same}
 use Rattle.run_ends.specs.declared.stop.Stop.{Stop}
 use Rattle.run_ends.specs.declared.stop.End as end
 use Rattle.run_ends.specs.Answers.{Answer}
-use Rattle.script_meaning.specs.Runs.{Runs, plain_reading, answer_told, IsScriptAnswer}
+use Rattle.script_meaning.specs.Runs.{Runs, plain_reading, IsScriptAnswer}
 use Rattle.run_ends.specs.Ends.{IsToldBy}
 use Rattle.script_meaning.specs.Ends.{TellsRun}
+use Rattle.script_meaning.proofs.PrintedLemmas.{printed_run}
 use Rattle.command_line.specs.declared.request.Purpose.{Purpose}
 use Rattle.command_line.specs.declared.request.Purpose.TheVariants.{Lines, Columns, Reasons}
 use Rattle.command_line.specs.Requests.{run_seen}
@@ -28,24 +30,18 @@ use Rattle.run_ends.proofs.EndLemmas.{told_by_as}
 
 -- ---- each purpose
 
--- what ran is told by its answer
-told_run : (cut : Option ℕ) (start : SessionData) (lines : List (ℕ × List ℕ)) (new : SessionData) (before after : Option (List ℕ)) (asked told : List GroupTextData) (result : Result end.End Stop) →
-    TellsRun plain_reading cut start lines new before after asked told result → IsToldBy (IsScriptAnswer plain_reading cut start lines) before after asked told result
-told_run cut start lines new before after asked told (Ok ending) run = record {
-  answer = answer_told run.outcome;
-  right = (record { outcome = run.outcome; runs = run.runs; told = refl }, run.analysed);
-  ended = run.ended;
-  grew = run.grew;
-}
-told_run cut start lines new before after asked told (Err stop) stopped = stopped
-
--- the run of a session at its start is the simulation
-pub told_lines : (circuit : CircuitData) (start new : SessionData) (text : List ℕ) (before after : Option (List ℕ)) (asked told : List GroupTextData) (result : Result end.End Stop) →
-    start ≡ start_of circuit → TellsRun plain_reading (cut_line text) start (lines_in text) new before after asked told result →
-    IsToldBy (IsSimulation text circuit) before after asked told result
-told_lines circuit start new text before after asked told result first run =
-    subst (λ (from : SessionData). IsToldBy (IsScriptAnswer plain_reading (cut_line text) from (lines_in text)) before after asked told result) first
-    (told_run (cut_line text) start (lines_in text) new before after asked told result run)
+-- the run of a session at its start, whose lines were told to a printer once it was set to number no columns, is the simulation
+pub told_lines : (circuit : CircuitData) (start new : SessionData) (text : List ℕ) (printer plain : PrinterData) (after : Page) (asked told : List GroupTextData)
+    (result : Result end.End Stop) → start ≡ start_of circuit → plain ≡ record printer { page = record printer.page { numbered = false } } →
+    TellsRun print PrintsPart plain_reading (cut_line text) start (lines_in text) new plain.page after asked told result →
+    IsToldBy (IsSimulation text circuit) printer.page.written after.written asked told result
+told_lines circuit start new text printer plain after asked told result first set run =
+    subst (λ (from : SessionData). IsToldBy (IsScriptAnswer plain_reading (cut_line text) from (lines_in text)) printer.page.written after.written asked told result)
+    first
+    (subst (λ (before : Option (List ℕ)). IsToldBy (IsScriptAnswer plain_reading (cut_line text) start (lines_in text)) before after.written asked told result)
+    (ap (λ (now : PrinterData). now.page.written) set)
+    (printed_run plain_reading (cut_line text) start (lines_in text) new plain.page after asked told result
+    (ap (λ (now : PrinterData). now.page.numbered) set) run))
 
 -- the answer of columns at their start is that in so many columns
 answers_columns : (lanes : ℕ) (circuit : CircuitData) (session : LaneSessionData) (text : List ℕ) (answer : Answer) → session.lanes ≡ lanes →

@@ -14,22 +14,23 @@ use netlist::Circuit;
 use port_edge::Sink;
 use run_ends::{End, Stop};
 use std::alloc::Global;
+use told_lines::Printer;
 
 /// Runs the lines of a script from the start in the circuit, in so many columns.
-pub(crate) fn run_columns<S: Sink, A: Analyst>(
+pub(crate) fn run_columns<S: Sink + Drop, A: Analyst>(
     alloc: Global,
     circuit: Circuit,
     lanes: Lanes,
     text: &[u8],
-    out: &mut S,
+    out: &mut Printer<S>,
     analyst: &mut A,
 ) -> Result<End, Stop>
     requires { IsCircuit circuit }
     ensures told { IsToldBy (spec.IsBatch lanes.count text.now circuit)
-        (S.written out.old) (S.written out.new) (A.analysed analyst.old) (A.analysed analyst.new) result }
+        out.old.page.written out.new.page.written (A.analysed analyst.old) (A.analysed analyst.new) result }
     ensures no_read { IfErr result (λ stop. stop ≢ Stop.Read) }
-    ensures write { S.faults out.new ≡ faults_written (S.faults out.old) result }
-    ensures refused { IsRefusedOnce (S.refusals out.old) (S.refusals out.new) result }
+    ensures write { out.new.faults ≡ faults_written out.old.faults result }
+    ensures refused { IsRefusedOnce out.old.refusals out.new.refusals result }
 {
     let mut session = LaneSession::new(alloc, circuit, lanes.count)?;
     run_batch(alloc, &mut session, text, out, analyst)

@@ -17,29 +17,30 @@ use netlist::Circuit;
 use port_edge::{Files, Sink};
 use run_ends::{End, Stop};
 use std::alloc::Global;
+use told_lines::Printer;
 
 /// Reads the script and then the list of faults, and judges the faults in the circuit, each by a run of the
 /// script beside the good one.
-pub(crate) fn judge_list<F: Files, S: Sink, A: Analyst>(
+pub(crate) fn judge_list<F: Files, S: Sink + Drop, A: Analyst>(
     alloc: Global,
     circuit: Circuit,
     script: &str,
     list: &str,
     files: &mut F,
-    out: &mut S,
+    out: &mut Printer<S>,
     analyst: &mut A,
 ) -> Result<End, Stop>
     requires { HasVisibleNames circuit }
     ensures told { IfSome (F.holds files.old) (λ holds. IsToldBy
         (AreJudgedFaults (holds script.now) (holds list.now) circuit)
-        (S.written out.old) (S.written out.new) (A.analysed analyst.old) (A.analysed analyst.new) result) }
+        out.old.page.written out.new.page.written (A.analysed analyst.old) (A.analysed analyst.new) result) }
     ensures started { StartsInOrder (F.started files.old) (F.started files.new) script.now list.now }
     ensures taken { TakesFiles (F.taken files.old) (F.taken files.new) (MOST_FILE_BYTES + 1) }
     ensures whole { IfOk result (λ _. IfSome (F.holds files.old) (λ holds.
         ReadsWhole (F.taken files.old) (F.taken files.new) holds (list.now ∷ script.now ∷ []))) }
     ensures read { F.faults files.new ≡ faults_read (F.faults files.old) result }
-    ensures write { S.faults out.new ≡ faults_written (S.faults out.old) result }
-    ensures refused { IsRefusedOnce (S.refusals out.old) (S.refusals out.new) result }
+    ensures write { out.new.faults ≡ faults_written out.old.faults result }
+    ensures refused { IsRefusedOnce out.old.refusals out.new.refusals result }
     ensures untouched { IsUntouched out.old out.new result }
 {
     let text = read_file(alloc, files, script)?;

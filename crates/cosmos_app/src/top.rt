@@ -34,6 +34,7 @@ use script_reports::{explain, sum_up};
 use script_run::run_lines;
 use std::alloc::Global;
 use table_keys::TableKeys;
+use told_lines::Printer;
 
 /// Answers the words of a command line, which are those after the program's name.
 ///
@@ -71,16 +72,19 @@ use table_keys::TableKeys;
 ///
 /// What is noted of a refusal besides, for a human, is no part of what is written, and no clause says what it is.
 ///
+/// The lines of a script are told to the printer, which writes them to its sink, each after the number of its column
+/// under `batch` alone. All other texts are written to that sink as they are.
+///
 /// Tables whose entries come from the files are hashed with the keys that the files have.
-pub fn run<F: Files, S: Sink, A: Analyst>(
+pub fn run<F: Files, S: Sink + Drop, A: Analyst>(
     alloc: Global,
     words: &[String],
     files: &mut F,
-    out: &mut S,
+    out: &mut Printer<S>,
     analyst: &mut A,
 ) -> Status
     ensures answer { IfSome (F.holds files.old) (λ holds. IsAnswered (names_of words.now) holds
-        (S.written out.old) (S.written out.new) (A.analysed analyst.old) (A.analysed analyst.new) result) }
+        out.old.page.written out.new.page.written (A.analysed analyst.old) (A.analysed analyst.new) result) }
 
     // The files are started in the order of the words, the script only where the netlist or the deck has
     // no refusal.
@@ -96,8 +100,8 @@ pub fn run<F: Files, S: Sink, A: Analyst>(
 
     // A count rises by one at the one call that fails, and nothing is called after it.
     ensures read { F.faults files.new ≡ files_count (F.faults files.old) result }
-    ensures write { S.faults out.new ≡ sink_count (S.faults out.old) result }
-    ensures refused { HasRefused (S.refusals out.old) (S.refusals out.new) result }
+    ensures write { out.new.faults ≡ sink_count out.old.faults result }
+    ensures refused { HasRefused out.old.refusals out.new.refusals result }
 
     // Where a file can't be read nothing was written.
     ensures untouched { result ≡ Status.ReadFault → out.new ≡ out.old }
@@ -122,15 +126,15 @@ fn end_status(end: Result<End, Stop>) -> Status
 }
 
 // Answers the words.
-fn answer<F: Files, S: Sink, A: Analyst>(
+fn answer<F: Files, S: Sink + Drop, A: Analyst>(
     alloc: Global,
     words: &[String],
     files: &mut F,
-    out: &mut S,
+    out: &mut Printer<S>,
     analyst: &mut A,
 ) -> Result<End, Stop>
     ensures told { IfSome (F.holds files.old) (λ holds. IsToldBy (IsAnswer (names_of words.now) holds)
-        (S.written out.old) (S.written out.new) (A.analysed analyst.old) (A.analysed analyst.new) result) }
+        out.old.page.written out.new.page.written (A.analysed analyst.old) (A.analysed analyst.new) result) }
     ensures started { RequestStarts
         (spec.request_of (names_of words.now))
         (F.holds files.old) (F.started files.old) (F.started files.new) }
@@ -138,8 +142,8 @@ fn answer<F: Files, S: Sink, A: Analyst>(
     ensures whole { IfOk result (λ _. IfSome (F.holds files.old) (λ holds.
         ReadsWhole (F.taken files.old) (F.taken files.new) holds (files_of (spec.request_of (names_of words.now)) holds))) }
     ensures read { F.faults files.new ≡ faults_read (F.faults files.old) result }
-    ensures write { S.faults out.new ≡ faults_written (S.faults out.old) result }
-    ensures refused { IsRefusedOnce (S.refusals out.old) (S.refusals out.new) result }
+    ensures write { out.new.faults ≡ faults_written out.old.faults result }
+    ensures refused { IsRefusedOnce out.old.refusals out.new.refusals result }
     ensures untouched { IsUntouched out.old out.new result }
 {
     match request_of(words) {
@@ -152,18 +156,18 @@ fn answer<F: Files, S: Sink, A: Analyst>(
 }
 
 // Answers what needs no file.
-fn answer_alone<S: Sink, A: Analyst>(
+fn answer_alone<S: Sink + Drop, A: Analyst>(
     alloc: Global,
     keys: TableKeys,
     alone: Alone<'_>,
-    out: &mut S,
+    out: &mut Printer<S>,
     analyst: &mut A,
 ) -> Result<End, Stop>
     ensures told { (holds : List ℕ → List ℕ) → IsToldBy (IsAnswerTo (alone_seen alone.entry) holds)
-        (S.written out.old) (S.written out.new) (A.analysed analyst.old) (A.analysed analyst.new) result }
+        out.old.page.written out.new.page.written (A.analysed analyst.old) (A.analysed analyst.new) result }
     ensures no_read { IfErr result (λ stop. stop ≢ Stop.Read) }
-    ensures write { S.faults out.new ≡ faults_written (S.faults out.old) result }
-    ensures refused { IsRefusedOnce (S.refusals out.old) (S.refusals out.new) result }
+    ensures write { out.new.faults ≡ faults_written out.old.faults result }
+    ensures refused { IsRefusedOnce out.old.refusals out.new.refusals result }
 {
     match alone {
         Alone::Generate { part, sample } => write_part(alloc, part, sample, out),
@@ -174,17 +178,17 @@ fn answer_alone<S: Sink, A: Analyst>(
 }
 
 // Reads the netlist, and answers the question in its circuit.
-fn answer_about<F: Files, S: Sink, A: Analyst>(
+fn answer_about<F: Files, S: Sink + Drop, A: Analyst>(
     alloc: Global,
     net: &str,
     question: Question<'_>,
     files: &mut F,
-    out: &mut S,
+    out: &mut Printer<S>,
     analyst: &mut A,
 ) -> Result<End, Stop>
     ensures told { IfSome (F.holds files.old) (λ holds. IsToldBy
         (IsOver (IsAnswerIn (question_seen question.entry) holds) (netlist_of (holds net.now)))
-        (S.written out.old) (S.written out.new) (A.analysed analyst.old) (A.analysed analyst.new) result) }
+        out.old.page.written out.new.page.written (A.analysed analyst.old) (A.analysed analyst.new) result) }
     ensures started { QuestionStarts
         netlist_of net.now (question_seen question.entry)
         (F.holds files.old) (F.started files.old) (F.started files.new) }
@@ -193,8 +197,8 @@ fn answer_about<F: Files, S: Sink, A: Analyst>(
         ReadsWhole (F.taken files.old) (F.taken files.new) holds
         (needed (question_seen question.entry) net.now (netlist_of (holds net.now))))) }
     ensures read { F.faults files.new ≡ faults_read (F.faults files.old) result }
-    ensures write { S.faults out.new ≡ faults_written (S.faults out.old) result }
-    ensures refused { IsRefusedOnce (S.refusals out.old) (S.refusals out.new) result }
+    ensures write { out.new.faults ≡ faults_written out.old.faults result }
+    ensures refused { IsRefusedOnce out.old.refusals out.new.refusals result }
     ensures untouched { IsUntouched out.old out.new result }
 {
     let mut refused = Vec::new(alloc);
@@ -206,17 +210,17 @@ fn answer_about<F: Files, S: Sink, A: Analyst>(
 
 // Reads the deck, and answers the question in its circuit.
 #[tactic(auto, using(run_ends::proofs::EndLemmas::read_none, run_ends::proofs::EndLemmas::untouched_none))]
-fn answer_over_deck<F: Files, S: Sink, A: Analyst>(
+fn answer_over_deck<F: Files, S: Sink + Drop, A: Analyst>(
     alloc: Global,
     deck: &str,
     question: Question<'_>,
     files: &mut F,
-    out: &mut S,
+    out: &mut Printer<S>,
     analyst: &mut A,
 ) -> Result<End, Stop>
     ensures told { IfSome (F.holds files.old) (λ holds. IsToldBy
         (IsOverDeck (IsAnswerIn (question_seen question.entry) holds) (circuit_of (holds deck.now)))
-        (S.written out.old) (S.written out.new) (A.analysed analyst.old) (A.analysed analyst.new) result) }
+        out.old.page.written out.new.page.written (A.analysed analyst.old) (A.analysed analyst.new) result) }
     ensures started { QuestionStarts
         circuit_of deck.now (question_seen question.entry)
         (F.holds files.old) (F.started files.old) (F.started files.new) }
@@ -225,8 +229,8 @@ fn answer_over_deck<F: Files, S: Sink, A: Analyst>(
         ReadsWhole (F.taken files.old) (F.taken files.new) holds
         (needed (question_seen question.entry) deck.now (circuit_of (holds deck.now))))) }
     ensures read { F.faults files.new ≡ faults_read (F.faults files.old) result }
-    ensures write { S.faults out.new ≡ faults_written (S.faults out.old) result }
-    ensures refused { IsRefusedOnce (S.refusals out.old) (S.refusals out.new) result }
+    ensures write { out.new.faults ≡ faults_written out.old.faults result }
+    ensures refused { IsRefusedOnce out.old.refusals out.new.refusals result }
     ensures untouched { IsUntouched out.old out.new result }
 {
     let mut refused = Vec::new(alloc);
@@ -237,27 +241,27 @@ fn answer_over_deck<F: Files, S: Sink, A: Analyst>(
 }
 
 // Answers a question about a circuit.
-fn answer_in<F: Files, S: Sink, A: Analyst>(
+fn answer_in<F: Files, S: Sink + Drop, A: Analyst>(
     alloc: Global,
     circuit: Circuit,
     question: Question<'_>,
     files: &mut F,
-    out: &mut S,
+    out: &mut Printer<S>,
     analyst: &mut A,
 ) -> Result<End, Stop>
     requires circuit { IsCircuit circuit }
     requires visible { HasVisibleNames circuit }
     ensures told { IfSome (F.holds files.old) (λ holds. IsToldBy
         (IsAnswerIn (question_seen question.entry) holds circuit)
-        (S.written out.old) (S.written out.new) (A.analysed analyst.old) (A.analysed analyst.new) result) }
+        out.old.page.written out.new.page.written (A.analysed analyst.old) (A.analysed analyst.new) result) }
     ensures started { ScriptStarts
         (question_seen question.entry) (F.started files.old) (F.started files.new) }
     ensures taken { TakesFiles (F.taken files.old) (F.taken files.new) (MOST_FILE_BYTES + 1) }
     ensures whole { IfOk result (λ _. IfSome (F.holds files.old) (λ holds.
         ReadsWhole (F.taken files.old) (F.taken files.new) holds (scripts_of (question_seen question.entry)))) }
     ensures read { F.faults files.new ≡ faults_read (F.faults files.old) result }
-    ensures write { S.faults out.new ≡ faults_written (S.faults out.old) result }
-    ensures refused { IsRefusedOnce (S.refusals out.old) (S.refusals out.new) result }
+    ensures write { out.new.faults ≡ faults_written out.old.faults result }
+    ensures refused { IsRefusedOnce out.old.refusals out.new.refusals result }
     ensures untouched { IsUntouched out.old out.new result }
 {
     match question {
@@ -274,25 +278,25 @@ fn answer_in<F: Files, S: Sink, A: Analyst>(
 }
 
 // Reads the script and runs it in the circuit, for a purpose.
-fn run_script<F: Files, S: Sink, A: Analyst>(
+fn run_script<F: Files, S: Sink + Drop, A: Analyst>(
     alloc: Global,
     circuit: Circuit,
     script: &str,
     purpose: Purpose<'_>,
     files: &mut F,
-    out: &mut S,
+    out: &mut Printer<S>,
     analyst: &mut A,
 ) -> Result<End, Stop>
     requires { IsCircuit circuit }
     ensures told { IfSome (F.holds files.old) (λ holds. IsToldBy (IsRunFor purpose.entry (holds script.now) circuit)
-        (S.written out.old) (S.written out.new) (A.analysed analyst.old) (A.analysed analyst.new) result) }
+        out.old.page.written out.new.page.written (A.analysed analyst.old) (A.analysed analyst.new) result) }
     ensures started { StartsAtMost (F.started files.old) (F.started files.new) script.now }
     ensures taken { TakesFiles (F.taken files.old) (F.taken files.new) (MOST_FILE_BYTES + 1) }
     ensures whole { IfOk result (λ _. IfSome (F.holds files.old) (λ holds.
         ReadsWhole (F.taken files.old) (F.taken files.new) holds (script.now ∷ []))) }
     ensures read { F.faults files.new ≡ faults_read (F.faults files.old) result }
-    ensures write { S.faults out.new ≡ faults_written (S.faults out.old) result }
-    ensures refused { IsRefusedOnce (S.refusals out.old) (S.refusals out.new) result }
+    ensures write { out.new.faults ≡ faults_written out.old.faults result }
+    ensures refused { IsRefusedOnce out.old.refusals out.new.refusals result }
     ensures untouched { IsUntouched out.old out.new result }
 {
     let text = read_file(alloc, files, script)?;
@@ -300,20 +304,20 @@ fn run_script<F: Files, S: Sink, A: Analyst>(
 }
 
 // Runs the lines of a script from the start in the circuit, for a purpose.
-fn run_text<S: Sink, A: Analyst>(
+fn run_text<S: Sink + Drop, A: Analyst>(
     alloc: Global,
     circuit: Circuit,
     text: &[u8],
     purpose: Purpose<'_>,
-    out: &mut S,
+    out: &mut Printer<S>,
     analyst: &mut A,
 ) -> Result<End, Stop>
     requires { IsCircuit circuit }
     ensures told { IsToldBy (IsRunFor purpose.entry text.now circuit)
-        (S.written out.old) (S.written out.new) (A.analysed analyst.old) (A.analysed analyst.new) result }
+        out.old.page.written out.new.page.written (A.analysed analyst.old) (A.analysed analyst.new) result }
     ensures no_read { IfErr result (λ stop. stop ≢ Stop.Read) }
-    ensures write { S.faults out.new ≡ faults_written (S.faults out.old) result }
-    ensures refused { IsRefusedOnce (S.refusals out.old) (S.refusals out.new) result }
+    ensures write { out.new.faults ≡ faults_written out.old.faults result }
+    ensures refused { IsRefusedOnce out.old.refusals out.new.refusals result }
 {
     match purpose {
         Purpose::Lines => simulate(alloc, circuit, text, out, analyst),
@@ -323,20 +327,21 @@ fn run_text<S: Sink, A: Analyst>(
 }
 
 // Runs the lines of a script from the start in the circuit.
-fn simulate<S: Sink, A: Analyst>(
+fn simulate<S: Sink + Drop, A: Analyst>(
     alloc: Global,
     circuit: Circuit,
     text: &[u8],
-    out: &mut S,
+    out: &mut Printer<S>,
     analyst: &mut A,
 ) -> Result<End, Stop>
     requires { IsCircuit circuit }
     ensures told { IsToldBy (IsSimulation text.now circuit)
-        (S.written out.old) (S.written out.new) (A.analysed analyst.old) (A.analysed analyst.new) result }
+        out.old.page.written out.new.page.written (A.analysed analyst.old) (A.analysed analyst.new) result }
     ensures no_read { IfErr result (λ stop. stop ≢ Stop.Read) }
-    ensures write { S.faults out.new ≡ faults_written (S.faults out.old) result }
-    ensures refused { IsRefusedOnce (S.refusals out.old) (S.refusals out.new) result }
+    ensures write { out.new.faults ≡ faults_written out.old.faults result }
+    ensures refused { IsRefusedOnce out.old.refusals out.new.refusals result }
 {
     let mut session = Session::new(alloc, circuit)?;
+    out.set_numbered(false);
     run_lines(alloc, &mut session, text, out, analyst)
 }

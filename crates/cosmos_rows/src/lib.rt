@@ -1,7 +1,7 @@
 //! Runs of the program over ports in memory.
 //!
-//! `run_in_memory` is the top call over a table of texts: no fault can be answered there, so its
-//! answer is that of the words, or want of memory. The tests show what no clause says: that with ample
+//! `run_in_memory` is the top call over a table of texts and a printer to a sink in memory: no fault can be answered
+//! there, so its answer is that of the words, or want of memory. The tests show what no clause says: that with ample
 //! memory each request and each command has the answer that is expected, and that each read and each write
 //! that fails is the last.
 //!
@@ -23,30 +23,34 @@ use cosmos_app::{Status, run};
 use group_analysis::Analyst;
 use port_edge::{HonestFiles, HonestSink};
 use std::alloc::Global;
+use told_lines::Printer;
 
-/// Answers the words of a command line over files and a sink in memory.
+/// Answers the words of a command line over files in memory and a printer to a sink in memory, and gives the sink
+/// back.
 ///
 /// What was written is the answer's text, or a front of it under want of memory.
 pub fn run_in_memory<A: Analyst>(
     alloc: Global,
     words: &[String],
     files: &mut HonestFiles,
-    out: &mut HonestSink,
+    out: Printer<HonestSink>,
     analyst: &mut A,
-) -> Status
-    ensures answer { IsAnswered (names_of words.now) (held files.old.table) (Some out.old.written) (Some out.new.written)
-        (A.analysed analyst.old) (A.analysed analyst.new) result }
+) -> (Status, HonestSink)
+    ensures answer { IsAnswered (names_of words.now) (held files.old.table) out.page.written (Some result.1.written)
+        (A.analysed analyst.old) (A.analysed analyst.new) result.0 }
 
     // Each file that the words need was read to its end, or to the first byte too many, before any answer
     // but want of memory.
     ensures whole { ReadsAll (Some files.old.taken) (Some files.new.taken)
-        (held files.old.table) (request_of (names_of words.now)) result }
+        (held files.old.table) (request_of (names_of words.now)) result.0 }
 
     // Over ports that never fail no fault is answered.
-    ensures no_read_fault { result ≢ Status.ReadFault }
-    ensures no_write_fault { result ≢ Status.WriteFault }
+    ensures no_read_fault { result.0 ≢ Status.ReadFault }
+    ensures no_write_fault { result.0 ≢ Status.WriteFault }
 {
-    run(alloc, words, files, out, analyst)
+    let mut printer = out;
+    let status = run(alloc, words, files, &mut printer, analyst);
+    (status, printer.into_sink())
 }
 
 #[cfg(test)]

@@ -6,6 +6,7 @@ use port_edge::{HonestFiles, MemFiles, MemSink};
 use std::alloc::Global;
 use std::test::Fail;
 use ternary::Tern;
+use told_lines::Printer;
 
 // These words.
 fn words_of(alloc: Global, words: &[&str]) -> Result<Vec<String>, Fail> {
@@ -36,7 +37,8 @@ fn answer(
     let words = words_of(alloc, words)?;
     let table = table_of(alloc, texts)?;
     let mut files = MemFiles::new(alloc, table, Vec::from_slice(alloc, &[fails.0])?, 5);
-    let mut out = MemSink::new(alloc, Vec::from_slice(alloc, &[fails.1])?, 1);
+    let sink = MemSink::new(alloc, Vec::from_slice(alloc, &[fails.1])?, 1);
+    let mut out = Printer::new(alloc, sink, false)?;
     let status = run(
         alloc,
         &words,
@@ -44,7 +46,7 @@ fn answer(
         &mut out,
         &mut SymbolicAnalyst::new(alloc),
     );
-    Ok((status, out))
+    Ok((status, out.into_sink()))
 }
 
 #[test]

@@ -16,6 +16,7 @@ use linear_code::{ListingFault, read_listing};
 use port_edge::{HonestFiles, HonestSink};
 use std::alloc::Global;
 use ternary::{NoMemory, Tern};
+use told_lines::Printer;
 
 /// The states after a unit step of a netlist's circuit, by the text alone that the program writes for the
 /// words `compile NET`.
@@ -32,11 +33,13 @@ pub fn step_by_program<A: Analyst>(
     ensures { (circuit : CircuitData) → AskForListing (names_of words.now) (held files.old.table) circuit → IsStateOf circuit state.now
         → IfOk result (λ told. MatchOption told ⊥ (λ next. IsStep circuit.graph state.now next.items)) }
 {
-    let mut out = HonestSink::new(alloc);
-    if run_in_memory(alloc, words, files, &mut out, analyst) == Status::NoMemory {
+    let unwritten = HonestSink::new(alloc);
+    let out = Printer::new(alloc, unwritten, false)?;
+    let (status, sink) = run_in_memory(alloc, words, files, out, analyst);
+    if status == Status::NoMemory {
         return Err(NoMemory);
     }
-    step_of_text(alloc, out.written(), state)
+    step_of_text(alloc, sink.written(), state)
 }
 
 // The states after a step of the listing that a text is; none only where it is no listing, or there isn't

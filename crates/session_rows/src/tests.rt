@@ -1,13 +1,13 @@
 use cosmos_session::Session;
 use line_words::lines;
 use node_elimination::SymbolicAnalyst;
-use port_edge::DropSink;
 use script_meaning::Turn;
 use script_run::run_line;
 use sim_read::read_netlist;
 use std::alloc::Global;
 use std::test::Fail;
 use table_keys::TableKeys;
+use told_lines::Silence;
 
 // two inverters in a row, a -> b -> c
 const PAIR: &[u8] = b"p a Vdd b\nn a Gnd b\np b Vdd c\nn b Gnd c\n";
@@ -82,7 +82,7 @@ fn follow(
     script: &[u8],
     analyst: &mut SymbolicAnalyst,
 ) -> bool {
-    let mut out = DropSink::new();
+    let mut out = Silence::new();
     for line in lines(script) {
         match run_line(alloc, session, None, line, None, &mut out, analyst) {
             Ok(Turn::Accepted) => {}

@@ -11,7 +11,7 @@ pub returns-clause-told : goal.returns-clause-told
 returns-clause-told g c =
     told_judged (g.F.Files.holds c.args.files.now) (g.F.Files.holds c.read_file.new.files) c.args.script.now c.args.list.now c.args.circuit
     c.in_ok-text.text.items c.deref.result.now c.in_ok-faults.faults.items c.deref-2.result.now
-    (g.S.Sink.written c.args.out.now) (g.S.Sink.written c.judge_faults.new.out)
+    c.args.out.now.page.written c.judge_faults.new.out.page.written
     (g.A.Analyst.analysed c.args.analyst.now) (g.A.Analyst.analysed c.judge_faults.new.analyst) c.judge_faults.result
     c.in_ok-text.ensures.bytes c.in_ok-text.ensures.holds c.in_ok-faults.ensures.bytes c.deref.ensures.value c.deref-2.ensures.value
     c.judge_faults.ensures.told

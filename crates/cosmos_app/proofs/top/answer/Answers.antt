@@ -13,7 +13,7 @@ pub returns-in-About-clause-told : goal.returns-in-About-clause-told
 returns-in-About-clause-told g c =
     told_request (About c.in-About.net.now (question_seen c.in-About.question)) (request_of (names_of c.args.words.now))
     (sym (ap request_seen c.in-About.is) ∙ c.request_of.ensures)
-    (g.F.Files.holds c.args.files.now) (g.S.Sink.written c.args.out.now) (g.S.Sink.written c.answer_about.new.out)
+    (g.F.Files.holds c.args.files.now) c.args.out.now.page.written c.answer_about.new.out.page.written
     (g.A.Analyst.analysed c.args.analyst.now) (g.A.Analyst.analysed c.answer_about.new.analyst) c.answer_about.result c.answer_about.ensures.told
 
 pub returns-in-About-clause-started : goal.returns-in-About-clause-started
@@ -34,7 +34,7 @@ pub returns-in-OverDeck-clause-told : goal.returns-in-OverDeck-clause-told
 returns-in-OverDeck-clause-told g c =
     told_request (OverDeck c.in-OverDeck.deck.now (question_seen c.in-OverDeck.question)) (request_of (names_of c.args.words.now))
     (sym (ap request_seen c.in-OverDeck.is) ∙ c.request_of.ensures)
-    (g.F.Files.holds c.args.files.now) (g.S.Sink.written c.args.out.now) (g.S.Sink.written c.answer_over_deck.new.out)
+    (g.F.Files.holds c.args.files.now) c.args.out.now.page.written c.answer_over_deck.new.out.page.written
     (g.A.Analyst.analysed c.args.analyst.now) (g.A.Analyst.analysed c.answer_over_deck.new.analyst) c.answer_over_deck.result c.answer_over_deck.ensures.told
 
 pub returns-in-OverDeck-clause-started : goal.returns-in-OverDeck-clause-started
@@ -54,7 +54,7 @@ returns-in-OverDeck-clause-whole g c =
 pub returns-in-Alone-clause-told : goal.returns-in-Alone-clause-told
 returns-in-Alone-clause-told g c =
     told_request (alone_seen c.in-Alone.alone) (request_of (names_of c.args.words.now)) (sym (ap request_seen c.in-Alone.is) ∙ c.request_of.ensures)
-    (g.F.Files.holds c.args.files.now) (g.S.Sink.written c.args.out.now) (g.S.Sink.written c.answer_alone.new.out)
+    (g.F.Files.holds c.args.files.now) c.args.out.now.page.written c.answer_alone.new.out.page.written
     (g.A.Analyst.analysed c.args.analyst.now)
     (g.A.Analyst.analysed c.answer_alone.new.analyst) c.answer_alone.result
     (at_known (g.F.Files.holds c.args.files.now) _ c.answer_alone.ensures.told)

@@ -16,7 +16,7 @@ pub returns-in-Ok-clause-told : goal.returns-in-Ok-clause-told
 returns-in-Ok-clause-told g c =
     told_over (g.F.Files.holds c.args.files.now) (g.F.Files.holds c.read_circuit.new.files) (question_seen c.args.question) c.args.net.now
     (Ok c.in-Ok.circuit)
-    (g.S.Sink.written c.args.out.now) (g.S.Sink.written c.answer_in.new.out) (g.A.Analyst.analysed c.args.analyst.now)
+    c.args.out.now.page.written c.answer_in.new.out.page.written (g.A.Analyst.analysed c.args.analyst.now)
     (g.A.Analyst.analysed c.answer_in.new.analyst)
     c.answer_in.result
     (means_as (g.F.Files.holds c.args.files.now) c.args.net.now _ (Ok c.in-Ok.circuit) c.in-Ok.is c.in_ok-circuit.ensures.means)
@@ -42,8 +42,8 @@ returns-in-Ok-clause-whole g c =
 
 pub returns-clause-told : goal.returns-clause-told
 returns-clause-told g c =
-    told_refusal (g.F.Files.holds c.args.files.now) (question_seen c.args.question) c.args.net.now c.in-Err.refusal (g.S.Sink.written c.args.out.now)
-    (g.S.Sink.written c.refuse_net.new.out)
+    told_refusal (g.F.Files.holds c.args.files.now) (question_seen c.args.question) c.args.net.now c.in-Err.refusal c.args.out.now.page.written
+    c.refuse_net.new.out.page.written
     (g.A.Analyst.analysed c.args.analyst.now) c.refuse_net.result
     (means_as (g.F.Files.holds c.args.files.now) c.args.net.now _ (Err c.in-Err.refusal) c.in-Err.is c.in_ok-circuit.ensures.means)
     c.refuse_net.ensures.told

@@ -12,37 +12,37 @@ use Rattle.cosmos_app.proofs.top.answer_alone.Goals as goal
 
 pub returns-in-Generate-clause-told : goal.returns-in-Generate-clause-told
 returns-in-Generate-clause-told g c = λ holds.
-    subst (λ (alone : Alone). IsToldBy (IsAnswerTo (alone_seen alone) holds) (g.S.Sink.written c.args.out.now) (g.S.Sink.written c.write_part.new.out)
+    subst (λ (alone : Alone). IsToldBy (IsAnswerTo (alone_seen alone) holds) c.args.out.now.page.written c.write_part.new.out.page.written
     (g.A.Analyst.analysed c.args.analyst.now) (g.A.Analyst.analysed c.args.analyst.now) c.write_part.result)
     (sym c.in-Generate.is)
     (told_by_none (IsGenerated c.in-Generate.part (sample_seen c.in-Generate.sample))
-    (IsGenerated c.in-Generate.part (sample_seen c.in-Generate.sample)) (g.S.Sink.written c.args.out.now) (g.S.Sink.written c.write_part.new.out)
+    (IsGenerated c.in-Generate.part (sample_seen c.in-Generate.sample)) c.args.out.now.page.written c.write_part.new.out.page.written
     (g.A.Analyst.analysed c.args.analyst.now) c.write_part.result
     (λ answer is. (is, ap (λ (told : Answer). told.texts) is)) c.write_part.ensures.told)
 
 pub returns-in-SumUp-clause-told : goal.returns-in-SumUp-clause-told
 returns-in-SumUp-clause-told g c = λ holds.
-    subst (λ (alone : Alone). IsToldBy (IsAnswerTo (alone_seen alone) holds) (g.S.Sink.written c.args.out.now) (g.S.Sink.written c.sum_up.new.out)
+    subst (λ (alone : Alone). IsToldBy (IsAnswerTo (alone_seen alone) holds) c.args.out.now.page.written c.sum_up.new.out.page.written
     (g.A.Analyst.analysed c.args.analyst.now) (g.A.Analyst.analysed c.sum_up.new.analyst) c.sum_up.result)
     (sym c.in-SumUp.is) c.sum_up.ensures.told
 
 pub returns-in-Show-clause-told : goal.returns-in-Show-clause-told
 returns-in-Show-clause-told g c = λ holds.
     subst
-    (λ (alone : Alone). IsToldBy (IsAnswerTo (alone_seen alone) holds) (g.S.Sink.written c.args.out.now) (g.S.Sink.written c.show_text.new.out)
+    (λ (alone : Alone). IsToldBy (IsAnswerTo (alone_seen alone) holds) c.args.out.now.page.written c.show_text.new.out.page.written
     (g.A.Analyst.analysed c.args.analyst.now) (g.A.Analyst.analysed c.args.analyst.now) c.show_text.result)
     (sym c.in-Show.is)
-    (told_by_none (IsShown c.in-Show.text.now) (IsShown c.in-Show.text.now) (g.S.Sink.written c.args.out.now)
-    (g.S.Sink.written c.show_text.new.out)
+    (told_by_none (IsShown c.in-Show.text.now) (IsShown c.in-Show.text.now) c.args.out.now.page.written
+    c.show_text.new.out.page.written
     (g.A.Analyst.analysed c.args.analyst.now) c.show_text.result
     (λ answer is. (is, ap (λ (told : Answer). told.texts) is)) c.show_text.ensures.told)
 
 pub returns-in-Unclear-clause-told : goal.returns-in-Unclear-clause-told
 returns-in-Unclear-clause-told g c = λ holds.
     subst
-    (λ (alone : Alone). IsToldBy (IsAnswerTo (alone_seen alone) holds) (g.S.Sink.written c.args.out.now) (g.S.Sink.written c.refuse_words.new.out)
+    (λ (alone : Alone). IsToldBy (IsAnswerTo (alone_seen alone) holds) c.args.out.now.page.written c.refuse_words.new.out.page.written
     (g.A.Analyst.analysed c.args.analyst.now) (g.A.Analyst.analysed c.args.analyst.now) c.refuse_words.result)
     (sym c.in-Unclear.is)
-    (told_by_none IsUsage IsUsage (g.S.Sink.written c.args.out.now) (g.S.Sink.written c.refuse_words.new.out)
+    (told_by_none IsUsage IsUsage c.args.out.now.page.written c.refuse_words.new.out.page.written
     (g.A.Analyst.analysed c.args.analyst.now) c.refuse_words.result
     (λ answer is. (is, ap (λ (told : Answer). told.texts) is)) c.refuse_words.ensures.told)

@@ -11,11 +11,11 @@ use Rattle.cosmos_app.proofs.top.answer_in.Goals as goal
 
 pub returns-in-Run-clause-told : goal.returns-in-Run-clause-told
 returns-in-Run-clause-told g c =
-    told_question c.args.question _ c.in-Run.is (g.F.Files.holds c.args.files.now) c.args.circuit (g.S.Sink.written c.args.out.now)
-    (g.S.Sink.written c.run_script.new.out)
+    told_question c.args.question _ c.in-Run.is (g.F.Files.holds c.args.files.now) c.args.circuit c.args.out.now.page.written
+    c.run_script.new.out.page.written
     (g.A.Analyst.analysed c.args.analyst.now) (g.A.Analyst.analysed c.run_script.new.analyst) c.run_script.result
-    (told_asked (g.F.Files.holds c.args.files.now) c.in-Run.script.now c.in-Run.purpose c.args.circuit (g.S.Sink.written c.args.out.now)
-    (g.S.Sink.written c.run_script.new.out)
+    (told_asked (g.F.Files.holds c.args.files.now) c.in-Run.script.now c.in-Run.purpose c.args.circuit c.args.out.now.page.written
+    c.run_script.new.out.page.written
     (g.A.Analyst.analysed c.args.analyst.now) (g.A.Analyst.analysed c.run_script.new.analyst) c.run_script.result c.run_script.ensures.told)
 
 pub returns-in-Run-clause-started : goal.returns-in-Run-clause-started
@@ -32,8 +32,8 @@ returns-in-Run-clause-whole g c =
 
 pub returns-in-Judge-clause-told : goal.returns-in-Judge-clause-told
 returns-in-Judge-clause-told g c =
-    told_question c.args.question _ c.in-Judge.is (g.F.Files.holds c.args.files.now) c.args.circuit (g.S.Sink.written c.args.out.now)
-    (g.S.Sink.written c.judge_list.new.out)
+    told_question c.args.question _ c.in-Judge.is (g.F.Files.holds c.args.files.now) c.args.circuit c.args.out.now.page.written
+    c.judge_list.new.out.page.written
     (g.A.Analyst.analysed c.args.analyst.now) (g.A.Analyst.analysed c.judge_list.new.analyst) c.judge_list.result
     c.judge_list.ensures.told
 
@@ -50,8 +50,8 @@ returns-in-Judge-clause-whole g c =
 
 pub returns-in-Report-clause-told : goal.returns-in-Report-clause-told
 returns-in-Report-clause-told g c =
-    told_question c.args.question _ c.in-Report.is (g.F.Files.holds c.args.files.now) c.args.circuit (g.S.Sink.written c.args.out.now)
-    (g.S.Sink.written c.report_on.new.out)
+    told_question c.args.question _ c.in-Report.is (g.F.Files.holds c.args.files.now) c.args.circuit c.args.out.now.page.written
+    c.report_on.new.out.page.written
     (g.A.Analyst.analysed c.args.analyst.now) (g.A.Analyst.analysed c.report_on.new.analyst) c.report_on.result
     (at_known (g.F.Files.holds c.args.files.now) _ c.report_on.ensures.told)
 

@@ -16,7 +16,7 @@ pub returns-in-Ok-clause-told : goal.returns-in-Ok-clause-told
 returns-in-Ok-clause-told g c =
     told_over_deck (g.F.Files.holds c.args.files.now) (g.F.Files.holds c.read_deck_file.new.files) (question_seen c.args.question) c.args.deck.now
     (Ok c.in-Ok.circuit)
-    (g.S.Sink.written c.args.out.now) (g.S.Sink.written c.answer_in.new.out) (g.A.Analyst.analysed c.args.analyst.now)
+    c.args.out.now.page.written c.answer_in.new.out.page.written (g.A.Analyst.analysed c.args.analyst.now)
     (g.A.Analyst.analysed c.answer_in.new.analyst) c.answer_in.result
     (deck_means_as (g.F.Files.holds c.args.files.now) c.args.deck.now _ (Ok c.in-Ok.circuit) c.in-Ok.is c.in_ok-circuit.ensures.means)
     c.in_ok-circuit.ensures.holds c.answer_in.ensures.told
@@ -50,7 +50,7 @@ returns-in-Ok-clause-read g c =
 pub returns-clause-told : goal.returns-clause-told
 returns-clause-told g c =
     told_deck_refusal (g.F.Files.holds c.args.files.now) (question_seen c.args.question) c.args.deck.now c.in-Err.refusal.line c.in-Err.refusal.what
-    (g.S.Sink.written c.args.out.now) (g.S.Sink.written c.refuse_deck.new.out) (g.A.Analyst.analysed c.args.analyst.now) c.refuse_deck.result
+    c.args.out.now.page.written c.refuse_deck.new.out.page.written (g.A.Analyst.analysed c.args.analyst.now) c.refuse_deck.result
     (deck_means_as (g.F.Files.holds c.args.files.now) c.args.deck.now _ (Err c.in-Err.refusal) c.in-Err.is c.in_ok-circuit.ensures.means)
     c.refuse_deck.ensures.told
 

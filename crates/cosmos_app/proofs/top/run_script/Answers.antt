@@ -9,7 +9,7 @@ use Rattle.cosmos_app.proofs.top.run_script.Goals as goal
 pub returns-clause-told : goal.returns-clause-told
 returns-clause-told g c =
     told_run_for (g.F.Files.holds c.args.files.now) c.args.script.now c.args.purpose c.args.circuit c.in_ok-text.text.items c.deref.result.now
-    (g.S.Sink.written c.args.out.now) (g.S.Sink.written c.run_text.new.out) (g.A.Analyst.analysed c.args.analyst.now)
+    c.args.out.now.page.written c.run_text.new.out.page.written (g.A.Analyst.analysed c.args.analyst.now)
     (g.A.Analyst.analysed c.run_text.new.analyst) c.run_text.result
     c.in_ok-text.ensures.bytes c.deref.ensures.value c.run_text.ensures.told
 

@@ -17,15 +17,15 @@ told_for is text circuit old new before after result told =
 
 pub returns-in-Lines-clause-told : goal.returns-in-Lines-clause-told
 returns-in-Lines-clause-told g c =
-    told_for c.in-Lines.is c.args.text.now c.args.circuit (g.S.Sink.written c.args.out.now) (g.S.Sink.written c.simulate.new.out)
+    told_for c.in-Lines.is c.args.text.now c.args.circuit c.args.out.now.page.written c.simulate.new.out.page.written
     (g.A.Analyst.analysed c.args.analyst.now) (g.A.Analyst.analysed c.simulate.new.analyst) c.simulate.result c.simulate.ensures.told
 
 pub returns-in-Columns-clause-told : goal.returns-in-Columns-clause-told
 returns-in-Columns-clause-told g c =
-    told_for c.in-Columns.is c.args.text.now c.args.circuit (g.S.Sink.written c.args.out.now) (g.S.Sink.written c.run_columns.new.out)
+    told_for c.in-Columns.is c.args.text.now c.args.circuit c.args.out.now.page.written c.run_columns.new.out.page.written
     (g.A.Analyst.analysed c.args.analyst.now) (g.A.Analyst.analysed c.run_columns.new.analyst) c.run_columns.result c.run_columns.ensures.told
 
 pub returns-in-Reasons-clause-told : goal.returns-in-Reasons-clause-told
 returns-in-Reasons-clause-told g c =
-    told_for c.in-Reasons.is c.args.text.now c.args.circuit (g.S.Sink.written c.args.out.now) (g.S.Sink.written c.explain.new.out)
+    told_for c.in-Reasons.is c.args.text.now c.args.circuit c.args.out.now.page.written c.explain.new.out.page.written
     (g.A.Analyst.analysed c.args.analyst.now) (g.A.Analyst.analysed c.explain.new.analyst) c.explain.result c.explain.ensures.told
