@@ -18,7 +18,6 @@ use Rattle.run_ends.specs.Causes.{plain_cause}
 use Rattle.script_meaning.specs.Runs.{RefusedLine, after_command}
 use Rattle.script_meaning.specs.Turns.{TakesTurn}
 use Rattle.script_meaning.specs.Halts.{HasObeyed, HasOutgrown}
-use Rattle.script_meaning.proofs.ReadingLemmas.{masked-sound}
 use Rattle.script_meaning.proofs.RunLemmas.{HasCome, comes_to, comes_on, halts_refused, halts_large, halts_end, outcome_exists}
 use Rattle.run_ends.proofs.SizeLemmas.{size_caused}
 use Rattle.fault_sim.specs.declared.verdicts.Verdict.{Verdict}
@@ -29,6 +28,7 @@ use Rattle.told_verdicts.specs.declared.compare.Place.{Place}
 use Rattle.told_verdicts.specs.Comparing.{CompareData, compared, uncompared, verdict_by}
 use Rattle.told_verdicts.proofs.ComparingLemmas.{verdicts_compared}
 use Rattle.fault_meaning.specs.Early.{IsCalm, is_from, verdict_of, IsEarly, TellsAfter, JudgesLines}
+use Rattle.fault_meaning.proofs.ReadingLemmas.{masked-sound}
 use Rattle.fault_meaning.proofs.RunLemmas.{trace_of, shows_so}
 use Rattle.fault_meaning.proofs.CalmLemmas.{IsCurrent, runs_calm}
 use Rattle.fault_meaning.proofs.DetectedLemmas.{detected_in_all}

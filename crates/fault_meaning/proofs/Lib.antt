@@ -1,4 +1,5 @@
 pub mod ListLemmas
+pub mod ReadingLemmas
 pub mod BeginLemmas
 pub mod VerdictLemmas
 pub mod RunLemmas

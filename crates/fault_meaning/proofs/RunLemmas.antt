@@ -17,13 +17,13 @@ use Rattle.script_meaning.specs.declared.halt.Halt.TheVariants.{End, Refused, To
 use Rattle.run_ends.specs.Causes.{plain_cause}
 use Rattle.script_meaning.specs.Runs.{RefusedLine, Outcome}
 use Rattle.script_meaning.specs.Halts.{HasObeyed, HaltsAt}
-use Rattle.script_meaning.proofs.ReadingLemmas.{masked-sound}
 use Rattle.script_meaning.proofs.RunLemmas.{outcome_exists}
 use Rattle.run_ends.proofs.SizeLemmas.{size_caused}
 use Rattle.fault_meaning.specs.declared.listed.ListedFault.{ListedFault}
 use Rattle.fault_meaning.specs.Traces.{start_with, commands_under, stuck_under, AreDone, RunsUnder, Shows}
 use Rattle.fault_meaning.specs.Judging.{LineVerdict, AreJudged, no_fault, one_more}
 use Rattle.fault_meaning.specs.Runnings.{TellsTrace, line_of, HasRun, RunsTo, IsTraced}
+use Rattle.fault_meaning.proofs.ReadingLemmas.{masked-sound}
 use Rattle.fault_meaning.proofs.BeginLemmas.{has_start}
 use Rattle.fault_meaning.proofs.VerdictLemmas.{verdict_exists}
 

@@ -9,6 +9,7 @@ ghost use Rattle.fault_meaning.specs.Early as spec;
 ghost use Rattle.fault_meaning.specs.Runnings.{IsTraced, StandsAtStart};
 
 use crate::good::{GoodRun, is_ready};
+use crate::reader::Masked;
 use crate::running::put_fault;
 use cosmos_session::Session;
 use fault_meaning::Bearing;
@@ -20,7 +21,7 @@ use script_lang::{Command, ScriptFault, Setup, read_command};
 use script_meaning::Turn;
 use script_run::run_line;
 use std::alloc::Global;
-use ternary::{NoMemory, Tern};
+use ternary::NoMemory;
 use told_verdicts::Compare;
 
 /// The number of the first line of a script that builds and after which no line edits the circuit or is
@@ -102,10 +103,11 @@ pub(crate) fn judge_under<A: Analyst>(
     put_fault(alloc, session, start, fault, analyst)?;
     is_ready(session);
     let stuck = stuck_node(fault);
-    judge_lines(alloc, session, script, calm_from, stuck, good, analyst)
+    let reader = Masked { stuck };
+    judge_lines(alloc, session, script, calm_from, reader, good, analyst)
 }
 
-// Runs the lines of a script in a session while a node may be stuck, and gives the verdict on what they
+// Runs the lines of a script in a session, read while a node may be stuck, and gives the verdict on what they
 // show beside the good run.
 //
 // From the line with the number on, the run ends at the first strong difference: the verdict is that on the
@@ -115,20 +117,20 @@ fn judge_lines<A: Analyst>(
     session: &mut Session,
     script: &[u8],
     calm_from: Option<u64>,
-    stuck: Option<(usize, Tern)>,
+    reader: Masked,
     good: &GoodRun,
     analyst: &mut A,
 ) -> Result<Verdict, NoMemory>
     requires ready { IsReady session.old.core }
     requires calm { IfSome calm_from (spec.IsCalmFrom script.now) }
-    ensures { IfOk result (spec.JudgesLines stuck script.now session.old.core good.now session.new.core
+    ensures { IfOk result (spec.JudgesLines reader.stuck script.now session.old.core good.now session.new.core
         (A.analysed analyst.old) (A.analysed analyst.new)) }
 {
     let cut = cut_line(script);
     let good_rows = good.rows();
     let mut out = Compare::new(good_rows);
     for line in lines(front(script)) {
-        let Ok(turn) = run_line(alloc, session, cut, line, stuck, &mut out, analyst) else {
+        let Ok(turn) = run_line(alloc, session, cut, line, &reader, &mut out, analyst) else {
             return Err(NoMemory);
         };
         let calm = is_from(calm_from, line.number);

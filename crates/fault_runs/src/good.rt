@@ -11,7 +11,7 @@ use cosmos_session::Session;
 use group_analysis::Analyst;
 use script_lang::{Name, NameList};
 use script_meaning::Halt;
-use script_run::obey_lines;
+use script_run::{Plain, obey_lines};
 use std::alloc::Global;
 use std::marker::Model;
 use ternary::NoMemory;
@@ -79,7 +79,7 @@ pub(crate) fn run_good<A: Analyst>(
 {
     is_ready(session);
     let mut notes = Notes::new(alloc);
-    let Ok(halt) = obey_lines(alloc, session, script, None, &mut notes, analyst) else {
+    let Ok(halt) = obey_lines(alloc, session, script, &Plain, &mut notes, analyst) else {
         return Err(NoMemory);
     };
     let good = GoodRun::new(alloc, session, halt, notes)?;

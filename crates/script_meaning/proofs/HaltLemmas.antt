@@ -93,7 +93,7 @@ module _ {H : Type 0} (hear : H → Told → H) (part : H → Told → H → Typ
       told_refused (record { line = number; cause = cause }) last result (halts.halted size cause halts.first named) tells
 
   -- the lines broke off
-  told_stop : (stop : Stop) → (mid ≡ before) ⊎ BreaksOff hear part reading cut start lines before mid →
+  pub told_stop : (stop : Stop) → (mid ≡ before) ⊎ BreaksOff hear part reading cut start lines before mid →
       TellsRun hear part reading cut start lines new before mid asked told (Err stop)
   told_stop stop (inl same) = inl same
   told_stop stop (inr breaks) =
@@ -106,27 +106,15 @@ module _ {H : Type 0} (hear : H → Told → H) (part : H → Told → H → Typ
             (so_far-start hear before (of_column 0 (lines_told breaks.outcome))) breaks.heard;
       })
 
--- ---- the same, where lines are read so by another name, and the circuit is known by another
+  -- ---- the same, where the end and the circuit are known by other names
 
-module _ {H : Type 0} (hear : H → Told → H) (part : H → Told → H → Type 0) (other : Reading) (cut : Option ℕ) (start : SessionData)
-    (lines : List (ℕ × List ℕ)) (new : SessionData) (before mid : H) (asked told : List GroupTextData) {reading : Reading} (same : other ≡ reading) where
-  pub told_end : (ending : end.End) (halt : Halt) → HaltsAt hear other cut start lines new before mid asked told halt → halt ≡ End →
+  pub told_end : (ending : end.End) (halt : Halt) → HaltsAt hear reading cut start lines new before mid asked told halt → halt ≡ End →
       status_of ending ≡ status_told new None → TellsRun hear part reading cut start lines new before mid asked told (Ok ending)
   told_end ending halt halts is status =
-      obeyed_told hear part reading cut start lines new before mid asked told ending
-      (subst (λ (read : Reading). HasObeyed hear read cut start lines new before mid asked told None) same
-      (subst (HaltsAt hear other cut start lines new before mid asked told) is halts)) status
+      obeyed_told ending (subst (HaltsAt hear reading cut start lines new before mid asked told) is halts) status
 
   pub told_cut : (last : H) (result : Result end.End Stop) (halt : Halt) (at : CircuitData) →
-      HaltsAt hear other cut start lines new before mid asked told halt → at ≡ new.circuit → TellsCutShort hear part at halt mid last result →
+      HaltsAt hear reading cut start lines new before mid asked told halt → at ≡ new.circuit → TellsCutShort hear part at halt mid last result →
       TellsRun hear part reading cut start lines new before last asked told result
   told_cut last result halt at halts here tells =
-      told_cut_short hear part reading cut start lines new before mid asked told last result halt
-      (subst (λ (read : Reading). HaltsAt hear read cut start lines new before mid asked told halt) same halts)
-      (subst (λ (circuit : CircuitData). TellsCutShort hear part circuit halt mid last result) here tells)
-
-  pub told_broken : (stop : Stop) → (mid ≡ before) ⊎ BreaksOff hear part other cut start lines before mid →
-      TellsRun hear part reading cut start lines new before mid asked told (Err stop)
-  told_broken stop broken =
-      told_stop hear part reading cut start lines new before mid asked told stop
-      (subst (λ (read : Reading). (mid ≡ before) ⊎ BreaksOff hear part read cut start lines before mid) same broken)
+      told_cut_short last result halt halts (subst (λ (circuit : CircuitData). TellsCutShort hear part circuit halt mid last result) here tells)

@@ -1,43 +1,7 @@
--- How lines are read while a node may be stuck: what a line asks for is well formed, and where no node is stuck lines are read as ever.
-use Rattle.std.proofs.Common.{◌≡◌, ◌≢◌, ℕ, List, Option, None, Some, Result, Ok, Err, refl, subst, ◌∙◌, IfSome}
-use Rattle.ternary.specs.declared.tern.Tern.{Tern}
-use Rattle.netlist.specs.Circuits.{CircuitData}
-use Rattle.script_lang.specs.declared.command.Command.{Command}
-use Rattle.script_lang.specs.declared.command.ScriptFault.{ScriptFault}
-use Rattle.script_lang.specs.declared.command.ScriptFault.TheVariants.{NoMemory}
-use Rattle.script_lang.specs.Commands.{reading_of}
-use Rattle.script_lang.specs.Forms.{IsFormed}
+-- Scripts are read soundly: a line that is no command is refused under a code, and a command is well formed.
 use Rattle.script_lang.proofs.ReadingLemmas.{reading-named, reading-formed}
-use Rattle.fault_sim.specs.Masks.{masked_of, masked_reading_by, masked_reading}
-use Rattle.fault_sim.proofs.MaskLemmas.{unmasked-reading, masked_of-formed}
-use Rattle.script_meaning.specs.Runs.{Reading, plain_reading}
+use Rattle.script_meaning.specs.Runs.{plain_reading, IsSound}
 
--- a reading refuses no line by want of memory, and each command that it gives is well formed
-pub record IsSound (reading : Reading) : Type 0 where
-  pub named : (c : CircuitData) (line : List ℕ) → reading c line ≢ Err NoMemory
-  pub formed : (c : CircuitData) (line : List ℕ) (command : Command) → reading c line ≡ Ok (Some command) → IsFormed command
-
--- where no node is stuck lines are read as ever
-pub masked-plain : masked_reading None ≡ plain_reading
-masked-plain = λ i c line. unmasked-reading c line i
-
-module _ (stuck : Option (ℕ × Tern)) (c : CircuitData) (line : List ℕ) where
-  still_named : (read : Result (Option Command) ScriptFault) → reading_of line ≡ read → masked_reading_by c stuck read ≢ Err NoMemory
-  still_named (Ok None) is none = absurd (cc)
-  still_named (Ok (Some command)) is none = absurd (cc)
-  still_named (Err fault) is none = reading-named line (is ∙ none)
-
-  still_formed : (read : Result (Option Command) ScriptFault) → reading_of line ≡ read → (command : Command) →
-      masked_reading_by c stuck read ≡ Ok (Some command) → IsFormed command
-  still_formed (Ok None) is command gives = absurd (cc)
-  still_formed (Ok (Some given)) is command gives =
-      let same : masked_of c stuck given ≡ Some command = cc in
-      subst (λ left. IfSome left IsFormed) same (masked_of-formed c stuck given (reading-formed line given is))
-  still_formed (Err fault) is command gives = absurd (cc)
-
--- the reading while a node may be stuck is sound
-pub masked-sound : (stuck : Option (ℕ × Tern)) → IsSound (masked_reading stuck)
-masked-sound stuck = record {
-  named = λ c line. still_named stuck c line (reading_of line) refl;
-  formed = λ c line. still_formed stuck c line (reading_of line) refl;
-}
+-- the reading of scripts is sound
+pub plain-sound : IsSound plain_reading
+plain-sound = record { named = λ circuit line. reading-named line; formed = λ circuit line. reading-formed line }

@@ -21,12 +21,11 @@ use Rattle.script_meaning.specs.declared.turn.Turn.{Turn}
 use Rattle.script_meaning.specs.declared.turn.Turn.TheVariants.{Accepted, Refused, TooLarge}
 use Rattle.run_ends.specs.Causes.{Cause, plain_cause, size_cause}
 use Rattle.script_meaning.specs.Codes.{script_code, refusal_code}
-use Rattle.script_meaning.specs.Runs.{Reading, RefusedLine, Outcome, Runs, ends, passes, obeys, refuses, IsIdle, Asks, IsRefused, too_long, unread, refused, too_large, at_end, refused_at, after_command}
+use Rattle.script_meaning.specs.Runs.{Reading, IsSound, RefusedLine, Outcome, Runs, ends, passes, obeys, refuses, IsIdle, Asks, IsRefused, too_long, unread, refused, too_large, at_end, refused_at, after_command}
 use Rattle.script_meaning.specs.Turns.{Follows, TakesTurn}
 use Rattle.script_meaning.specs.Halts.{HasObeyed, HasOutgrown, BreaksOff}
 use Rattle.session_meaning.proofs.EffectLemmas.{refused as refused_so, too_large as large_so, performed as performed_so}
 use Rattle.script_meaning.proofs.LowerLemmas.{command_ends, ready-performs}
-use Rattle.script_meaning.proofs.ReadingLemmas.{IsSound}
 use Rattle.run_ends.proofs.SizeLemmas.{size_caused}
 use Rattle.script_meaning.proofs.FirstRefusedLemmas.{after_command-twice}
 

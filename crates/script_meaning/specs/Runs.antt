@@ -1,6 +1,6 @@
 -- What a script does when it runs, from some data of a session: its lines as values, the texts of groups that are analysed for it, the
 -- data at its end, and the refusal that ends it, if one does.
-use Rattle.std.specs.Prelude.{◌≡◌, ℕ, true, false, List, [], ◌∷◌, ◌++◌, Option, None, Some, Result, Ok, Err, if◌then◌else◌}
+use Rattle.std.specs.Prelude.{◌≡◌, ◌≢◌, ℕ, true, false, List, [], ◌∷◌, ◌++◌, Option, None, Some, Result, Ok, Err, if◌then◌else◌}
 use Rattle.line_words.specs.Files.{is_cut}
 use Rattle.netlist.specs.Circuits.{CircuitData}
 use Rattle.group_text.specs.Texts.{GroupTextData}
@@ -8,7 +8,9 @@ use Rattle.circuit_texts.specs.declared.texts.BuildFault.{BuildFault}
 use Rattle.circuit_texts.specs.Sizes.{TellsTooLarge}
 use Rattle.script_lang.specs.declared.command.Command.{Command}
 use Rattle.script_lang.specs.declared.command.ScriptFault.{ScriptFault}
+use Rattle.script_lang.specs.declared.command.ScriptFault.TheVariants.{NoMemory}
 use Rattle.script_lang.specs.Commands.{reading_of}
+use Rattle.script_lang.specs.Forms.{IsFormed}
 use Rattle.session_meaning.specs.declared.fault.Refusal.{Refusal}
 use Rattle.session_meaning.specs.Sessions.{SessionData}
 use Rattle.session_meaning.specs.Refusals.{refusal_of}
@@ -31,6 +33,11 @@ Reading = CircuitData → List ℕ → Result (Option Command) ScriptFault
 -- the reading of scripts: a line is its command, whatever the circuit is
 abbrev pub plain_reading : Reading
 plain_reading circuit line = reading_of line
+
+-- a reading refuses no line for want of memory, and each command that it gives is well formed
+pub record IsSound (reading : Reading) : Type 0 where
+  pub named : (circuit : CircuitData) (line : List ℕ) → reading circuit line ≢ Err NoMemory
+  pub formed : (circuit : CircuitData) (line : List ℕ) (command : Command) → reading circuit line ≡ Ok (Some command) → IsFormed command
 
 -- the line of a script at which it stopped, and why that is refused
 pub record RefusedLine : Type 0 where

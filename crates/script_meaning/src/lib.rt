@@ -2,9 +2,9 @@
 //!
 //! The main definition is the relation `Runs` of `specs/`: the lines of a script have their effects in order,
 //! to the end or to the first that is refused, and what comes of that is an `Outcome`. The reading of a line is
-//! a parameter of the relation, so the same one serves where a node is stuck. The layers above use it as
-//! `TellsHalt` in `specs/Halts` and `TellsRun` in `specs/Ends` have it, with what was heard and analysed;
-//! `TakesTurn` in `specs/Turns` says it of one line.
+//! a parameter of the relation, so the same one serves if a fault changes how lines are read. The layers above
+//! use it as `TellsHalt` in `specs/Halts` and `TellsRun` in `specs/Ends` have it, with what was heard and
+//! analysed; `TakesTurn` in `specs/Turns` says it of one line.
 //!
 //! The types are plain: `Halt`, how the lines of a script ended, and `Turn`, what became of one of them. No
 //! session stands here: `script_run` has the calls.
@@ -16,9 +16,9 @@
 //!
 //! For the proofs of crates above: `FirstRefusedLemmas`, how what comes of a script's lines joins;
 //! `HaltLemmas`, what the refusal of a line tells; `PrintedLemmas`, what a printer has written of a script;
-//! `ReadingLemmas`, that lines are read as ever where no node is stuck; `LowerLemmas`, that a session starts
-//! ready; `RunLemmas`, that something comes of each script. They cite `TurnLemmas` and `UniqueRuns` too, whose
-//! heads say what they are of.
+//! `ReadingLemmas`, that scripts are read soundly; `LowerLemmas`, that a session starts ready; `RunLemmas`,
+//! that something comes of each script. They cite `TurnLemmas` and `UniqueRuns` too, whose heads say what they
+//! are of.
 #![tactic(auto)]
 
 mod halt;

@@ -1,25 +1,22 @@
 -- Lines that are obeyed while a hearer hears them that never fails: they end as they do, or memory runs out.
-use Rattle.std.proofs.Common.{◌≡◌, ◌≢◌, ℕ, List, Option, None, Result, Ok, Err, IfOk, IfErr, refl, subst, arith}
+use Rattle.std.proofs.Common.{◌≡◌, ◌≢◌, ℕ, List, Option, Result, Ok, Err, IfOk, IfErr, refl, arith}
 use Rattle.group_text.specs.Texts.{GroupTextData}
 use Rattle.told_lines.specs.Lines.{Told}
-use Rattle.fault_sim.specs.Masks.{masked_reading}
 use Rattle.session_meaning.specs.Sessions.{SessionData}
 use Rattle.run_ends.specs.declared.stop.Stop.{Stop}
 use Rattle.run_ends.specs.declared.stop.Stop.TheVariants.{Read, Write, Memory}
 use Rattle.run_ends.specs.Stops.{faults_written}
 use Rattle.script_meaning.specs.declared.halt.Halt.{Halt}
-use Rattle.script_meaning.specs.Runs.{Reading, plain_reading}
+use Rattle.script_meaning.specs.Runs.{Reading}
 use Rattle.script_meaning.specs.Halts.{HaltsAt, TellsHalt}
-use Rattle.script_meaning.proofs.ReadingLemmas.{masked-plain}
 
--- where no node is stuck they end as lines do that are read as ever
-pub halts_plain : {H : Type 0} (hear : H → Told → H) (part : H → Told → H → Type 0) (cut : Option ℕ) (start : SessionData) (lines : List (ℕ × List ℕ))
-    (new : SessionData) (before after : H) (asked told : List GroupTextData) (result : Result Halt Stop) →
-    TellsHalt hear part (masked_reading None) cut start lines new before after asked told result →
-    IfOk result (λ halt. HaltsAt hear plain_reading cut start lines new before after asked told halt)
-halts_plain hear part cut start lines new before after asked told (Ok halt) tells =
-    subst (λ (reading : Reading). HaltsAt hear reading cut start lines new before after asked told halt) masked-plain tells
-halts_plain hear part cut start lines new before after asked told (Err stop) tells = tt
+-- where they were not stopped they end
+pub halts_obeyed : {H : Type 0} (hear : H → Told → H) (part : H → Told → H → Type 0) (reading : Reading) (cut : Option ℕ) (start : SessionData)
+    (lines : List (ℕ × List ℕ)) (new : SessionData) (before after : H) (asked told : List GroupTextData) (result : Result Halt Stop) →
+    TellsHalt hear part reading cut start lines new before after asked told result →
+    IfOk result (λ halt. HaltsAt hear reading cut start lines new before after asked told halt)
+halts_obeyed hear part reading cut start lines new before after asked told (Ok halt) tells = tells
+halts_obeyed hear part reading cut start lines new before after asked told (Err stop) tells = tt
 
 -- they are stopped by want of memory alone
 pub memory_alone : {T : Type 0} (result : Result T Stop) → IfErr result (λ stop. stop ≢ Read) → 0 ≡ faults_written 0 result → IfErr result (λ stop. stop ≡ Memory)

@@ -24,7 +24,7 @@ use path_meaning::Walk;
 use port_edge::{Sink, send};
 use run_ends::{End, Stop, refuse};
 use script_meaning::Halt;
-use script_run::{obey_lines, refuse_halt};
+use script_run::{Plain, obey_lines, refuse_halt};
 use std::alloc::Global;
 use ternary::NoMemory;
 use told_lines::{Printer, Silence};
@@ -67,7 +67,7 @@ fn run_unwritten<A: Analyst>(
     ensures memory { IfErr result (λ stop. stop ≡ Stop.Memory) }
 {
     let mut nobody = Silence::new();
-    obey_lines(alloc, session, text, None, &mut nobody, analyst)
+    obey_lines(alloc, session, text, &Plain, &mut nobody, analyst)
 }
 
 // Explains the node of this name where the lines of a script ended, or writes the line of the refusal that

@@ -27,7 +27,7 @@ use netlist::Circuit;
 use port_edge::{Sink, send};
 use run_ends::{End, Stop, refuse, refuse_size};
 use script_meaning::Halt;
-use script_run::obey_lines;
+use script_run::{Plain, obey_lines};
 use sim_read::{NetFault, NetRefusal, read_netlist};
 use std::alloc::Global;
 use table_keys::TableKeys;
@@ -169,7 +169,7 @@ fn count_lines<A: Analyst>(
         sums.old.summary sums.new.summary (A.analysed analyst.old) (A.analysed analyst.new)) }
     ensures memory { IfErr result (λ stop. stop ≡ Stop.Memory) }
 {
-    obey_lines(alloc, session, text, None, sums, analyst)
+    obey_lines(alloc, session, text, &Plain, sums, analyst)
 }
 
 // Writes the line of a summary.

@@ -2,7 +2,6 @@
 
 ghost use Rattle.std.specs.Prelude.{◌≡◌, ◌≢◌, ℕ, None, IfErr};
 ghost use Rattle.line_words.specs.Files as file;
-ghost use Rattle.fault_sim.specs.Masks.{masked_reading};
 ghost use Rattle.session_meaning.specs.Sessions.{IsReady};
 ghost use Rattle.session_meaning.specs.Sinks.{faults_applied};
 ghost use Rattle.script_meaning.specs.Runs.{plain_reading, status_told};
@@ -13,16 +12,15 @@ ghost use Rattle.run_ends.specs.Ends.{status_of};
 ghost use Rattle.run_ends.specs.Stops.{faults_written, IsRefusedOnce};
 
 use crate::codes::{refusal_code, script_code};
+use crate::reader::{LineReader, Plain};
 use crate::refusal::refuse_halt;
 use circuit_texts::BuildFault;
 use cosmos_session::{ApplyFault, Session};
-use fault_sim::read_masked;
 use group_analysis::Analyst;
 use line_words::{Line, cut_line, front, lines};
 use run_ends::{End, Stop};
 use script_meaning::{Halt, Turn};
 use std::alloc::Global;
-use ternary::Tern;
 use told_lines::Lines;
 use wave_print::FaultCode;
 
@@ -43,7 +41,7 @@ pub fn run_lines<L: Lines, A: Analyst>(
     ensures write { L.faults out.new ≡ faults_written (L.faults out.old) result }
     ensures refused { IsRefusedOnce (L.refusals out.old) (L.refusals out.new) result }
 {
-    let halt = obey_lines(alloc, session, text, None, out, analyst)?;
+    let halt = obey_lines(alloc, session, text, &Plain, out, analyst)?;
     match halt {
         Halt::End => Ok(end_of(session)),
         _ => refuse_halt(alloc, session.circuit(), halt, text, 1, out),
@@ -51,19 +49,17 @@ pub fn run_lines<L: Lines, A: Analyst>(
 }
 
 /// Obeys the lines of a script, in order, to the end or to the first that is refused, and answers which one
-/// that is.
-///
-/// While a node is stuck at a state each line is read as `fault_sim::read_masked` does.
-pub fn obey_lines<L: Lines, A: Analyst>(
+/// that is. Each is read by the reader, in the circuit as it is then.
+pub fn obey_lines<R: LineReader, L: Lines, A: Analyst>(
     alloc: Global,
     session: &mut Session,
     text: &[u8],
-    stuck: Option<(usize, Tern)>,
+    reader: &R,
     out: &mut L,
     analyst: &mut A,
 ) -> Result<Halt, Stop>
     requires { IsReady session.old.core }
-    ensures told { TellsHalt L.hear L.part (masked_reading stuck)
+    ensures told { TellsHalt L.hear L.part (R.reading reader.now)
         (file.cut_line text.now) session.old.core (file.lines_in text.now) session.new.core
         (L.heard out.old) (L.heard out.new) (A.analysed analyst.old) (A.analysed analyst.new) result }
     ensures no_read { IfErr result (λ stop. stop ≢ Stop.Read) }
@@ -72,7 +68,7 @@ pub fn obey_lines<L: Lines, A: Analyst>(
 {
     let cut = cut_line(text);
     for line in lines(front(text)) {
-        match run_line(alloc, session, cut, line, stuck, out, analyst)? {
+        match run_line(alloc, session, cut, line, reader, out, analyst)? {
             Turn::Accepted => {}
             Turn::Refused(code) => return Ok(Halt::Refused(line.number, code)),
             Turn::TooLarge(fault) => return Ok(Halt::TooLarge(line.number, fault)),
@@ -92,19 +88,17 @@ fn end_of(session: &Session) -> End
     }
 }
 
-/// Runs one line; the one that holds the first byte too many of the script is refused.
-///
-/// While a node is stuck at a state the line is read as `fault_sim::read_masked` does.
-pub fn run_line<L: Lines, A: Analyst>(
+/// Runs one line, as the reader reads it; the one that holds the first byte too many of the script is refused.
+pub fn run_line<R: LineReader, L: Lines, A: Analyst>(
     alloc: Global,
     session: &mut Session,
     cut: Option<u64>,
     line: Line<'_>,
-    stuck: Option<(usize, Tern)>,
+    reader: &R,
     out: &mut L,
     analyst: &mut A,
 ) -> Result<Turn, Stop>
-    ensures turn { TakesTurn L.hear L.part (masked_reading stuck)
+    ensures turn { TakesTurn L.hear L.part (R.reading reader.now)
         cut (line.entry.number, line.entry.bytes.now) session.old session.new
         (L.heard out.old) (L.heard out.new) (A.analysed analyst.old) (A.analysed analyst.new) result }
     ensures no_read { IfErr result (λ stop. stop ≢ Stop.Read) }
@@ -114,7 +108,7 @@ pub fn run_line<L: Lines, A: Analyst>(
     if cut == Some(line.number) {
         return Ok(Turn::Refused(FaultCode::S11TooLong));
     }
-    match read_masked(alloc, line.bytes, session.circuit(), stuck) {
+    match reader.read(alloc, line.bytes, session.circuit()) {
         Ok(Some(command)) => turn_of(session.apply(&command, analyst, out)),
         Ok(None) => Ok(Turn::Accepted),
         Err(fault) => match script_code(fault) {

@@ -2,7 +2,7 @@ use cosmos_session::Session;
 use line_words::lines;
 use node_elimination::SymbolicAnalyst;
 use script_meaning::Turn;
-use script_run::run_line;
+use script_run::{Plain, run_line};
 use sim_read::read_netlist;
 use std::alloc::Global;
 use std::test::Fail;
@@ -84,7 +84,7 @@ fn follow(
 ) -> bool {
     let mut out = Silence::new();
     for line in lines(script) {
-        match run_line(alloc, session, None, line, None, &mut out, analyst) {
+        match run_line(alloc, session, None, line, &Plain, &mut out, analyst) {
             Ok(Turn::Accepted) => {}
             _ => return false,
         }

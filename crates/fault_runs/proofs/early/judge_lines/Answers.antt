@@ -23,10 +23,10 @@ loop-line-init g c =
 
 pub returns-in-Some-found : goal.returns-in-Some-found
 returns-in-Some-found g c =
-    let come = subst (λ (begun : CompareData). HasCome compared (masked_reading c.args.stuck) c.cut_line-cut.result c.args.session.now.core
+    let come = subst (λ (begun : CompareData). HasCome compared (masked_reading c.args.reader.stuck) c.cut_line-cut.result c.args.session.now.core
     (file.lines_in c.args.script.now) begun (g.A.Analyst.analysed c.args.analyst.now) c.loop-line.session.core c.loop-line.line-iterator c.loop-line.out
     (g.A.Analyst.analysed c.loop-line.analyst)) c.new-out.ensures c.loop-line.invariant.come in
-    ends_here c.args.stuck c.args.script.now c.cut_line-cut.ensures c.args.good.now c.rows-good_rows.ensures (λ _ _ _. ⊥) c.loop-line.session
+    ends_here c.args.reader.stuck c.args.script.now c.cut_line-cut.ensures c.args.good.now c.rows-good_rows.ensures (λ _ _ _. ⊥) c.loop-line.session
     come c.in-Some.ensures.steps c.run_line.new.session c.run_line.new.out (g.A.Analyst.analysed c.run_line.new.analyst)
     c.args.calm_from c.loop-line.invariant.placed c.is_from-calm.result c.in-Ok.turn c.in-Ok.ensures.turn c.verdict_after-found.result
     c.verdict_after-found.ensures c.in-Some-found.verdict c.in-Some-found.is c.is_from-calm.ensures
@@ -37,23 +37,23 @@ loop-line-preserved g c =
     let asked = g.A.Analyst.analysed c.args.analyst.now in
     let start = c.args.session.now.core in
     let further = g.A.Analyst.analysed c.run_line.new.analyst in
-    let come = subst (λ (begun : CompareData). HasCome compared (masked_reading c.args.stuck) c.cut_line-cut.result start all begun asked
+    let come = subst (λ (begun : CompareData). HasCome compared (masked_reading c.args.reader.stuck) c.cut_line-cut.result start all begun asked
     c.loop-line.session.core c.loop-line.line-iterator c.loop-line.out (g.A.Analyst.analysed c.loop-line.analyst)) c.new-out.ensures
     c.loop-line.invariant.come in
-    let past = goes_past c.args.stuck c.args.script.now c.cut_line-cut.ensures c.args.good.now c.rows-good_rows.ensures (λ _ _ _. ⊥) c.loop-line.session
+    let past = goes_past c.args.reader.stuck c.args.script.now c.cut_line-cut.ensures c.args.good.now c.rows-good_rows.ensures (λ _ _ _. ⊥) c.loop-line.session
     come c.in-Some.ensures.steps c.run_line.new.session c.run_line.new.out further c.args.calm_from c.loop-line.invariant.placed c.is_from-calm.result
     c.in-Ok.turn c.in-Ok.ensures.turn c.verdict_after-found.result c.verdict_after-found.ensures c.in-None-found.is in
     record {
-      come = subst (λ (begun : CompareData). HasCome compared (masked_reading c.args.stuck) c.cut_line-cut.result start all begun asked
+      come = subst (λ (begun : CompareData). HasCome compared (masked_reading c.args.reader.stuck) c.cut_line-cut.result start all begun asked
           c.run_line.new.session.core c.next.new.self c.run_line.new.out further) (sym c.new-out.ensures) past.0;
       placed = past.1;
     }
 
 pub returns : goal.returns
 returns g c =
-    let come = subst (λ (begun : CompareData). HasCome compared (masked_reading c.args.stuck) c.cut_line-cut.result c.args.session.now.core
+    let come = subst (λ (begun : CompareData). HasCome compared (masked_reading c.args.reader.stuck) c.cut_line-cut.result c.args.session.now.core
     (file.lines_in c.args.script.now) begun (g.A.Analyst.analysed c.args.analyst.now) c.loop-line.session.core c.loop-line.line-iterator c.loop-line.out
     (g.A.Analyst.analysed c.loop-line.analyst)) c.new-out.ensures c.loop-line.invariant.come in
     rw c.verdict.ensures
-    (ends_whole c.args.stuck c.args.script.now c.cut_line-cut.ensures c.args.good.now c.rows-good_rows.ensures
+    (ends_whole c.args.reader.stuck c.args.script.now c.cut_line-cut.ensures c.args.good.now c.rows-good_rows.ensures
     (comes_to come c.in-None.ensures.steps.0))

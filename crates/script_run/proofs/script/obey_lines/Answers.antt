@@ -3,7 +3,6 @@ use Rattle.std.proofs.Common.{List, ℕ, inr, refl, sym, ap, ◌∙◌}
 use Rattle.std.specs.List.{enumerate_from}
 use Rattle.std.proofs.lemmas.Result.{err_from_is_err_and}
 use Rattle.line_words.specs.Lines.{lines_of}
-use Rattle.script_meaning.proofs.ReadingLemmas.{masked-sound}
 use Rattle.script_meaning.proofs.RunLemmas.{comes_first, comes_to, comes_on, halts_refused, halts_large, halts_stop, halts_end}
 use Rattle.script_run.proofs.script.obey_lines.Goals as goal
 
@@ -22,7 +21,7 @@ returns-in_err-run_line-clause-told g c =
     let come = comes_to c.loop-line.invariant.come c.in-Some.ensures.steps in
     let p = err_from_is_err_and c.from_residual.result c.from_residual.ensures.1 in
     rw p.1
-    (inr (halts_stop g.L.Lines.part c.loop-line.session come (masked-sound c.args.stuck) c.run_line.new.session (g.L.Lines.heard c.run_line.new.out)
+    (inr (halts_stop g.L.Lines.part c.loop-line.session come (g.met.R.LineReader.sound c.args.reader.now) c.run_line.new.session (g.L.Lines.heard c.run_line.new.out)
     (g.A.Analyst.analysed c.run_line.new.analyst) c.in_err-run_line.field-0.0 c.in_err-run_line.ensures.turn c.cut_line-cut.ensures))
 
 pub loop-line-preserved : goal.loop-line-preserved

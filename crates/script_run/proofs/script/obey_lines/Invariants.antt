@@ -1,12 +1,11 @@
 use Rattle.std.proofs.Common.{◌≡◌}
 use Rattle.line_words.specs.Files as file
-use Rattle.fault_sim.specs.Masks.{masked_reading}
 use Rattle.script_meaning.proofs.RunLemmas.{HasCome}
 use Rattle.script_run.proofs.script.obey_lines.Given as goal
 
 abbrev pub invariant-loop-line : goal.invariant-loop-line
 invariant-loop-line g l = record {
-  come : HasCome g.L.Lines.hear (masked_reading l.stuck) l.cut l.fn.session.core (file.lines_in l.text) (g.L.Lines.heard l.fn.out) (g.A.Analyst.analysed l.fn.analyst)
+  come : HasCome g.L.Lines.hear (g.R.LineReader.reading l.reader) l.cut l.fn.session.core (file.lines_in l.text) (g.L.Lines.heard l.fn.out) (g.A.Analyst.analysed l.fn.analyst)
       l.session.core l.line-iterator (g.L.Lines.heard l.out) (g.A.Analyst.analysed l.analyst);
   faults : g.L.Lines.faults l.out ≡ g.L.Lines.faults l.fn.out;
   refusals : g.L.Lines.refusals l.out ≡ g.L.Lines.refusals l.fn.out;

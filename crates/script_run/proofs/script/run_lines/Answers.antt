@@ -1,22 +1,21 @@
--- Where no node is stuck lines are read as ever; what was told of the lines becomes what is told of the whole script.
+-- What was told of the lines becomes what is told of the whole script.
 use Rattle.std.proofs.Common.{sym, subst}
 use Rattle.std.proofs.lemmas.Result.{err_from_is_err_and}
 use Rattle.netlist.specs.Circuits.{CircuitData}
 use Rattle.script_meaning.specs.Halts.{IsCutShort}
-use Rattle.script_meaning.proofs.ReadingLemmas.{masked-plain}
-use Rattle.script_meaning.proofs.HaltLemmas.{cut_short, told_end, told_cut, told_broken}
+use Rattle.script_meaning.proofs.HaltLemmas.{cut_short, told_end, told_cut, told_stop}
 use Rattle.script_run.proofs.script.run_lines.Goals as goal
 
 pub returns-in_err-halt-clause-told : goal.returns-in_err-halt-clause-told
 returns-in_err-halt-clause-told g c =
     let p = err_from_is_err_and c.from_residual.result c.from_residual.ensures.1 in
     rw p.1
-    (told_broken g.L.Lines.hear g.L.Lines.part _ _ _ _ c.obey_lines.new.session.core _ _ (g.A.Analyst.analysed c.args.analyst.now)
-    (g.A.Analyst.analysed c.obey_lines.new.analyst) masked-plain c.in_err-halt.field-0.0 c.in_err-halt.ensures.told)
+    (told_stop g.L.Lines.hear g.L.Lines.part _ _ _ _ c.obey_lines.new.session.core _ _ (g.A.Analyst.analysed c.args.analyst.now)
+    (g.A.Analyst.analysed c.obey_lines.new.analyst) c.in_err-halt.field-0.0 c.in_err-halt.ensures.told)
 
 pub returns-in-End-clause-told : goal.returns-in-End-clause-told
 returns-in-End-clause-told g c =
-    told_end g.L.Lines.hear g.L.Lines.part _ _ _ _ _ _ _ _ _ masked-plain c.end_of.result c.in_ok-halt.halt c.in_ok-halt.ensures.told c.in-End.is
+    told_end g.L.Lines.hear g.L.Lines.part _ _ _ _ _ _ _ _ _ c.end_of.result c.in_ok-halt.halt c.in_ok-halt.ensures.told c.in-End.is
     c.end_of.ensures
 
 pub refuse_halt-requires : goal.refuse_halt-requires
@@ -26,5 +25,5 @@ refuse_halt-requires g c =
 
 pub returns-in_default-clause-told : goal.returns-in_default-clause-told
 returns-in_default-clause-told g c =
-    told_cut g.L.Lines.hear g.L.Lines.part _ _ _ _ _ _ _ _ _ masked-plain (g.L.Lines.heard c.refuse_halt.new.out) c.refuse_halt.result c.in_ok-halt.halt _
+    told_cut g.L.Lines.hear g.L.Lines.part _ _ _ _ _ _ _ _ _ (g.L.Lines.heard c.refuse_halt.new.out) c.refuse_halt.result c.in_ok-halt.halt _
     c.in_ok-halt.ensures.told c.circuit.ensures.value c.refuse_halt.ensures.told

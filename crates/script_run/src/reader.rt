@@ -1,0 +1,53 @@
+//! How the lines of a script are read.
+
+ghost use Rattle.std.specs.Prelude.{◌≡◌, ◌⊎◌, Ok, Err, IfOk, IfErr, IfSome};
+ghost use Rattle.script_lang.specs.Forms.{IsFormed};
+ghost use Rattle.script_meaning.specs.Runs.{Reading, IsSound};
+
+use netlist::Circuit;
+use script_lang::{Command, ScriptFault, read_command};
+use std::alloc::Global;
+
+/// Who reads the lines of a script.
+///
+/// Contracts see what a line asks for in a circuit. That is sound: a line that is no command has its refusal, and a
+/// command is well formed.
+pub trait LineReader {
+    ghost reading: { Self → Reading };
+
+    /// Reads a line in a circuit: the command that it asks for, or None exactly where there is nothing to do.
+    fn read(
+        &self,
+        alloc: Global,
+        line: &[u8],
+        circuit: &Circuit,
+    ) -> Result<Option<Command>, ScriptFault>
+        ensures ok { IfOk result (λ asked. reading self.now circuit.now line.now ≡ Ok asked) }
+        ensures refused { IfErr result (λ fault. (fault ≡ ScriptFault.NoMemory)
+            ⊎ (reading self.now circuit.now line.now ≡ Err fault)) }
+        ensures formed { IfOk result (λ asked. IfSome asked IsFormed) };
+
+    ghost sound: { (reader : Self) → IsSound (reading reader) };
+}
+
+/// Reads each line as its command, whatever the circuit is.
+#[derive(Clone, Copy)]
+pub struct Plain;
+
+impl LineReader for Plain {
+    ghost use Rattle.script_meaning.specs.Runs.{plain_reading};
+    ghost use Rattle.script_meaning.proofs.ReadingLemmas.{plain-sound};
+
+    ghost reading = { λ _. plain_reading };
+
+    ghost sound = { λ _. plain-sound };
+
+    fn read(
+        &self,
+        alloc: Global,
+        line: &[u8],
+        _circuit: &Circuit,
+    ) -> Result<Option<Command>, ScriptFault> {
+        read_command(alloc, line)
+    }
+}
