@@ -2,4 +2,3 @@ pub mod Faults
 pub mod LineBuf
 pub mod Lines
 pub mod Verdicts
-pub mod Waves

@@ -8,13 +8,9 @@
 //! ```text
 //! wave_line(&mut out, 7, 2, true, &[Tern::One, Tern::Unk])
 //!     appends `7 2* 1X` and LF
-//! wave_values(b"7 2* 1X")
-//!     is Some((7, b"1X")): a waveform line is read back, and no other line is
 //! fault_line(&mut out, FaultPlace::NetWhole, FaultCode::G1GroupNodes, b"s1", 201)
 //!     appends `net: G1 GroupNodes s1 201` and LF
 //! ```
-//!
-//! The proofs of crates above cite `WaveLemmas`, whose head says what it is of.
 #![tactic(auto)]
 
 mod faults;
@@ -22,7 +18,6 @@ mod laws;
 mod line_buf;
 mod lines;
 mod verdicts;
-mod waves;
 
 pub use faults::{FAULT_LINE_ROOM, FaultCode, FaultPlace, fault_line};
 pub use laws::limits_are_as_stated;
@@ -36,4 +31,3 @@ pub use verdicts::{
     FAULTS_LINE_ROOM, VERDICT_LINE_ROOM, detected_line, faults_line, possible_line, refused_line,
     undetected_line,
 };
-pub use waves::wave_values;
