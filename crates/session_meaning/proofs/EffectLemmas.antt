@@ -106,7 +106,7 @@ nodes-after c other = omega arith
 -- ---- phases and cycles
 
 -- a phase keeps the data ready
-pub phase-ready : (session new : SessionData) (lines : List Line) → IsPhase session new lines → IsReady session → IsReady new
+phase-ready : (session new : SessionData) (lines : List Line) → IsPhase session new lines → IsReady session → IsReady new
 phase-ready session new lines phase ready = rw phase.moved (record {
   netlist = ready.netlist;
   states = length-settles session.circuit.graph session.state session.limit phase.next phase.steps phase.joined ready.states phase.settles;
@@ -115,7 +115,7 @@ phase-ready session new lines phase ready = rw phase.moved (record {
 })
 
 -- so do clocks' states at a place
-pub with_beat-ready : (session : SessionData) (place : ℕ) → IsReady session → IsReady (with_beat session place)
+with_beat-ready : (session : SessionData) (place : ℕ) → IsReady session → IsReady (with_beat session place)
 with_beat-ready session place ready = record {
   netlist = ready.netlist;
   states = length-states_with session.clocks place session.state ∙ ready.states;
@@ -179,7 +179,7 @@ effect_exists session ready (family.Tell tell) has =
     (with_told session (told_by session tell), told_by session tell, (refl, refl))
 
 -- a build keeps the data ready
-pub ready-build : (old mid : SessionData) (texts : List GroupTextData) → IsBuild old mid texts → IsReady old → IsReady mid
+ready-build : (old mid : SessionData) (texts : List GroupTextData) → IsBuild old mid texts → IsReady old → IsReady mid
 ready-build old mid texts build ready =
     rw build.used (record { netlist = ready.netlist; states = ready.states; sound = ready.sound; free = ready.free })
 

@@ -18,6 +18,5 @@ pub mod LeavingLemmas
 pub mod BuildLemmas
 pub mod MoveLemmas
 pub mod ReportLemmas
-pub mod BoundLemmas
 pub mod UniqueBuilds
 pub mod UniqueEffects

@@ -7,5 +7,4 @@ pub mod Switches
 pub mod Machines
 pub mod Outcomes
 pub mod Stages
-pub mod Bounds
 pub mod Laws

@@ -15,8 +15,7 @@
 //! ```
 //!
 //! For the proofs of crates above: `EffectLemmas`, how each formed command ends, and that what is
-//! done keeps the data ready; `BoundLemmas`, that the lines of a formed command can be read again.
-//! They cite `BeatLemmas`, `ClockLemmas`, `EditLemmas`, `LeavingLemmas`, `LineLemmas`, `MachineLemmas`,
+//! done keeps the data ready. They cite `BeatLemmas`, `ClockLemmas`, `EditLemmas`, `LeavingLemmas`, `LineLemmas`, `MachineLemmas`,
 //! `OutcomeLemmas`, `RefusalLemmas`, `SizeLemmas`, `StateLemmas`, `UniqueBuilds` and `UniqueEffects` too,
 //! whose heads say what they are of. `cosmos_session` cites the others: `BuildLemmas`, `LastLemmas`,
 //! `MoveLemmas`, `ReportLemmas`, `RestLemmas`, `RoomLemmas`, `StayingLemmas`, `TickLemmas` and `UndoLemmas`.
