@@ -1,13 +1,14 @@
 -- What is answered of a script for columns whose lines were obeyed: their rows, and the line of the refusal that ended them, if one did.
-use Rattle.std.proofs.Common.{◌≡◌, ◌≢◌, ℕ, ◌⊎◌, inl, inr, Bool, true, false, List, [], ◌∷◌, ◌++◌, Option, None, Some, Result, Ok, Err, refl, sym, ap, subst, ◌∙◌, append-nil}
+use Rattle.std.proofs.Common.{◌≡◌, ◌≢◌, ℕ, ◌⊎◌, inl, inr, List, [], ◌∷◌, ◌++◌, Option, None, Some, Result, Ok, Err, refl, sym, ap, subst, ◌∙◌, append-nil}
 use Rattle.std.specs.Io.KnownBytes.{append_known}
 use Rattle.port_edge.specs.Sending.{WritesPart}
 use Rattle.port_edge.proofs.SendingLemmas.{append_known-append, sends_part, part_longer}
 use Rattle.netlist.specs.Circuits.{CircuitData}
 use Rattle.group_text.specs.Texts.{GroupTextData}
+use Rattle.wave_print.specs.declared.faults.FaultPlace.TheVariants.{Script}
 use Rattle.told_lines.specs.Hearing.{of_column}
-use Rattle.told_lines.specs.Printing.{Page, print, PrintsPart, text_printed}
-use Rattle.told_lines.proofs.PrintingLemmas.{written-all, written-front}
+use Rattle.told_lines.specs.Printing.{Page, print, PrintsPart}
+use Rattle.told_lines.proofs.PrintingLemmas.{written-all, written-front, refusal-printed}
 use Rattle.session_meaning.specs.Sessions.{SessionData}
 use Rattle.script_meaning.specs.declared.halt.Halt.{Halt}
 use Rattle.script_meaning.specs.declared.halt.Halt.TheVariants.{End, Refused, TooLarge}
@@ -59,11 +60,6 @@ module _ (lanes : ℕ) (cut : Option ℕ) (start : ℕ → SessionData) (lines :
 
 -- ---- the refusal, as it is told to a printer
 
--- its line is printed alike with the number of its column and without
-refusal-printed : (numbered : Bool) (stopped : RefusedLine) → text_printed numbered (of_column 0 (refusal_line stopped ∷ [])) ≡ refusal_text (Some stopped)
-refusal-printed true stopped = append-nil (refusal_text (Some stopped))
-refusal-printed false stopped = append-nil (refusal_text (Some stopped))
-
 module _ (lanes : ℕ) (cut : Option ℕ) (start : ℕ → SessionData) (lines : List (ℕ × List ℕ)) (before : Option (List ℕ)) (page after : Page) (asked told : List GroupTextData) where
   -- a line was refused, and the line of its refusal was told
   told_refused : (stopped : RefusedLine) (result : Result end.End Stop) → HaveObeyed lanes cut start lines before page.written asked told (Some stopped) →
@@ -75,8 +71,8 @@ module _ (lanes : ℕ) (cut : Option ℕ) (start : ℕ → SessionData) (lines :
         right = (right lanes cut start lines obeyed.text obeyed.texts (Some stopped) obeyed.runs, obeyed.analysed);
         ended = sym (ap status_of is);
         grew = ap (λ (now : Page). now.written) heard ∙ written-all page (of_column 0 (refusal_line stopped ∷ []))
-            ∙ ap (append_known page.written) (refusal-printed page.numbered stopped) ∙ ap (λ known. append_known known line) obeyed.grew
-            ∙ append_known-append before obeyed.text line;
+            ∙ ap (append_known page.written) (refusal-printed page.numbered 0 (Script stopped.line) stopped.cause.code stopped.cause.name stopped.cause.count)
+            ∙ ap (λ known. append_known known line) obeyed.grew ∙ append_known-append before obeyed.text line;
       }
   told_refused stopped (Err stop) obeyed heard =
       let line = refusal_text (Some stopped) in
@@ -85,7 +81,8 @@ module _ (lanes : ℕ) (cut : Option ℕ) (start : ℕ → SessionData) (lines :
         right = right lanes cut start lines obeyed.text obeyed.texts (Some stopped) obeyed.runs;
         part = sends_part before page.written after.written (obeyed.text ++ line) line []
             (record { sent = obeyed.text; whole = ap (λ (text : List ℕ). obeyed.text ++ text) (sym (append-nil line)); grew = obeyed.grew })
-            (subst (WritesPart page.written after.written) (refusal-printed page.numbered stopped)
+            (subst (WritesPart page.written after.written)
+            (refusal-printed page.numbered 0 (Script stopped.line) stopped.cause.code stopped.cause.name stopped.cause.count)
             (written-front page after (of_column 0 (refusal_line stopped ∷ [])) heard));
       })
 

@@ -1,5 +1,5 @@
 -- What was told of a node at the end of a script, or of the refusal that ended it, is told of the answer to `why`.
-use Rattle.std.proofs.Common.{◌≡◌, ℕ, inl, inr, Bool, true, false, List, [], ◌∷◌, Option, None, Some, Result, Ok, Err, refl, sym, ap, subst, ◌∙◌, append-nil}
+use Rattle.std.proofs.Common.{◌≡◌, ℕ, inl, inr, List, [], ◌∷◌, Option, None, Some, Result, Ok, Err, refl, sym, ap, subst, ◌∙◌}
 use Rattle.std.specs.Io.KnownBytes.{append_known}
 use Rattle.port_edge.specs.Sending.{WritesPart}
 use Rattle.line_words.specs.Files.{lines_in, cut_line}
@@ -9,8 +9,8 @@ use Rattle.group_text.specs.Texts.{GroupTextData}
 use Rattle.circuit_texts.specs.declared.texts.BuildFault.{BuildFault}
 use Rattle.wave_print.specs.declared.faults.FaultPlace.TheVariants.{Script}
 use Rattle.told_lines.specs.Hearing.{of_column}
-use Rattle.told_lines.specs.Printing.{Page, print, PrintsPart, text_printed}
-use Rattle.told_lines.proofs.PrintingLemmas.{written-all, written-front}
+use Rattle.told_lines.specs.Printing.{Page, print, PrintsPart}
+use Rattle.told_lines.proofs.PrintingLemmas.{written-all, written-front, refusal-printed}
 use Rattle.session_meaning.specs.Sessions.{SessionData, start_of}
 use Rattle.run_ends.specs.declared.status.Status.TheVariants.{Done, Usage, ScriptRefused}
 use Rattle.script_meaning.specs.declared.halt.Halt.{Halt}
@@ -101,13 +101,7 @@ halted_size script circuit new asked told End halts = tt
 halted_size script circuit new asked told (Refused number code) halts = tt
 halted_size script circuit new asked told (TooLarge number fault) halts = halts.first
 
--- the line of a refusal is printed alike with the number of its column and without
-refusal-printed : (numbered : Bool) (stopped : RefusedLine) →
-    text_printed numbered (of_column 0 (refusal_line stopped ∷ [])) ≡ cause_line (Script stopped.line) stopped.cause
-refusal-printed true stopped = append-nil (cause_line (Script stopped.line) stopped.cause)
-refusal-printed false stopped = append-nil (cause_line (Script stopped.line) stopped.cause)
-
--- so where a printer was told of a refusal, its line was written
+-- where a printer was told of a refusal, its line was written
 pub printed_refusal : (page after : Page) (stopped : RefusedLine) (result : Result end.End Stop) → TellsRefusal print PrintsPart page after stopped result →
     IsTold (IsRefusalFor (Script stopped.line) stopped.cause ScriptRefused) page.written after.written result
 printed_refusal page after stopped (Ok ending) (is, heard) = record {
@@ -115,12 +109,13 @@ printed_refusal page after stopped (Ok ending) (is, heard) = record {
   right = refl;
   ended = sym (ap status_of is);
   grew = ap (λ (now : Page). now.written) heard ∙ written-all page (of_column 0 (refusal_line stopped ∷ []))
-      ∙ ap (append_known page.written) (refusal-printed page.numbered stopped);
+      ∙ ap (append_known page.written) (refusal-printed page.numbered 0 (Script stopped.line) stopped.cause.code stopped.cause.name stopped.cause.count);
 }
 printed_refusal page after stopped (Err stop) heard = inr (record {
   answer = plain_answer ScriptRefused (cause_line (Script stopped.line) stopped.cause);
   right = refl;
-  part = subst (WritesPart page.written after.written) (refusal-printed page.numbered stopped)
+  part = subst (WritesPart page.written after.written)
+      (refusal-printed page.numbered 0 (Script stopped.line) stopped.cause.code stopped.cause.name stopped.cause.count)
       (written-front page after (of_column 0 (refusal_line stopped ∷ [])) heard);
 })
 

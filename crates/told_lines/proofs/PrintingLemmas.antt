@@ -1,10 +1,12 @@
 -- What a printer has written after lines: their text, and at a fault a part of it.
-use Rattle.std.proofs.Common.{◌≡◌, ℕ, Bool, false, inl, inr, List, [], ◌∷◌, ◌++◌, Option, refl, sym, ap, subst, ◌∙◌, append_assoc}
+use Rattle.std.proofs.Common.{◌≡◌, ℕ, Bool, true, false, inl, inr, List, [], ◌∷◌, ◌++◌, Option, refl, sym, ap, subst, ◌∙◌, append_assoc, append-nil}
 use Rattle.std.specs.Prelude.{Result, Ok, Err, OnErr}
 use Rattle.std.specs.Io.KnownBytes.{append_known}
 use Rattle.port_edge.specs.Sending.{Sends, WritesPart}
 use Rattle.port_edge.proofs.SendingLemmas.{append_known-nil, append_known-append, sends_part}
-use Rattle.told_lines.specs.Lines.{Line, Told, line_text, text_of}
+use Rattle.wave_print.specs.declared.faults.FaultPlace.{FaultPlace}
+use Rattle.wave_print.specs.declared.faults.FaultCode.{FaultCode}
+use Rattle.told_lines.specs.Lines.{Line, Refused, Told, line_text, text_of}
 use Rattle.told_lines.specs.Hearing.{hear_all, HearsPart, HearsFront, of_column}
 use Rattle.told_lines.specs.Printing.{Page, print, PrintsPart, printed, text_printed}
 use Rattle.told_lines.specs.Laws.{LinesArePrinted}
@@ -78,6 +80,12 @@ text_of-append (line ∷ lines) more =
 pub text-plain : (column : ℕ) (lines : List Line) → text_printed false (of_column column lines) ≡ text_of lines
 text-plain column [] = refl
 text-plain column (line ∷ lines) = ap (λ (text : List ℕ). line_text line ++ text) (text-plain column lines)
+
+-- the line of a refusal is printed alike with the number of its column and without
+pub refusal-printed : (numbered : Bool) (column : ℕ) (place : FaultPlace) (code : FaultCode) (name : List ℕ) (count : ℕ) →
+    text_printed numbered (of_column column (Refused place code name count ∷ [])) ≡ line_text (Refused place code name count)
+refusal-printed true column place code name count = append-nil (line_text (Refused place code name count))
+refusal-printed false column place code name count = append-nil (line_text (Refused place code name count))
 
 -- after a column's lines without numbers their text was written
 pub plain-all : (page : Page) (column : ℕ) (lines : List Line) → page.numbered ≡ false →
