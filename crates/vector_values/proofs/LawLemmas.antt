@@ -41,8 +41,8 @@ number_of-bits_of (suc power) number =
     ∙ sym (mod-pow-add number 1 power)
     ∙ ap (λ count. number % 2 ^ count) more
 
-pub bits-number : BitsWriteTheNumber
-bits-number count number small = number_of-bits_of count number ∙ mod-eq_of_lt small
+pub bits_number : BitsWriteTheNumber
+bits_number count number small = number_of-bits_of count number ∙ mod-eq_of_lt small
 
 -- a bit that is 0 adds nothing
 one_of-zero : (bit : Letter) → is_zero bit ≡ true → one_of bit ≡ 0
@@ -65,8 +65,8 @@ zeros-all : (count : ℕ) → list_all is_zero (replicate count (Some Zero)) ≡
 zeros-all zero = refl
 zeros-all (suc count) = zeros-all count
 
-pub fitted-number : FittedWriteTheSame
-fitted-number count bits letters made =
+pub fitted_number : FittedWriteTheSame
+fitted_number count bits letters made =
     elim (cases_lt count (length bits)) [
       | inr room ↦
           let padded : Some (replicate (count - length bits) (Some Zero) ++ bits) ≡ Some letters =
@@ -132,7 +132,7 @@ fitted-large count bits large = by (fitted count bits) refl
     by : (made : Option (List Letter)) → fitted count bits ≡ made → made ≡ None
     by None is = refl
     by (Some letters) is =
-        let same = fitted-number count bits letters is in
+        let same = fitted_number count bits letters is in
         let power : 2 ^ length letters ≡ 2 ^ count = ap (λ n. 2 ^ n) same.0 in
         absurd (omega (arith, number_of-small letters, power, same.1))
 
@@ -163,8 +163,8 @@ unfitted-from count bits are none =
     fronts : All IsBit (take (length bits - count) bits)
     fronts = All-take IsBit (length bits - count) bits are
 
-pub unfitted-large : UnfittedAreTooLarge
-unfitted-large count bits are = (unfitted-from count bits are, fitted-large count bits)
+pub unfitted_large : UnfittedAreTooLarge
+unfitted_large count bits are = (unfitted-from count bits are, fitted-large count bits)
 
 -- the bits of a number are bits
 bits-bits : (count number : ℕ) → All IsBit (bits_of count number)
@@ -196,8 +196,8 @@ letters-plain (Some letters) value is number =
     let same : plain_value letters ≡ value = cc in
     let e : false ≡ true = ap (λ (v : ValueData). v.number) same ∙ number in cc
 
-pub numbers-bits : NumbersAreBits
-numbers-bits dashes text value made number = by (after_prefix (codes "%h") text) made
+pub numbers_bits : NumbersAreBits
+numbers_bits dashes text value made number = by (after_prefix (codes "%h") text) made
   where
     hex : (digits : List ℕ) (test : Bool) (bits : Option (List Letter)) → hex_bits digits ≡ bits →
         (if test then option_map number_value bits else None) ≡ Some value → All IsBit value.letters
