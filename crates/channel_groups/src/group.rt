@@ -82,7 +82,7 @@ impl Group {
 }
 
 /// These numbers in ascending order, each once.
-fn ascending(mut numbers: Vec<usize>) -> Vec<usize>
+pub fn ascending(mut numbers: Vec<usize>) -> Vec<usize>
     ensures { IsSortedFrom numbers.items result.items }
 {
     numbers.sort_unstable();

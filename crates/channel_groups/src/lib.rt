@@ -33,6 +33,6 @@ mod regroup;
 mod search;
 
 pub use change::{Change, nodes_after, nodes_before};
-pub use group::{Group, GroupId};
+pub use group::{Group, GroupId, ascending};
 pub use groups::Groups;
 pub use laws::{empty_places_change_no_group, untouched_groups_are_kept};

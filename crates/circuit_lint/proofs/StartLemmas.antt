@@ -12,7 +12,8 @@ use Rattle.path_meaning.specs.Graphs.{GraphData}
 use Rattle.group_meaning.specs.Groups.{Group}
 use Rattle.circuit_lint.specs.declared.starts.Start.{Start}
 use Rattle.circuit_lint.specs.Conducting.{IsClosedAcross}
-use Rattle.circuit_lint.specs.Starts.{IsStartAt, GoesFirst, IsFirstStart, FindsStart, sooner_of, soonest, BeginsIn, BeginsShort, AddsStarts, AreStarts, HasSame}
+use Rattle.channel_groups.specs.Flood.{IsSortedFrom}
+use Rattle.circuit_lint.specs.Starts.{IsStartAt, GoesFirst, IsFirstStart, FindsStart, sooner_of, soonest, BeginsIn, BeginsShort, AddsStarts, AreStarts}
 use Rattle.circuit_lint.proofs.ClosedLemmas.{some_same}
 
 none_some : {X : Type 0} {x : X} → None ≡ Some x → ⊥
@@ -294,7 +295,7 @@ first_among places i other up inside unseen (j, low, same) =
 -- direct switches, and the starts of all groups, in any order
 pub AreStarts-all : (g : GraphData) (distance : List (Option ℕ)) (groups : List Group) (direct added sorted : List ℕ) →
     ((place : ℕ) → Contains direct place → IsClosedAcross g place VDD GND) → ((place : ℕ) → IsClosedAcross g place VDD GND → Contains direct place) →
-    AddsStarts g distance groups direct added → HasSame added sorted → AreStarts g distance groups sorted
+    AddsStarts g distance groups direct added → IsSortedFrom added sorted → AreStarts g distance groups sorted
 AreStarts-all g distance groups direct added sorted only all adds same = record {
   only = λ place there.
       elim (adds.only place (same.only place there)) [

@@ -63,8 +63,3 @@ pub record AddsStarts (g : GraphData) (distance : List (Option ℕ)) (groups : L
   pub all : (place : ℕ) → BeginsIn g distance groups place → Contains new place
   pub some : (group : Group) (place far : ℕ) → Contains groups group → Contains group.switches place → IsStartAt g distance place far →
       (start : Start) × IsFirstStart g distance group.switches start
-
--- the same numbers stand in both lists
-pub record HasSame (old new : List ℕ) : Type 0 where
-  pub all : (n : ℕ) → Contains old n → Contains new n
-  pub only : (n : ℕ) → Contains new n → Contains old n

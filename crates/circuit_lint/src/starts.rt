@@ -6,11 +6,11 @@ ghost use Rattle.path_meaning.specs.Graphs.{nodes};
 ghost use Rattle.group_meaning.specs.Groups.{AreGroups, id_of};
 ghost use Rattle.channel_groups.specs.Grouping.{IsId};
 ghost use Rattle.circuit_lint.specs.Conducting.{IsClosedAcross};
-ghost use Rattle.circuit_lint.specs.Starts.{IsStartAt, FindsStart, AddsStarts, AreStarts, HasSame, soonest, sooner_of};
+ghost use Rattle.circuit_lint.specs.Starts.{IsStartAt, FindsStart, AddsStarts, AreStarts, soonest, sooner_of};
 
 use crate::conducting::across;
 use crate::lists::push_some;
-use channel_groups::{GroupId, Groups};
+use channel_groups::{GroupId, Groups, ascending};
 use path_meaning::{GND, Graph, VDD};
 use std::alloc::{AllocError, Global};
 
@@ -150,14 +150,4 @@ fn sooner_of(first: Start, second: Start) -> Start
     } else {
         second
     }
-}
-
-// These numbers in ascending order, each once.
-fn ascending(mut numbers: Vec<usize>) -> Vec<usize>
-    ensures same { HasSame numbers.items result.items }
-    ensures ascending { IsStrictlyIncreasing result.items }
-{
-    numbers.sort_unstable();
-    numbers.dedup();
-    numbers
 }

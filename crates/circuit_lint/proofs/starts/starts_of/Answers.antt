@@ -5,4 +5,4 @@ use Rattle.circuit_lint.proofs.starts.starts_of.Goals as goal
 pub returns-clause-starts : goal.returns-clause-starts
 returns-clause-starts c =
     AreStarts-all c.args.graph.now c.args.distance.now c.args.groups.now.groups c.in_ok-starts.starts.items c.add_starts.new.starts.items c.ascending.result.items
-    c.in_ok-starts.ensures.only c.in_ok-starts.ensures.all c.in_ok-add_starts.ensures c.ascending.ensures.same
+    c.in_ok-starts.ensures.only c.in_ok-starts.ensures.all c.in_ok-add_starts.ensures c.ascending.ensures
