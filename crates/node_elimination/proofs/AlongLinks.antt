@@ -46,15 +46,8 @@ Fed-along g members pass other_pass source other_source among other_among s n pa
 -- the same link, its place among others
 Link-among : (g : GraphData) (pass : ℕ → Bool) (among other : ℕ → Type 0) (s m n : ℕ) (link : Link g pass among s m n) →
     other link.place → Link g pass other s m n
-Link-among g pass among other s m n link there = record {
-  place = link.place;
-  is_among = there;
-  switch = link.switch;
-  stands = link.stands;
-  passes = link.passes;
-  strong = link.strong;
-  joins = link.joins;
-}
+Link-among g pass among other s m n link there =
+    record { place = link.place; is_among = there; switch = link.switch; stands = link.stands; passes = link.passes; strong = link.strong; joins = link.joins }
 
 -- a link over one of some places, or over one of some others
 pub Link-either : (g : GraphData) (pass : ℕ → Bool) (first second : ℕ → Type 0) (s m n : ℕ) →

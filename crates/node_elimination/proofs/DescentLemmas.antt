@@ -139,20 +139,16 @@ Grows-drives inputs above next p0 p1 p2 p3 clear t1 t2 t3 total e1 e2 e3 g1 g2 g
         let m1 : AreGrown p1 listed bound t1 clear = g1.grown listed bound (all_strong P0 above above0) in
         let l1 : List ℕ = m1.more ++ listed in
         let P1 : Id → Type 0 = λ id. IsWithin p1 l1 bound id.place in
-        let inputs1 : AreWithin p1 l1 bound (input_formulas inputs) =
-        AreWithin-moved p0 p1 m1.more listed bound (input_formulas inputs) e1 inputs0 in
-        let drives1 : AreWithin p1 l1 bound (driven_formulas above.drives) =
-        AreWithin-moved p0 p1 m1.more listed bound (driven_formulas above.drives) e1 drives0 in
+        let inputs1 = AreWithin-moved p0 p1 m1.more listed bound (input_formulas inputs) e1 inputs0 in
+        let drives1 = AreWithin-moved p0 p1 m1.more listed bound (driven_formulas above.drives) e1 drives0 in
         let m2 : AreGrown p2 l1 bound t2 next.one.items =
         g2.grown l1 bound
         (all_held P1 above.drives.one.items inputs.hi.items (all_one P1 above.drives drives1) m1.within (all_live P1 inputs inputs1)
         (all_hi P1 inputs inputs1)) in
         let l2 : List ℕ = m2.more ++ l1 in
         let P2 : Id → Type 0 = λ id. IsWithin p2 l2 bound id.place in
-        let inputs2 : AreWithin p2 l2 bound (input_formulas inputs) =
-        AreWithin-moved p1 p2 m2.more l1 bound (input_formulas inputs) e2 inputs1 in
-        let drives2 : AreWithin p2 l2 bound (driven_formulas above.drives) =
-        AreWithin-moved p1 p2 m2.more l1 bound (driven_formulas above.drives) e2 drives1 in
+        let inputs2 = AreWithin-moved p1 p2 m2.more l1 bound (input_formulas inputs) e2 inputs1 in
+        let drives2 = AreWithin-moved p1 p2 m2.more l1 bound (driven_formulas above.drives) e2 drives1 in
         let clear2 : AreWithin p2 l2 bound clear = AreWithin-moved p1 p2 m2.more l1 bound clear e2 m1.within in
         let m3 : AreGrown p3 l2 bound t3 next.zero.items =
         g3.grown l2 bound

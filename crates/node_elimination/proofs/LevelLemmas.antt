@@ -80,15 +80,8 @@ module _ (g : GraphData) (wired : IsWired g) (state : List Tern) where
   clear-from_unbeaten : (s n : ℕ) → (¬ IsBeaten g state n s) → IsClear g state s n
   clear-from_unbeaten s n unbeaten reached =
       let way : HasDefinitePath g state (s + 1) n = path-from_Reached (s + 1) n (omega arith) reached in
-      unbeaten (record {
-        root = way.root;
-        hops = way.hops;
-        there = way.there;
-        path = way.path;
-        ends = way.ends;
-        definite = way.definite;
-        stronger = omega (arith, way.strong);
-      })
+      let stronger : s < way.there.strength = omega (arith, way.strong) in
+      unbeaten (record { root = way.root; hops = way.hops; there = way.there; path = way.path; ends = way.ends; definite = way.definite; stronger = stronger })
 
   -- no definite path is stronger than an input node
   pub never_reached : (t n : ℕ) → INPUT_LEVEL < t → Reached g state t n → ⊥

@@ -62,6 +62,14 @@ AddsLinks-none g members among s gates passes sources pool system weak = record 
   );
 }
 
+-- what holds after two steps held before both, or one of them made it
+made_by : {New Mid Old First Second Made : Type 0} → (Mid → Old ⊎ First) → (New → Mid ⊎ Second) → (First → Made) → (Second → Made) → New → Old ⊎ Made
+made_by first second by_first by_second new =
+    elim (second new) [
+      | inl between ↦ elim (first between) [ inl before ↦ inl before | inr made ↦ inr (by_first made) ]
+      | inr made ↦ inr (by_second made)
+    ]
+
 module _ (g : GraphData) (members s : ℕ) (gates passes sources : List Id) (a b c : List Gate) (x y z : SystemData)
     (fit : FitLinks g members a gates passes sources) (extends : Extends a b) where
   -- the gates, passes and sources have the values that they had
@@ -89,24 +97,16 @@ module _ (g : GraphData) (members s : ℕ) (gates passes sources : List Id) (a b
       forth_edge : (vars : ℕ → Bool) (i j : ℕ) → i < members → j < members → edge c z vars i j ≡ true →
           (edge a x vars i j ≡ true) ⊎ ((value_of a gates vars i ≡ true) × Link g (value_of a passes vars) among s j i)
       forth_edge vars i j inside_i inside_j set =
-          elim ((two.edges vars i j inside_i inside_j).0 set) [
-            | inl before ↦
-                elim ((one.edges vars i j inside_i inside_j).0 before) [
-                  | inl was ↦ inl was
-                  | inr linked ↦
-                      inr (
-                        linked.0,
-                        Link-along g (value_of a passes vars) (value_of a passes vars) first among s j i
-                            (λ p inside pass. pass) of_first linked.1,
-                      )
-                ]
-            | inr linked ↦
-                inr (
-                  sym (gate_same vars i inside_i) ∙ linked.0,
-                  Link-along g (value_of b passes vars) (value_of a passes vars) second among s j i
-                      (λ p inside pass. sym (pass_same vars p inside) ∙ pass) of_second linked.1,
-                )
-          ]
+          made_by (one.edges vars i j inside_i inside_j).0 (two.edges vars i j inside_i inside_j).0
+          (λ linked. (
+            linked.0,
+            Link-along g (value_of a passes vars) (value_of a passes vars) first among s j i (λ p inside pass. pass) of_first linked.1,
+          ))
+          (λ linked. (
+            sym (gate_same vars i inside_i) ∙ linked.0,
+            Link-along g (value_of b passes vars) (value_of a passes vars) second among s j i
+                (λ p inside pass. sym (pass_same vars p inside) ∙ pass) of_second linked.1,
+          )) set
 
       back_edge : (vars : ℕ → Bool) (i j : ℕ) → i < members → j < members →
           ((edge a x vars i j ≡ true) ⊎ ((value_of a gates vars i ≡ true) × Link g (value_of a passes vars) among s j i)) →
@@ -132,27 +132,18 @@ module _ (g : GraphData) (members s : ℕ) (gates passes sources : List Id) (a b
           (right a x vars i ≡ true)
           ⊎ ((value_of a gates vars i ≡ true) × Fed g members (value_of a passes vars) (value_of a sources vars) among s i)
       forth_right vars i inside_i set =
-          elim ((two.rights vars i inside_i).0 set) [
-            | inl before ↦
-                elim ((one.rights vars i inside_i).0 before) [
-                  | inl was ↦ inl was
-                  | inr fed ↦
-                      inr (
-                        fed.0,
-                        Fed-along g members (value_of a passes vars) (value_of a passes vars) (value_of a sources vars)
-                            (value_of a sources vars)
-                            first among s i (λ p inside pass. pass) (λ q inside source. source) of_first fed.1,
-                      )
-                ]
-            | inr fed ↦
-                inr (
-                  sym (gate_same vars i inside_i) ∙ fed.0,
-                  Fed-along g members (value_of b passes vars) (value_of a passes vars) (value_of b sources vars)
-                      (value_of a sources vars)
-                      second among s i (λ p inside pass. sym (pass_same vars p inside) ∙ pass)
-                      (λ q inside source. sym (source_same vars q inside) ∙ source) of_second fed.1,
-                )
-          ]
+          made_by (one.rights vars i inside_i).0 (two.rights vars i inside_i).0
+          (λ fed. (
+            fed.0,
+            Fed-along g members (value_of a passes vars) (value_of a passes vars) (value_of a sources vars) (value_of a sources vars)
+                first among s i (λ p inside pass. pass) (λ q inside source. source) of_first fed.1,
+          ))
+          (λ fed. (
+            sym (gate_same vars i inside_i) ∙ fed.0,
+            Fed-along g members (value_of b passes vars) (value_of a passes vars) (value_of b sources vars) (value_of a sources vars)
+                second among s i (λ p inside pass. sym (pass_same vars p inside) ∙ pass)
+                (λ q inside source. sym (source_same vars q inside) ∙ source) of_second fed.1,
+          )) set
 
       back_right : (vars : ℕ → Bool) (i : ℕ) → i < members →
           ((right a x vars i ≡ true)
@@ -218,21 +209,15 @@ module _ (g : GraphData) (members s : ℕ) (gates passes sources : List Id) (a b
         (edge a x vars i j ≡ true)
         ⊎ ((value_of a gates vars i ≡ true) × Link g (value_of a passes vars) (λ p. p ≡ place) s j i)
     forth_edge vars i j inside_i inside_j set =
-        elim ((onto_a.edges vars i j inside_i inside_j).0 set) [
-          | inl before ↦
-              elim ((onto_b.edges vars i j inside_i inside_j).0 before) [
-                | inl was ↦ inl was
-                | inr now ↦
-                    let parts = both_parts (value_of a gates vars switch.b) (value_of a passes vars place) now.2 in
-                    inr (ap (value_of a gates vars) now.0 ∙ parts.0, link_at vars j i parts.1 (inl (sym now.1, sym now.0)))
-              ]
-          | inr now ↦
-              let parts = both_parts (value_of b gates vars switch.a) (value_of b passes vars place) now.2 in
-              inr (
-                sym (gate_same vars i inside_i) ∙ ap (value_of b gates vars) now.0 ∙ parts.0,
-                link_at vars j i (sym (pass_same vars place inside_place) ∙ parts.1) (inr (sym now.1, sym now.0)),
-              )
-        ]
+        made_by (onto_b.edges vars i j inside_i inside_j).0 (onto_a.edges vars i j inside_i inside_j).0
+        (λ now.
+        let parts = both_parts (value_of a gates vars switch.b) (value_of a passes vars place) now.2 in
+        (ap (value_of a gates vars) now.0 ∙ parts.0, link_at vars j i parts.1 (inl (sym now.1, sym now.0))))
+        (λ now.
+        let parts = both_parts (value_of b gates vars switch.a) (value_of b passes vars place) now.2 in (
+          sym (gate_same vars i inside_i) ∙ ap (value_of b gates vars) now.0 ∙ parts.0,
+          link_at vars j i (sym (pass_same vars place inside_place) ∙ parts.1) (inr (sym now.1, sym now.0)),
+        )) set
 
     back_edge : (vars : ℕ → Bool) (i j : ℕ) → i < members → j < members →
         ((edge a x vars i j ≡ true)
@@ -268,42 +253,33 @@ module _ (g : GraphData) (members s : ℕ) (gates passes sources : List Id) (a b
         ⊎ ((value_of a gates vars i ≡ true) × Fed g members (value_of a passes vars) (value_of a sources vars)
         (λ p. p ≡ place) s i)
     forth_right vars i inside_i set =
-        elim ((onto_a.rights vars i inside_i).0 set) [
-          | inl before ↦
-              elim ((onto_b.rights vars i inside_i).0 before) [
-                | inl was ↦ inl was
-                | inr now ↦
-                    let first =
-                    both_parts (value_of a gates vars switch.b)
-                    (value_of a passes vars place && value_of a sources vars switch.a) now.2 in
-                    let next = both_parts (value_of a passes vars place) (value_of a sources vars switch.a) first.1 in
-                    inr (
-                      ap (value_of a gates vars) now.0 ∙ first.0,
-                      record {
-                        from = switch.a;
-                        outside = now.1;
-                        in_range = inside_a;
-                        is_source = next.1;
-                        link = link_at vars switch.a i next.0 (inl (refl, sym now.0));
-                      },
-                    )
-              ]
-          | inr now ↦
-              let first =
-              both_parts (value_of b gates vars switch.a) (value_of b passes vars place && value_of b sources vars switch.b)
-              now.2 in
-              let next = both_parts (value_of b passes vars place) (value_of b sources vars switch.b) first.1 in
-              inr (
-                sym (gate_same vars i inside_i) ∙ ap (value_of b gates vars) now.0 ∙ first.0,
-                record {
-                  from = switch.b;
-                  outside = now.1;
-                  in_range = inside_b;
-                  is_source = sym (source_same vars switch.b inside_b) ∙ next.1;
-                  link = link_at vars switch.b i (sym (pass_same vars place inside_place) ∙ next.0) (inr (refl, sym now.0));
-                },
-              )
-        ]
+        made_by (onto_b.rights vars i inside_i).0 (onto_a.rights vars i inside_i).0
+        (λ now.
+        let first =
+        both_parts (value_of a gates vars switch.b) (value_of a passes vars place && value_of a sources vars switch.a) now.2 in
+        let next = both_parts (value_of a passes vars place) (value_of a sources vars switch.a) first.1 in (
+          ap (value_of a gates vars) now.0 ∙ first.0,
+          record {
+            from = switch.a;
+            outside = now.1;
+            in_range = inside_a;
+            is_source = next.1;
+            link = link_at vars switch.a i next.0 (inl (refl, sym now.0));
+          },
+        ))
+        (λ now.
+        let first =
+        both_parts (value_of b gates vars switch.a) (value_of b passes vars place && value_of b sources vars switch.b) now.2 in
+        let next = both_parts (value_of b passes vars place) (value_of b sources vars switch.b) first.1 in (
+          sym (gate_same vars i inside_i) ∙ ap (value_of b gates vars) now.0 ∙ first.0,
+          record {
+            from = switch.b;
+            outside = now.1;
+            in_range = inside_b;
+            is_source = sym (source_same vars switch.b inside_b) ∙ next.1;
+            link = link_at vars switch.b i (sym (pass_same vars place inside_place) ∙ next.0) (inr (refl, sym now.0));
+          },
+        )) set
 
     back_right : (vars : ℕ → Bool) (i : ℕ) → i < members →
         ((right a x vars i ≡ true)

@@ -1,5 +1,5 @@
 -- What is added is formed from what is held, and put.
-use Rattle.std.proofs.Common.{◌<◌, ◌≤◌, ◌++◌, [], refl, ◌∙◌, arith}
+use Rattle.std.proofs.Common.{◌<◌, ◌≤◌, [], refl, ◌∙◌, arith}
 use Rattle.node_elimination.specs.Equations.{formulas_of}
 use Rattle.node_elimination.proofs.EquationsLemmas.{IsHeld-at_edge, IsHeld-at_right, Moves-put_edge, Moves-put_right}
 use Rattle.node_elimination.proofs.OneLink.{IsHeld-gate, IsHeld-pass, IsHeld-source, gate-inside, pass-inside, source-inside, AddsLink-edge, AddsLink-right}
@@ -21,13 +21,11 @@ pub returns-in_ok-edge-clause-moves : goal.returns-in_ok-edge-clause-moves
 returns-in_ok-edge-clause-moves g c =
     let r = c.requires in
     let old = c.args.system.now in
-    let links = c.args.links.now in
-    let others = links.gates.now ++ (links.passes.now ++ links.sources.now) in
     let row : c.args.n < old.size = omega arith in
     let column : c.args.m < old.size = omega arith in
     rw c.put_edge.ensures
-    (Moves-put_edge others _ _ old c.args.n c.args.m c.in_ok-edge.edge _ _ _ r.whole c.in_ok-edge.ensures.extends (
-      IsHeld-at_edge others old r.whole.square c.args.n c.args.m c.edge.result.place row column c.edge.ensures.place,
+    (Moves-put_edge _ _ _ old c.args.n c.args.m c.in_ok-edge.edge _ _ _ r.whole c.in_ok-edge.ensures.extends (
+      IsHeld-at_edge _ old r.whole.square c.args.n c.args.m c.edge.result.place row column c.edge.ensures.place,
       (
         IsHeld-gate _ _ _ _ _ _ (formulas_of old) r.fit c.args.n _ row refl,
         (IsHeld-pass _ _ _ _ _ _ (formulas_of old) r.fit c.args.place _ r.in_range refl, tt),
@@ -48,12 +46,10 @@ pub returns-in_ok-right-clause-moves : goal.returns-in_ok-right-clause-moves
 returns-in_ok-right-clause-moves g c =
     let r = c.requires in
     let old = c.args.system.now in
-    let links = c.args.links.now in
-    let others = links.gates.now ++ (links.passes.now ++ links.sources.now) in
     let row : c.args.n < old.size = omega arith in
     rw c.put_right.ensures
-    (Moves-put_right others _ _ old c.args.n c.in_ok-right.right _ _ _ r.whole c.in_ok-right.ensures.extends (
-      IsHeld-at_right others old r.whole.square c.args.n c.right.result.place row c.right.ensures.place,
+    (Moves-put_right _ _ _ old c.args.n c.in_ok-right.right _ _ _ r.whole c.in_ok-right.ensures.extends (
+      IsHeld-at_right _ old r.whole.square c.args.n c.right.result.place row c.right.ensures.place,
       (
         IsHeld-gate _ _ _ _ _ _ (formulas_of old) r.fit c.args.n _ row refl,
         (
