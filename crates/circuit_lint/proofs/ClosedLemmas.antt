@@ -109,20 +109,25 @@ module _ (g : GraphData) (k : ℕ) where
     ends : (node : ℕ) (b : Bool) → (nat_eq switch.a node || nat_eq switch.b node) ≡ b → is_closed_at g node k ≡ b
     ends node b is = ap (is_closed_end node) there ∙ ap (λ c. c && (nat_eq switch.a node || nat_eq switch.b node)) closed ∙ is
 
+    -- the place was put at its first end; another node isn't its second end
+    at_first : (old new : Lists) (node : ℕ) → (¬ (node ≡ switch.a) → ¬ (switch.b ≡ node)) → HasPut switch.a k old new →
+        list_at old node ≡ filter (is_closed_at g node) (range_with_len 0 k) → list_at new node ≡ filter (is_closed_at g node) (range_with_len 0 (k + 1))
+    at_first old new node clear put was =
+        elim (cases_eq node switch.a) [
+          | inl here ↦
+              listed old new node (ends node true (ap (λ b. b || nat_eq switch.b node) (eq-eqb switch.a node (sym here)))) was
+              (ap (list_at new) here ∙ put.here ∙ ap (λ n. list_at old n ++ k ∷ []) (sym here))
+          | inr apart ↦
+              put.others node apart
+              ∙ kept old node (ends node false (ap (λ b. b || nat_eq switch.b node) (ne_eqb switch.a node (λ e. apart (sym e)))
+              ∙ ne_eqb switch.b node (clear apart))) was
+        ]
+
     -- both its ends are one node
     pub closed-once : (old new : Lists) → switch.b ≡ switch.a → HasPut switch.a k old new → AreClosedTo g k old → AreClosedTo g (k + 1) new
     closed-once old new same put so_far = record {
       size = put.count ∙ so_far.size;
-      each = λ node low.
-          elim (cases_eq node switch.a) [
-            | inl here ↦
-                listed old new node (ends node true (ap (λ b. b || nat_eq switch.b node) (eq-eqb switch.a node (sym here)))) (so_far.each node low)
-                (ap (list_at new) here ∙ put.here ∙ ap (λ n. list_at old n ++ k ∷ []) (sym here))
-            | inr apart ↦
-                put.others node apart
-                ∙ kept old node (ends node false (ap (λ b. b || nat_eq switch.b node) (ne_eqb switch.a node (λ e. apart (sym e)))
-                ∙ ne_eqb switch.b node (λ e. apart (sym e ∙ same)))) (so_far.each node low)
-          ];
+      each = λ node low. at_first old new node (λ apart e. apart (sym e ∙ same)) put (so_far.each node low);
     }
 
     -- or two
@@ -136,16 +141,7 @@ module _ (g : GraphData) (k : ℕ) where
                 let other : ¬ (switch.b ≡ switch.a) = two in
                 listed old new node (ends node true (later (nat_eq switch.a node) (eq-eqb switch.b node (sym here)))) (so_far.each node low)
                 (ap (list_at new) here ∙ second.here ∙ ap (λ xs. xs ++ k ∷ []) (first.others switch.b other) ∙ ap (λ n. list_at old n ++ k ∷ []) (sym here))
-            | inr past ↦
-                second.others node past ∙ elim (cases_eq node switch.a) [
-                  | inl here ↦
-                      listed old mid node (ends node true (ap (λ b. b || nat_eq switch.b node) (eq-eqb switch.a node (sym here)))) (so_far.each node low)
-                      (ap (list_at mid) here ∙ first.here ∙ ap (λ n. list_at old n ++ k ∷ []) (sym here))
-                  | inr apart ↦
-                      first.others node apart
-                      ∙ kept old node (ends node false (ap (λ b. b || nat_eq switch.b node) (ne_eqb switch.a node (λ e. apart (sym e)))
-                      ∙ ne_eqb switch.b node (λ e. past (sym e)))) (so_far.each node low)
-                ]
+            | inr past ↦ second.others node past ∙ at_first old mid node (λ apart e. past (sym e)) first (so_far.each node low)
           ];
     }
       where

@@ -1,23 +1,17 @@
 -- Lists that are made number by number.
-use Rattle.std.proofs.Common.{◌≡◌, ℕ, zero, suc, ◌+◌, ◌<◌, Bool, true, false, ◌||◌, cond, List, [], ◌∷◌, ◌++◌, length, get_or, take, map, filter, Option, Some, None, refl, sym, ap, ap₂, ◌∙◌, arith, add-zero, add-one, if◌then◌else◌}
+use Rattle.std.proofs.Common.{◌≡◌, ℕ, ◌+◌, ◌<◌, Bool, true, false, ◌||◌, cond, List, [], ◌∷◌, ◌++◌, length, get_or, take, map, filter, Option, Some, None, refl, sym, ap, ap₂, ◌∙◌, arith, if◌then◌else◌}
 use Rattle.std.specs.List.{range_with_len, filter_map, list_any}
 use Rattle.std.specs.Option.{option_to_list}
-use Rattle.std.proofs.lemmas.List.{take_more, map_push}
+use Rattle.std.proofs.lemmas.List.{take_more, map_push, map-id}
+use Rattle.std.proofs.lemmas.List.FromFn.{map-range_with_len_more}
 use Rattle.std.proofs.lemmas.List.Elements.{filter_map-append, filter-append, filter_more}
 use Rattle.std.proofs.lemmas.List.Folds.{list_any-append, list_any-from_Any}
 use Rattle.list_facts.proofs.ContainsLemmas.{Contains-range}
 
 -- one number more stands at the end of a range
-range-suc : (a n : ℕ) → range_with_len a (suc n) ≡ range_with_len a n ++ (a + n) ∷ []
-range-suc a zero = rw add-zero refl
-range-suc a (suc n) =
-    let e : a + suc n ≡ (a + 1) + n = omega arith in
-    rw e (ap (λ xs. a ∷ xs) (range-suc (a + 1) n))
-
 pub range-more : (n : ℕ) → range_with_len 0 (n + 1) ≡ range_with_len 0 n ++ n ∷ []
 range-more n =
-    let same : 0 + n ≡ n = omega arith in
-    ap (range_with_len 0) (add-one n) ∙ range-suc 0 n ∙ ap (λ m. range_with_len 0 n ++ m ∷ []) same
+    sym (map-id (range_with_len 0 (n + 1))) ∙ map-range_with_len_more (λ k. k) 0 n n (omega arith) ∙ ap (λ xs. xs ++ n ∷ []) (map-id (range_with_len 0 n))
 
 -- what is told of one number more stands at the end
 told_of_one : {X : Type 0} (h : ℕ → Option X) (n : ℕ) → filter_map h (n ∷ []) ≡ option_to_list (h n)

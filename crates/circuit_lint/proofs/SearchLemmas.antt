@@ -208,7 +208,7 @@ module _ (g : GraphData) (count : ℕ) (distance : List (Option ℕ)) (order : L
         | inr new ↦ omega (arith, is, new.1)
       ]
 
-  pub IsSearched-found : IsSearched g count (set distance node (Some (here + 1))) (order ++ node ∷ [])
+  IsSearched-found : IsSearched g count (set distance node (Some (here + 1))) (order ++ node ∷ [])
   IsSearched-found = record {
     size = length-set distance node (Some (here + 1)) ∙ so_far.size;
     root = stays GND 0 so_far.root;
@@ -221,11 +221,16 @@ module _ (g : GraphData) (count : ℕ) (distance : List (Option ℕ)) (order : L
     close = close_more;
   }
 
-  pub Keeps-found : Keeps distance (set distance node (Some (here + 1))) order (order ++ node ∷ [])
+  Keeps-found : Keeps distance (set distance node (Some (here + 1))) order (order ++ node ∷ [])
   Keeps-found = record { found = stays; grown = (node ∷ [], refl) }
 
-  pub IsFound-found : IsFound (set distance node (Some (here + 1))) node
+  IsFound-found : IsFound (set distance node (Some (here + 1))) node
   IsFound-found = (here + 1, at_node)
+
+  pub all-found : IsSearched g count (set distance node (Some (here + 1))) (order ++ node ∷ [])
+      × Keeps distance (set distance node (Some (here + 1))) order (order ++ node ∷ [])
+      × IsFound (set distance node (Some (here + 1))) node
+  all-found = (IsSearched-found, Keeps-found, IsFound-found)
 
 -- nothing was found
 pub Keeps-none : (distance : List (Option ℕ)) (order : List ℕ) → Keeps distance distance order order

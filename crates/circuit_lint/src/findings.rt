@@ -5,7 +5,7 @@ ghost use Rattle.circuit_lint.specs.Findings as spec;
 
 use crate::counted::Counted;
 use crate::dead::dead_switches;
-use crate::nodes::{floating_nodes, unused_nodes, uses_of};
+use crate::nodes::floating_and_unused;
 use crate::shorts::shorts_of;
 use crate::sides::{SideFault, Sides, all_sides, showing};
 use crate::supplies::supplies;
@@ -68,16 +68,16 @@ pub fn findings_of(alloc: Global, circuit: &Circuit, keys: TableKeys) -> Result<
     let groups = Groups::of(alloc, graph)?;
     let ids = groups.ids(alloc)?;
     let sides = all_sides(alloc, graph, &groups, &ids)?;
-    let uses = uses_of(alloc, graph)?;
+    let (floating, unused) = floating_and_unused(alloc, graph)?;
     Ok(Findings {
         shorted: shorts_of(alloc, graph, &groups, &ids)?,
-        floating: floating_nodes(alloc, graph, &uses)?,
+        floating,
         undriven: showing(alloc, SideFault::Undriven, &sides)?,
         never_one: showing(alloc, SideFault::NeverOne, &sides)?,
         never_zero: showing(alloc, SideFault::NeverZero, &sides)?,
         dead: dead_switches(alloc, graph, keys)?,
         supply: supplies(alloc, circuit)?,
         wide: showing(alloc, SideFault::Wide, &sides)?,
-        unused: unused_nodes(alloc, graph, &uses)?,
+        unused,
     })
 }

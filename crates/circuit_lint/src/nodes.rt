@@ -10,15 +10,33 @@ use path_meaning::{Graph, RAILS};
 use std::alloc::{AllocError, Global};
 use strength_order::INPUT_LEVEL;
 
-/// Of each node how many switches it is the gate of, and whether it is an end of one.
+// Of each node how many switches it is the gate of, and whether it is an end of one.
 #[derive(Drop)]
-pub(crate) struct Uses {
-    pub gates: Vec<usize>,
-    pub ends: Vec<bool>,
+struct Uses {
+    gates: Vec<usize>,
+    ends: Vec<bool>,
 }
 
-/// The uses of the nodes of a graph.
-pub(crate) fn uses_of(alloc: Global, graph: &Graph) -> Result<Uses, AllocError>
+/// The floating nodes, each with the number of switches that it is the gate of, and the unused nodes.
+pub(crate) fn floating_and_unused(
+    alloc: Global,
+    graph: &Graph,
+) -> Result<(Vec<Counted>, Vec<usize>), AllocError>
+    ensures floating { IfOk result (λ found. found.0.items ≡ spec.floating_of graph.now) }
+    ensures unused { IfOk result (λ found. found.1.items ≡ spec.unused_of graph.now) }
+{
+    let uses = uses_of(alloc, graph)?;
+    let mut floating = Vec::new(alloc);
+    let mut unused = Vec::new(alloc);
+    for node in 0..graph.nodes() {
+        push_some(&mut floating, floating_at(graph, &uses, node))?;
+        push_some(&mut unused, unused_at(graph, &uses, node))?;
+    }
+    Ok((floating, unused))
+}
+
+// The uses of the nodes of a graph.
+fn uses_of(alloc: Global, graph: &Graph) -> Result<Uses, AllocError>
     ensures gates { IfOk result (λ uses. spec.AreGates graph.now uses.gates.items) }
     ensures ends { IfOk result (λ uses. spec.AreEnds graph.now uses.ends.items) }
 {
@@ -92,23 +110,6 @@ fn mark(marks: &mut Vec<bool>, node: usize)
     marks[node] = true;
 }
 
-/// The floating nodes, each with the number of switches that it is the gate of.
-pub(crate) fn floating_nodes(
-    alloc: Global,
-    graph: &Graph,
-    uses: &Uses,
-) -> Result<Vec<Counted>, AllocError>
-    requires gates { spec.AreGates graph.now uses.now.gates.items }
-    requires ends { spec.AreEnds graph.now uses.now.ends.items }
-    ensures { IfOk result (λ found. found.items ≡ spec.floating_of graph.now) }
-{
-    let mut found = Vec::new(alloc);
-    for node in 0..graph.nodes() {
-        push_some(&mut found, floating_at(graph, uses, node))?;
-    }
-    Ok(found)
-}
-
 // What there is to tell of a node, if it is floating.
 fn floating_at(graph: &Graph, uses: &Uses, node: usize) -> Option<Counted>
     requires node { node < count_of graph.now }
@@ -125,23 +126,6 @@ fn floating_at(graph: &Graph, uses: &Uses, node: usize) -> Option<Counted>
     } else {
         None
     }
-}
-
-/// The unused nodes.
-pub(crate) fn unused_nodes(
-    alloc: Global,
-    graph: &Graph,
-    uses: &Uses,
-) -> Result<Vec<usize>, AllocError>
-    requires gates { spec.AreGates graph.now uses.now.gates.items }
-    requires ends { spec.AreEnds graph.now uses.now.ends.items }
-    ensures { IfOk result (λ found. found.items ≡ spec.unused_of graph.now) }
-{
-    let mut found = Vec::new(alloc);
-    for node in 0..graph.nodes() {
-        push_some(&mut found, unused_at(graph, uses, node))?;
-    }
-    Ok(found)
 }
 
 // A node, if it is unused.
