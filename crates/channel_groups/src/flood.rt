@@ -2,16 +2,14 @@
 
 ghost use Rattle.std.specs.Prelude.{◌≡◌, ℕ, ◌+◌, ◌<◌, ◌≤◌, length, filter, if◌then◌else◌, None, Some, Contains, IfOk, IfSome, OnOk, IsTrue, ◌↔◌};
 ghost use Rattle.path_meaning.specs.Graphs.{nodes, IsStorage};
-ghost use Rattle.path_meaning.specs.Path.{Joins};
 ghost use Rattle.group_meaning.specs.Groups.{AreJoined, IsGroup};
 ghost use Rattle.channel_groups.specs.Listing.{AreListed, places_of, is_other, others_at};
 ghost use Rattle.channel_groups.specs.Flood.{Sees, IsPaid};
 
-use crate::change::switch_there;
 use crate::ends::{Ends, listed};
 use crate::group::Group;
 use indexmap::IndexSet;
-use path_meaning::{Graph, Switch};
+use path_meaning::Graph;
 use std::alloc::{AllocError, Global};
 use std::sync::ledger::Ledger;
 use strength_order::INPUT_LEVEL;
@@ -185,22 +183,8 @@ fn across(graph: &Graph, node: usize, place: usize) -> Option<usize>
     ensures all { (other : ℕ) → AreJoined graph.now place node other → result ≡ Some other }
     ensures inside { IfSome result (λ other. other < nodes graph.now) }
 {
-    let switch = switch_there(graph, place)?;
-    other_end(switch, node)
-}
-
-/// The node at the other end of a switch that has an end at this node, if it has one.
-fn other_end(switch: Switch, node: usize) -> Option<usize>
-    ensures joined { IfSome result (Joins switch node) }
-    ensures all { (other : ℕ) → Joins switch node other → result ≡ Some other }
-{
-    if switch.a == node {
-        Some(switch.b)
-    } else if switch.b == node {
-        Some(switch.a)
-    } else {
-        None
-    }
+    let switch = graph.switch_there(place)?;
+    switch.other_end(node)
 }
 
 /// Whether a node is a storage node.

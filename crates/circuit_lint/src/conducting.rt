@@ -2,7 +2,6 @@
 
 ghost use Rattle.std.specs.Prelude.{◌≡◌, ℕ, ◌<◌, length, Some, IfSome};
 ghost use Rattle.path_meaning.specs.Graphs.{nodes};
-ghost use Rattle.path_meaning.specs.Path.{Joins};
 ghost use Rattle.circuit_lint.specs.Conducting as spec;
 
 use path_meaning::{GND, Graph, Switch, SwitchKind, VDD};
@@ -39,21 +38,7 @@ pub(crate) fn across(graph: &Graph, place: usize, node: usize) -> Option<usize>
 {
     let switch = graph.switch_at(place)?;
     if is_always_closed(switch) {
-        other_end(switch, node)
-    } else {
-        None
-    }
-}
-
-// The node at the other end of a switch that has an end at this node, if it has one.
-fn other_end(switch: Switch, node: usize) -> Option<usize>
-    ensures joined { IfSome result (Joins switch node) }
-    ensures all { (other : ℕ) → Joins switch node other → result ≡ Some other }
-{
-    if switch.a == node {
-        Some(switch.b)
-    } else if switch.b == node {
-        Some(switch.a)
+        switch.other_end(node)
     } else {
         None
     }

@@ -1,7 +1,7 @@
 //! What is at the ends of a group's switches.
 
 ghost use Rattle.std.specs.Prelude.{◌≡◌, ◌<◌, map, filter, Some, None, IfOk, All, if◌then◌else◌};
-ghost use Rattle.path_meaning.specs.Graphs.{nodes, place_at, FitsPlace};
+ghost use Rattle.path_meaning.specs.Graphs.{nodes, place_at};
 ghost use Rattle.group_meaning.specs.Groups.{AreGroups, id_of};
 ghost use Rattle.channel_groups.specs.Grouping.{IsId};
 ghost use Rattle.circuit_lint.specs.Sides as spec;
@@ -78,7 +78,7 @@ fn ends_at(graph: &Graph, node: usize, places: &[usize]) -> bool
     ensures { result ≡ spec.ends_at graph.now node places.now }
 {
     for &place in places {
-        if has_end(switch_there(graph, place), node) {
+        if has_end(graph.switch_there(place), node) {
             return true;
         }
     }
@@ -97,18 +97,6 @@ fn ends_at_input(graph: &Graph, places: &[usize]) -> bool
     false
 }
 
-// What stands at a place; past the last place nothing does.
-fn switch_there(graph: &Graph, place: usize) -> Option<Switch>
-    ensures value { result ≡ place_at graph.now.places place }
-    ensures fits { FitsPlace (nodes graph.now) result }
-{
-    if place < graph.places() {
-        graph.switch_at(place)
-    } else {
-        None
-    }
-}
-
 // Whether there is a switch, with an end at the node.
 fn has_end(switch: Option<Switch>, node: usize) -> bool
     ensures { result ≡ of_nodes.has_end node switch }
@@ -123,7 +111,7 @@ fn has_end(switch: Option<Switch>, node: usize) -> bool
 fn has_input_end(graph: &Graph, place: usize) -> bool
     ensures { result ≡ spec.has_input_end graph.now (place_at graph.now.places place) }
 {
-    match switch_there(graph, place) {
+    match graph.switch_there(place) {
         Some(switch) => is_other_input(graph, switch.a) || is_other_input(graph, switch.b),
         None => false,
     }

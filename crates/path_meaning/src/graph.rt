@@ -108,6 +108,18 @@ impl Graph {
         self.places[place]
     }
 
+    /// What stands at a place; past the last place nothing does.
+    pub fn switch_there(&self, place: usize) -> Option<Switch>
+        ensures value { result ≡ place_at self.now.places place }
+        ensures fits { FitsPlace (nodes self.now) result }
+    {
+        if place < self.places() {
+            self.switch_at(place)
+        } else {
+            None
+        }
+    }
+
     /// Adds a node of this level, from 1 to 16, and answers its number, which is the old count of
     /// nodes.
     pub fn add_node(&mut self, level: u8) -> Result<usize, NoMemory>

@@ -1,5 +1,6 @@
-ghost use Rattle.std.specs.Prelude.{◌≡◌};
+ghost use Rattle.std.specs.Prelude.{◌≡◌, ℕ, Some, IfSome};
 ghost use Rattle.path_meaning.specs.Switching.{state_by};
+ghost use Rattle.path_meaning.specs.Path.{Joins};
 
 use ternary::Tern;
 
@@ -34,6 +35,22 @@ pub struct Switch {
     pub gate: usize,
     pub a: usize,
     pub b: usize,
+}
+
+impl Switch {
+    /// The node at the other end of a switch that has an end at this node, if it has one.
+    pub fn other_end(self, node: usize) -> Option<usize>
+        ensures joined { IfSome result (Joins self node) }
+        ensures all { (other : ℕ) → Joins self node other → result ≡ Some other }
+    {
+        if self.a == node {
+            Some(self.b)
+        } else if self.b == node {
+            Some(self.a)
+        } else {
+            None
+        }
+    }
 }
 
 /// The state of a switch of this kind whose gate has this state.
