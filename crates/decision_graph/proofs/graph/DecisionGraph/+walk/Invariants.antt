@@ -1,0 +1,7 @@
+-- How many variables are left to decide on.
+use Rattle.std.proofs.Common.{◌-◌}
+use Rattle.decision_graph.specs.Vertices.{level_at}
+use Rattle.decision_graph.proofs.graph.DecisionGraph.+walk.Given as goal
+
+abbrev pub decreases-walk : goal.decreases-walk
+decreases-walk l = l.self.now.variables - level_at l.self.now.variables l.self.now.vertices l.function.place

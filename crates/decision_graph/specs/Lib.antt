@@ -1,0 +1,5 @@
+pub mod Vertices
+pub mod Meaning
+pub mod Making
+pub mod Graphs
+pub mod Moving
