@@ -1,0 +1,4 @@
+pub mod Bytes
+pub mod Formulas
+pub mod Reading
+pub mod Laws
