@@ -1,0 +1,5 @@
+pub mod Talks
+pub mod Conversing
+pub mod LineTalks
+pub mod MemTalks
+pub mod Laws
