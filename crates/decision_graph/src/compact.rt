@@ -93,7 +93,7 @@ impl DecisionGraph {
     }
 }
 
-// If a function was moved, if it was.
+// Where a function was moved to, if it was moved.
 fn moved_to(moved: &[Option<Function>], function: Function) -> Option<Function>
     requires { function.place < length moved.now }
     ensures { slice_index_or moved.now function.place None ≡ result }
@@ -101,7 +101,7 @@ fn moved_to(moved: &[Option<Function>], function: Function) -> Option<Function>
     moved[function.place as usize]
 }
 
-// Notes if a function was moved.
+// Notes where a function was moved to.
 fn note_moved(moved: &mut [Option<Function>], function: Function, made: Function)
     requires { function.place < length moved.old }
     ensures { moved.new ≡ slice_set moved.old function.place (Some made) }
