@@ -15,13 +15,13 @@ pub(crate) fn drawn(alloc: Global, levels: &[u8], switches: &[Drawn]) -> Result<
             graph.add_node(*level)?;
         }
     }
-    for (kind, level, gate, a, b) in switches {
+    for &(kind, level, gate, a, b) in switches {
         let switch = Switch {
-            kind: *kind,
-            level: *level,
-            gate: *gate,
-            a: *a,
-            b: *b,
+            kind,
+            level,
+            gate,
+            a,
+            b,
         };
         let nodes = graph.nodes();
         if switch.level >= 9

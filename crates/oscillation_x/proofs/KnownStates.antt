@@ -56,7 +56,7 @@ known-fades marked (s ∷ old) (t ∷ new) count each =
     both marked s t old new (Fades-weight (marked 0) s t (each 0 (omega arith)))
     (known-fades (λ node. marked (suc node)) old new (omega arith) (λ node inside. each (suc node) (omega arith)))
 
--- so where something changed, fewer count
+-- so if something changed, fewer count
 pub known-falls : (marked : ℕ → Bool) (old new : List Tern) → length new ≡ length old →
     ((node : ℕ) → node < length old → Fades (marked node) (state_at old node) (state_at new node)) →
     new ≢ old → known marked new < known marked old
@@ -76,7 +76,7 @@ known-all marked [] = omega arith
 known-all marked (state ∷ states) =
     omega (arith, weight_low (marked 0) state, known-all (λ node. marked (suc node)) states)
 
--- and not at all where it isn't marked
+-- and not at all if it isn't marked
 weight-cond : (marked : Bool) (state : Tern) → weight marked state ≤ cond marked 1 0
 weight-cond false state = omega arith
 weight-cond true Zero = omega arith

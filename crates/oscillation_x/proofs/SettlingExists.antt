@@ -17,7 +17,7 @@ use Rattle.oscillation_x.proofs.KnownStates.{known_storage}
 use Rattle.oscillation_x.proofs.SettlingLemmas.{storage-falls}
 
 -- unit steps while they change something, as many as are left
-stepping : (g : GraphData) → IsWired g → (left : ℕ) (old : List Tern) → length old ≡ nodes g →
+pub stepping : (g : GraphData) → IsWired g → (left : ℕ) (old : List Tern) → length old ≡ nodes g →
     (count : ℕ) × (new : List Tern) × Stepping g left old count new × (length new ≡ nodes g)
 stepping g wired zero old fits = (0, old, (refl, refl), fits)
 stepping g wired (suc left) old fits =
@@ -60,7 +60,7 @@ join_step_exists g wired old fits =
     (joined.0, record { response = step.0; step = step.1; joins = joined.1 })
 
 -- joining steps while they change something, where fewer storage nodes than this are known
-joining : (g : GraphData) → IsWired g → (most : ℕ) (old : List Tern) → length old ≡ nodes g →
+pub joining : (g : GraphData) → IsWired g → (most : ℕ) (old : List Tern) → length old ≡ nodes g →
     known_storage g old < most →
     (count : ℕ) × (new : List Tern) × Joining g old count new
 joining g wired zero old fits fewer = absurd (omega (arith, fewer))
@@ -75,7 +75,7 @@ joining g wired (suc most) old fits fewer =
     ]
 
 -- a mark says whether a count is positive
-mark_of : (count : ℕ) → (mark : Bool) × (IsTrue mark ↔ (0 < count))
+pub mark_of : (count : ℕ) → (mark : Bool) × (IsTrue mark ↔ (0 < count))
 mark_of zero = (false, ((λ yes. absurd cc), (λ positive. absurd (omega (arith, positive)))))
 mark_of (suc count) = (true, ((λ yes. omega arith), (λ positive. refl)))
 

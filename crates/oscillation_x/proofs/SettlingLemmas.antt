@@ -28,7 +28,7 @@ counted_none count P holds =
     let same : count + 0 ≡ count = omega arith in
     subst P same holds
 
--- where the limit isn't reached, a step that changes something comes before the rest
+-- if the limit isn't reached, a step that changes something comes before the rest
 pub Stepping-more : (g : GraphData) (limit done : ℕ) (old next : List Tern) (count : ℕ) (new : List Tern) → done < limit →
     IsStep g old next → next ≢ old → Stepping g (limit - (done + 1)) next count new →
     Stepping g (limit - done) old (count + 1) new
@@ -36,7 +36,7 @@ Stepping-more g limit done old next count new left step changed rest =
     let more : limit - done ≡ suc (limit - (done + 1)) = omega arith in
     rw more (next, step, inr (changed, (count, refl, rest)))
 
--- where the limit isn't reached, a step that changes nothing ends them
+-- if the limit isn't reached, a step that changes nothing ends them
 pub Stepping-rests : (g : GraphData) (limit done : ℕ) (old next : List Tern) → done < limit →
     IsStep g old next → next ≡ old → Stepping g (limit - done) old 0 next
 Stepping-rests g limit done old next left step same =
@@ -172,7 +172,7 @@ fades-more old mid new count first second node inside =
       | inr unknown ↦ inr unknown
     ]
 
--- where each of so many joining steps left fewer known, there was none exactly where nothing changed
+-- if each of so many joining steps left fewer known, there was none exactly if nothing changed
 pub rested_at : (count : ℕ) (old new : List Tern) → (count ≡ 0 → new ≡ old) →
     count + known (λ _. true) new ≤ known (λ _. true) old → (count ≡ 0) ↔ (new ≡ old)
 rested_at count old new unmoved fewer =

@@ -1,5 +1,5 @@
 -- A state settles in one way alone.
--- Each replacement has one outcome, and the next is taken exactly where it changed something.
+-- Each replacement has one outcome, and the next is taken exactly if it changed something.
 use Rattle.std.proofs.Common.{◌≡◌, ℕ, zero, suc, ◌+◌, ◌<◌, ◌↔◌, Bool, true, false, IsTrue, inl, inr, List, refl, sym, ◌∙◌, ap, arith, rules}
 use Rattle.std.proofs.lemmas.List.{ext_get_or}
 use Rattle.ternary.specs.declared.tern.Tern.{Tern}
@@ -10,7 +10,7 @@ use Rattle.oscillation_x.specs.Settling.{Stepping, IsJoinStep, Joining}
 use Rattle.oscillation_x.specs.Laws.{SettlingIsUnique}
 
 -- a state has one joining step at most
-JoinStep-unique : (g : GraphData) (old new other : List Tern) → IsJoinStep g old new → IsJoinStep g old other → new ≡ other
+pub JoinStep-unique : (g : GraphData) (old new other : List Tern) → IsJoinStep g old new → IsJoinStep g old other → new ≡ other
 JoinStep-unique g old new other one two =
     let same : one.response ≡ two.response = unique g old one.response two.response one.step two.step in
     ext_get_or Zero new other (one.joins.left ∙ sym two.joins.left) (λ node inside.
@@ -50,7 +50,7 @@ Joining-unique g old (suc count) new (suc other_count) other one two =
     (ap suc rest.0, rest.1)
 
 -- two tests that say whether a count is above 0 agree
-same_joined : (joined other : Bool) (count : ℕ) → (IsTrue joined ↔ (0 < count)) → (IsTrue other ↔ (0 < count)) → joined ≡ other
+pub same_joined : (joined other : Bool) (count : ℕ) → (IsTrue joined ↔ (0 < count)) → (IsTrue other ↔ (0 < count)) → joined ≡ other
 same_joined true true count one two = refl
 same_joined true false count one two = search rules
 same_joined false true count one two = search rules

@@ -1,3 +1,7 @@
 pub mod Settling
 pub mod PlainStepping
 pub mod Laws
+pub mod Passing
+pub mod PassingLaws
+pub mod Moved
+pub mod Observing

@@ -1,5 +1,5 @@
 -- The stepper by plain steps, as contracts see it.
-use Rattle.std.specs.Prelude.{◌≡◌, ℕ, ◌≤◌, List, length}
+use Rattle.std.specs.Prelude.{◌≡◌, ℕ, zero, suc, ◌+◌, ◌≤◌, List, [], ◌∷◌, length}
 use Rattle.ternary.specs.declared.tern.Tern.{Tern}
 use Rattle.path_meaning.specs.Graphs.{GraphData, nodes}
 
@@ -13,3 +13,8 @@ pub record PlainStepperData : Type 0 where
 pub record HasRoom (stepper : PlainStepperData) (g : GraphData) : Type 0 where
   pub count : length stepper.state ≡ nodes g
   pub places : length g.places ≤ stepper.places
+
+-- so many numbers from this one on, upwards by one
+abbrev pub numbers_from : ℕ → ℕ → List ℕ
+numbers_from first zero = []
+numbers_from first (suc count) = first ∷ numbers_from (first + 1) count

@@ -51,7 +51,7 @@ pub record Moving (limit : ℕ) (old : List Tern) (count : ℕ) (new : List Tern
   pub limited : count ≤ limit
   pub unmoved : count ≡ 0 → new ≡ old
 
--- so many steps, in which nodes became X alone, lead from one state to another, which is the same exactly where
+-- so many steps, in which nodes became X alone, lead from one state to another, which is the same exactly if
 -- there is none of them
 pub record Fading (old : List Tern) (count : ℕ) (new : List Tern) : Type 0 where
   pub fades : StaysOrBecomesX old new

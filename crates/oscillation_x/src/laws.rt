@@ -4,6 +4,7 @@
 //! be cited like any other contract.
 ghost use Rattle.std.specs.Prelude.{◌≡◌};
 ghost use Rattle.oscillation_x.specs.Laws.{EveryStateSettles, JoiningStepsMakeX, SettlingIsUnique};
+ghost use Rattle.oscillation_x.specs.PassingLaws.{EveryStatePasses, PassingIsUnique, PassingSettles, SettlingPasses};
 ghost use Rattle.oscillation_x.specs.declared.settling.TheConstants.{MOST_LIMIT};
 
 /// Every state of a graph settles, under every limit.
@@ -27,6 +28,27 @@ pub fn joining_steps_make_x()
 /// limit, though it is defined as a relation: any two steppers that fit the graph settle alike.
 pub fn settling_is_unique()
     ensures { SettlingIsUnique }
+{}
+
+/// The states that a state passes through say how it settles: in the last of them, after as many
+/// steps as there are of them.
+pub fn passing_settles()
+    ensures { PassingSettles }
+{}
+
+/// Whatever settles passes through states, as many as it takes steps, and ends in the last of them.
+pub fn settling_passes()
+    ensures { SettlingPasses }
+{}
+
+/// A state passes through one list of states alone.
+pub fn passing_is_unique()
+    ensures { PassingIsUnique }
+{}
+
+/// Every state of a graph passes through states, under every limit.
+pub fn every_state_passes()
+    ensures { EveryStatePasses }
 {}
 
 /// A law: the limit of a phase is at most 1,000,000.

@@ -6,26 +6,39 @@
 //! steady state: a node that oscillates becomes X, and so does what reads it. Its contract,
 //! `Settles`, is what the layers above use. `PlainStepper` is the stepper by plain steps.
 //!
+//! `settle_seen` settles under the eyes of an `Observer`, who is shown each state that is passed
+//! through (`SettlesThrough`), by a `SeenStepper`: one that lists the nodes which a step changed, so
+//! that who looks need look at these alone.
+//!
 //! ```text
 //! an inverter that feeds itself, at 0, with the limit 4: four steps change it, and 1 joining step
 //! gives X; the answer is 5 steps, and that it joined
 //! ```
 //!
 //! For the proofs of crates above: `SettlingExists`, that every state settles. They cite
-//! `KnownStates` and `SettlingLemmas` too, whose heads say what they are of.
+//! `KnownStates`, `SettlingLemmas` and `NumbersLemmas` too, whose heads say what they are of.
 //!
 //! In the manner of MOSSIM II: Bryant, "A Switch-Level Model and Simulator for MOS Digital
 //! Systems", 1984. The limit, and that it counts steps of the whole graph, are this project's own.
 #![tactic(auto)]
 
 mod laws;
+mod moved;
+mod observer;
+mod observing;
 mod plain_stepping;
+mod seen_stepping;
 mod settling;
 mod stepping;
 
 pub use laws::{
-    every_state_settles, joining_steps_make_x, limits_are_as_stated, settling_is_unique,
+    every_state_passes, every_state_settles, joining_steps_make_x, limits_are_as_stated,
+    passing_is_unique, passing_settles, settling_is_unique, settling_passes,
 };
+pub use moved::Moved;
+pub use observer::{Blind, Never, Observer};
+pub use observing::settle_seen;
 pub use plain_stepping::PlainStepper;
+pub use seen_stepping::SeenStepper;
 pub use settling::{MOST_LIMIT, Settled, settle};
 pub use stepping::Stepper;

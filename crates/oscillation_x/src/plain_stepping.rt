@@ -1,11 +1,12 @@
 //! The stepper by plain steps.
 ghost use Rattle.std.specs.Prelude.{◌≡◌, ◌≢◌, ◌<◌, ◌↔◌, length, IsTrue, IfOk, slice_set};
 ghost use Rattle.std.specs.Bool.{OnTrue, OnFalse};
-ghost use Rattle.path_meaning.specs.Graphs.{GraphData, nodes};
-ghost use Rattle.path_meaning.specs.Laws.{IsJoin};
 ghost use Rattle.ternary.specs.Counts.{raised};
-ghost use Rattle.oscillation_x.specs.PlainStepping.{HasRoom};
+ghost use Rattle.path_meaning.specs.Words.{GraphData, nodes, IsJoin};
+ghost use Rattle.oscillation_x.specs.PlainStepping.{HasRoom, numbers_from};
 
+use crate::moved::Moved;
+use crate::seen_stepping::SeenStepper;
 use crate::stepping::Stepper;
 use path_meaning::{Graph, PlainRoom, plain_step_into};
 use std::alloc::Global;
@@ -114,6 +115,43 @@ impl Stepper for PlainStepper {
         let changed = take_over(&mut self.state, &self.next);
         self.moves = moves_after(self.moves, changed);
         changed
+    }
+}
+
+impl Moved for PlainStepper {
+    ghost state = { λ stepper. stepper.state };
+
+    // It doesn't know which nodes changed: any of them may have.
+    ghost changed = { λ stepper. numbers_from 0 (length stepper.state) };
+
+    fn states(&self) -> &[Tern] {
+        &self.state
+    }
+
+    fn change_count(&self) -> usize {
+        self.state.len()
+    }
+
+    fn changed_node(&self, at: usize) -> usize {
+        at
+    }
+}
+
+impl SeenStepper for PlainStepper {
+    ghost fits = { HasRoom };
+
+    ghost moves = { λ stepper. stepper.moves };
+
+    ghost placed = { λ _. 0 };
+
+    ghost fixed = { λ _. tt };
+
+    fn step<L: Ledger>(&mut self, graph: &Graph, steps: &mut Steps<L>) -> bool {
+        Stepper::step(self, graph, steps)
+    }
+
+    fn join_step<L: Ledger>(&mut self, graph: &Graph, steps: &mut Steps<L>) -> bool {
+        Stepper::join_step(self, graph, steps)
     }
 }
 

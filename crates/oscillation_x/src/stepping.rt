@@ -2,8 +2,7 @@
 ghost use Rattle.std.specs.Prelude.{◌≡◌, ◌≢◌, ℕ, ◌^◌, ◌<◌, List, length};
 ghost use Rattle.std.specs.Bool.{OnTrue, OnFalse};
 ghost use Rattle.ternary.specs.declared.tern.Tern.{Tern};
-ghost use Rattle.path_meaning.specs.Graphs.{GraphData};
-ghost use Rattle.path_meaning.specs.Step.{IsStep};
+ghost use Rattle.path_meaning.specs.Words.{GraphData, IsStep};
 ghost use Rattle.oscillation_x.specs.Settling.{IsJoinStep, StaysOrBecomesX};
 ghost use Rattle.ternary.specs.Counts.{raised};
 
@@ -34,7 +33,7 @@ pub trait Stepper {
 
     /// Takes a unit step of the graph, and answers whether that changed the state.
     ///
-    /// Where the stepper fits the graph, every node takes its steady state, all under the same old
+    /// If the stepper fits the graph, every node takes its steady state, all under the same old
     /// state. `steps` counts what the stepper's own work is counted by.
     ///
     /// Bryant, "Boolean Analysis of MOS Circuits", 1987.
@@ -52,7 +51,7 @@ pub trait Stepper {
 
     /// Takes a joining step of the graph, and answers whether that changed the state.
     ///
-    /// Where the stepper fits the graph, every node takes the join of its state and its steady
+    /// If the stepper fits the graph, every node takes the join of its state and its steady
     /// state, all under the same old state. Whether it fits or not, a node that changes becomes X.
     ///
     /// In the manner of MOSSIM II: Bryant, "A Switch-Level Model and Simulator for MOS Digital
