@@ -18,7 +18,7 @@ use Rattle.kept_parts.proofs.UseLemmas.{is_among-count}
 use Rattle.kept_parts.proofs.NumberLemmas.{distinct_is, used_known, count_of_numbers}
 use Rattle.kept_parts.proofs.PlaceLemmas.{there, among_at}
 
--- a text is used exactly where its count isn't 0
+-- a text is used exactly if its count isn't 0
 pub is_used-count : (known : List GroupTextData) (counts : List ℕ) (numbers : List (Option ℕ)) (distinct number : ℕ) (text : GroupTextData) →
     AreCounted known counts numbers distinct → slice_get known number ≡ Some text →
     nat_lt 0 (slice_index counts number) ≡ is_among (some_texts (texts_used (record { known = known; numbers = numbers }))) text
@@ -50,7 +50,7 @@ module _ (uses : UsesData) where
       (drop_more uses.known number text (slice_get_within uses.known number text here)
       ∙ ap (λ one. one ∷ drop (number + 1) uses.known) (get_or_from_slice_get uses.known number text text here))
 
-  -- where it is used
+  -- if it is used
   pub in_use_from-used : (number : ℕ) (text : GroupTextData) → slice_get uses.known number ≡ Some text → is_among texts text ≡ true →
       in_use_from number uses ≡ text ∷ in_use_from (number + 1) uses
   in_use_from-used number text here used = more_from number text here ∙ cond-true (is_among texts text) _ _ used
@@ -82,7 +82,7 @@ distinct-in_use known counts numbers distinct are =
     ∙ sym (length-first_same (in_use uses) (some_texts (texts_used uses)) (in_use-same uses are.inside))
 
 module _ (texts : List GroupTextData) (old : KeptData) (bound : ℕ) (bound_is : old.bound ≡ Some bound) where
-  -- where there is room for what is kept nothing is cut
+  -- if there is room for what is kept nothing is cut
   pub CutsTo-roomy : length old.entries ≤ max bound (length (first_texts texts)) →
       All (λ text. is_among (texts_of old) text ≡ true) texts → CutsTo texts old old
   CutsTo-roomy roomy there = record {

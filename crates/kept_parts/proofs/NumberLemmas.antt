@@ -144,7 +144,7 @@ AreCounted-known known counts numbers distinct text are apart =
     zero_behind (x ∷ xs) zero = refl
     zero_behind (x ∷ xs) (suc i) = zero_behind xs i
 
--- where further texts are known, each part has the text that it had
+-- if further texts are known, each part has the text that it had
 pub used_known_more : (old new : UsesData) → (inside : (k number : ℕ) → slice_index_or old.numbers k None ≡ Some number → number < length old.known) →
     IsNumbered old new → texts_used new ≡ texts_used old
 used_known_more old new inside more =
@@ -161,7 +161,7 @@ used_known_more old new inside more =
         slice_get-grown old.known more.more number text here ∙ sym here in
         ap₂ (λ first rest. first ∷ rest) same (each numbers (λ k other is. inside (suc k) other is))
 
--- where a text is found, it stands
+-- if a text is found, it stands
 pub position-text : (texts : List GroupTextData) (text : GroupTextData) (place : ℕ) → Some place ≡ position (same_text text) texts →
     slice_get texts place ≡ Some text
 position-text texts text place is =
@@ -204,7 +204,7 @@ pub first_texts-more : (front : List GroupTextData) (text : GroupTextData) →
 first_texts-more front text =
     ap (λ b. first_texts front ++ cond (not b) (text ∷ []) []) (is_among-first front text) ∙ sym (first_texts-append front (text ∷ []))
 
--- with one use more of a text as many are in use, or one more where it is the first
+-- with one use more of a text as many are in use, or one more if it is the first
 used_raised : (counts : List ℕ) (number : ℕ) → number < length counts →
     used counts + first_use (slice_index counts number) ≡ used (slice_set counts number (slice_index counts number + 1))
 used_raised counts number inside =

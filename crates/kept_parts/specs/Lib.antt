@@ -1,2 +1,3 @@
 pub mod Uses
 pub mod Coded
+pub mod Words

@@ -1,10 +1,8 @@
 //! The texts of a circuit's groups by their numbers.
 ghost use Rattle.std.specs.Prelude.{◌≡◌, ◌⊎◌, ◌++◌, ◌∷◌, [], None, Some, map, All, IfOk, IfErr, OnOk};
 ghost use Rattle.group_meaning.specs.Groups.{AreGroups};
-ghost use Rattle.group_text.specs.FirstTexts.{first_texts, new_texts};
-ghost use Rattle.group_text.specs.Texts.{local_nodes, text_of_group};
-ghost use Rattle.circuit_texts.specs.Sizes.{IsFirstTooLarge, IsFirstRefused, fault_in, refused_in};
-ghost use Rattle.circuit_texts.specs.Told.{told, told_text, told_nodes};
+ghost use Rattle.group_text.specs.Words.{first_texts, new_texts, local_nodes, text_of_group};
+ghost use Rattle.circuit_texts.specs.Words.{IsFirstTooLarge, IsFirstRefused, fault_in, refused_in, told, told_text, told_nodes};
 ghost use Rattle.kept_parts.specs.Uses.{some_texts, texts_used};
 
 use crate::uses::TextUses;
@@ -26,7 +24,7 @@ pub struct NumberedTexts {
 /// The texts of the groups of a graph, in the groups' order: each distinct text is held once, so this takes no
 /// more memory than the distinct texts and a number for each group. The hashes of texts start from these keys.
 ///
-/// Where some group is too large, the first such group is told.
+/// If some group is too large, the first such group is told.
 pub fn numbered_texts(
     alloc: Global,
     keys: TableKeys,

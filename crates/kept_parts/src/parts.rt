@@ -1,13 +1,11 @@
 //! The parts of texts.
 ghost use Rattle.std.specs.Prelude.{◌≡◌, ◌≢◌, List, None, Some, length, map, zip, All, IsTrue, IfOk};
 ghost use Rattle.std.specs.List.{AllZip};
-ghost use Rattle.group_text.specs.FirstTexts.{is_among};
-ghost use Rattle.group_text.specs.Texts.{GroupTextData};
+ghost use Rattle.group_text.specs.Words.{is_among, GroupTextData};
 ghost use Rattle.group_analysis.specs.Meaning.{MeansText};
 ghost use Rattle.analysis_cache.specs.Keeping.{texts_of};
 ghost use Rattle.circuit_texts.specs.Parts.{IsMadeOf};
-ghost use Rattle.kept_parts.specs.Coded.{AreCoded};
-ghost use Rattle.kept_parts.specs.Uses.{texts_used};
+ghost use Rattle.kept_parts.specs.Words.{AreCoded, texts_used};
 
 use crate::uses::TextUses;
 use analysis_cache::Kept;

@@ -1,10 +1,8 @@
 //! Which texts the parts of a machine have, and how many of them are distinct.
 ghost use Rattle.std.specs.Prelude.{◌≡◌, ◌+◌, ◌++◌, ◌∷◌, [], ◌^◌, ◌<◌, None, Some, All, IsTrue, length, map, max, replicate, slice_get, slice_index_or, slice_set, IfOk, IfSome, OnOk, OnErr};
-ghost use Rattle.group_text.specs.Texts.{GroupTextData};
-ghost use Rattle.group_text.specs.FirstTexts.{new_texts, is_among};
+ghost use Rattle.group_text.specs.Words.{GroupTextData, new_texts, is_among};
 ghost use Rattle.group_analysis.specs.Using.{used_texts};
-ghost use Rattle.analysis_cache.specs.Keeping.{texts_of};
-ghost use Rattle.analysis_cache.specs.Holding.{HoldsKept};
+ghost use Rattle.analysis_cache.specs.Words.{texts_of, HoldsKept};
 ghost use Rattle.kept_parts.specs.Uses.{IsNumbered, CutsTo, in_use, some_texts, texts_used, count_distinct, first_use, last_use};
 
 use analysis_cache::{Analyst, Kept};
@@ -155,7 +153,7 @@ impl TextUses {
         self.counts[number] > 0
     }
 
-    /// Cuts what is kept past its bound, where it has one, but no text that some part has: so far as it is kept
+    /// Cuts what is kept past its bound, if it has one, but no text that some part has: so far as it is kept
     /// now, with these texts in front of it.
     ///
     /// The analyst releases what is cut, and is compacted if that was something; if there is too little memory
@@ -201,7 +199,7 @@ impl TextUses {
     }
 }
 
-// For how many texts there is room: as many as the bound, or as there are present ones, where these are more.
+// For how many texts there is room: as many as the bound, or as there are present ones, if these are more.
 fn room_for(bound: u64, present: usize) -> usize
     ensures { result ≡ max bound present }
 {

@@ -50,7 +50,7 @@ module _ (lane : ℕ) (hi lo : List ℕ) (even : length lo ≡ length hi) where
       is_in_lane lane (get_or lo node 0) ≡ may_zero s → state_at (column lane hi lo) node ≡ s
   column-value node inside s one other = column-at node inside ∙ ap₂ state_with one other ∙ state_with-rails s
 
-  -- where the words are the rails of states, these are the column's
+  -- if the words are the rails of states, these are the column's
   pub column-has : (state : List Tern) → HasLane lane hi lo state → column lane hi lo ≡ state
   column-has state has =
       ext_get_or Zero (column lane hi lo) state (length-column lane hi lo even ∙ high_counted lane hi lo state has)

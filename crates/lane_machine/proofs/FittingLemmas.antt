@@ -1,6 +1,6 @@
 -- Each column is a machine that fits the graph: at first, after a step, and after words were placed.
 use Rattle.std.proofs.Common.{◌≡◌, ℕ, ◌<◌, ◌≤◌, Bool, true, false, ◌||◌, inl, inr, List, length, refl, sym, ap, ap₂, subst, ◌∙◌, Result, Ok, Err, arith}
-use Rattle.std.specs.Prelude.{slice_set, slice_index, replicate, IfOk}
+use Rattle.std.specs.Prelude.{slice_set, slice_index, replicate, Option, None, IfOk}
 use Rattle.std.proofs.lemmas.Bool.{cases_eq}
 use Rattle.std.proofs.lemmas.List.{ext_get_or, get_or-set_same, get_or-set_other, length-set, get_or-replicate}
 use Rattle.ternary.specs.declared.tern.Tern.{Tern}
@@ -12,6 +12,9 @@ use Rattle.path_meaning.specs.Step.{IsStep}
 use Rattle.oscillation_x.specs.Settling.{IsJoinStep}
 use Rattle.batch_words.specs.Lanes.{is_in_lane, HasLane}
 use Rattle.batch_words.proofs.RunLemmas.{high_at_node, low_at_node}
+use Rattle.vicinity.specs.Wides.{WideData}
+use Rattle.wide_groups.specs.Moving.{MovesIn, RetouchesIn, PlacesIn}
+use Rattle.wide_groups.proofs.WideCases.{moves_without}
 use Rattle.machine_parts.specs.declared.part.HeldPart.{HeldPart}
 use Rattle.machine_laws.specs.Machines.{MachineData, Places}
 use Rattle.machine_laws.specs.Columns.{AdvancesInColumn}
@@ -36,7 +39,17 @@ module _ (g : GraphData) (wired : IsWired g) (parts : List HeldPart) (marks new_
   advances : (joining : Bool) → StepsTo joining parts marks new_marks state next bit →
       AdvancesInColumn joining (record fit.machine { parts = parts; marks = marks; state = state })
       (record fit.machine { parts = parts; marks = new_marks; state = next })
-  advances joining steps = record { moves = steps.moves; marks = steps.keeps; groups = refl; parts = refl; uses = refl; texts = refl; last = refl; spare = refl }
+  advances joining steps = record {
+    moves = subst (λ (wide : Option WideData). MovesIn joining parts marks wide state next) (sym fit.without) (moves_without joining parts marks state next steps.moves);
+    marks = steps.keeps;
+    wide = subst (λ (wide : Option WideData). RetouchesIn joining wide wide state next) (sym fit.without) tt;
+    groups = refl;
+    parts = refl;
+    uses = refl;
+    texts = refl;
+    last = refl;
+    spare = refl;
+  }
 
   -- so it is the unit step, or the joining step
   pub plain_step : StepsTo false parts marks new_marks state next bit → IsStep g state next
@@ -50,6 +63,7 @@ module _ (g : GraphData) (wired : IsWired g) (parts : List HeldPart) (marks new_
   fits_with fits = record {
     machine = record fit.machine { parts = parts; marks = new_marks; state = next };
     fits = fits;
+    without = fit.without;
     parts_are = refl;
     marks_are = refl;
     state_is = refl;
@@ -81,16 +95,17 @@ IsJoinStep-in_lane g wired old new changed steps fits lane inside =
 -- ---- at first
 
 -- a machine that fits the graph does so in each column, where all parts are marked
-pub FitsInLanes-fresh : (g : GraphData) (m : MachineData) (lanes : ℕ) (parts : List HeldPart) (hi lo : List ℕ) → FitsGraph g m → parts ≡ m.parts →
+pub FitsInLanes-fresh : (g : GraphData) (m : MachineData) (lanes : ℕ) (parts : List HeldPart) (hi lo : List ℕ) → FitsGraph g m → m.wide ≡ None → parts ≡ m.parts →
     length lo ≡ length hi → ((lane : ℕ) → lane < lanes → HasSoundLane g hi lo lane) →
     FitsInLanes g (record { lanes = lanes; parts = parts; marks = replicate (length parts) true; hi = hi; lo = lo })
-FitsInLanes-fresh g m lanes parts hi lo fits are even sound lane inside =
+FitsInLanes-fresh g m lanes parts hi lo fits without are even sound lane inside =
     let has = sound lane inside in
     let same : column lane hi lo ≡ has.state = column-has lane hi lo even has.state has.has in
     let marks = replicate (length parts) true in
     record {
       machine = record m { marks = marks; state = has.state };
-      fits = unit.marked_machines_fit g m marks has.state fits
+      without = without;
+      fits = unit.marked_machines_fit g m marks has.state fits without
           (λ k within. get_or-replicate (length parts) k true false (omega (arith, within, ap length are))) has.counted has.sound;
       parts_are = sym are;
       marks_are = refl;
@@ -176,6 +191,7 @@ FitsInLanes-placed g wired node high low old new even inside no_rail places fits
       stays = places.marks.stays;
       concerns = places.marks.set;
       only = places.marks.only;
+      wide = subst (λ (wide : Option WideData). PlacesIn wide wide (column_of old lane) (column_of new lane)) (sym fit.without) tt;
       groups = refl;
       parts = refl;
       uses = refl;
@@ -186,6 +202,7 @@ FitsInLanes-placed g wired node high low old new even inside no_rail places fits
     } in
     record {
       machine = two;
+      without = fit.without;
       fits = placing_keeps_fit g node value one two wired no_rail (column_machine g old.parts old.marks (column_of old lane) fit) placed;
       parts_are = sym places.parts;
       marks_are = refl;

@@ -75,7 +75,7 @@ list_read lists node found inside is =
 
 -- ---- the columns that some change changes
 
--- a bit of two words together is set where one of them has it
+-- a bit of two words together is set if one of them has it
 or_true : (a b : Bool) → (a || b) ≡ true → (a ≡ true) ⊎ (b ≡ true)
 or_true true b set = inl refl
 or_true false b set = inr set

@@ -8,6 +8,6 @@ use Rattle.circuit_texts.specs.Building.{Builds, IsCutOff}
 abbrev pub HasBuilt : GraphData → Option ℕ → List GroupTextData → List GroupTextData → List GroupTextData → List GroupTextData → Type 0
 HasBuilt g bound old new before after = (count : ℕ) × Builds g bound old new before after count
 
--- a build found want of memory: nothing was analysed, or a front of what is new; or all of it was done, and there was none for the columns
+-- a build ran out of memory: nothing was analysed, or a prefix of what is new; or all of it was done, and there was none for the columns
 abbrev pub IsCutInColumns : GraphData → Option ℕ → List GroupTextData → List GroupTextData → List GroupTextData → List GroupTextData → Type 0
 IsCutInColumns g bound old new before after = IsCutOff g old new before after ⊎ HasBuilt g bound old new before after

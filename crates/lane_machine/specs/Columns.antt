@@ -1,6 +1,6 @@
 -- A machine of columns as contracts see it: one set of parts and marks serves all columns, and each column is a machine of its own that
 -- shares them.
-use Rattle.std.specs.Prelude.{◌≡◌, ℕ, ◌<◌, Bool, true, false, List, length, map, zip, ◌||◌}
+use Rattle.std.specs.Prelude.{◌≡◌, ℕ, ◌<◌, None, Bool, true, false, List, length, map, zip, ◌||◌}
 use Rattle.ternary.specs.declared.tern.Tern.{Tern}
 use Rattle.ternary.specs.declared.tern.Tern.TheVariants.{Zero, One, Unk}
 use Rattle.path_meaning.specs.Graphs.{GraphData, nodes}
@@ -18,7 +18,7 @@ pub record LaneData : Type 0 where
   pub hi : List ℕ
   pub lo : List ℕ
 
--- the state with these rails, "may be 1" first; where neither is set there is none, and X stands for it
+-- the state with these rails, "may be 1" first; if neither is set there is none, and X stands for it
 abbrev pub state_with : Bool → Bool → Tern
 state_with false false = Unk
 state_with false true = Zero
@@ -37,10 +37,11 @@ column lane hi lo = map (state_in lane) (zip hi lo)
 abbrev pub column_of : LaneData → ℕ → List Tern
 column_of m lane = column lane m.hi m.lo
 
--- a machine with these parts and marks and this state fits the graph
+-- a machine with these parts and marks and this state fits the graph, none of whose groups it steps by vicinities
 pub record HasFit (g : GraphData) (parts : List HeldPart) (marks : List Bool) (state : List Tern) : Type 0 where
   pub machine : MachineData
   pub fits : FitsGraph g machine
+  pub without : machine.wide ≡ None
   pub parts_are : machine.parts ≡ parts
   pub marks_are : machine.marks ≡ marks
   pub state_is : machine.state ≡ state

@@ -48,7 +48,7 @@ impl Agenda {
         }
     }
 
-    // Takes a marked part out of the list, and clears its mark; None where none is marked.
+    // Takes a marked part out of the list, and clears its mark; None if none is marked.
     pub(crate) fn pop(&mut self) -> Option<usize>
         ensures marked { IfSome result (λ k. IsMarked self.old k) }
         ensures cleared { IfSome result (λ k. self.new ≡ slice_set self.old k false) }

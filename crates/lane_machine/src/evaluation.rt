@@ -5,8 +5,7 @@ ghost use Rattle.path_meaning.specs.Switching.{state_at};
 ghost use Rattle.straight_code.specs.Code.{code_value};
 ghost use Rattle.batch_words.specs.Lanes.{is_in_lane, HasLane};
 ghost use Rattle.machine_parts.specs.declared.part.HeldPart.{HeldPart};
-ghost use Rattle.machine_parts.specs.Parts.{Stands};
-ghost use Rattle.machine_parts.specs.Marking.{IsMarked, count_marked, marked_sum, members_of};
+ghost use Rattle.machine_parts.specs.Words.{Stands, IsMarked, count_marked, marked_sum, members_of};
 ghost use Rattle.lane_machine.specs.Noting.{after_word, differs_in, IsNextOf, Notes};
 ghost use Rattle.lane_machine.specs.Evaluating.{rooms, IsEven, Reports, Evaluated, IsSeated};
 

@@ -1,9 +1,7 @@
 //! The machine of columns.
-ghost use Rattle.std.specs.Prelude.{◌≡◌, ◌≢◌, ℕ, ◌^◌, ◌<◌, ◌≤◌, ◌⊎◌, true, false, length, replicate, slice_index_or, Err, IfOk, IfErr, OnOk};
+ghost use Rattle.std.specs.Prelude.{◌≡◌, ◌≢◌, ℕ, ◌^◌, ◌<◌, ◌≤◌, ◌⊎◌, true, false, length, replicate, slice_index_or, None, Err, IfOk, IfErr, OnOk};
 ghost use Rattle.path_meaning.specs.declared.TheConstants.{RAILS};
-ghost use Rattle.path_meaning.specs.Graphs.{nodes, IsWired};
-ghost use Rattle.path_meaning.specs.Rails.{IsRailed};
-ghost use Rattle.path_meaning.specs.Step.{IsStep};
+ghost use Rattle.path_meaning.specs.Words.{nodes, IsWired, IsRailed, IsStep};
 ghost use Rattle.oscillation_x.specs.declared.settling.TheConstants.{MOST_LIMIT};
 ghost use Rattle.oscillation_x.specs.declared.settling.Settled.{Settled};
 ghost use Rattle.oscillation_x.specs.Settling.{IsJoinStep, StaysOrBecomesX, Settles};
@@ -11,9 +9,8 @@ ghost use Rattle.analysis_cache.specs.Keeping.{texts_of};
 ghost use Rattle.circuit_texts.specs.Sizes.{TellsTooLarge};
 ghost use Rattle.lane_machine.specs.Building.{HasBuilt, IsCutInColumns};
 ghost use Rattle.batch_words.specs.Lanes.{is_in_lane};
-ghost use Rattle.machine_laws.specs.Columns.{AreSeated};
+ghost use Rattle.machine_laws.specs.Words.{AreSeated, FitsGraph};
 ghost use Rattle.machine_parts.specs.Parts.{ReadsAt, IsStale, AreApart};
-ghost use Rattle.machine_laws.specs.Fitting.{FitsGraph};
 ghost use Rattle.lane_machine.specs.Columns.{column_of, FitsInLanes, HasSoundLane, HasStates};
 ghost use Rattle.lane_machine.specs.Running.{AreColumns};
 ghost use Rattle.lane_machine.specs.Stepping.{StepsLanes};
@@ -71,9 +68,8 @@ impl LaneMachine {
     ///
     /// There are 1 to 64 columns; the bits from the last one on may be anything. Code comes from what is kept;
     /// texts that aren't kept are analysed first, each once, in the order of the groups, and kept. Every part is
-    /// marked. Where some group is too large, the first such group is told and nothing is analysed. At want of
-    /// memory nothing was analysed, or a front of what is new; or all of it, where there was none for the columns
-    /// alone.
+    /// marked. If some group is too large, the first such group is told and nothing is analysed. Out of memory,
+    /// nothing was analysed, or a prefix of what is new; or all of it, if there was none for the columns alone.
     pub fn build<A: Analyst>(
         alloc: Global,
         graph: &Graph,
@@ -114,6 +110,7 @@ impl LaneMachine {
         requires some { 1 ≤ lanes }
         requires few { lanes ≤ 64 }
         requires machine { FitsGraph graph.now machine }
+        requires without { machine.wide ≡ None }
         requires highs { length hi.now ≡ nodes graph.now }
         requires lows { length lo.now ≡ nodes graph.now }
         requires sound { (lane : ℕ) → lane < lanes → HasSoundLane graph.now hi.now lo.now lane }
@@ -186,7 +183,7 @@ impl LaneMachine {
     /// other nodes stay.
     ///
     /// In each column some rail of the node is set. The graph is meant that is handed in: the machine fits it
-    /// afterwards where it did before. It takes no memory.
+    /// afterwards if it did before. It takes no memory.
     pub fn place(&mut self, graph: &Graph, node: usize, hi: u64, lo: u64)
         requires inside { node < length self.old.hi }
         requires no_rail { RAILS ≤ node }

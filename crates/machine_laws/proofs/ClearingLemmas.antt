@@ -22,9 +22,9 @@ only_one : (node other : ℕ) → Contains (node ∷ []) other → node ≡ othe
 only_one node other (zero, inside, here) = here
 only_one node other (suc i, inside, here) = absurd (omega (arith, inside))
 
--- where nothing changes the rest stays
+-- if nothing changes the rest stays
 pub KeepsRest-same : (m : MachineData) → KeepsRest m m
-KeepsRest-same m = record { groups = refl; state = refl; last = refl; moves = refl; placed = refl; spare = refl }
+KeepsRest-same m = record { groups = refl; state = refl; last = refl; moves = refl; placed = refl; spare = refl; wide = refl }
 
 -- and what stays twice stays
 pub KeepsRest-then : (old mid new : MachineData) → KeepsRest old mid → KeepsRest mid new → KeepsRest old new
@@ -35,9 +35,10 @@ KeepsRest-then old mid new first then = record {
   moves = then.moves ∙ first.moves;
   placed = then.placed ∙ first.placed;
   spare = then.spare ∙ first.spare;
+  wide = then.wide ∙ first.wide;
 }
 
--- where no part has one of the nodes, nothing is to be cleared
+-- if no part has one of the nodes, nothing is to be cleared
 Clears-same : (nodes : List ℕ) (m : MachineData) → ((k node : ℕ) → Contains nodes node → ¬ HasMember m.parts k node) → Clears nodes m m
 Clears-same nodes m none = record {
   was = λ k part stands some. stands;

@@ -126,7 +126,7 @@ module _ (g : GraphData) (change : Change) (old : MachineData) (covers : Covers 
   before = undo g change
 
   abbrev start : MachineData
-  start = record old { groups = None; state = with_new_nodes old.state (nodes g); spare = spare }
+  start = record old { groups = None; state = with_new_nodes old.state (nodes g); spare = spare; wide = None }
 
   old_groups_are : groups_in old.groups ≡ covers.groups.groups
   old_groups_are = ap groups_in covers.kept
@@ -329,6 +329,9 @@ module _ (g : GraphData) (change : Change) (old : MachineData) (covers : Covers 
     tidy : IsTidy made
     tidy = renews.tidy (clears.tidy (record { counted = covers.uses_counted; textless = covers.textless; quiet = covers.quiet }))
 
+    made_wide : made.wide ≡ None
+    made_wide = renews.rest.wide ∙ clears.rest.wide
+
     covers_after : Covers g after
     covers_after = record {
       groups = now;
@@ -345,6 +348,8 @@ module _ (g : GraphData) (change : Change) (old : MachineData) (covers : Covers 
       quiet = tidy.quiet;
       waits = is_stale;
       rests = rests;
+      stale_only = λ wide is. absurd (cc (made_wide, is));
+      held = λ wide is. absurd (cc (made_wide, is));
     }
 
     -- the part of a touched group is stale, and that of another one stood
@@ -386,4 +391,41 @@ module _ (g : GraphData) (change : Change) (old : MachineData) (covers : Covers 
       last = renews.rest.last ∙ clears.rest.last;
       moves = renews.rest.moves ∙ clears.rest.moves;
       placed = renews.rest.placed ∙ clears.rest.placed;
+      wide = made_wide;
     }
+
+-- a machine covers a graph without knowing the groups that are stepped by vicinities
+pub Covers-forgotten : (g : GraphData) (m : MachineData) → Covers g m → Covers g (record m { wide = None })
+Covers-forgotten g m covers = record {
+  groups = covers.groups;
+  kept = covers.kept;
+  are = covers.are;
+  counted = covers.counted;
+  each = covers.each;
+  whole = covers.whole;
+  apart = covers.apart;
+  number = covers.number;
+  known = covers.known;
+  textless = covers.textless;
+  uses_counted = covers.uses_counted;
+  quiet = covers.quiet;
+  waits = covers.waits;
+  rests = covers.rests;
+  stale_only = λ wide is. absurd (cc is);
+  held = λ wide is. absurd (cc is);
+}
+
+-- and an edit does the same to it
+pub Edits-forgotten : (g : GraphData) (change : Change) (old new : MachineData) → Edits g change (record old { wide = None }) new → Edits g change old new
+Edits-forgotten g change old new edits = record {
+  covers = edits.covers;
+  state = edits.state;
+  stale = edits.stale;
+  marked = edits.marked;
+  stays = edits.stays;
+  marks = edits.marks;
+  last = edits.last;
+  moves = edits.moves;
+  placed = edits.placed;
+  wide = edits.wide;
+}

@@ -22,7 +22,7 @@ pub on_err : {T E P : Type 0} (result : Result T E) → P → OnErr result P
 on_err (Ok value) fact = tt
 on_err (Err fault) fact = fact
 
--- where nothing is added what is kept only grew
+-- if nothing is added what is kept only grew
 pub IsGrown-same : (kept : KeptData) → IsGrown kept kept
 IsGrown-same kept = record { more = []; grown = sym (append-nil kept.entries); bound = refl }
 

@@ -89,7 +89,7 @@ module _ {X : Type 0} (text_of : X → GroupTextData) (waits : X → Bool) (kept
           ∙ sym (new_texts-cons kept (text_of x) (map text_of (filter waits xs))))
       by later false is = new_texts-old kept (text_of x) (map text_of xs) (known x (0, omega arith, refl) is) ∙ later
 
--- where no text passes a test, each fails it
+-- if no text passes a test, each fails it
 none_passes : (test : GroupTextData → Bool) (texts : List GroupTextData) → list_any test texts ≡ false → AllByRecursion (λ text. test text ≡ false) texts
 none_passes test [] none = tt
 none_passes test (text ∷ texts) none = by (none_passes test texts) (test text) refl none
@@ -133,7 +133,7 @@ IsDistinct-first (text ∷ texts) = (
     apart : (other : GroupTextData) → same_text text other ≡ true → other_than text other ≡ false
     apart other same = ap not ((same_text_decides other text).1 (sym ((same_text_decides text other).0 same)))
 
--- a text is among the first appearances exactly where it is among the texts
+-- a text is among the first appearances exactly if it is among the texts
 is_among-first : (texts : List GroupTextData) (text : GroupTextData) → is_among (first_texts texts) text ≡ is_among texts text
 is_among-first texts text = ap (λ list. is_among list text) (sym (new_texts-none_kept texts)) ∙ is_among-kept [] texts text
 

@@ -1,6 +1,6 @@
 -- A step of a machine that fits a graph is the graph's step, and the machine fits the graph again: a part that isn't marked afterwards
 -- read no change, and its members took their steady states in this step or had them before, so they rest.
-use Rattle.std.proofs.Common.{◌≡◌, ℕ, ◌<◌, ◌≤◌, Bool, true, false, inl, inr, List, None, length, take, sym, ap, subst, ◌∙◌, arith}
+use Rattle.std.proofs.Common.{◌≡◌, ℕ, ◌<◌, ◌≤◌, Bool, true, false, inl, inr, List, None, length, take, refl, sym, ap, subst, ◌∙◌, arith}
 use Rattle.std.proofs.lemmas.Bool.{cases_lt}
 use Rattle.group_text.specs.Texts.{GroupTextData}
 use Rattle.ternary.specs.declared.tern.Tern.{Tern}
@@ -16,16 +16,24 @@ use Rattle.group_rest.specs.Rest.{Rests, Responded, ReadsNoChange}
 use Rattle.group_rest.proofs.RestingGroups.{unread_group_rests}
 use Rattle.oscillation_x.specs.Settling.{IsJoinStep}
 use Rattle.machine_parts.specs.declared.part.HeldPart.{HeldPart}
-use Rattle.machine_parts.specs.Parts.{Stands, HasMember}
+use Rattle.std.specs.Prelude.{Contains, Option, Some}
+use Rattle.group_meaning.proofs.GroupLemmas.{member_storage}
+use Rattle.group_rest.specs.Alike.{IsAlike}
+use Rattle.vicinity.specs.Touching.{IsAwake, RestsAsleep, RespondedAsleep}
+use Rattle.vicinity.specs.Wides.{WideData}
+use Rattle.wide_groups.specs.Moving.{HasStaleOnly, IsAwakeIn, MovesIn, RetouchesIn}
+use Rattle.wide_groups.proofs.WideCases.{retouched, none_retouched}
+use Rattle.machine_parts.specs.Parts.{Stands, HasMember, IsStale}
 use Rattle.machine_laws.specs.Machines.{MachineData, Advances}
 use Rattle.machine_parts.specs.Marking.{IsMarked}
-use Rattle.machine_parts.specs.Stepping.{Moves, ReadsChange}
-use Rattle.machine_laws.specs.Fitting.{IsPartOf, FitsGraph}
+use Rattle.machine_parts.specs.Stepping.{ReadsChange}
+use Rattle.machine_laws.specs.Fitting.{IsPartOf, IsHeldIn, FitsGraph}
 use Rattle.machine_laws.specs.Columns.{KeepsMarks, AdvancesInColumn, ColumnsStepApart, ColumnsJoinApart, MarkedMachinesFit}
 use Rattle.machine_laws.specs.Laws.{StepsAreUnitSteps, JoiningStepsAreJoinSteps}
 use Rattle.machine_parts.proofs.CaseLemmas.{same_or_not, something}
 use Rattle.machine_laws.proofs.PartGroups.{member_of_part}
-use Rattle.machine_laws.proofs.ResponseLemmas.{node_moves, input_stays, unmarked_stays, unmarked_response, member_is_storage}
+use Rattle.machine_laws.proofs.HeldLemmas.{response_there, held_rests}
+use Rattle.machine_laws.proofs.ResponseLemmas.{node_moves, input_stays, stale_stays, unmarked_stays, unmarked_response, member_is_storage}
 
 -- no members rest anywhere
 pub none_rest : (g : GraphData) (state : List Tern) (xs : List ℕ) (count : ℕ) → count ≤ 0 → Rests g state (take count xs)
@@ -36,12 +44,15 @@ none_rest g state xs count none node there =
 
 -- a machine with other states, marks, counts and texts of the last build fits the graph too, where its stale parts are marked and its
 -- unmarked parts rest
-pub fits_with : (g : GraphData) (m : MachineData) (fits : FitsGraph g m) (marks : List Bool) (state : List Tern) (last : List GroupTextData) (moved placed : ℕ) →
+pub fits_with : (g : GraphData) (m : MachineData) (fits : FitsGraph g m) (marks : List Bool) (state : List Tern) (last : List GroupTextData) (moved placed : ℕ) (wide : Option WideData) →
     length state ≡ nodes g →
     ((k : ℕ) (part : HeldPart) → Stands m.parts k part → 0 < part.members → part.code ≡ None → IsMarked marks k) →
     ((k : ℕ) (part : HeldPart) → Stands m.parts k part → ¬ IsMarked marks k → Rests g state (take part.members part.map.items)) →
-    IsSound state → FitsGraph g (record m { marks = marks; state = state; last = last; moves = moved; placed = placed })
-fits_with g m fits marks state last moved placed counted waits rests sound = record {
+    ((one : WideData) → wide ≡ Some one → HasStaleOnly m.parts one.graph) →
+    ((one : WideData) → wide ≡ Some one → (k : ℕ) (part : HeldPart) → Stands m.parts k part → 0 < part.members → part.code ≡ None → IsHeldIn g state one part) →
+    (wide ≡ None → m.wide ≡ None) →
+    IsSound state → FitsGraph g (record m { marks = marks; state = state; last = last; moves = moved; placed = placed; wide = wide })
+fits_with g m fits marks state last moved placed wide counted waits rests stale_only held none sound = record {
   covers = record {
     groups = fits.covers.groups;
     kept = fits.covers.kept;
@@ -57,16 +68,18 @@ fits_with g m fits marks state last moved placed counted waits rests sound = rec
     quiet = fits.covers.quiet;
     waits = waits;
     rests = rests;
+    stale_only = stale_only;
+    held = held;
   };
-  coded = fits.coded;
+  coded = λ is. fits.coded (none is);
   railed = fits.railed;
   sound = sound;
-  texts = fits.texts;
+  texts = λ is. fits.texts (none is);
 }
 
 module _ (g : GraphData) (wired : IsWired g) (old : MachineData) (fits : FitsGraph g old) (new : List Tern) where
   -- a plain step is the graph's step
-  plain_step : Moves false old.parts old.marks old.state new → IsStep g old.state new
+  plain_step : MovesIn false old.parts old.marks old.wide old.state new → IsStep g old.state new
   plain_step moves = record {
     count = moves.count ∙ fits.covers.counted;
     each = λ node in_range.
@@ -75,7 +88,7 @@ module _ (g : GraphData) (wired : IsWired g) (old : MachineData) (fits : FitsGra
   }
 
   -- a joining step is the graph's joining step
-  joining_step : Moves true old.parts old.marks old.state new → IsJoinStep g old.state new
+  joining_step : MovesIn true old.parts old.marks old.wide old.state new → IsJoinStep g old.state new
   joining_step moves =
       let (response, step) = exists g wired old.state in
       record {
@@ -92,8 +105,18 @@ module _ (g : GraphData) (wired : IsWired g) (old : MachineData) (fits : FitsGra
         };
       }
 
-  module _ (joining : Bool) (moves : Moves joining old.parts old.marks old.state new) (marks : List Bool)
-      (remarks : KeepsMarks joining old.parts old.marks old.state new marks) where
+  module _ (joining : Bool) (moves : MovesIn joining old.parts old.marks old.wide old.state new) (marks : List Bool)
+      (remarks : KeepsMarks joining old.parts old.marks old.state new marks) (wide : Option WideData)
+      (retouches : RetouchesIn joining old.wide wide old.state new) where
+    -- stale parts stay marked
+    stale_marked : (k : ℕ) (part : HeldPart) → Stands old.parts k part → 0 < part.members → part.code ≡ None → IsMarked marks k
+    stale_marked k part stands some none = by_kind joining remarks
+      where
+        by_kind : (joining : Bool) → KeepsMarks joining old.parts old.marks old.state new marks → IsMarked marks k
+        by_kind true remarks = remarks.stays k (fits.covers.waits k part stands some none)
+        by_kind false remarks =
+            remarks.stays k (fits.covers.waits k part stands some none, record { part = part; stands = stands; some = some; none = none })
+
     -- the members of a part that isn't marked afterwards took their steady states, in this step or before
     responded : (k : ℕ) (part : HeldPart) → Stands old.parts k part → (¬ IsMarked marks k) → (group : Group) → IsPartOf g group part →
         Responded g old.state new group.members
@@ -103,7 +126,7 @@ module _ (g : GraphData) (wired : IsWired g) (old : MachineData) (fits : FitsGra
         let in_range = (member_is_storage g wired old fits k node has).inside in
         by_kind joining moves remarks has in_range
       where
-        by_kind : (joining : Bool) → Moves joining old.parts old.marks old.state new → KeepsMarks joining old.parts old.marks old.state new marks →
+        by_kind : (joining : Bool) → MovesIn joining old.parts old.marks old.wide old.state new → KeepsMarks joining old.parts old.marks old.state new marks →
             HasMember old.parts k node → node < nodes g → IsResponse g old.state node (state_at new node)
         by_kind false moves remarks has in_range = (plain_step moves).each node in_range
         by_kind true moves remarks has in_range =
@@ -115,7 +138,7 @@ module _ (g : GraphData) (wired : IsWired g) (old : MachineData) (fits : FitsGra
     reads_no_change : (k : ℕ) (part : HeldPart) → Stands old.parts k part → 0 < part.members → (¬ IsMarked marks k) → (group : Group) →
         IsPartOf g group part → ReadsNoChange g group old.state new
     reads_no_change k part stands some unmarked group is_part node reads =
-        let (code, is) = something part.code (fits.coded k part stands some) in
+        let (code, is) = something part.code (λ none. unmarked (stale_marked k part stands some none)) in
         let contained = ((is_part.coded code is).reads node).1 reads in
         elim (same_or_not (state_at new node) (state_at old.state node)) [
           | inl same ↦ same
@@ -140,6 +163,50 @@ module _ (g : GraphData) (wired : IsWired g) (old : MachineData) (fits : FitsGra
           | inr none ↦ none_rest g new part.map.items part.members none
         ]
 
+    -- a group that is stepped by vicinities rests again but for what is awake
+    held_again : (one : WideData) → wide ≡ Some one → (k : ℕ) (part : HeldPart) → Stands old.parts k part → 0 < part.members → part.code ≡ None →
+        IsHeldIn g new one part
+    held_again one is k part stands some none =
+        let (before, was, touches) = retouched joining old.wide wide old.state new retouches one is in
+        let held = fits.covers.held before was k part stands some none in
+        let stale : IsStale old.parts k = record { part = part; stands = stands; some = some; none = none } in
+        let group = held.group in
+        let same = touches.stays.graph in
+        let rests = held_rests g wired before held.wired group held.alike old.state new one.touched.list
+        (held_responded before was k part stands stale held one.touched.list joining moves touches.kept)
+        (input_stays g wired old fits joining new moves) touches.all in
+        record {
+          group = group;
+          is_part = held.is_part;
+          untold = held.untold;
+          few = omega (arith, held.few, touches.stays.large);
+          wired = subst IsWired (sym same) held.wired;
+          alike = subst (λ h. IsAlike g h group) (sym same) held.alike;
+          rests = subst (λ h. RestsAsleep h new group.members one.touched.list) (sym same) rests;
+        }
+      where
+        held_responded : (before : WideData) → old.wide ≡ Some before → (k : ℕ) (part : HeldPart) → Stands old.parts k part → IsStale old.parts k →
+            (held : IsHeldIn g old.state before part) (again : List ℕ) (kind : Bool) → MovesIn kind old.parts old.marks old.wide old.state new →
+            (kind ≡ true → (node : ℕ) → Contains before.touched.list node → Contains again node) →
+            RespondedAsleep before.graph old.state new held.group.members again
+        held_responded before was k part stands stale held again false moves kept node member asleep =
+            let in_range = (member_storage g held.group held.alike.here node member).inside in
+            response_there g before.graph held.group old.state wired held.wired held.alike node member (state_at new node)
+            ((plain_step moves).each node in_range)
+        held_responded before was k part stands stale held again true moves kept node member asleep =
+            let still : ¬ IsAwake before.graph old.state before.touched.list node = λ awake. asleep (awake.0, kept refl awake.0 awake.1, awake.2) in
+            let (place, there) = member_of_part g held.group part held.is_part node member in
+            let has : HasMember old.parts k node = record { part = part; stands = stands; place = place; member = there } in
+            let stays = stale_stays g wired old fits true new moves k node has stale
+            (λ awake. still (subst (λ w. IsAwakeIn w old.state node) was awake)) in
+            subst (IsResponse before.graph old.state node) (sym stays) (held.rests node member still)
+
+    -- and its members are those of stale parts
+    stale_only_again : (one : WideData) → wide ≡ Some one → HasStaleOnly old.parts one.graph
+    stale_only_again one is =
+        let (before, was, touches) = retouched joining old.wide wide old.state new retouches one is in
+        subst (HasStaleOnly old.parts) (sym touches.stays.graph) (fits.covers.stale_only before was)
+
     -- the rails keep their states
     stays_sound : IsSound new
     stays_sound = record {
@@ -148,15 +215,15 @@ module _ (g : GraphData) (wired : IsWired g) (old : MachineData) (fits : FitsGra
     }
 
     -- the machine with these states and marks fits the graph again
-    pub fits_again : (moved placed : ℕ) → FitsGraph g (record old { marks = marks; state = new; moves = moved; placed = placed })
+    pub fits_again : (moved placed : ℕ) → FitsGraph g (record old { marks = marks; state = new; moves = moved; placed = placed; wide = wide })
     fits_again moved placed =
-        fits_with g old fits marks new old.last moved placed (moves.count ∙ fits.covers.counted)
-        (λ k part stands some none. absurd (fits.coded k part stands some none)) part_rests stays_sound
+        fits_with g old fits marks new old.last moved placed wide (moves.count ∙ fits.covers.counted)
+        stale_marked part_rests stale_only_again held_again (none_retouched joining old.wide wide old.state new retouches) stays_sound
 
 -- a machine in which all but states, marks and counts are the same
 pub same_machine : (old new : MachineData) → new.groups ≡ old.groups → new.parts ≡ old.parts → new.uses ≡ old.uses →
     new.texts ≡ old.texts → new.last ≡ old.last → new.spare ≡ old.spare →
-    record old { marks = new.marks; state = new.state; moves = new.moves; placed = new.placed } ≡ new
+    record old { marks = new.marks; state = new.state; moves = new.moves; placed = new.placed; wide = new.wide } ≡ new
 same_machine old new groups parts uses texts last spare = λ i. record {
   groups = sym groups i;
   parts = sym parts i;
@@ -168,6 +235,7 @@ same_machine old new groups parts uses texts last spare = λ i. record {
   moves = new.moves;
   placed = new.placed;
   spare = sym spare i;
+  wide = new.wide;
 }
 
 -- a machine that advanced fits the graph again, also with more marks than the step sets
@@ -175,13 +243,14 @@ FitsGraph-in_column : (g : GraphData) → IsWired g → (joining : Bool) (old ne
     FitsGraph g new
 FitsGraph-in_column g wired joining old new fits advances =
     subst (FitsGraph g) (same_machine old new advances.groups advances.parts advances.uses advances.texts advances.last advances.spare)
-    (fits_again g wired old fits new.state joining advances.moves new.marks advances.marks new.moves new.placed)
+    (fits_again g wired old fits new.state joining advances.moves new.marks advances.marks new.wide advances.wide new.moves new.placed)
 
 -- a step sets the marks that it needs
 in_column : (joining : Bool) (old new : MachineData) → Advances joining old new → AdvancesInColumn joining old new
 in_column joining old new advances = record {
   moves = advances.moves;
   marks = record { count = advances.marks.count; stays = advances.marks.stays; reads = advances.marks.reads };
+  wide = advances.wide;
   groups = advances.groups;
   parts = advances.parts;
   uses = advances.uses;
@@ -215,6 +284,7 @@ columns_join_apart g old new wired fits advances =
 
 -- where all parts are marked none has to rest
 pub marked_machines_fit : MarkedMachinesFit
-marked_machines_fit g m marks state fits all counted sound =
-    fits_with g m fits marks state m.last m.moves m.placed counted (λ k part stands some none. all k stands.inside)
-    (λ k part stands unmarked. absurd (unmarked (all k stands.inside))) sound
+marked_machines_fit g m marks state fits none all counted sound =
+    fits_with g m fits marks state m.last m.moves m.placed m.wide counted (λ k part stands some stale. all k stands.inside)
+    (λ k part stands unmarked. absurd (unmarked (all k stands.inside))) fits.covers.stale_only
+    (λ one is. absurd (cc (none, is))) (λ is. is) sound

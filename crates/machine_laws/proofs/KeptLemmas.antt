@@ -29,6 +29,8 @@ use Rattle.machine_laws.specs.Machines.{MachineData, groups_in}
 use Rattle.machine_laws.specs.Fitting.{IsPartOf, Covers, IsKeptBy}
 use Rattle.machine_laws.specs.Editing.{is_touched_in, Edits}
 use Rattle.machine_laws.specs.Laws.{with_empty_place, EmptyPlacesAreCovered, EmptyPlacesKeepTexts, BuiltTextsAreKept, MoreTextsAreKept, StepsKeepTexts, PlacingKeepsTexts, FittingMachinesShareTexts, EditsKeepTexts}
+use Rattle.circuit_texts.specs.Sizes.{fault_in}
+use Rattle.machine_laws.proofs.HeldLemmas.{known_or_not}
 use Rattle.machine_laws.proofs.PartGroups.{one_group}
 use Rattle.machine_laws.proofs.FittingLemmas.{none_rest}
 use Rattle.machine_laws.proofs.AlikeParts.{alike_groups_keep_their_parts}
@@ -74,7 +76,15 @@ fitting_machines_share_texts g kept one two fits_one fits_two known k part stand
     let covers = fits_one.covers in
     let (i, inside, at) = group_there g covers.groups.groups covers.are.are group is_part.is_group in
     let has = covers.each i group at in
-    known has.k has.part has.stands (fits_one.coded has.k has.part has.stands (omega (arith, has.is_part.count, has.is_part.is_group.some))) group has.is_part
+    let some : 0 < has.part.members = omega (arith, has.is_part.count, has.is_part.is_group.some) in
+    known has.k has.part has.stands (λ stale.
+    elim (known_or_not one.wide) [
+      | inr none ↦ fits_one.coded none has.k has.part has.stands some stale
+      | inl (wide, is) ↦
+          let held = covers.held wide is has.k has.part has.stands some stale in
+          let same = one_group g held.group group has.part held.is_part has.is_part in
+          held.untold (subst (λ it. fault_in it ≡ None) (sym same) (fits_two.covers.known k part stands coded group is_part).fits)
+    ]) group has.is_part
 
 -- what stands at a place of a list that is made item by item
 pub made_at : {A B : Type 0} (f : A → B) (xs : List A) (i : ℕ) (x : A) → slice_get xs i ≡ Some x → slice_get (map f xs) i ≡ Some (f x)
@@ -213,6 +223,24 @@ module _ (g : GraphData) (m : MachineData) (wired : IsWired g) (covers : Covers 
               ((alike_groups_rest_alike g more group m.state wired more_wired (more_alike group is_part.is_group)).1 rests)
           | inr none ↦ none_rest more m.state part.map.items part.members none
         ];
+    stale_only = covers.stale_only;
+    held = λ wide is k part stands some none.
+        let held = covers.held wide is k part stands some none in
+        let whole = more_alike held.group held.alike.here in
+        record {
+          group = held.group;
+          is_part = more_part held.group part held.is_part;
+          untold = held.untold;
+          few = held.few;
+          wired = held.wired;
+          alike = record {
+            here = whole.there;
+            there = held.alike.there;
+            places = λ place inside. held.alike.places place inside ∙ sym (whole.places place inside);
+            levels = λ node member. held.alike.levels node member ∙ sym (whole.levels node member);
+          };
+          rests = held.rests;
+        };
   }
 
 -- an empty place more

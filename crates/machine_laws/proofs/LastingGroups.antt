@@ -1,5 +1,5 @@
--- The texts of a machine's parts, in the order of the nodes at which the parts begin, are those of the graph's groups where the machine fits it.
-use Rattle.std.proofs.Common.{◌≡◌, ℕ, zero, suc, ◌<◌, List, [], ◌∷◌, length, map, Some, refl, sym, ap, ap₂, subst, ◌∙◌, arith}
+-- The texts of a machine's parts, in the order of the nodes at which the parts begin, are those of the graph's groups if the machine fits it.
+use Rattle.std.proofs.Common.{None, ◌≡◌, ℕ, zero, suc, ◌<◌, List, [], ◌∷◌, length, map, Some, refl, sym, ap, ap₂, subst, ◌∙◌, arith}
 use Rattle.std.specs.Prelude.{Contains, Option, slice_get, slice_index}
 use Rattle.std.specs.List.{AllZip}
 use Rattle.std.proofs.lemmas.List.{get_or-take, length-take}
@@ -59,7 +59,7 @@ texts_along g parts uses (group ∷ groups) are (place ∷ places) (text ∷ tex
     ap₂ (λ one more. one ∷ more) (are 0 group refl text (subst (λ node. Begins parts uses node text) first each.0))
     (texts_along g parts uses groups (λ i other at. are (suc i) other at) places texts rest each.1)
 
-module _ (g : GraphData) (m : MachineData) (fits : FitsGraph g m) where
+module _ (g : GraphData) (m : MachineData) (fits : FitsGraph g m) (no_wide : m.wide ≡ None) where
   abbrev groups : List Group
   groups = fits.covers.groups.groups
 
@@ -71,7 +71,7 @@ module _ (g : GraphData) (m : MachineData) (fits : FitsGraph g m) where
       let stands = begins.at.stands in
       let some : 0 < part.members = begins.at.first.inside in
       let (group, is_part) = fits.covers.whole begins.k part stands some in
-      let known = fits.covers.known begins.k part stands (fits.coded begins.k part stands some) group is_part in
+      let known = fits.covers.known begins.k part stands (fits.coded no_wide begins.k part stands some) group is_part in
       let both : Some text ≡ Some (text_of_group g group) = sym begins.has ∙ known.same in
       let same : text ≡ text_of_group g group = cc in
       let (i, inside, at) = group_there g groups fits.covers.are.are group is_part.is_group in
@@ -81,7 +81,7 @@ module _ (g : GraphData) (m : MachineData) (fits : FitsGraph g m) where
   Begins-group : (i : ℕ) (group : Group) → slice_get groups i ≡ Some group → Begins m.parts m.uses (id_of group) (text_of_group g group)
   Begins-group i group at =
       let has = fits.covers.each i group at in
-      let coded = fits.coded has.k has.part has.stands (some_members has.is_part) in
+      let coded = fits.coded no_wide has.k has.part has.stands (some_members has.is_part) in
       record {
         k = has.k;
         at = record { part = has.part; stands = has.stands; first = first_member g group has.part has.is_part };
@@ -120,4 +120,5 @@ module _ (g : GraphData) (m : MachineData) (fits : FitsGraph g m) where
 
   -- the texts of the last build may be any, for the machine to fit the graph
   pub FitsGraph-last : (last : List GroupTextData) → FitsGraph g (record m { last = last })
-  FitsGraph-last last = fits_with g m fits m.marks m.state last m.moves m.placed fits.covers.counted fits.covers.waits fits.covers.rests fits.sound
+  FitsGraph-last last = fits_with g m fits m.marks m.state last m.moves m.placed m.wide fits.covers.counted fits.covers.waits fits.covers.rests fits.covers.stale_only
+      fits.covers.held (λ is. is) fits.sound

@@ -1,3 +1,4 @@
+pub mod HeldLemmas
 pub mod ResponseLemmas
 pub mod FittingLemmas
 pub mod PlacingLemmas

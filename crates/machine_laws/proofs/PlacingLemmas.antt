@@ -13,10 +13,15 @@ use Rattle.group_meaning.specs.Groups.{Group}
 use Rattle.group_rest.specs.Rest.{Rests, Responded, ReadsNoChange}
 use Rattle.group_rest.proofs.RestingGroups.{unread_group_rests}
 use Rattle.machine_parts.specs.declared.part.HeldPart.{HeldPart}
+use Rattle.group_rest.specs.Alike.{IsAlike}
+use Rattle.vicinity.specs.Touching.{RestsAsleep}
+use Rattle.vicinity.specs.Wides.{WideData}
+use Rattle.wide_groups.specs.Moving.{HasStaleOnly, PlacesIn}
+use Rattle.wide_groups.proofs.WideCases.{placed_wide, none_placed}
 use Rattle.machine_parts.specs.Parts.{Stands, HasMember}
 use Rattle.machine_laws.specs.Machines.{MachineData, Places}
 use Rattle.machine_parts.specs.Marking.{IsMarked, MarksAll}
-use Rattle.machine_laws.specs.Fitting.{IsPartOf, Covers, FitsGraph}
+use Rattle.machine_laws.specs.Fitting.{IsPartOf, IsHeldIn, Covers, FitsGraph}
 use Rattle.machine_laws.specs.Laws.{PlacingKeepsCover, PlacingKeepsFit}
 use Rattle.machine_parts.proofs.CaseLemmas.{something}
 use Rattle.machine_laws.proofs.PartGroups.{member_of_part}
@@ -67,7 +72,29 @@ module _ (g : GraphData) (wired : IsWired g) (node : ℕ) (value : Tern) (old ne
         | inr none ↦ none_rest g new.state part.map.items part.members none
       ]
 
-  covers_again : (moved placed : ℕ) → Covers g (record old { marks = new.marks; state = new.state; moves = moved; placed = placed })
+  -- a group that is stepped by vicinities rests again but for what is awake
+  held_again : (one : WideData) → new.wide ≡ Some one → (k : ℕ) (part : HeldPart) → Stands old.parts k part → 0 < part.members → part.code ≡ None →
+      IsHeldIn g new.state one part
+  held_again one is k part stands some none =
+      let (before_it, was, placed) = placed_wide old.wide new.wide old.state new.state places.wide one is in
+      let held = covers.held before_it was k part stands some none in
+      let same = placed.stays.graph in
+      record {
+        group = held.group;
+        is_part = held.is_part;
+        untold = held.untold;
+        few = omega (arith, held.few, placed.stays.large);
+        wired = subst IsWired (sym same) held.wired;
+        alike = subst (λ h. IsAlike g h held.group) (sym same) held.alike;
+        rests = subst (λ h. RestsAsleep h new.state held.group.members one.touched.list) (sym same) (placed.group held.group held.alike.there held.rests);
+      }
+
+  stale_only_again : (one : WideData) → new.wide ≡ Some one → HasStaleOnly old.parts one.graph
+  stale_only_again one is =
+      let (before_it, was, placed) = placed_wide old.wide new.wide old.state new.state places.wide one is in
+      subst (HasStaleOnly old.parts) (sym placed.stays.graph) (covers.stale_only before_it was)
+
+  covers_again : (moved placed : ℕ) → Covers g (record old { marks = new.marks; state = new.state; moves = moved; placed = placed; wide = new.wide })
   covers_again moved placed = record {
     groups = covers.groups;
     kept = covers.kept;
@@ -83,6 +110,8 @@ module _ (g : GraphData) (wired : IsWired g) (node : ℕ) (value : Tern) (old ne
     quiet = covers.quiet;
     waits = λ k part stands some none. places.stays k (covers.waits k part stands some none);
     rests = part_rests;
+    stale_only = stale_only_again;
+    held = held_again;
   }
 
 -- a machine covers the graph again
@@ -96,12 +125,12 @@ pub placing_keeps_fit : PlacingKeepsFit
 placing_keeps_fit g node value old new wired no_rail fits places =
     let gnd_stays = others_stay g wired node value old new fits.covers places 0 (λ same. absurd (omega (arith, no_rail, same))) in
     let vdd_stays = others_stay g wired node value old new fits.covers places 1 (λ same. absurd (omega (arith, no_rail, same))) in
-    let again : FitsGraph g (record old { marks = new.marks; state = new.state; moves = new.moves; placed = new.placed }) = record {
+    let again : FitsGraph g (record old { marks = new.marks; state = new.state; moves = new.moves; placed = new.placed; wide = new.wide }) = record {
       covers = covers_again g wired node value old new fits.covers places new.moves new.placed;
-      coded = fits.coded;
+      coded = λ is. fits.coded (none_placed old.wide new.wide old.state new.state places.wide is);
       railed = fits.railed;
       sound = record { gnd = gnd_stays ∙ fits.sound.gnd; vdd = vdd_stays ∙ fits.sound.vdd };
-      texts = fits.texts;
+      texts = λ is. fits.texts (none_placed old.wide new.wide old.state new.state places.wide is);
     } in
     subst (FitsGraph g) (same_machine old new places.groups places.parts places.uses places.texts places.last places.spare) again
 
@@ -109,9 +138,11 @@ placing_keeps_fit g node value old new wired no_rail fits places =
 pub Places-marked : (node : ℕ) (value : Tern) (old : MachineData) (waiting : List Bool) (lists : List (SmallVec ℕ)) (owners numbers : List (Option ℕ)) (held most : ℕ)
     (room : Rooms) → IsMachine old.parts old.marks waiting (length old.state) lists owners numbers held most room → (owner : Option ℕ) →
     owner ≡ slice_index_or owners node None → (mid new : List Bool) → MarksAll (λ k. owner ≡ Some k) old.marks mid → (read : List ℕ) →
-    read ≡ readers_of lists node → MarksAll (Contains read) mid new → (placed : ℕ) →
-    Places node value old (record old { marks = new; state = slice_set old.state node value; placed = placed })
-Places-marked node value old waiting lists owners numbers held most room machine owner owner_is mid new first read read_is second placed = record {
+    read ≡ readers_of lists node → MarksAll (Contains read) mid new → (placed : ℕ) (wide : Option WideData) →
+    PlacesIn old.wide wide old.state (slice_set old.state node value) →
+    Places node value old (record old { marks = new; state = slice_set old.state node value; placed = placed; wide = wide })
+Places-marked node value old waiting lists owners numbers held most room machine owner owner_is mid new first read read_is second placed wide wide_placed = record {
+  wide = wide_placed;
   state = refl;
   count = second.count ∙ first.count;
   stays = λ k was. second.stays k (first.stays k was);

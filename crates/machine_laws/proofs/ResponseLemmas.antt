@@ -1,6 +1,6 @@
 -- On a graph that a machine fits each node moves to its steady state: a member of a marked part by the part's code, a member of any
 -- other part, which rests, and an input node by staying.
-use Rattle.std.proofs.Common.{◌≡◌, ℕ, ◌<◌, Bool, false, inl, inr, List, length, map, take, refl, sym, ap, subst, ◌∙◌, arith}
+use Rattle.std.proofs.Common.{◌≡◌, ℕ, ◌<◌, Bool, false, inl, inr, Some, None, Global, List, length, map, take, refl, sym, ap, subst, ◌∙◌, arith}
 use Rattle.std.specs.Prelude.{slice_index, slice_index_or, Contains}
 use Rattle.std.proofs.lemmas.Option.{slice_get_read}
 use Rattle.ternary.specs.declared.tern.Tern.{Tern}
@@ -13,14 +13,25 @@ use Rattle.group_text.specs.Texts.{local_nodes, local_state}
 use Rattle.path_meaning.proofs.InputNodes.{input_response}
 use Rattle.straight_code.specs.Code.{code_value}
 use Rattle.group_analysis.proofs.ResponseLemmas.{given_response}
-use Rattle.machine_parts.specs.Parts.{HasMember}
+use Rattle.std.specs.declared.rc.Rc.{Rc}
+use Rattle.straight_code.specs.Code.{CodeData}
+use Rattle.path_meaning.proofs.ExistingSteps.{exists}
+use Rattle.path_meaning.proofs.UniqueSteps.{response_is_unique}
+use Rattle.vicinity.specs.Touching.{IsAwake}
+use Rattle.vicinity.specs.Wides.{WideData}
+use Rattle.vicinity.proofs.SleepingNodes.{same_tern}
+use Rattle.wide_groups.specs.Moving.{graph_in, IsAwakeIn, MovesIn}
+use Rattle.wide_groups.proofs.WideCases.{awake_stale}
+use Rattle.machine_parts.specs.declared.part.HeldPart.{HeldPart}
+use Rattle.machine_parts.specs.Parts.{Stands, IsMemberAt, HasMember, IsStale}
 use Rattle.machine_laws.specs.Machines.{MachineData}
 use Rattle.machine_parts.specs.Marking.{IsMarked}
-use Rattle.machine_parts.specs.Stepping.{IsGiven, Moves}
+use Rattle.machine_parts.specs.Stepping.{IsGiven}
 use Rattle.part_words.specs.Noting.{after}
 use Rattle.machine_laws.specs.Fitting.{FitsGraph}
-use Rattle.machine_parts.proofs.CaseLemmas.{true_or_not, something, after-same}
-use Rattle.machine_parts.proofs.PartLemmas.{HasMember-from_Gives}
+use Rattle.machine_parts.proofs.CaseLemmas.{true_or_not, after-same}
+use Rattle.machine_parts.proofs.PartLemmas.{same_part, HasMember-from_Gives}
+use Rattle.machine_laws.proofs.HeldLemmas.{known_or_not, response_there}
 use Rattle.machine_laws.proofs.PartGroups.{member_from_part, place_in_group, member_in_group, member_of_part}
 
 -- the node has this steady state, and moves to it
@@ -62,6 +73,35 @@ module _ (g : GraphData) (wired : IsWired g) (m : MachineData) (fits : FitsGraph
       let (place, there) = member_of_part g group has.part has.is_part node member in
       (has.k, record { part = has.part; stands = has.stands; place = place; member = there })
 
+  -- a node that is awake is a member of a stale part
+  awake_has_stale : (node : ℕ) → IsAwakeIn m.wide m.state node → (k : ℕ) × HasMember m.parts k node × IsStale m.parts k
+  awake_has_stale = awake_stale m.parts m.wide fits.covers.stale_only m.state
+
+  -- so no input node is awake
+  input_asleep : (node : ℕ) → level_of g node ≡ INPUT_LEVEL → ¬ IsAwakeIn m.wide m.state node
+  input_asleep node input awake =
+      let (k, has, stale) = awake_has_stale node awake in
+      absurd (omega (arith, (member_is_storage k node has).below, input))
+
+  -- nor is a member of a part that isn't stale
+  fresh_asleep : (k node : ℕ) → HasMember m.parts k node → (¬ IsStale m.parts k) → ¬ IsAwakeIn m.wide m.state node
+  fresh_asleep k node has fresh awake =
+      let (l, has_too, stale) = awake_has_stale node awake in
+      fresh (subst (IsStale m.parts) (fits.covers.apart l k node has_too has) stale)
+
+  -- nor one of a part that isn't marked
+  unmarked_asleep : (k node : ℕ) → HasMember m.parts k node → (¬ IsMarked m.marks k) → ¬ IsAwakeIn m.wide m.state node
+  unmarked_asleep k node has unmarked =
+      fresh_asleep k node has (λ stale. unmarked (fits.covers.waits k stale.part stale.stands stale.some stale.none))
+
+  -- a stale part gives nothing
+  nothing_to_stale : (k node : ℕ) → HasMember m.parts k node → IsStale m.parts k → (value : Tern) → ¬ IsGiven m.parts m.marks m.state node value
+  nothing_to_stale k node has stale value given =
+      let gives = given.gives in
+      let same = fits.covers.apart given.k k node (HasMember-from_Gives m.parts m.state given.k node value gives) has in
+      let part = same_part m.parts k stale.part gives.part stale.stands (subst (λ l. Stands m.parts l gives.part) same gives.stands) in
+      absurd (cc (ap (λ (p : HeldPart). p.code) part, stale.none, gives.has))
+
   -- an input node is given nothing
   nothing_to_input : (node : ℕ) → level_of g node ≡ INPUT_LEVEL → (value : Tern) → ¬ IsGiven m.parts m.marks m.state node value
   nothing_to_input node input value given =
@@ -75,14 +115,14 @@ module _ (g : GraphData) (wired : IsWired g) (m : MachineData) (fits : FitsGraph
       let same = fits.covers.apart given.k k node (HasMember-from_Gives m.parts m.state given.k node value given.gives) has in
       unmarked (subst (IsMarked m.marks) same given.marked)
 
-  module _ (joining : Bool) (new : List Tern) (moves : Moves joining m.parts m.marks m.state new) where
+  module _ (joining : Bool) (new : List Tern) (moves : MovesIn joining m.parts m.marks m.wide m.state new) where
     -- an input node stays
     pub input_stays : (node : ℕ) → level_of g node ≡ INPUT_LEVEL → state_at new node ≡ state_at m.state node
-    input_stays node input = moves.stays node (nothing_to_input node input)
+    input_stays node input = moves.stays node (nothing_to_input node input) (input_asleep node input)
 
     -- and so does a member of a part that isn't marked
     pub unmarked_stays : (k node : ℕ) → HasMember m.parts k node → (¬ IsMarked m.marks k) → state_at new node ≡ state_at m.state node
-    unmarked_stays k node has unmarked = moves.stays node (nothing_to_unmarked k node has unmarked)
+    unmarked_stays k node has unmarked = moves.stays node (nothing_to_unmarked k node has unmarked) (unmarked_asleep k node has unmarked)
 
     -- whose state is its steady state
     pub unmarked_response : (k node : ℕ) → HasMember m.parts k node → (¬ IsMarked m.marks k) → IsResponse g m.state node (state_at m.state node)
@@ -103,12 +143,52 @@ module _ (g : GraphData) (wired : IsWired g) (m : MachineData) (fits : FitsGraph
       moves = stays ∙ sym (after-same joining (state_at m.state node));
     }
 
+    -- a member of a stale part that is asleep stays
+    pub stale_stays : (k node : ℕ) → HasMember m.parts k node → IsStale m.parts k → (¬ IsAwakeIn m.wide m.state node) →
+        state_at new node ≡ state_at m.state node
+    stale_stays k node has stale = moves.stays node (nothing_to_stale k node has stale)
+
+    -- a member of a group that is stepped by vicinities moves to its steady state: if it is awake it takes it, and if not it has it
+    MovesTo-held : (wide : WideData) → m.wide ≡ Some wide → (k node : ℕ) → HasMember m.parts k node → IsStale m.parts k → node < nodes g →
+        MovesTo g joining m.state new node
+    MovesTo-held wide is k node has stale in_range =
+        let held = fits.covers.held wide is k stale.part stale.stands stale.some stale.none in
+        let part = same_part m.parts k has.part stale.part has.stands stale.stands in
+        let at_place : IsMemberAt stale.part has.place node = subst (λ p. IsMemberAt p has.place node) part has.member in
+        let member = member_in_group g held.group stale.part held.is_part has.place node at_place in
+        let step = exists g wired m.state in
+        let value = state_at step.0 node in
+        let response : IsResponse g m.state node value = step.1.each node in_range in
+        let there = response_there g wide.graph held.group m.state wired held.wired held.alike node member value response in
+        let awake_moves : IsAwake wide.graph m.state wide.touched.list node → state_at new node ≡ after joining (state_at m.state node) value =
+        λ awake. moves.awake node value (subst (λ w. IsAwakeIn w m.state node) (sym is) awake)
+        (subst (λ w. IsResponse (graph_in w) m.state node value) (sym is) there) in
+        let asleep_moves : ¬ IsAwake wide.graph m.state wide.touched.list node → state_at new node ≡ after joining (state_at m.state node) value =
+        λ asleep.
+        let same : state_at m.state node ≡ value =
+        response_is_unique wide.graph m.state node (state_at m.state node) value (held.rests node member asleep) there in
+        stale_stays k node has stale (λ awake. asleep (subst (λ w. IsAwakeIn w m.state node) is awake))
+        ∙ (sym (after-same joining (state_at m.state node)) ∙ ap (after joining (state_at m.state node)) same) in
+        record {
+          value = value;
+          response = response;
+          moves = same_tern (state_at new node) (after joining (state_at m.state node) value)
+              (λ differs. differs (asleep_moves (λ awake. differs (awake_moves awake))));
+        }
+
+    -- a member of a stale part moves so, since such groups are known
+    MovesTo-stale : (k node : ℕ) → HasMember m.parts k node → IsStale m.parts k → node < nodes g → MovesTo g joining m.state new node
+    MovesTo-stale k node has stale in_range =
+        elim (known_or_not m.wide) [
+          | inl (wide, is) ↦ MovesTo-held wide is k node has stale in_range
+          | inr none ↦ absurd (fits.coded none k stale.part stale.stands stale.some stale.none)
+        ]
+
     -- a member of a marked part moves to what the part's code gives
-    MovesTo-marked : (k node : ℕ) → HasMember m.parts k node → IsMarked m.marks k → MovesTo g joining m.state new node
-    MovesTo-marked k node has marked =
+    MovesTo-coded : (k node : ℕ) (has : HasMember m.parts k node) → IsMarked m.marks k → (code : Rc CodeData Global) → has.part.code ≡ Some code →
+        MovesTo g joining m.state new node
+    MovesTo-coded k node has marked code is =
         let part = has.part in
-        let some : 0 < part.members = omega (arith, has.member.inside) in
-        let (code, is) = something part.code (fits.coded k part has.stands some) in
         let given : IsGiven m.parts m.marks m.state node (state_at (code_value code.value (map (state_at m.state) part.map.items)) has.place) = record {
           k = k;
           marked = marked;
@@ -124,6 +204,15 @@ module _ (g : GraphData) (wired : IsWired g) (m : MachineData) (fits : FitsGraph
         } in
         record { value = _; response = given_is_response node _ given; moves = moves.given node _ given }
 
+    -- a member of a marked part moves to its steady state
+    MovesTo-marked : (k node : ℕ) → HasMember m.parts k node → IsMarked m.marks k → node < nodes g → MovesTo g joining m.state new node
+    MovesTo-marked k node has marked in_range =
+        elim (known_or_not has.part.code) [
+          | inl (code, is) ↦ MovesTo-coded k node has marked code is
+          | inr none ↦
+              MovesTo-stale k node has (record { part = has.part; stands = has.stands; some = omega (arith, has.member.inside); none = none }) in_range
+        ]
+
     -- each node moves to its steady state
     pub node_moves : (node : ℕ) → node < nodes g → MovesTo g joining m.state new node
     node_moves node in_range =
@@ -131,7 +220,7 @@ module _ (g : GraphData) (wired : IsWired g) (m : MachineData) (fits : FitsGraph
           | inl storage ↦
               let (k, has) = storage_has_part node storage in
               elim (true_or_not (slice_index_or m.marks k false)) [
-                | inl marked ↦ MovesTo-marked k node has marked
+                | inl marked ↦ MovesTo-marked k node has marked in_range
                 | inr unmarked ↦ MovesTo-stays node (unmarked_response k node has unmarked) (unmarked_stays k node has unmarked)
               ]
           | inr input ↦ MovesTo-stays node (input_response g wired m.state node in_range input) (input_stays node input)

@@ -263,7 +263,7 @@ module _ (g : GraphData) (m : MachineData) (covers : Covers g m) (groups some : 
       (uses_stay : (k : ℕ) → ¬ Contains slots k → slice_index_or uses k None ≡ slice_index_or m.uses k None)
       (uses_come : (i k : ℕ) (group : Group) → slice_get slots i ≡ Some k → slice_get some i ≡ Some group →
       slice_index_or uses k None ≡ Some (text_of_group g group))
-      (fit : All (λ group. fault_in group ≡ None) some) (texts : ℕ) where
+      (fit : All (λ group. fault_in group ≡ None) some) (texts : ℕ) (no_wide : m.wide ≡ None) where
     abbrev pub roused : MachineData
     roused = record m { parts = new; uses = uses; texts = texts }
 
@@ -343,6 +343,8 @@ module _ (g : GraphData) (m : MachineData) (covers : Covers g m) (groups some : 
             | inl stays ↦ covers.rests k part stays.stands unmarked
             | inr comes ↦ absurd (unmarked (covers.waits k comes.was.part comes.was.stands (some_members comes.was.is_part) comes.was.stale))
           ];
+      stale_only = λ wide is. absurd (cc (no_wide, is));
+      held = λ wide is. absurd (cc (no_wide, is));
     }
 
     pub coded_roused : (k : ℕ) (part : HeldPart) → Stands new k part → 0 < part.members → part.code ≢ None

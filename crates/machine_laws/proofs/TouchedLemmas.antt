@@ -68,7 +68,7 @@ module _ (g : GraphData) (change : Change) (old_groups : List Group) (found node
   pub after_in_nodes : (node : ℕ) → Contains (nodes_after g change) node → Contains nodes node
   after_in_nodes node there = subst (λ xs. Contains xs node) (sym nodes_are) (Contains-append_right found (nodes_after g change) node there)
 
-  -- a group is touched where it has one of the nodes
+  -- a group is touched if it has one of the nodes
   pub touched_has : (group : Group) → is_touched_now g change old_groups group ≡ true → HasAny nodes group
   touched_has group touched =
       let (node, member, passes) = from_any (λ node. is_among (nodes_after g change) node || in_some touched_old node) group.members touched in

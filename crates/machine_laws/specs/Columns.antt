@@ -1,7 +1,7 @@
 -- A step in one column of a machine of columns: one set of parts and marks serves all columns, so parts may be marked that no node of this
 -- column's state asks for.
 -- After Bryant, Beatty, Brace, Cho and Sheffler, "COSMOS: A Compiled Simulator for MOS Circuits", 1987.
-use Rattle.std.specs.Prelude.{◌≡◌, ℕ, ◌<◌, Bool, true, false, List, length, All}
+use Rattle.std.specs.Prelude.{◌≡◌, ℕ, ◌<◌, None, Bool, true, false, List, length, All}
 use Rattle.ternary.specs.declared.tern.Tern.{Tern}
 use Rattle.path_meaning.specs.Graphs.{GraphData, IsWired, nodes}
 use Rattle.path_meaning.specs.Rails.{IsSound}
@@ -10,7 +10,8 @@ use Rattle.oscillation_x.specs.Settling.{IsJoinStep}
 use Rattle.machine_parts.specs.declared.part.HeldPart.{HeldPart}
 use Rattle.machine_laws.specs.Machines.{MachineData}
 use Rattle.machine_parts.specs.Marking.{IsMarked}
-use Rattle.machine_parts.specs.Stepping.{Moves, ReadsChange, StaysMarked}
+use Rattle.machine_parts.specs.Stepping.{ReadsChange, StaysMarked}
+use Rattle.wide_groups.specs.Moving.{MovesIn, RetouchesIn}
 use Rattle.machine_parts.specs.Evaluating.{Rooms, IsSeated}
 use Rattle.machine_laws.specs.Fitting.{FitsGraph}
 
@@ -22,8 +23,9 @@ pub record KeepsMarks (joining : Bool) (parts : List HeldPart) (old_marks : List
 
 -- a step, plain or joining, after which more parts may be marked than the step needs
 pub record AdvancesInColumn (joining : Bool) (old new : MachineData) : Type 0 where
-  pub moves : Moves joining old.parts old.marks old.state new.state
+  pub moves : MovesIn joining old.parts old.marks old.wide old.state new.state
   pub marks : KeepsMarks joining old.parts old.marks old.state new.state new.marks
+  pub wide : RetouchesIn joining old.wide new.wide old.state new.state
   pub groups : new.groups ≡ old.groups
   pub parts : new.parts ≡ old.parts
   pub uses : new.uses ≡ old.uses
@@ -43,10 +45,10 @@ ColumnsJoinApart =
     (g : GraphData) (old new : MachineData) → IsWired g → FitsGraph g old → AdvancesInColumn true old new →
     IsJoinStep g old.state new.state × FitsGraph g new
 
--- a machine that fits a graph fits it with any sound state, where all its parts are marked
+-- a machine that fits a graph fits it with any sound state, if all its parts are marked and none is stepped by vicinities
 abbrev pub MarkedMachinesFit : Type 0
 MarkedMachinesFit =
-    (g : GraphData) (m : MachineData) (marks : List Bool) (state : List Tern) → FitsGraph g m →
+    (g : GraphData) (m : MachineData) (marks : List Bool) (state : List Tern) → FitsGraph g m → m.wide ≡ None →
     ((k : ℕ) → k < length m.parts → IsMarked marks k) → length state ≡ nodes g → IsSound state →
     FitsGraph g (record m { marks = marks; state = state })
 

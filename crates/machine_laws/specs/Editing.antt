@@ -23,7 +23,7 @@ abbrev pub is_touched_in : GraphData → Change → MachineData → Group → Bo
 is_touched_in g change old group = is_touched_now g change (groups_in old.groups) group
 
 -- the graph was edited: the machine covers it, new nodes are X and all other nodes stay, each touched group is stale and marked, and the
--- part of every other group stays, with its code and its mark
+-- part of every other group stays, with its code and its mark; the groups that are stepped by vicinities aren't known any more
 pub record Edits (g : GraphData) (change : Change) (old new : MachineData) : Type 0 where
   pub covers : Covers g new
   pub state : new.state ≡ with_new_nodes old.state (nodes g)
@@ -38,6 +38,7 @@ pub record Edits (g : GraphData) (change : Change) (old new : MachineData) : Typ
   pub last : new.last ≡ old.last
   pub moves : new.moves ≡ old.moves
   pub placed : new.placed ≡ old.placed
+  pub wide : new.wide ≡ None
 
 -- the stale parts got their codes: the machine fits the graph, whose groups' texts are those of the last build from now on, and states,
 -- marks, and the parts that had code stay
@@ -50,6 +51,7 @@ pub record Finishes (g : GraphData) (old new : MachineData) : Type 0 where
   pub state : new.state ≡ old.state
   pub moves : new.moves ≡ old.moves
   pub placed : new.placed ≡ old.placed
+  pub wide : new.wide ≡ old.wide
 
 -- the stale parts got their codes, and the texts of the last build are still those from before
 pub record Rouses (g : GraphData) (old new : MachineData) : Type 0 where
@@ -61,3 +63,4 @@ pub record Rouses (g : GraphData) (old new : MachineData) : Type 0 where
   pub state : new.state ≡ old.state
   pub moves : new.moves ≡ old.moves
   pub placed : new.placed ≡ old.placed
+  pub wide : new.wide ≡ old.wide

@@ -1,20 +1,25 @@
 -- Which graphs a machine covers, and which it fits.
 -- After Bryant, Beatty, Brace, Cho and Sheffler, "COSMOS: A Compiled Simulator for MOS Circuits", 1987.
-use Rattle.std.specs.Prelude.{◌≡◌, ◌≢◌, ℕ, ◌<◌, ◌↔◌, ◌⊎◌, List, [], length, map, take, count_by, Contains, IsTrue, Option, Some, None, slice_get, slice_index_or}
+use Rattle.std.specs.Prelude.{◌≡◌, ◌≢◌, ℕ, ◌<◌, ◌≤◌, ◌↔◌, ◌⊎◌, List, [], length, map, take, count_by, Contains, IsTrue, Option, Some, None, slice_get, slice_index_or}
 use Rattle.std.specs.declared.rc.Rc.{Rc}
 use Rattle.std.proofs.Common.{Global}
-use Rattle.path_meaning.specs.Graphs.{GraphData, nodes}
+use Rattle.ternary.specs.declared.tern.Tern.{Tern}
+use Rattle.path_meaning.specs.Graphs.{GraphData, IsWired, nodes}
 use Rattle.path_meaning.specs.Rails.{IsRailed, IsSound}
 use Rattle.group_meaning.specs.Groups.{Group, IsGroup, AreGroups}
 use Rattle.channel_groups.specs.Grouping.{GroupsData, AreOf}
 use Rattle.group_text.specs.Texts.{GroupTextData, text_of_group, local_nodes}
 use Rattle.group_text.specs.FirstTexts.{is_among, first_texts}
 use Rattle.group_rest.specs.Rest.{Reads, Rests}
+use Rattle.group_rest.specs.Alike.{IsAlike}
+use Rattle.vicinity.specs.Touching.{RestsAsleep}
+use Rattle.vicinity.specs.Wides.{WideData}
 use Rattle.straight_code.specs.Code.{CodeData}
 use Rattle.group_analysis.specs.Meaning.{MeansText}
 use Rattle.circuit_texts.specs.Sizes.{fault_in}
 use Rattle.machine_parts.specs.declared.part.HeldPart.{HeldPart}
 use Rattle.machine_parts.specs.Parts.{Stands, AreApart, has_members}
+use Rattle.wide_groups.specs.Moving.{HasStaleOnly}
 use Rattle.machine_laws.specs.Machines.{MachineData}
 use Rattle.machine_parts.specs.Marking.{IsMarked}
 
@@ -43,9 +48,21 @@ pub record IsTextOf (g : GraphData) (group : Group) (text : Option GroupTextData
   pub same : text ≡ Some (text_of_group g group)
   pub fits : fault_in group ≡ None
 
+-- the part is that of a group without a text, which isn't too large and stands alike in the graph of the groups that are stepped by vicinities;
+-- its members that are asleep rest
+pub record IsHeldIn (g : GraphData) (state : List Tern) (wide : WideData) (part : HeldPart) : Type 0 where
+  pub group : Group
+  pub is_part : IsPartOf g group part
+  pub untold : fault_in group ≢ None
+  pub few : length group.members ≤ wide.large
+  pub wired : IsWired wide.graph
+  pub alike : IsAlike g wide.graph group
+  pub rests : RestsAsleep wide.graph state group.members wide.touched.list
+
 -- a machine covers a graph: its groups are those of the graph, each has a part, and each part with a member is that of a group; a
 -- part with code has its group's text, and one without members or code has none; one without code reads nothing, and is marked where it
--- has a member, so is stale; and the members of a part that isn't marked rest
+-- has a member, so is stale; and the members of a part that isn't marked rest. If the groups are known that are stepped by vicinities, these are
+-- just the groups of the stale parts
 pub record Covers (g : GraphData) (m : MachineData) : Type 0 where
   pub groups : GroupsData
   pub kept : m.groups ≡ Some groups
@@ -63,14 +80,17 @@ pub record Covers (g : GraphData) (m : MachineData) : Type 0 where
   pub waits : (k : ℕ) (part : HeldPart) → Stands m.parts k part → 0 < part.members → part.code ≡ None → IsMarked m.marks k
   pub rests : (k : ℕ) (part : HeldPart) → Stands m.parts k part → ¬ IsMarked m.marks k →
       Rests g m.state (take part.members part.map.items)
+  pub stale_only : (wide : WideData) → m.wide ≡ Some wide → HasStaleOnly m.parts wide.graph
+  pub held : (wide : WideData) → m.wide ≡ Some wide → (k : ℕ) (part : HeldPart) → Stands m.parts k part → 0 < part.members → part.code ≡ None →
+      IsHeldIn g m.state wide part
 
--- a machine fits a graph: it covers it, no part is stale, the rails are held, and it counts the distinct texts
+-- a machine fits a graph: it covers it, no part is stale unless it is stepped by vicinities, the rails are held, and it counts the distinct texts
 pub record FitsGraph (g : GraphData) (m : MachineData) : Type 0 where
   pub covers : Covers g m
-  pub coded : (k : ℕ) (part : HeldPart) → Stands m.parts k part → 0 < part.members → part.code ≢ None
+  pub coded : m.wide ≡ None → (k : ℕ) (part : HeldPart) → Stands m.parts k part → 0 < part.members → part.code ≢ None
   pub railed : IsRailed g
   pub sound : IsSound m.state
-  pub texts : (groups : List Group) → AreGroups g groups → m.texts ≡ length (first_texts (map (text_of_group g) groups))
+  pub texts : m.wide ≡ None → (groups : List Group) → AreGroups g groups → m.texts ≡ length (first_texts (map (text_of_group g) groups))
 
 -- every text whose code a part has is among these
 abbrev pub IsKeptBy : GraphData → List GroupTextData → MachineData → Type 0

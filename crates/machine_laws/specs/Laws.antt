@@ -29,12 +29,12 @@ JoiningStepsAreJoinSteps =
     (g : GraphData) (old new : MachineData) → IsWired g → FitsGraph g old → Advances true old new →
     IsJoinStep g old.state new.state × FitsGraph g new
 
--- a machine covers a graph after a node was placed where it did before
+-- a machine covers a graph after a node was placed if it did before
 abbrev pub PlacingKeepsCover : Type 0
 PlacingKeepsCover =
     (g : GraphData) (node : ℕ) (value : Tern) (old new : MachineData) → IsWired g → Covers g old → Places node value old new → Covers g new
 
--- and fits it, where the node is no rail
+-- and fits it, if the node is no rail
 abbrev pub PlacingKeepsFit : Type 0
 PlacingKeepsFit =
     (g : GraphData) (node : ℕ) (value : Tern) (old new : MachineData) → IsWired g → RAILS ≤ node → FitsGraph g old → Places node value old new →
@@ -59,7 +59,7 @@ abbrev pub EmptyPlacesKeepTexts : Type 0
 EmptyPlacesKeepTexts =
     (g : GraphData) (kept : List GroupTextData) (m : MachineData) → IsWired g → Covers g m → IsKeptBy g kept m → IsKeptBy (with_empty_place g) kept m
 
--- where a machine fits a graph whose build was done, all texts of its parts are kept
+-- if a machine fits a graph whose build was done, all texts of its parts are kept
 abbrev pub BuiltTextsAreKept : Type 0
 BuiltTextsAreKept =
     (g : GraphData) (bound : Option ℕ) (old new before after : List GroupTextData) (count : ℕ) (m : MachineData) → FitsGraph g m →

@@ -6,3 +6,4 @@ pub mod Columns
 pub mod Finishing
 pub mod Seating
 pub mod Beginnings
+pub mod Words

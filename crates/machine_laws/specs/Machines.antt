@@ -7,11 +7,14 @@ use Rattle.channel_groups.specs.Grouping.{GroupsData}
 use Rattle.group_text.specs.Texts.{GroupTextData}
 use Rattle.machine_parts.specs.declared.part.HeldPart.{HeldPart}
 use Rattle.machine_parts.specs.Marking.{IsMarked}
-use Rattle.machine_parts.specs.Stepping.{Moves, Remarks, Concerns}
+use Rattle.machine_parts.specs.Stepping.{Remarks, Concerns}
+use Rattle.vicinity.specs.Wides.{WideData}
+use Rattle.wide_groups.specs.Moving.{MovesIn, RetouchesIn, PlacesIn}
 
 -- the groups that the machine has, if it was built for a graph; its parts, the text of each that has a group and code, and whether each
 -- is marked; the state of each node; the number of distinct texts; the texts of the groups at the last build, in order; how often a step
--- changed the state, and how often a member was placed from outside; and for how many nodes more there is room
+-- changed the state, and how often a member was placed from outside; for how many nodes more there is room; and the groups that are stepped
+-- by vicinities, if they are known
 pub record MachineData : Type 0 where
   pub groups : Option GroupsData
   pub parts : List HeldPart
@@ -23,6 +26,7 @@ pub record MachineData : Type 0 where
   pub moves : ℕ
   pub placed : ℕ
   pub spare : ℕ
+  pub wide : Option WideData
 
 -- the groups that a machine has; one that wasn't built for a graph has none
 abbrev pub groups_in : Option GroupsData → List Group
@@ -31,8 +35,9 @@ groups_in (Some held) = held.groups
 
 -- a step, plain or joining: nodes move, marks follow, and all else stays but the count of moves
 pub record Advances (joining : Bool) (old new : MachineData) : Type 0 where
-  pub moves : Moves joining old.parts old.marks old.state new.state
+  pub moves : MovesIn joining old.parts old.marks old.wide old.state new.state
   pub marks : Remarks joining old.parts old.marks old.state new.state new.marks
+  pub wide : RetouchesIn joining old.wide new.wide old.state new.state
   pub groups : new.groups ≡ old.groups
   pub parts : new.parts ≡ old.parts
   pub uses : new.uses ≡ old.uses
@@ -48,6 +53,7 @@ pub record Places (node : ℕ) (value : Tern) (old new : MachineData) : Type 0 w
   pub stays : (k : ℕ) → IsMarked old.marks k → IsMarked new.marks k
   pub concerns : (k : ℕ) → Concerns old.parts k node → IsMarked new.marks k
   pub only : (k : ℕ) → IsMarked new.marks k → IsMarked old.marks k ⊎ Concerns old.parts k node
+  pub wide : PlacesIn old.wide new.wide old.state new.state
   pub groups : new.groups ≡ old.groups
   pub parts : new.parts ≡ old.parts
   pub uses : new.uses ≡ old.uses

@@ -45,6 +45,7 @@ pub record KeepsRest (old new : MachineData) : Type 0 where
   pub moves : new.moves ≡ old.moves
   pub placed : new.placed ≡ old.placed
   pub spare : new.spare ≡ old.spare
+  pub wide : new.wide ≡ old.wide
 
 -- the part with this number loses its group, and all other parts stay
 pub record Vacates (k : ℕ) (old new : MachineData) : Type 0 where
@@ -144,7 +145,7 @@ pub record RenewsAll (all : List Group) (nodes : List ℕ) (old new : MachineDat
   pub tidy : IsTidy old → IsTidy new
   pub rest : KeepsRest old new
 
--- where a part has the node as a member, or no group has, nothing changes; else the node's group has a new stale part
+-- if a part has the node as a member, or no group has, nothing changes; else the node's group has a new stale part
 abbrev pub RenewsAt : List Group → ℕ → MachineData → MachineData → Type 0
 RenewsAt groups node old new =
     ((new ≡ old) × (((k : ℕ) × HasMember old.parts k node) ⊎ ((group : Group) → Contains groups group → ¬ Contains group.members node)))

@@ -75,7 +75,7 @@ owner_inside parts marks count owners own counted node (Some k) is =
     let has = own.member node k (sym is) in
     omega (arith, has.stands.inside, counted)
 
--- what holds where there is an owner, or where there is none
+-- what holds if there is an owner, or where there is none
 pub at_owner : (P : Type 0) (owner : Option ℕ) (k : ℕ) → owner ≡ Some k → IfSome owner (λ _. P) → P
 at_owner P None k is holds = absurd (cc)
 at_owner P (Some other) k is holds = holds

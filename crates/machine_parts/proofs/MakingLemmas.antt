@@ -26,12 +26,12 @@ use Rattle.machine_parts.specs.Making.{held, Owns, HasRoomFor, IsCodeRoom, IsFor
 use Rattle.machine_parts.proofs.SetMarks.{marked_inside}
 use Rattle.machine_parts.proofs.PartLemmas.{same_part}
 
--- what holds on success holds where there was one
+-- what holds on success holds if there was one
 pub at_on_ok : {T E : Type 0} (P : Type 0) (result : Result T E) → OnOk result P → is_ok result ≡ true → P
 at_on_ok P (Ok made) fact is = fact
 at_on_ok P (Err fault) fact is = absurd (cc)
 
--- where no part is marked none is
+-- if no part is marked none is
 pub none_marked : (n k : ℕ) → ¬ IsMarked (replicate n false) k
 none_marked zero k marked = absurd cc
 none_marked (suc n) zero marked = absurd cc
@@ -75,7 +75,7 @@ held_more all made xs later ys rest x y xs_are ys_are so_far =
     so_far ∙ (ap₂ (λ parts lists. made ++ map held (zip parts lists)) xs_are ys_are
     ∙ sym (append_assoc made (held (x, y) ∷ []) (map held (zip later rest))))
 
--- where none is left, all are held
+-- if none is left, all are held
 pub held_all : (all made : List HeldPart) (xs : List Part) (ys : List (Vec ℕ Global)) → all ≡ made ++ map held (zip xs ys) → length xs ≡ 0 → made ≡ all
 held_all all made [] ys so_far none = sym (so_far ∙ append-nil made)
 held_all all made (x ∷ xs) ys so_far none = absurd (omega (arith, none))
@@ -260,7 +260,7 @@ apart_parts parts reads share k l node one two =
           at_place = slice_get_read part.map.items (length part.map.items) has.place node refl within here;
         }
 
--- where there is room for a part's code the part can be run
+-- if there is room for a part's code the part can be run
 pub IsSeated-formed : (count : ℕ) (room : Rooms) (part : HeldPart) → IsFormed count part → IsCodeRoom room.values part → IsSeated count room part
 IsSeated-formed count room part form values = record {
   below = form.below;

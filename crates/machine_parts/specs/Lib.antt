@@ -6,3 +6,4 @@ pub mod Readers
 pub mod Running
 pub mod Making
 pub mod Putting
+pub mod Words

@@ -1,4 +1,4 @@
--- The slots of batches: how they are read, and that they stay as they must where one of them is set.
+-- The slots of batches: how they are read, and that they stay as they must if one of them is set.
 use Rattle.std.proofs.Common.{◌≡◌, ℕ, zero, suc, ◌<◌, ◌≤◌, inl, inr, ◌⊎◌, List, [], ◌∷◌, ◌++◌, length, get_or, All, Some, sym, ap, subst, ◌∙◌, arith}
 use Rattle.std.specs.Prelude.{option_map, slice_get, slice_set, vec_capacity}
 use Rattle.std.proofs.lemmas.Bool.{cases_eq}
@@ -40,7 +40,7 @@ pub slots_set : (batches : List Batch) (place : ℕ) (batch : Batch) →
 unfolding slot_of
 slots_set batches place batch = map-set slot_of batches place batch
 
--- batches stay as they must where one of them is set, that is empty or before the first that is empty from there on
+-- batches stay as they must if one of them is set, that is empty or before the first that is empty from there on
 pub AreBatches-set : (batches : List Batch) (high top place : ℕ) (batch : Batch) → place < length batches → AreBatches batches high →
     high ≤ top → top ≤ SLOTS → (batch.starts.items ≡ []) ⊎ (place < top) → length batch.starts.items ≤ LANES → LANES ≤ vec_capacity batch.starts →
     AreBatches (slice_set batches place batch) top

@@ -367,7 +367,7 @@ AreEachOnce-none lists none = record { once = λ node. subst (IsDistinct nat_eq)
 pub AreEachOnce-same : (old new : List (SmallVec ℕ)) → ((node : ℕ) → readers_of new node ≡ readers_of old node) → AreEachOnce old → AreEachOnce new
 AreEachOnce-same old new same each = record { once = λ node. subst (IsDistinct nat_eq) (sym (same node)) (each.once node) }
 
--- what holds on failure holds where there was one
+-- what holds on failure holds if there was one
 pub at_on_err : {T E : Type 0} (P : Type 0) (result : Result T E) → OnErr result P → is_ok result ≡ false → P
 at_on_err P (Ok made) fact is = absurd cc
 at_on_err P (Err fault) fact is = fact

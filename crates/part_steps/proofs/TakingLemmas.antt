@@ -1,9 +1,9 @@
 -- The changes of a step are taken over one by one.
-use Rattle.std.proofs.Common.{◌≡◌, ◌≢◌, ℕ, ◌+◌, ◌<◌, inl, inr, List, [], ◌∷◌, ◌++◌, length, take, get_or, sym, ap, subst, ◌∙◌, arith}
+use Rattle.std.proofs.Common.{◌≡◌, ◌≢◌, ℕ, zero, suc, ◌⊎◌, refl, ◌+◌, ◌<◌, inl, inr, List, [], ◌∷◌, ◌++◌, length, take, get_or, sym, ap, subst, ◌∙◌, arith}
 use Rattle.std.specs.Prelude.{Contains, slice_set}
 use Rattle.std.proofs.lemmas.Bool.{cases_eq}
 use Rattle.std.proofs.lemmas.List.{get_or-set_same, get_or-set_other, get_or-take, get_or-map, length-set, length-take, take_more}
-use Rattle.std.proofs.lemmas.List.Elements.{Contains-push, Contains-push_cases, Contains-append_left}
+use Rattle.std.proofs.lemmas.List.Elements.{Contains-push, Contains-push_cases, Contains-append_left, Contains-append_right, Contains-append_cases}
 use Rattle.smallvec.specs.SmallVec.{SmallVec}
 use Rattle.ternary.specs.declared.tern.Tern.{Tern}
 use Rattle.ternary.specs.declared.tern.Tern.TheVariants.{Zero}
@@ -11,6 +11,25 @@ use Rattle.path_meaning.specs.Switching.{state_at}
 use Rattle.part_words.specs.declared.change.Change.{Change}
 use Rattle.machine_parts.specs.Running.{AreAgreed, IsTaken}
 use Rattle.machine_parts.specs.Readers.{readers_of}
+
+-- some change is of this node, or none is
+pub change_of : (changes : List Change) (node : ℕ) →
+    ((change : Change) × Contains changes change × (change.node ≡ node)) ⊎ ((change : Change) → Contains changes change → change.node ≢ node)
+change_of [] node = inr (λ change (k, inside, here). absurd (omega (arith, inside)))
+change_of (first ∷ changes) node =
+    elim (cases_eq first.node node) [
+      | inl same ↦ inl (first, (0, omega arith, refl), same)
+      | inr differs ↦
+          elim (change_of changes node) [
+            | inl (change, (k, inside, here), same) ↦ inl (change, (suc k, omega (arith, inside), here), same)
+            | inr none ↦ inr (λ change there. later first changes node differs none change there)
+          ]
+    ]
+  where
+    later : (first : Change) (changes : List Change) (node : ℕ) → first.node ≢ node →
+        ((change : Change) → Contains changes change → change.node ≢ node) → (change : Change) → Contains (first ∷ changes) change → change.node ≢ node
+    later first changes node differs none change (zero, inside, here) same = differs (ap (λ (c : Change). c.node) here ∙ same)
+    later first changes node differs none change (suc k, inside, here) same = none change (k, omega (arith, inside), here) same
 
 -- what stands at the front stands in the list
 pub Contains-from_take : {X : Type 0} (n : ℕ) (xs : List X) (x : X) → Contains (take n xs) x → Contains xs x
@@ -58,3 +77,24 @@ pub readers_read : (readers : List (SmallVec ℕ)) (node : ℕ) (found : SmallVe
     found.items ≡ readers_of readers node
 readers_read readers node found inside is =
     ap (λ (parts : SmallVec ℕ). parts.items) is ∙ sym (get_or-map (λ (parts : SmallVec ℕ). parts.items) readers node found [] inside)
+
+-- changes behind others are taken over after them
+pub IsTaken-then : (first more : List Change) (old mid new : List Tern) → AreAgreed (first ++ more) → IsTaken first old mid → IsTaken more mid new →
+    IsTaken (first ++ more) old new
+IsTaken-then first more old mid new agreed one two = record {
+  count = two.count ∙ one.count;
+  taken = λ change there.
+      elim (Contains-append_cases first more change there) [
+        | inl before ↦
+            elim (change_of more change.node) [
+              | inl (other, among, same) ↦
+                  let value = agreed other change (Contains-append_right first more other among) there same in
+                  ap (state_at new) (sym same) ∙ (two.taken other among ∙ value)
+              | inr none ↦ two.stays change.node none ∙ one.taken change before
+            ]
+        | inr behind ↦ two.taken change behind
+      ];
+  stays = λ node none.
+      two.stays node (λ change there. none change (Contains-append_right first more change there))
+      ∙ one.stays node (λ change there. none change (Contains-append_left first more change there));
+}

@@ -192,7 +192,7 @@ module _ (slots : List Slot) (place : ℕ) (inside : place < length slots) where
   unfolding cleared
   cleared_there = set_here slots place cleared inside
 
-  -- where a slot is cleared, a slot is empty then or as it was
+  -- if a slot is cleared, a slot is empty then or as it was
   pub cleared_cases : (other : ℕ) (slot : Slot) → slice_get (cleared_at slots place) other ≡ Some slot →
       (slot.starts ≡ []) ⊎ ((other ≢ place) × (slice_get slots other ≡ Some slot))
   unfolding cleared

@@ -5,7 +5,7 @@ use Rattle.std.proofs.Common.{Global}
 use Rattle.straight_code.specs.Code.{CodeData}
 use Rattle.machine_parts.specs.declared.part.HeldPart.{HeldPart}
 
--- a part of no more than 200 members and 2,600 local nodes, whose code, where it has one, has no more inputs, and up to 2^30 instructions
+-- a part of no more than 200 members and 2,600 local nodes, whose code, if it has one, has no more inputs, and up to 2^30 instructions
 pub record IsSmallPart (part : HeldPart) : Type 0 where
   pub members : part.members ≤ 200
   pub map : length part.map.items ≤ 2600

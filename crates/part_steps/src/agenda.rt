@@ -103,7 +103,7 @@ impl Agenda {
         }
     }
 
-    // Takes a marked part that can be evaluated out of the list, and clears its mark; None where only
+    // Takes a marked part that can be evaluated out of the list, and clears its mark; None if only
     // stale parts are marked.
     pub(crate) fn pop(&mut self) -> Option<usize>
         ensures waiting { self.new.waiting ≡ self.old.waiting }

@@ -2,8 +2,7 @@
 ghost use Rattle.std.specs.Prelude.{◌≡◌, List, ◌<◌, ◌++◌, ◌∷◌, [], None, Some, length, slice_get, slice_set, vec_len, vec_capacity, All, IfOk, IfSome, OnOk};
 ghost use Rattle.straight_code.specs.Code.{CodeData};
 ghost use Rattle.machine_parts.specs.declared.part.HeldPart.{HeldPart};
-ghost use Rattle.machine_parts.specs.Putting.{Puts};
-ghost use Rattle.machine_parts.specs.Marking.{AreOnce};
+ghost use Rattle.machine_parts.specs.Words.{Puts, AreOnce};
 ghost use Rattle.part_steps.specs.Dense.{AreDense, AreSeatsOf, IsSeatOf, HasInputs, ArePlaces, Grows, IsCodeAt, IsMapAt, IsNumbered, IsPartNumbered};
 
 use crate::putting::put_in;
@@ -25,7 +24,7 @@ pub struct Seat {
 /// Parts that a machine starts with share their code where their texts are equal, and each that got code later has
 /// its own.
 ///
-/// The map of a part that lost its code stays where it is, and so does its code. Whoever holds a machine lets go of
+/// The map of a part that lost its code stays if it is, and so does its code. Whoever holds a machine lets go of
 /// all of it where most of its parts are left over, so that there are no more than so many of these.
 #[derive(Drop)]
 pub struct DenseParts {
@@ -152,7 +151,7 @@ impl DenseParts {
         self.seats.push_reserved(None);
     }
 
-    /// The seats of these parts, whose codes and maps come behind the others. At want of memory none came.
+    /// The seats of these parts, whose codes and maps come behind the others. Out of memory none came.
     #[tactic(auto, using(crate::proofs::DenseLemmas::dense_more, crate::proofs::DenseLemmas::dense_again))]
     pub fn seats_for(
         &mut self,
@@ -205,7 +204,7 @@ impl DenseParts {
     }
 }
 
-// A number as one of 32 bits. A larger one is want of memory.
+// A number as one of 32 bits. A larger one is lack of memory.
 fn short(number: usize) -> Result<u32, NoMemory>
     ensures { IfOk result (λ same. same ≡ number) }
 {

@@ -2,9 +2,8 @@
 ghost use Rattle.std.specs.Prelude.{◌≡◌, ℕ, ◌+◌, ◌<◌, ◌≤◌, [], length, All, vec_len, vec_capacity};
 ghost use Rattle.part_steps.specs.declared.batches.TheConstants.{SLOTS};
 ghost use Rattle.part_steps.specs.declared.dense.Seat.{Seat};
-ghost use Rattle.machine_parts.specs.Marking.{IsMarked, count_marked, marked_sum, instructions_of, members_of};
+ghost use Rattle.machine_parts.specs.Words.{IsMarked, count_marked, marked_sum, instructions_of, members_of, IsSeated, Evaluated};
 ghost use Rattle.part_steps.specs.Desks.{rooms};
-ghost use Rattle.machine_parts.specs.Evaluating.{IsSeated, Evaluated};
 ghost use Rattle.part_steps.specs.Waiting.{Waits, IsEmptyFrom, HasRoom, cleared_at, waiting_sum};
 ghost use Rattle.part_steps.specs.Together.{CanRun, RunsSome, TakesIn, outputs_at, instructions_at};
 ghost use Rattle.part_steps.specs.Dense.{AreDense};
@@ -67,7 +66,7 @@ pub(crate) fn evaluate_all<L: Ledger>(
     run_all(joining, dense, state, desk, steps);
 }
 
-// The part with this seat waits to be run. Where it can't, those in its slot are run first.
+// The part with this seat waits to be run. If it can't, those in its slot are run first.
 fn take_in<L: Ledger>(
     joining: bool,
     dense: &DenseParts,

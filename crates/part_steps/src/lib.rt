@@ -2,8 +2,9 @@
 //!
 //! `advance` takes a step, plain or joining, over what it reads: `Agenda` has the marks and the list of the marked
 //! parts, `ReaderLists` the parts that read each node, `DenseParts` the codes and maps of the parts side by side, and
-//! `Desk` the room in which it works. The layer above uses that each member of a marked part gets what its part's
-//! code gives, that the parts are marked which read a node that changed, and that no step takes memory.
+//! `Desk` the room in which it works. If a `vicinity::Wide` is handed in, what is awake of its groups takes part in the
+//! step. The layer above uses that each member of a marked part gets what its part's code gives, and each node that is
+//! awake its steady state, that the parts are marked which read a node that changed, and that no step takes memory.
 //!
 //! ```text
 //! 64 inverters with one code, all marked: they wait together and are run as one, a bit of a word for each

@@ -1,11 +1,8 @@
 //! What a machine is made of: its parts, who owns and who reads a node, and room for its steps.
 ghost use Rattle.std.specs.Prelude.{◌≡◌, ◌+◌, ◌-◌, ◌*◌, ◌^◌, ◌<◌, ◌≤◌, length, vec_capacity, map, zip, count_by, All, Some, IfOk, IfSome, IfNone, OnOk};
 ghost use Rattle.std.specs.List.{sum_by};
-ghost use Rattle.machine_parts.specs.Parts.{AreApart, has_members};
-ghost use Rattle.machine_parts.specs.Marking.{members_of};
+ghost use Rattle.machine_parts.specs.Words.{AreApart, has_members, members_of, AreOwners, held, Owns, HasRoomFor, IsCodeRoom, NeedTooMuch};
 ghost use Rattle.part_steps.specs.Desks.{rooms};
-ghost use Rattle.machine_parts.specs.Running.{AreOwners};
-ghost use Rattle.machine_parts.specs.Making.{held, Owns, HasRoomFor, IsCodeRoom, NeedTooMuch};
 
 use crate::batches::Batches;
 use crate::evaluation::Desk;
@@ -102,7 +99,7 @@ pub fn desk_for(alloc: Global, parts: &[HeldPart]) -> Result<Desk, NoMemory>
     }
 }
 
-/// How much room these parts need; None only where it is more than the machine's numbers count.
+/// How much room these parts need; None only if it is more than the machine's numbers count.
 pub fn needs_of(parts: &[HeldPart]) -> Option<Needs>
     ensures values { IfSome result (λ needs. All (IsCodeRoom needs.values) parts.now) }
     ensures changes { IfSome result (λ needs. sum_by members_of parts.now ≤ needs.changes) }

@@ -2,9 +2,7 @@
 ghost use Rattle.std.specs.Prelude.{◌≡◌, ◌↔◌, ℕ, ◌+◌, ◌-◌, ◌<◌, ◌≤◌, length, vec_capacity, All, Contains, nat_eq, slice_index, IfOk, IfSome, IfNone, IsTrue, OnOk, OnErr};
 ghost use Rattle.std.specs.List.{IsDistinct};
 ghost use Rattle.list_facts.specs.Taking.{TakesOut};
-ghost use Rattle.machine_parts.specs.Marking.{AreOnce};
-ghost use Rattle.machine_parts.specs.Parts.{ReadsAt};
-ghost use Rattle.machine_parts.specs.Readers.{readers_of, AreEachOnce, IsLastIf, Adds, ListsSome, Unlists, ListsAll, HaveSameReaders, AreListed, AreOffTo};
+ghost use Rattle.machine_parts.specs.Words.{AreOnce, ReadsAt, readers_of, AreEachOnce, IsLastIf, Adds, ListsSome, Unlists, ListsAll, HaveSameReaders, AreListed, AreOffTo};
 
 use machine_parts::HeldPart;
 use smallvec::SmallVec;
@@ -21,7 +19,7 @@ type Spots = SmallVec<u32, 4>;
 /// For each node the parts that read it, each once.
 ///
 /// A part leaves a list from where it stands, and the last one of the list moves there. Its spot is looked
-/// at first, and nothing rests on it: where the part doesn't stand there the list is searched.
+/// at first, and nothing rests on it: if the part doesn't stand there the list is searched.
 #[derive(Drop)]
 pub struct ReaderLists {
     lists: Vec<Readers>,
@@ -80,7 +78,7 @@ impl ReaderLists {
         Ok(())
     }
 
-    /// Lists these parts as readers of what they read. Where that fails, none of them is listed. All parts
+    /// Lists these parts as readers of what they read. If that fails, none of them is listed. All parts
     /// are handed in, as they are before these have reads.
     pub fn list_all(
         &mut self,
@@ -134,7 +132,7 @@ fn grow_readers(alloc: Global, readers: &mut Vec<Readers>, nodes: usize)
     }
 }
 
-// Lists all parts as readers of what they read, where none is listed.
+// Lists all parts as readers of what they read, if none is listed.
 fn list_parts(
     alloc: Global,
     parts: &[HeldPart],
@@ -152,7 +150,7 @@ fn list_parts(
     Ok(())
 }
 
-// Lists these parts as readers of what they read. Where that fails, none of them is listed.
+// Lists these parts as readers of what they read. If that fails, none of them is listed.
 fn list_all(
     alloc: Global,
     slots: &[usize],
@@ -197,7 +195,7 @@ fn unlist_all(
     }
 }
 
-// Lists a part as a reader of these nodes, where it isn't listed. Where that fails it may be listed at
+// Lists a part as a reader of these nodes, if it isn't listed. If that fails it may be listed at
 // some of them.
 fn list_part(
     alloc: Global,
@@ -218,7 +216,7 @@ fn list_part(
     Ok(())
 }
 
-// Lists a part as the last reader of these nodes, where it isn't listed. Where that fails it may be listed
+// Lists a part as the last reader of these nodes, if it isn't listed. If that fails it may be listed
 // at some of them.
 fn list_at(k: usize, nodes: &[usize], lists: &mut [Readers]) -> Result<(), NoMemory>
     requires below { All (λ node. node < length lists.old) nodes.now }

@@ -88,5 +88,5 @@ module _ (g : GraphData) (groups : Option GroupsData) (parts : Vec HeldPart Glob
   HasLast-of_body (Ok body) uses_are order =
       let last = texts_lasting uses.known body.lasting in
       subst (λ (one : UsesData). HasLast g (texts_lasting one.known body.lasting)) (sym uses_are)
-      (HasLast-order g (started groups parts.items state.items (texts_used uses) last 0) (fits last 0) last order)
+      (HasLast-order g (started groups parts.items state.items (texts_used uses) last 0) (fits last 0) refl last order)
   HasLast-of_body (Err fault) uses_are order = tt

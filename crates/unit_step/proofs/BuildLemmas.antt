@@ -178,11 +178,13 @@ module _ (g : GraphData) where
         quiet = λ k part stands none. absurd ((part_fresh k part stands).1.coded none);
         waits = λ k part stands some none. absurd ((part_fresh k part stands).1.coded none);
         rests = λ k part stands unmarked. absurd (unmarked (get_or-replicate (length parts) k true false stands.inside));
+        stale_only = λ wide is. absurd (cc is);
+        held = λ wide is. absurd (cc is);
       };
-      coded = λ k part stands some. (part_fresh k part stands).1.coded;
+      coded = λ none k part stands some. (part_fresh k part stands).1.coded;
       railed = railed;
       sound = sound;
-      texts = λ others others_are.
+      texts = λ none others others_are.
           ap count_distinct uses_are ∙ ap (λ list. length (first_texts list)) (some_texts-all (map (text_of_group g) groups))
           ∙ ap (λ list. length (first_texts (map (text_of_group g) list))) (unique g groups others (subst (AreGroups g) same are.are) others_are);
     }

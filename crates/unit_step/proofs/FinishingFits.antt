@@ -87,7 +87,7 @@ both_ways false false to back = refl
 abbrev pub AllCoded : MachineData → Type 0
 AllCoded m = (k : ℕ) (part : HeldPart) → Stands m.parts k part → 0 < part.members → part.code ≢ None
 
--- where no part waits none is stale
+-- if no part waits none is stale
 pub none_stale : (parts : List HeldPart) (marks waiting : List Bool) (count : ℕ) (lists : List (SmallVec ℕ)) (room : Rooms) →
     IsRunnable parts marks waiting count lists room → ((k : ℕ) → ¬ IsMarked waiting k) → (k : ℕ) (part : HeldPart) → Stands parts k part →
     0 < part.members → part.code ≢ None
@@ -131,10 +131,10 @@ module _ (g : GraphData) (m : MachineData) (covers : Covers g m) (coded : AllCod
   pub FitsGraph-covered : m.texts ≡ count_distinct m.uses → IsRailed g → IsSound m.state → FitsGraph g m
   FitsGraph-covered counts railed sound = record {
     covers = covers;
-    coded = coded;
+    coded = λ none. coded;
     railed = railed;
     sound = sound;
-    texts = λ groups are.
+    texts = λ none groups are.
         counts ∙ (same_distinct (some_texts m.uses) (map (text_of_group g) covers.groups.groups) same_texts
         ∙ ap (λ list. length (first_texts (map (text_of_group g) list))) (unique g covers.groups.groups groups covers.are.are are));
   }
@@ -183,4 +183,5 @@ module _ (g : GraphData) (m : MachineData) (covers : Covers g m) (coded : AllCod
     state = refl;
     moves = refl;
     placed = refl;
+    wide = refl;
   }

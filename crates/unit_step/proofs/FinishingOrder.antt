@@ -1,6 +1,6 @@
 -- What a finish leaves of what is kept is what a build leaves, with the texts of the last build in front: what it has analysed stands behind, and
 -- is among the present texts.
-use Rattle.std.proofs.Common.{◌≡◌, ℕ, Bool, true, false, not, inl, inr, List, ◌++◌, length, map, get_or, All, Option, refl, sym, ap, subst, ◌∙◌, arith, length-append}
+use Rattle.std.proofs.Common.{None, ◌≡◌, ℕ, Bool, true, false, not, inl, inr, List, ◌++◌, length, map, get_or, All, Option, refl, sym, ap, subst, ◌∙◌, arith, length-append}
 use Rattle.std.proofs.lemmas.List.{get_or_append_left}
 use Rattle.std.proofs.lemmas.List.Elements.{All-filter, All-weaker, filter_passes}
 use Rattle.path_meaning.specs.Graphs.{GraphData}
@@ -22,7 +22,7 @@ use Rattle.machine_laws.proofs.KeptLemmas.{among_more}
 use Rattle.unit_step.proofs.FinishingFits.{same_texts}
 use Rattle.machine_laws.proofs.LastingGroups.{HasLast-order, FitsGraph-last}
 
--- what holds of each of some items holds of each of a front of them
+-- what holds of each of some items holds of each of a prefix of them
 all_front : {X : Type 0} (P : X → Type 0) (xs ys : List X) → All P (xs ++ ys) → All P xs
 all_front P xs ys all i d inside =
     subst P (get_or_append_left xs ys d i inside) (all i d (omega (arith, inside, length-append xs ys)))
@@ -84,14 +84,14 @@ module _ (g : GraphData) (last kept : List GroupTextData) (there : All (λ text.
         (λ text is. ap (λ texts. is_among texts text) fills.kept ∙ among_more kept fills.fresh text is) last there
 
     -- and all texts of the machine's parts are
-    pub used_filled : (m : MachineData) → FitsGraph g m → All (λ text. is_among filled text ≡ true) (some_texts m.uses)
-    used_filled m fits i d inside =
+    pub used_filled : (m : MachineData) → m.wide ≡ None → FitsGraph g m → All (λ text. is_among filled text ≡ true) (some_texts m.uses)
+    used_filled m none fits i d inside =
         let texts = fills.news.texts in
         let text = get_or (some_texts m.uses) i d in
         let all = unique g fits.covers.groups.groups fills.news.has.groups fits.covers.are.are fills.news.has.are in
         let present : is_among texts text ≡ true =
         ap (λ list. is_among list text) (fills.news.has.texts_are ∙ ap (map (text_of_group g)) (sym all))
-        ∙ (sym (same_texts g m fits.covers fits.coded text) ∙ is_among-themselves (some_texts m.uses) i d inside) in
+        ∙ (sym (same_texts g m fits.covers (fits.coded none) text) ∙ is_among-themselves (some_texts m.uses) i d inside) in
         ap (λ list. is_among list text) (fills.kept ∙ ap (λ fresh. kept ++ fresh) fills.news.fresh_are)
         ∙ (is_among-kept kept texts text ∙ or_true (is_among kept text) (is_among texts text) present)
 
@@ -115,22 +115,23 @@ module _ (g : GraphData) (last kept : List GroupTextData) (there : All (λ text.
         }
 
 -- where the texts of the last build are those of the parts, in order, they are those of the graph's groups
-pub HasLast-settled : (g : GraphData) (old mid new : MachineData) → Rouses g old mid → new ≡ record mid { last = new.last } →
+pub HasLast-settled : (g : GraphData) (old mid new : MachineData) → old.wide ≡ None → Rouses g old mid → new ≡ record mid { last = new.last } →
     AreInOrder new.parts new.uses new.last → HasLast g new.last
-HasLast-settled g old mid new rouses same order =
-    HasLast-order g mid rouses.fits new.last (subst (λ (m : MachineData). AreInOrder m.parts m.uses new.last) same order)
+HasLast-settled g old mid new none rouses same order =
+    HasLast-order g mid rouses.fits (rouses.wide ∙ none) new.last (subst (λ (m : MachineData). AreInOrder m.parts m.uses new.last) same order)
 
 -- so the machine is finished
-pub Finishes-settled : (g : GraphData) (old mid new : MachineData) → Rouses g old mid → new ≡ record mid { last = new.last } →
+pub Finishes-settled : (g : GraphData) (old mid new : MachineData) → old.wide ≡ None → Rouses g old mid → new ≡ record mid { last = new.last } →
     AreInOrder new.parts new.uses new.last → Finishes g old new
-Finishes-settled g old mid new rouses same order =
+Finishes-settled g old mid new none rouses same order =
     subst (Finishes g old) (sym same) (record {
-      fits = FitsGraph-last g mid rouses.fits new.last;
-      last = HasLast-settled g old mid new rouses same order;
+      fits = FitsGraph-last g mid rouses.fits (rouses.wide ∙ none) new.last;
+      last = HasLast-settled g old mid new none rouses same order;
       groups = rouses.groups;
       parts = rouses.parts;
       marks = rouses.marks;
       state = rouses.state;
       moves = rouses.moves;
       placed = rouses.placed;
+      wide = rouses.wide;
     })

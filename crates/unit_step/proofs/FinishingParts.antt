@@ -5,7 +5,7 @@ use Rattle.group_text.specs.Texts.{GroupTextData}
 use Rattle.kept_parts.specs.Uses.{UsesData, IsNumbered}
 use Rattle.list_facts.proofs.PlaceLemmas.{slice_get-grown}
 
--- where further texts are known, the numbers' texts are the same
+-- if further texts are known, the numbers' texts are the same
 pub known_more : (known more : List GroupTextData) (numbers : List ℕ) (texts : List GroupTextData) → map (slice_get known) numbers ≡ map Some texts →
     map (slice_get (known ++ more)) numbers ≡ map Some texts
 known_more known more [] texts are = are

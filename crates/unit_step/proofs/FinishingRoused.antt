@@ -178,20 +178,21 @@ module _ (g : GraphData) (m : MachineData) (covers : Covers g m) (groups some : 
     abbrev pub woken : MachineData
     woken = record m { parts = new; uses = now_used; texts = count_distinct now_used }
 
-    pub Rouses-roused : IsRailed g → IsSound m.state → Rouses g m woken
-    Rouses-roused railed sound = record {
+    pub Rouses-roused : m.wide ≡ None → IsRailed g → IsSound m.state → Rouses g m woken
+    Rouses-roused no_wide railed sound = record {
       fits =
           FitsGraph-covered g woken
-          (Covers-roused g m covers groups some slots waiting fresh are_made.fresh_are new puts now_used used_counted used_stay used_come fit (count_distinct now_used))
+          (Covers-roused g m covers groups some slots waiting fresh are_made.fresh_are new puts now_used used_counted used_stay used_come fit (count_distinct now_used) no_wide)
           (λ k part stands has none.
           none_stale_new g m covers groups some slots waiting fresh are_made.fresh_are new puts k
           (record { part = part; stands = stands; some = has; none = none }))
           refl railed sound;
       last = refl;
       groups = refl;
-      parts = parts_roused g m covers groups some slots waiting fresh are_made.fresh_are new puts now_used used_counted used_stay used_come fit (count_distinct now_used);
+      parts = parts_roused g m covers groups some slots waiting fresh are_made.fresh_are new puts now_used used_counted used_stay used_come fit (count_distinct now_used) no_wide;
       marks = refl;
       state = refl;
       moves = refl;
       placed = refl;
+      wide = refl;
     }

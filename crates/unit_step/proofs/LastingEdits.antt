@@ -38,7 +38,7 @@ begins_with parts numbers node number k part stands first has = record { k = k; 
 
 module _ (parts : List HeldPart) (numbers : List (Option ℕ)) (count known : ℕ) (lasting : Lasting)
     (are : AreLasting parts numbers count known lasting) where
-  -- it is the same where the nodes are noted anew, and the numbers read the same
+  -- it is the same if the nodes are noted anew, and the numbers read the same
   pub AreLasting-same : (numbers' : List (Option ℕ)) (lasting' : Lasting) →
       ((k : ℕ) → slice_index_or numbers' k None ≡ slice_index_or numbers k None) →
       lasting'.numbers.items ≡ lasting.numbers.items → lasting'.changed.items ≡ lasting.changed.items → AreLasting parts numbers' count known lasting'
@@ -154,7 +154,7 @@ module _ (parts : List HeldPart) (numbers : List (Option ℕ)) (count known : �
         beyond = are.beyond;
       }
 
--- where nothing is known there is no text more
+-- if nothing is known there is no text more
 pub texts_numbered-grown : (known : List GroupTextData) (numbers : List (Option ℕ)) (more : ℕ) →
     texts_numbered known (numbers ++ replicate more None) ≡ texts_numbered known numbers
 texts_numbered-grown known [] zero = refl

@@ -175,7 +175,7 @@ module _ (parts : List HeldPart) (slots : List ℕ) (i k : ℕ) (inside : i < le
             (noted-BeginsAt parts k part stands few node (subst (λ n. BeginsAt parts n node) (sym same) begins)))
       ]
 
--- what holds of the value, if there is one, holds where there is one
+-- what holds of the value, if there is one, holds if there is one
 pub if_some_each : {X : Type 0} (found : Option X) (P : X → Type 0) → ((x : X) → found ≡ Some x → P x) → IfSome found P
 if_some_each None P each = tt
 if_some_each (Some x) P each = each x refl

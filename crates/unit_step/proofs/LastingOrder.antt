@@ -1,4 +1,4 @@
--- The texts of the last build in order: where no node is noted, these are those of the parts that have one, in the order of the nodes at which
+-- The texts of the last build in order: if no node is noted, these are those of the parts that have one, in the order of the nodes at which
 -- the parts begin. Each node has its number or none, so what is collected over all nodes is collected over those that have one.
 use Rattle.std.proofs.Common.{◌≡◌, ℕ, zero, suc, ◌+◌, ◌<◌, ◌≤◌, List, [], ◌∷◌, length, map, get_or, Option, None, Some, add-one, refl, sym, ap, subst, ◌∙◌, arith}
 use Rattle.std.specs.Prelude.{Contains, slice_get, slice_index_or}
@@ -39,7 +39,7 @@ module _ {X : Type 0} where
   places_ascend n xs k inside =
       subst (λ l. get_or (places_of n xs) k 0 < get_or (places_of n xs) l 0) (sym (add-one k)) (next_place n xs k (omega (arith, inside)))
 
-  -- where there is something there is a place
+  -- if there is something there is a place
   place_there : (n : ℕ) (xs : List (Option X)) (i : ℕ) (x : X) → slice_index_or xs i None ≡ Some x → Contains (places_of n xs) (n + i)
   place_there n [] i x is = absurd cc
   place_there n (None ∷ xs) zero x is = absurd cc
@@ -108,7 +108,7 @@ module _ (known : List GroupTextData) where
             AllZip (Begins parts (map text_at numbers)) (n ∷ places_of (suc n) lasting) (some_texts (map text_at (Some number ∷ lasting)))
         with_first text at_number first later = rw at_number (first, later)
 
--- where no node is noted, the texts of the last build are those of the parts, in order
+-- if no node is noted, the texts of the last build are those of the parts, in order
 pub AreInOrder-lasting : (parts : List HeldPart) (uses : UsesData) (count : ℕ) (lasting : Lasting) →
     AreLasting parts uses.numbers count (length uses.known) lasting → lasting.changed.items ≡ [] →
     AreInOrder parts (texts_used uses) (texts_lasting uses.known lasting)

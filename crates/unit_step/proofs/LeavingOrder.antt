@@ -29,7 +29,7 @@ use Rattle.unit_step.proofs.FinishingFits.{among_some, some_part}
 use Rattle.unit_step.proofs.LastingLemmas.{BeginsAt-first, Begins-once}
 use Rattle.unit_step.proofs.LastingOrder.{text_at, text_of_part, number_of_text}
 
--- two tests are one where each holds where the other does
+-- two tests are one where each holds if the other does
 same_test : (a b : Bool) → (a ≡ true → b ≡ true) → (b ≡ true → a ≡ true) → a ≡ b
 same_test true b there back = sym (there refl)
 same_test false true there back = back refl

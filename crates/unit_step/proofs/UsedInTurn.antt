@@ -72,7 +72,7 @@ leaver-none uses number one is inside used =
     ap (λ found. filter (is_unused uses) (cons_option found [])) (ap (text_at uses.known) is ∙ here)
     ∙ cond-false (is_unused uses text) (text ∷ []) [] (ap not (used text here))
 
--- the text behind a number is kept, where all of them were before some were used
+-- the text behind a number is kept, if all of them were before some were used
 pub numbered-kept : (known : List GroupTextData) (numbers : List (Option ℕ)) (kept some now : List GroupTextData) →
     All (λ text. is_among kept text ≡ true) (texts_numbered known numbers) → now ≡ used_texts some kept → (node : ℕ) (number : Option ℕ) →
     slice_index_or numbers node None ≡ number →

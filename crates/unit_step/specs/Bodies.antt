@@ -1,5 +1,5 @@
 -- What a machine is made of.
-use Rattle.std.specs.Prelude.{◌≡◌, ℕ, true, length, replicate, ◌-◌, List, Option}
+use Rattle.std.specs.Prelude.{◌≡◌, ℕ, Bool, true, is_some, length, replicate, ◌-◌, List, Option, None}
 use Rattle.kept_parts.specs.Uses.{texts_used, count_distinct}
 use Rattle.unit_step.specs.declared.body.Body.{Body}
 use Rattle.machine_laws.specs.Machines.{MachineData}
@@ -13,7 +13,7 @@ use Rattle.group_text.specs.Texts.{GroupTextData}
 use Rattle.machine_parts.specs.declared.part.HeldPart.{HeldPart}
 
 -- a machine that starts in this state with these parts, all of them marked, and these texts, and these at the last build: it was
--- neither moved nor placed
+-- neither moved nor placed, and knows no groups that are stepped by vicinities
 abbrev pub started : Option GroupsData → List HeldPart → List Tern → List (Option GroupTextData) → List GroupTextData → ℕ → MachineData
 started groups parts state uses last spare = record {
   groups = groups;
@@ -26,17 +26,23 @@ started groups parts state uses last spare = record {
   moves = 0;
   placed = 0;
   spare = spare;
+  wide = None;
 }
 
--- all that was made is of the body's parts, which are all marked: a machine can start with it
+-- all that was made is of the body's parts, which are all marked, and none of its groups is stepped by vicinities: a machine can start with it
 pub record CanStart (body : Body) : Type 0 where
   pub marked : body.agenda.marks ≡ replicate (length body.parts.items) true
   pub runs : IsMachine body.parts.items body.agenda.marks body.agenda.waiting (length body.state.items) body.readers body.owners.items
       body.uses.numbers body.held body.most (rooms body.desk)
   pub dense : AreDense body.parts.items body.dense
+  pub without : body.wide ≡ None
   pub lasting : AreLasting body.parts.items body.uses.numbers (length body.state.items) (length body.uses.known) body.lasting
 
 -- the machine that starts so, with room for so many nodes more
 abbrev pub of_body : Body → ℕ → MachineData
 of_body body spare =
     started body.groups body.parts.items body.state.items (texts_used body.uses) (texts_lasting body.uses.known body.lasting) spare
+
+-- what no step changes: the texts of the last build, and whether groups are known that are stepped by vicinities
+abbrev pub fixed_of : MachineData → List GroupTextData × Bool
+fixed_of machine = (machine.last, is_some machine.wide)

@@ -12,7 +12,7 @@ use Rattle.unit_step.specs.declared.lasting.Lasting.{Lasting}
 use Rattle.machine_parts.specs.Parts.{has_members}
 use Rattle.machine_laws.specs.Beginnings.{Begins}
 
--- the text with each of these numbers, where there is a number
+-- the text with each of these numbers, if there is a number
 abbrev pub texts_numbered : List GroupTextData → List (Option ℕ) → List GroupTextData
 texts_numbered known numbers = some_texts (texts_used (record { known = known; numbers = numbers }))
 

@@ -1,15 +1,12 @@
 //! What a machine is made of.
 ghost use Rattle.std.specs.Prelude.{◌≡◌, ℕ, ◌<◌, length, All, IsTrue, IfOk};
-ghost use Rattle.path_meaning.specs.Graphs.{nodes};
-ghost use Rattle.path_meaning.specs.Rails.{IsRailed, IsSound};
+ghost use Rattle.path_meaning.specs.Words.{nodes, IsRailed, IsSound};
 ghost use Rattle.analysis_cache.specs.Keeping.{texts_of};
 ghost use Rattle.group_text.specs.FirstTexts.{is_among};
 ghost use Rattle.kept_parts.specs.Uses.{texts_used};
-ghost use Rattle.machine_parts.specs.Parts.{AreApart};
-ghost use Rattle.machine_parts.specs.Making.{IsFormed};
+ghost use Rattle.machine_parts.specs.Words.{AreApart, IsFormed};
 ghost use Rattle.unit_step.specs.Planning.{IsPlan};
-ghost use Rattle.machine_laws.specs.Fitting.{FitsGraph};
-ghost use Rattle.machine_laws.specs.Beginnings.{AreInOrder, HasLast};
+ghost use Rattle.machine_laws.specs.Words.{FitsGraph, AreInOrder, HasLast};
 ghost use Rattle.unit_step.specs.Lasting.{texts_lasting};
 ghost use Rattle.unit_step.specs.Bodies.{CanStart, of_body};
 ghost use Rattle.part_steps.specs.Dense.{AreDense, HasInputs, HaveCodes};
@@ -23,9 +20,11 @@ use machine_parts::HeldPart;
 use part_steps::{
     Agenda, DenseParts, Desk, ReaderLists, all_owners, count_held, desk_for, held_parts,
 };
+use part_words::Change;
 use path_meaning::{Graph, graphs_are_wired};
 use std::alloc::Global;
 use ternary::{NoMemory, Tern};
+use vicinity::Wide;
 
 // What a machine is made of, but for its counts. All that takes memory is taken when it is made, so what is left of
 // a build can't fail, and may move and cut what is kept.
@@ -50,6 +49,9 @@ pub(crate) struct Body {
     pub(crate) owners: Vec<Option<usize>>,
     pub(crate) state: Vec<Tern>,
     pub(crate) desk: Desk,
+    // the groups that are stepped by vicinities, if they are known, and room for a change of each node
+    pub(crate) wide: Option<Wide>,
+    pub(crate) noted: Vec<Change>,
 }
 
 impl Body {
@@ -125,12 +127,14 @@ impl Body {
             owners,
             state,
             desk,
+            wide: None,
+            noted: Vec::new(alloc),
         })
     }
 }
 
 // What a step reads of these parts; those whose texts have one number share their code. More codes or nodes than
-// a number of 32 bits can count are refused as want of memory.
+// a number of 32 bits can count are refused as lack of memory.
 #[tactic(auto, using(part_steps::proofs::DenseLemmas::no_seats, part_steps::proofs::DenseLemmas::places_none))]
 fn dense_of(alloc: Global, parts: &[HeldPart], uses: &TextUses) -> Result<DenseParts, NoMemory>
     requires inputs { All HasInputs parts.now }

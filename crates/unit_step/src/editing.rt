@@ -1,16 +1,12 @@
 //! Edits of the graph under a machine.
-ghost use Rattle.std.specs.Prelude.{◌≡◌, ℕ, ◌+◌, ◌*◌, ◌≤◌, ◌<◌, ◌-◌, ◌++◌, ◌↔◌, List, length, option_map, find, Contains, IfOk, IfErr, OnOk, OnErr};
+ghost use Rattle.std.specs.Prelude.{◌≡◌, ℕ, ◌+◌, ◌*◌, ◌≤◌, ◌<◌, ◌-◌, ◌++◌, ◌↔◌, None, List, length, option_map, find, Contains, IfOk, IfErr, OnOk, OnErr};
 ghost use Rattle.path_meaning.specs.Graphs.{nodes, IsWired};
 ghost use Rattle.group_meaning.specs.Groups.{Group, AreGroups};
 ghost use Rattle.channel_groups.specs.Grouping.{AreOf, has_member};
 ghost use Rattle.channel_groups.specs.Changes.{undo, touched_size};
 ghost use Rattle.unit_step.specs.declared.editing.TheConstants.{NEW_NODES};
-ghost use Rattle.machine_laws.specs.Machines.{groups_in};
-ghost use Rattle.machine_parts.specs.Marking.{IsMarked};
-ghost use Rattle.machine_parts.specs.Parts.{HasMember, AreApart, IsStale};
-ghost use Rattle.machine_laws.specs.Seating.{AreOfSome, IsWithAny, RenewsAll, RenewsAt, members_in};
-ghost use Rattle.machine_laws.specs.Fitting.{Covers};
-ghost use Rattle.machine_laws.specs.Editing.{with_new_nodes, Edits};
+ghost use Rattle.machine_laws.specs.Words.{groups_in, AreOfSome, IsWithAny, RenewsAll, RenewsAt, members_in, Covers, with_new_nodes, Edits};
+ghost use Rattle.machine_parts.specs.Words.{IsMarked, HasMember, AreApart, IsStale};
 
 use crate::machine::Machine;
 use crate::seating::owner_of;
@@ -24,7 +20,7 @@ use ternary::{NoMemory, Steps};
 /// The most nodes that one edit makes: the gate, the source and the drain of a transistor.
 pub const NEW_NODES: usize = 3;
 
-/// There was want of memory in an edit: the machine can't go on. Its states are those from before, but that
+/// Memory ran out in an edit: the machine can't go on. Its states are those from before, but that
 /// some new nodes may be X already, with room for them all, and it knows the texts of its last build.
 #[derive(Drop)]
 pub struct EditRefused {
@@ -35,7 +31,7 @@ impl Machine {
     /// Takes room for the states of as many new nodes as one edit makes at most, so that an edit can hand
     /// back the states of all nodes.
     ///
-    /// Nothing else changes. At want of memory the machine is as before.
+    /// Nothing else changes. Out of memory the machine is as before.
     pub fn reserve(&mut self) -> Result<(), NoMemory>
         ensures ok { OnOk result (NEW_NODES ≤ self.new.spare) }
         ensures same { self.new ≡ record self.old { spare = self.new.spare } }
@@ -50,8 +46,8 @@ impl Machine {
     /// The groups that the edit touches, as `Groups::regroup` says, are stale and marked: they wait for
     /// `finish`. Every other group keeps its part, with its code and its mark. New nodes are X, all other
     /// nodes stay. The work is that of `regroup`, and of the members and the reads of the touched groups: the
-    /// bound on `regroup`'s steps holds whatever the answer, `found` being the groups of the graph. At want of
-    /// memory the machine is handed back for its states.
+    /// bound on `regroup`'s steps holds whatever the answer, `found` being the groups of the graph. Out of
+    /// memory, the machine is handed back for its states.
     pub fn edit<L: Ledger>(
         self,
         graph: &Graph,
@@ -69,19 +65,28 @@ impl Machine {
             steps.new ≤ steps.old + 8 * touched_size graph.now change.now (groups_in self.groups) found }
     {
         let mut machine = self;
+        machine.forget_wide();
         match machine.follow(graph, change, steps) {
             Ok(()) => Ok(machine),
             Err(NoMemory) => Err(EditRefused { machine }),
         }
     }
 
-    // Follows an edit of the graph. At want of memory only the states are as they are to be, or as before.
+    // The groups that are stepped by vicinities aren't known any more: `finish` finds them again.
+    fn forget_wide(&mut self)
+        ensures { self.new ≡ record self.old { wide = None } }
+    {
+        self.body.wide = None;
+    }
+
+    // Follows an edit of the graph. Out of memory only the states are as they are to be, or as before.
     fn follow<L: Ledger>(
         &mut self,
         graph: &Graph,
         change: &Change,
         steps: &mut Steps<L>,
     ) -> Result<(), NoMemory>
+        requires none { self.old.wide ≡ None }
         requires covers { Covers (undo graph.now change.now) self.old }
         requires wired { IsWired (undo graph.now change.now) }
         requires room { nodes graph.now ≤ length self.old.state + self.old.spare }
@@ -111,6 +116,7 @@ impl Machine {
 
     // Seats a stale part for each group that has one of these nodes, which are members of no part.
     fn renew_all(&mut self, graph: &Graph, groups: &Groups, these: &[usize]) -> Result<(), NoMemory>
+        requires none { self.old.wide ≡ None }
         requires counted { length self.old.state ≡ nodes graph.now }
         requires groups { AreOf graph.now groups.now }
         requires free { (k node : ℕ) → Contains these.now node → ¬ HasMember self.old.parts k node }
@@ -135,6 +141,7 @@ impl Machine {
 
     // Seats a stale part for the group of this node, unless a part has it as a member.
     fn renew_at(&mut self, graph: &Graph, groups: &Groups, node: usize) -> Result<(), NoMemory>
+        requires none { self.old.wide ≡ None }
         requires counted { length self.old.state ≡ nodes graph.now }
         requires groups { AreOf graph.now groups.now }
         ensures ok { OnOk result (RenewsAt groups.now.groups node self.old self.new) }

@@ -2,17 +2,13 @@
 ghost use Rattle.std.specs.Prelude.{◌≡◌, ℕ, ◌⊎◌, None, All, IsTrue, Err, IfOk, IfErr, OnOk, OnErr, slice_index_or};
 ghost use Rattle.path_meaning.specs.Rails.{IsRailed, IsSound};
 ghost use Rattle.group_text.specs.FirstTexts.{is_among};
-ghost use Rattle.analysis_cache.specs.Keeping.{texts_of, IsGrown};
-ghost use Rattle.analysis_cache.specs.Holding.{HoldsKept, HoldsNearlyKept};
-ghost use Rattle.circuit_texts.specs.Sizes.{TellsTooLarge};
-ghost use Rattle.circuit_texts.specs.Building.{Builds, Fills, IsCutOff};
+ghost use Rattle.analysis_cache.specs.Words.{texts_of, IsGrown, HoldsKept, HoldsNearlyKept};
+ghost use Rattle.circuit_texts.specs.Words.{TellsTooLarge, Builds, Fills, IsCutOff};
 ghost use Rattle.group_analysis.specs.Using.{used_texts};
 ghost use Rattle.kept_parts.specs.Uses.{some_texts};
 ghost use Rattle.machine_parts.specs.declared.part.HeldPart.{HeldPart};
 ghost use Rattle.machine_parts.specs.Parts.{Stands};
-ghost use Rattle.machine_laws.specs.Fitting.{Covers, IsKeptBy};
-ghost use Rattle.machine_laws.specs.Editing.{Finishes, Rouses};
-ghost use Rattle.machine_laws.specs.Beginnings.{AreInOrder};
+ghost use Rattle.machine_laws.specs.Words.{Covers, IsKeptBy, Finishes, Rouses, AreInOrder};
 ghost use Rattle.unit_step.specs.Lasting.{IsLeft};
 ghost use Rattle.unit_step.specs.Waking.{IsWaking};
 
@@ -37,6 +33,8 @@ impl Machine {
     /// keeps. States, marks, and the parts that had code stay. The refusals are those of `build`; after them
     /// the machine is as before, and nothing was moved or cut.
     ///
+    /// It knows no groups that are stepped by vicinities: what is stale gets code, or is refused.
+    ///
     /// An analyst that held exactly the texts that were kept holds exactly those that are kept, and after a refusal
     /// at most one besides.
     pub fn finish<A: Analyst>(
@@ -45,6 +43,7 @@ impl Machine {
         kept: &mut Kept,
         analyst: &mut A,
     ) -> Result<u64, BuildFault>
+        requires none { self.old.wide ≡ None }
         requires covers { Covers graph.now self.old }
         requires railed { IsRailed graph.now }
         requires sound { IsSound self.old.state }
@@ -77,6 +76,7 @@ impl Machine {
         kept: &mut Kept,
         analyst: &mut A,
     ) -> Result<u64, BuildFault>
+        requires none { self.old.wide ≡ None }
         requires covers { Covers graph.now self.old }
         requires railed { IsRailed graph.now }
         requires sound { IsSound self.old.state }
@@ -104,6 +104,7 @@ impl Machine {
     // The texts that the parts have now are those of the last build from now on: those that are gone are used,
     // in order, and what is past the bound is cut, but no text that a part has.
     fn settle_last<A: Analyst>(&mut self, kept: &mut Kept, analyst: &mut A)
+        requires none { self.old.wide ≡ None }
         requires textless { (k : ℕ) (part : HeldPart) → Stands self.old.parts k part → part.members ≡ 0 → slice_index_or self.old.uses k None ≡ None }
         requires last { All (λ text. IsTrue (is_among (texts_of kept.old) text)) self.old.last }
         requires used { All (λ text. IsTrue (is_among (texts_of kept.old) text)) (some_texts self.old.uses) }
@@ -148,6 +149,7 @@ impl Machine {
 
     // Gives the parts that wait their codes, which are kept.
     fn rouse(&mut self, graph: &Graph, waking: Waking, kept: &Kept) -> Result<(), NoMemory>
+        requires none { self.old.wide ≡ None }
         requires covers { Covers graph.now self.old }
         requires railed { IsRailed graph.now }
         requires sound { IsSound self.old.state }

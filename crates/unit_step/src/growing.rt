@@ -9,7 +9,8 @@ use ternary::Tern;
 impl Machine {
     // Adds nodes, up to so many: they are X, and no part has or reads them.
     pub(crate) fn add_nodes(&mut self, nodes: usize) -> Result<(), AllocError>
-        requires { nodes ≤ length self.old.state + self.old.spare }
+        requires room { nodes ≤ length self.old.state + self.old.spare }
+        requires none { self.old.wide ≡ None }
         ensures ok { OnOk result (self.new ≡ record self.old { state = with_new_nodes self.old.state nodes; spare = self.new.spare }) }
         ensures err { OnErr result (self.new ≡ self.old) }
     {

@@ -1,12 +1,9 @@
 //! The texts that a machine's groups had at its last build.
 ghost use Rattle.std.specs.Prelude.{◌≡◌, ℕ, ◌<◌, ◌≤◌, ◌++◌, [], None, Some, length, All, Contains, ◌⊎◌, IfOk, IsTrue, IfSome, OnOk, OnErr, slice_index_or, slice_get};
-ghost use Rattle.group_text.specs.FirstTexts.{is_among};
-ghost use Rattle.group_analysis.specs.Using.{used_texts};
-ghost use Rattle.group_analysis.specs.Held.{set_of};
+ghost use Rattle.group_text.specs.Words.{is_among, GroupTextData};
+ghost use Rattle.group_analysis.specs.Words.{used_texts, set_of};
 ghost use Rattle.analysis_cache.specs.Keeping.{texts_of};
-ghost use Rattle.group_text.specs.Texts.{GroupTextData};
-ghost use Rattle.machine_parts.specs.Parts.{AreApart};
-ghost use Rattle.machine_parts.specs.Running.{AreOwners};
+ghost use Rattle.machine_parts.specs.Words.{AreApart, AreOwners};
 ghost use Rattle.unit_step.specs.Lasting.{AreLasting, UsesLeavers, UsesLeaver, starts_of, text_in, texts_lasting, with_beginning};
 ghost use Rattle.machine_laws.specs.Beginnings.{Begins, BeginsAt};
 

@@ -1,4 +1,4 @@
-//! The compiled machine: the code of each group, run only where something touched the group.
+//! The compiled machine: the code of each group, run only if something touched the group.
 //!
 //! The main type is `Machine`: parts, for each of them the nodes that it reads and whether it is marked,
 //! and a state. `Machine::build` makes one that fits a graph: each distinct text of a group that isn't kept
@@ -6,6 +6,9 @@
 //! the unit step of the graph, and that the machine fits the graph again: in each part that isn't marked
 //! every member's state is its steady state, so such a part needs no evaluation until a node that it
 //! reads changes.
+//!
+//! Groups without code can be stepped by vicinities, beside the parts that have some; no machine is built with such
+//! groups yet.
 //!
 //! ```text
 //! an inverter a -> out, both 0, not marked       a is placed at 0 again: the part is marked

@@ -1,26 +1,18 @@
 //! The machine.
-ghost use Rattle.std.specs.Prelude.{◌≡◌, ◌≢◌, ℕ, List, ◌-◌, vec_len, vec_capacity, ◌+◌, ◌^◌, ◌<◌, ◌≤◌, ◌⊎◌, true, false, length, count_by, option_map, All, None, Some, Err, IsTrue, IfSome, IfNone, IfOk, IfErr, OnOk, OnErr};
+ghost use Rattle.std.specs.Prelude.{◌≡◌, ◌≢◌, ℕ, Bool, List, ◌-◌, vec_len, vec_capacity, ◌+◌, ◌^◌, ◌<◌, ◌≤◌, ◌⊎◌, true, false, length, count_by, option_map, All, None, Some, Err, IsTrue, IfSome, IfNone, IfOk, IfErr, OnOk, OnErr};
 ghost use Rattle.std.specs.Bool.{OnTrue, OnFalse};
 ghost use Rattle.ternary.specs.Counts.{raised};
 ghost use Rattle.path_meaning.specs.declared.TheConstants.{RAILS};
-ghost use Rattle.path_meaning.specs.Graphs.{nodes};
-ghost use Rattle.path_meaning.specs.Rails.{IsRailed, IsSound};
-ghost use Rattle.path_meaning.specs.Step.{IsStep};
+ghost use Rattle.path_meaning.specs.Words.{nodes, IsRailed, IsSound, IsStep};
 ghost use Rattle.oscillation_x.specs.Settling.{IsJoinStep, StaysOrBecomesX};
-ghost use Rattle.analysis_cache.specs.Keeping.{texts_of, IsGrown};
-ghost use Rattle.analysis_cache.specs.Holding.{HoldsKept, HoldsNearlyKept};
-ghost use Rattle.group_text.specs.Texts.{GroupTextData};
-ghost use Rattle.group_text.specs.FirstTexts.{is_among};
+ghost use Rattle.analysis_cache.specs.Words.{texts_of, IsGrown, HoldsKept, HoldsNearlyKept};
+ghost use Rattle.group_text.specs.Words.{GroupTextData, is_among};
 ghost use Rattle.group_analysis.specs.Using.{used_texts};
-ghost use Rattle.machine_laws.specs.Beginnings.{HasLast};
-ghost use Rattle.circuit_texts.specs.Sizes.{TellsTooLarge};
-ghost use Rattle.circuit_texts.specs.Building.{Builds, IsCutOff};
-ghost use Rattle.machine_parts.specs.Parts.{HasMember, ReadsAt, AreApart, has_members};
-ghost use Rattle.machine_laws.specs.Columns.{AreSeated};
-ghost use Rattle.unit_step.specs.Bodies.{CanStart, of_body};
-ghost use Rattle.machine_parts.specs.Marking.{count_marked, marked_sum, instructions_of, MarksAll};
-ghost use Rattle.machine_laws.specs.Machines.{Advances, Places};
-ghost use Rattle.machine_laws.specs.Fitting.{Covers, FitsGraph};
+ghost use Rattle.machine_laws.specs.Words.{HasLast, AreSeated, Advances, Places, Covers, FitsGraph};
+ghost use Rattle.circuit_texts.specs.Words.{TellsTooLarge, Builds, IsCutOff};
+ghost use Rattle.machine_parts.specs.Words.{HasMember, ReadsAt, AreApart, has_members, count_marked, marked_sum, instructions_of, MarksAll};
+ghost use Rattle.unit_step.specs.Bodies.{CanStart, of_body, fixed_of};
+ghost use Rattle.wide_groups.specs.Awake.{IsWorked};
 
 use crate::body::Body;
 use crate::lasting::Lasting;
@@ -37,6 +29,7 @@ use std::alloc::Global;
 use std::marker::Model;
 use std::sync::ledger::Ledger;
 use ternary::{Steps, Tern};
+use wide_groups::place;
 
 /// A compiled circuit: the parts of its groups, which of them are marked, and a state.
 ///
@@ -55,13 +48,15 @@ impl Model for Machine {
     ghost use Rattle.machine_parts.specs.Running.{IsMachine};
     ghost use Rattle.part_steps.specs.Dense.{AreDense};
     ghost use Rattle.unit_step.specs.Lasting.{AreLasting, texts_lasting};
+    ghost use Rattle.wide_groups.specs.Awake.{HoldsWide};
 
     ghost Value = { MachineData };
 
-    ghost view = { λ m. record { groups = m.body.groups; parts = m.body.parts.items; uses = texts_used m.body.uses; marks = m.body.agenda.marks; state = m.body.state.items; texts = count_distinct (texts_used m.body.uses); last = texts_lasting m.body.uses.known m.body.lasting; moves = m.moves; placed = m.placed; spare = vec_capacity m.body.state - vec_len m.body.state } };
+    ghost view = { λ m. record { groups = m.body.groups; parts = m.body.parts.items; uses = texts_used m.body.uses; marks = m.body.agenda.marks; state = m.body.state.items; texts = count_distinct (texts_used m.body.uses); last = texts_lasting m.body.uses.known m.body.lasting; moves = m.moves; placed = m.placed; spare = vec_capacity m.body.state - vec_len m.body.state; wide = m.body.wide } };
 
     ghost invariant = { λ m. IsMachine m.body.parts.items m.body.agenda.marks m.body.agenda.waiting (length m.body.state.items) m.body.readers m.body.owners.items m.body.uses.numbers m.body.held m.body.most (rooms m.body.desk)
-        × AreDense m.body.parts.items m.body.dense × AreLasting m.body.parts.items m.body.uses.numbers (length m.body.state.items) (length m.body.uses.known) m.body.lasting };
+        × AreDense m.body.parts.items m.body.dense × AreLasting m.body.parts.items m.body.uses.numbers (length m.body.state.items) (length m.body.uses.known) m.body.lasting
+        × HoldsWide m.body.parts.items m.body.state.items (vec_capacity m.body.noted) m.body.wide };
 }
 
 impl Machine {
@@ -69,8 +64,8 @@ impl Machine {
     ///
     /// Code comes from what is kept; texts that aren't kept are analysed first, each once, in the order
     /// of the groups, and kept; the count is their number. All texts of the groups are in front of what is kept
-    /// then, and what is past its bound is cut. Every part is marked. Where some group is too large, the first
-    /// such group is told and nothing is analysed. At want of memory nothing was analysed, or a front of what
+    /// then, and what is past its bound is cut. Every part is marked. If some group is too large, the first
+    /// such group is told and nothing is analysed. Out of memory nothing was analysed, or a prefix of what
     /// is new, and nothing is moved or cut.
     ///
     /// An analyst that held exactly the texts that were kept holds exactly those that are kept, and after a refusal
@@ -86,6 +81,7 @@ impl Machine {
         requires railed { IsRailed graph.now }
         requires sound { IsSound state.now }
         ensures fits { IfOk result (λ made. FitsGraph graph.now made.0) }
+        ensures none { IfOk result (λ made. made.0.wide ≡ None) }
         ensures fresh { IfOk result (λ made. (made.0.state ≡ state.now) × (made.0.moves ≡ 0) × (made.0.placed ≡ 0)) }
         ensures last { IfOk result (λ made. HasLast graph.now made.0.last) }
         ensures builds { IfOk result (λ made. Builds graph.now kept.old.bound (texts_of kept.old) (texts_of kept.new) (A.analysed analyst.old) (A.analysed analyst.new) made.1) }
@@ -170,6 +166,8 @@ impl Machine {
             owners: _owners,
             state,
             desk: _desk,
+            wide: _wide,
+            noted: _noted,
         } = body;
         (parts, state)
     }
@@ -239,8 +237,8 @@ impl Machine {
     /// Gives a node that is no rail this state, and marks the parts that have it as a member or read
     /// it; all other nodes stay.
     ///
-    /// The graph is meant that is handed in: the machine covers and fits it afterwards where it did
-    /// before. `placed` counts the node where it is a member of a part. It takes no memory.
+    /// The graph is meant that is handed in: the machine covers and fits it afterwards if it did
+    /// before. `placed` counts the node if it is a member of a part. It takes no memory.
     pub fn set_node(&mut self, graph: &Graph, node: usize, value: Tern)
         requires inside { node < length self.old.state }
         requires no_rail { RAILS ≤ node }
@@ -251,7 +249,7 @@ impl Machine {
         ensures no_member { ((k : ℕ) → ¬ HasMember self.old.parts k node) → self.new.placed ≡ self.old.placed }
     {
         graphs_are_wired(graph);
-        self.body.state[node] = value;
+        place(node, value, &mut self.body.state, &mut self.body.wide);
         let owner = self.body.owners[node];
         mark_owner(owner, &mut self.body.agenda);
         mark_all(self.body.readers.of(node), &mut self.body.agenda);
@@ -261,7 +259,7 @@ impl Machine {
     // Takes a step, plain or joining, and answers whether it changes the state.
     fn take<L: Ledger>(&mut self, joining: bool, steps: &mut Steps<L>) -> bool
         ensures advances { Advances joining self.old self.new }
-        ensures ticks { steps.new ≤ steps.old + marked_sum instructions_of self.old.parts self.old.marks }
+        ensures ticks { IsWorked (marked_sum instructions_of self.old.parts self.old.marks) self.old.wide self.old.state steps.old steps.new }
         ensures unknown { joining ≡ true → StaysOrBecomesX self.old.state self.new.state }
         ensures few { length self.new.state < 2 ^ 63 }
         ensures changed { OnTrue result (self.new.state ≢ self.old.state) }
@@ -277,6 +275,8 @@ impl Machine {
             &mut self.body.state,
             &mut self.body.agenda,
             &mut self.body.desk,
+            &mut self.body.wide,
+            &mut self.body.noted,
             steps,
         );
         self.moves = moves_after(self.moves, changed);
@@ -300,13 +300,13 @@ impl Stepper for Machine {
 
     ghost placed = { λ machine. machine.placed };
 
-    ghost Fixed = { List GroupTextData };
+    ghost Fixed = { List GroupTextData × Bool };
 
-    ghost fixed = { λ machine. machine.last };
+    ghost fixed = { fixed_of };
 
     fn step<L: Ledger>(&mut self, graph: &Graph, steps: &mut Steps<L>) -> bool
         ensures advances { Advances false self.old self.new }
-        ensures ticks { steps.new ≤ steps.old + marked_sum instructions_of self.old.parts self.old.marks }
+        ensures ticks { IsWorked (marked_sum instructions_of self.old.parts self.old.marks) self.old.wide self.old.state steps.old steps.new }
         ensures step { FitsGraph graph.now self.old → IsStep graph.now self.old.state self.new.state }
         ensures fits { FitsGraph graph.now self.old → FitsGraph graph.now self.new }
         ensures nodes { length self.new.state ≡ length self.old.state }
@@ -316,7 +316,7 @@ impl Stepper for Machine {
         ensures moved { OnTrue result (self.new.moves ≡ raised self.old.moves 1) }
         ensures rested { OnFalse result (self.new.moves ≡ self.old.moves) }
         ensures placed { self.new.placed ≡ self.old.placed }
-        ensures fixed { self.new.last ≡ self.old.last }
+        ensures fixed { fixed_of self.new ≡ fixed_of self.old }
     {
         graphs_are_wired(graph);
         self.take(false, steps)
@@ -324,7 +324,7 @@ impl Stepper for Machine {
 
     fn join_step<L: Ledger>(&mut self, graph: &Graph, steps: &mut Steps<L>) -> bool
         ensures advances { Advances true self.old self.new }
-        ensures ticks { steps.new ≤ steps.old + marked_sum instructions_of self.old.parts self.old.marks }
+        ensures ticks { IsWorked (marked_sum instructions_of self.old.parts self.old.marks) self.old.wide self.old.state steps.old steps.new }
         ensures step { FitsGraph graph.now self.old → IsJoinStep graph.now self.old.state self.new.state }
         ensures fits { FitsGraph graph.now self.old → FitsGraph graph.now self.new }
         ensures unknown { StaysOrBecomesX self.old.state self.new.state }
@@ -335,7 +335,7 @@ impl Stepper for Machine {
         ensures moved { OnTrue result (self.new.moves ≡ raised self.old.moves 1) }
         ensures rested { OnFalse result (self.new.moves ≡ self.old.moves) }
         ensures placed { self.new.placed ≡ self.old.placed }
-        ensures fixed { self.new.last ≡ self.old.last }
+        ensures fixed { fixed_of self.new ≡ fixed_of self.old }
     {
         graphs_are_wired(graph);
         self.take(true, steps)

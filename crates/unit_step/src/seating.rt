@@ -15,7 +15,8 @@ impl Machine {
     //
     // The node at which it begins is noted first, for the next build, which can lack memory.
     pub(crate) fn vacate(&mut self, k: usize) -> Result<(), AllocError>
-        requires { k < length self.old.parts }
+        requires none { self.old.wide ≡ None }
+        requires inside { k < length self.old.parts }
         ensures ok { OnOk result (Vacates k self.old self.new) }
         ensures err { OnErr result (self.new ≡ self.old) }
     {
@@ -35,6 +36,7 @@ impl Machine {
     // Seats a part for a group with these members, which are no members of other parts: it is stale and
     // marked.
     pub(crate) fn seat(&mut self, members: &[usize]) -> Result<(), NoMemory>
+        requires none { self.old.wide ≡ None }
         requires some { 0 < length members.now }
         requires inside { All (λ node. node < length self.old.state) members.now }
         requires once { (i j : ℕ) → i < length members.now → j < length members.now → slice_index members.now i ≡ slice_index members.now j → i ≡ j }
@@ -64,6 +66,7 @@ impl Machine {
 
     // Takes its group away from the part that has this node as a member, if there is one.
     fn vacate_owner(&mut self, node: usize) -> Result<(), AllocError>
+        requires none { self.old.wide ≡ None }
         ensures ok { OnOk result (Clears (node ∷ []) self.old self.new) }
         ensures err { OnErr result (self.new ≡ self.old) }
     {
@@ -75,7 +78,9 @@ impl Machine {
 
     // Takes their groups away from the parts that have these nodes as members.
     pub(crate) fn vacate_all(&mut self, nodes: &[usize]) -> Result<(), AllocError>
+        requires none { self.old.wide ≡ None }
         ensures ok { OnOk result (Clears nodes.now self.old self.new) }
+        ensures wide { self.new.wide ≡ None }
         ensures state { self.new.state ≡ self.old.state }
         ensures spare { self.new.spare ≡ self.old.spare }
         ensures last { self.new.last ≡ self.old.last }
@@ -88,6 +93,7 @@ impl Machine {
 
     // Seats a part for a group with these members, in place of the parts that have them.
     pub(crate) fn renew(&mut self, members: &[usize]) -> Result<(), NoMemory>
+        requires none { self.old.wide ≡ None }
         requires some { 0 < length members.now }
         requires inside { All (λ node. node < length self.old.state) members.now }
         requires once { (i j : ℕ) → i < length members.now → j < length members.now → slice_index members.now i ≡ slice_index members.now j → i ≡ j }

@@ -11,6 +11,7 @@ use Rattle.path_meaning.specs.Switching.{is_closed, is_live, switch_state_at}
 use Rattle.path_meaning.specs.Graphs.{GraphData, IsWired, IsStorage, nodes, level_of, place_at}
 use Rattle.path_meaning.specs.Path.{Stand, Joins, Hop, Leads, at_root, LivePath, IsBeaten, Reaches}
 use Rattle.path_meaning.proofs.PathLemmas.{IsBeaten-path, level_fits, Hop-in_range, Leads-definite, Leads-weaker, IsBeaten-by_level, Goes, Goes-here, Goes-from_Reaches, Reaches-from_Goes}
+use Rattle.path_meaning.proofs.SameSwitchesLemmas.{Hop-carried}
 use Rattle.path_meaning.proofs.StrongestPaths.{surely, Definite, onward, and-second}
 use Rattle.group_meaning.specs.Groups.{AreJoined}
 use Rattle.group_meaning.proofs.LinkLemmas.{Joins-sym}
@@ -79,16 +80,7 @@ module _ (g : GraphData) (wired : IsWired g) (old new : List Tern) (In : ℕ →
   -- it is a hop under the other state
   hop_stays : (here next : Stand) (place : ℕ) → Hop g old here place next → In next.node → Hop g new here place next
   hop_stays here next place hop inside =
-      let same : switch_state_at old hop.switch ≡ switch_state_at new hop.switch =
-      sym (stay place here.node next.node hop.switch hop.at_place hop.joins inside) in
-      record {
-        switch = hop.switch;
-        at_place = hop.at_place;
-        joins = hop.joins;
-        live = rw same at hop.live;
-        strength = hop.strength;
-        definite = rw same at hop.definite;
-      }
+      Hop-carried g old new here next place hop (sym (stay place here.node next.node hop.switch hop.at_place hop.joins inside))
 
   -- if a definite path stands in the set, one that is as strong leads there under the other state
   surely_stays : (hops : List ℕ) (here there : Stand) → Leads g old here hops there → here.node < nodes g → here.strength ≤ INPUT_LEVEL →

@@ -1,6 +1,6 @@
 -- The places of a graph are listed, one after the other, at the ends of their switches and at their gates.
 use Rattle.std.proofs.Common.{◌≡◌, ◌≢◌, ℕ, zero, suc, ◌+◌, ◌<◌, inl, inr, ◌⊎◌, Some, None, Bool, true, List, [], length, refl, sym, ap, subst, ◌∙◌, arith}
-use Rattle.std.specs.Prelude.{Contains, replicate}
+use Rattle.std.specs.Prelude.{◌↔◌, Contains, replicate}
 use Rattle.std.proofs.lemmas.Bool.{cases_eq}
 use Rattle.ternary.specs.declared.tern.Tern.{Tern}
 use Rattle.path_meaning.specs.declared.switching.Switch.{Switch}
@@ -21,28 +21,44 @@ nothing_at zero node = refl
 nothing_at (suc count) zero = refl
 nothing_at (suc count) (suc node) = nothing_at count node
 
+-- what was added at one end, and then at the other, was added at one of both
+added_twice : {New Mid Old A B Rest : Type 0} → Mid ↔ (Old ⊎ (A × Rest)) → New ↔ (Mid ⊎ (B × Rest)) → New ↔ (Old ⊎ ((A ⊎ B) × Rest))
+added_twice first next = (
+  λ there.
+      elim (next.0 there) [
+        | inl between ↦
+            elim (first.0 between) [
+              | inl before ↦ inl before
+              | inr here ↦ inr (inl here.0, here.1)
+            ]
+        | inr here ↦ inr (inr here.0, here.1)
+      ],
+  λ how.
+      next.1 (elim how [
+        | inl before ↦ inl (first.1 (inl before))
+        | inr (inl at_a, is) ↦ inl (first.1 (inr (at_a, is)))
+        | inr (inr at_b, is) ↦ inr (at_b, is)
+      ]),
+)
+
+-- and so it is if they are one
+added_once : {New Old A B Rest : Type 0} → (B → A) → New ↔ (Old ⊎ (A × Rest)) → New ↔ (Old ⊎ ((A ⊎ B) × Rest))
+added_once same adds = (
+  λ there. elim (adds.0 there) [ inl before ↦ inl before | inr here ↦ inr (inl here.0, here.1) ],
+  λ how.
+      adds.1 (elim how [
+        | inl before ↦ inl before
+        | inr (inl at_a, is) ↦ inr (at_a, is)
+        | inr (inr at_b, is) ↦ inr (same at_b, is)
+      ]),
+)
+
 -- both ends of a switch that differ, or that are one node
 pub AddsEnds-both : (live : Bool) (place : ℕ) (switch : Switch) (old mid new : List LiveListData) → AddsAt live place switch.a old mid →
     AddsAt live place switch.b mid new → AddsEnds live place switch old new
 AddsEnds-both live place switch old mid new first next = record {
   count = next.count ∙ first.count;
-  all = λ n q. (
-    λ there.
-        elim ((next.all n q).0 there) [
-          | inl between ↦
-              elim ((first.all n q).0 between) [
-                | inl before ↦ inl before
-                | inr here ↦ inr (inl here.0, here.1)
-              ]
-          | inr here ↦ inr (inr here.0, here.1)
-        ],
-    λ how.
-        (next.all n q).1 (elim how [
-          | inl before ↦ inl ((first.all n q).1 (inl before))
-          | inr (inl at_a, is) ↦ inl ((first.all n q).1 (inr (at_a, is)))
-          | inr (inr at_b, is) ↦ inr (at_b, is)
-        ]),
-  );
+  all = λ n q. added_twice (first.all n q) (next.all n q);
   items = λ n q. (
     λ there.
         elim ((next.items n q).0 there) [
@@ -66,15 +82,7 @@ pub AddsEnds-same : (live : Bool) (place : ℕ) (switch : Switch) (old new : Lis
     AddsEnds live place switch old new
 AddsEnds-same live place switch old new same adds = record {
   count = adds.count;
-  all = λ n q. (
-    λ there. elim ((adds.all n q).0 there) [ inl before ↦ inl before | inr here ↦ inr (inl here.0, here.1) ],
-    λ how.
-        (adds.all n q).1 (elim how [
-          | inl before ↦ inl before
-          | inr (inl at_a, is) ↦ inr (at_a, is)
-          | inr (inr at_b, is) ↦ inr (at_b ∙ same, is)
-        ]),
-  );
+  all = λ n q. added_once (λ at_b. at_b ∙ same) (adds.all n q);
   items = λ n q. (
     λ there. elim ((adds.items n q).0 there) [ inl before ↦ inl before | inr here ↦ inr (inl here.0, here.1, here.2) ],
     λ how.

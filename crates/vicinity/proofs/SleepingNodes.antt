@@ -4,7 +4,7 @@ use Rattle.std.proofs.Common.{◌≡◌, ◌≢◌, ℕ, inl, inr, List, [], ◌
 use Rattle.std.specs.Prelude.{Contains}
 use Rattle.std.proofs.lemmas.List.Elements.{Contains-get_or}
 use Rattle.ternary.specs.declared.tern.Tern.{Tern}
-use Rattle.ternary.specs.declared.tern.Tern.TheVariants.{Zero, One, Unk}
+use Rattle.ternary.proofs.TernLemmas.{same_or_other}
 use Rattle.path_meaning.specs.declared.switching.Switch.{Switch}
 use Rattle.path_meaning.specs.declared.switching.SwitchState.{SwitchState}
 use Rattle.path_meaning.specs.declared.switching.SwitchState.TheVariants.{Open, Closed, Unknown}
@@ -35,15 +35,7 @@ same_switch_state Unknown Closed free = absurd (free (λ e. absurd (cc)))
 
 -- and so are states of nodes
 pub same_tern : (a b : Tern) → ¬ (a ≢ b) → a ≡ b
-same_tern Zero Zero free = refl
-same_tern One One free = refl
-same_tern Unk Unk free = refl
-same_tern Zero One free = absurd (free (λ e. absurd (cc)))
-same_tern Zero Unk free = absurd (free (λ e. absurd (cc)))
-same_tern One Zero free = absurd (free (λ e. absurd (cc)))
-same_tern One Unk free = absurd (free (λ e. absurd (cc)))
-same_tern Unk Zero free = absurd (free (λ e. absurd (cc)))
-same_tern Unk One free = absurd (free (λ e. absurd (cc)))
+same_tern a b free = elim (same_or_other a b) [ inl same ↦ same | inr other ↦ absurd (free other) ]
 
 -- a set of nodes that a change doesn't stir
 module _ (g : GraphData) (old new : List Tern) (In : ℕ → Type 0) (calm : (node : ℕ) → In node → ¬ IsStirred g old new node) where

@@ -137,7 +137,7 @@ Touches-none g state touched = record {
   all = λ node storage changes. absurd (changes.changed refl);
 }
 
--- what a front of a list contains, the list contains
+-- what a prefix of a list contains, the list contains
 pub Contains-front : {X : Type 0} (xs : List X) (i : ℕ) (x : X) → Contains (take i xs) x → Contains xs x
 Contains-front xs i x there = subst (λ ys. Contains ys x) (take-append-drop i xs) (Contains-append_left (take i xs) (drop i xs) x there)
 

@@ -13,3 +13,4 @@ pub mod Spreading
 pub mod Evaluating
 pub mod Stepping
 pub mod Wides
+pub mod Words

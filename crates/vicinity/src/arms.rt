@@ -1,13 +1,11 @@
 //! The switches at a node that aren't open.
 ghost use Rattle.std.specs.Prelude.{◌≡◌, ◌≢◌, ℕ, ◌<◌, ◌≤◌, length, None, IfSome};
-ghost use Rattle.path_meaning.specs.Graphs.{nodes, place_at, FitsPlace};
-ghost use Rattle.path_meaning.specs.Path.{Joins};
+ghost use Rattle.path_meaning.specs.Graphs.{nodes};
 ghost use Rattle.machine_parts.specs.Marking.{AreOnce};
-ghost use Rattle.vicinity.specs.Lists.{places_of};
-ghost use Rattle.vicinity.specs.Arms.{IsArm, LeadsTo};
+ghost use Rattle.vicinity.specs.Words.{places_of, IsArm, LeadsTo};
 
 use crate::live_list::LiveList;
-use path_meaning::{Graph, Switch, SwitchState, switch_state};
+use path_meaning::{Graph, SwitchState, switch_state};
 use smallvec::SmallVec;
 use ternary::Tern;
 
@@ -42,8 +40,8 @@ pub(crate) fn arm_at(graph: &Graph, state: &[Tern], place: usize, node: usize) -
     ensures within { IfSome result (λ arm. arm.other < nodes graph.now) }
     ensures low { IfSome result (λ arm. arm.level ≤ 15) }
 {
-    let switch = switch_there(graph, place)?;
-    let other = other_end(switch, node)?;
+    let switch = graph.switch_there(place)?;
+    let other = switch.other_end(node)?;
     let does = switch_state(switch.kind, state[switch.gate]);
     if does == SwitchState::Open {
         return None;
@@ -53,31 +51,4 @@ pub(crate) fn arm_at(graph: &Graph, state: &[Tern], place: usize, node: usize) -
         level: switch.level,
         closed: does == SwitchState::Closed,
     })
-}
-
-/// What stands at a place; past the last place nothing does.
-pub(crate) fn switch_there(graph: &Graph, place: usize) -> Option<Switch>
-    ensures value { result ≡ place_at graph.now.places place }
-    ensures fits { FitsPlace (nodes graph.now) result }
-{
-    if place < graph.places() {
-        graph.switch_at(place)
-    } else {
-        None
-    }
-}
-
-/// The node at the other end of a switch that has an end at this node, if it has one.
-fn other_end(switch: Switch, node: usize) -> Option<usize>
-    ensures joined { IfSome result (Joins switch node) }
-    ensures all { (other : ℕ) → Joins switch node other → IfSome result (λ end. end ≡ other) }
-    ensures some { (other : ℕ) → Joins switch node other → result ≢ None }
-{
-    if switch.a == node {
-        Some(switch.b)
-    } else if switch.b == node {
-        Some(switch.a)
-    } else {
-        None
-    }
 }

@@ -1,13 +1,8 @@
 //! The evaluation of the nodes that are awake.
-ghost use Rattle.std.specs.Prelude.{◌≡◌, ℕ, ◌+◌, ◌<◌, ◌≤◌, ◌||◌, true, List, length, All, IfOk, vec_len, vec_capacity, slice_index};
+ghost use Rattle.std.specs.Prelude.{◌≡◌, ℕ, ◌+◌, ◌<◌, ◌≤◌, List, length, All, IfOk, vec_len, vec_capacity, slice_index};
 ghost use Rattle.ternary.specs.declared.tern.Tern.{Tern};
-ghost use Rattle.ternary.specs.Tern.{may_one, may_zero};
-ghost use Rattle.path_meaning.specs.Switching.{state_at};
-ghost use Rattle.path_meaning.specs.Graphs.{nodes};
-ghost use Rattle.vicinity.specs.NodeSets.{IsIn};
-ghost use Rattle.vicinity.specs.Arms.{ListsLive};
-ghost use Rattle.vicinity.specs.LiveLists.{AreListsOf};
-ghost use Rattle.vicinity.specs.Evaluating.{HasRails, NotesWhere, AreChanges, IsPaid, IsScratch};
+ghost use Rattle.path_meaning.specs.Words.{state_at, nodes};
+ghost use Rattle.vicinity.specs.Words.{IsIn, ListsLive, AreListsOf, HasRails, NotesWhere, AreChanges, IsPaid, IsScratch};
 
 use crate::flood::flood;
 use crate::live_list::LiveList;
@@ -16,7 +11,7 @@ use crate::node_set::NodeSet;
 use crate::pass::Pass::{One, Sure, Zero};
 use crate::passes::run_pass;
 use part_words::Change;
-use path_meaning::{Graph, graphs_are_wired};
+use path_meaning::{Graph, graphs_are_wired, response};
 use std::alloc::{AllocError, Global};
 use std::marker::Model;
 use std::sync::ledger::Ledger;
@@ -172,17 +167,5 @@ fn note(joining: bool, state: Tern, node: usize, value: Tern, changes: &mut Vec<
     let next = if joining { state.join(value) } else { value };
     if next != state {
         changes.push_reserved(Change { node, value: next });
-    }
-}
-
-// The state with these rails, one of which is set.
-fn response(one: bool, zero: bool) -> Tern
-    requires { (one || zero) ≡ true }
-    ensures one { may_one result ≡ one }
-    ensures zero { may_zero result ≡ zero }
-{
-    match Tern::from_rails(one, zero) {
-        Some(state) => state,
-        None => unreachable!(),
     }
 }

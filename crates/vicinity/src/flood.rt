@@ -1,11 +1,7 @@
 //! The flood from the touched nodes to all nodes that are near them.
 ghost use Rattle.std.specs.Prelude.{◌≡◌, ℕ, ◌+◌, ◌<◌, ◌≤◌, length, All, Contains, IsTrue, ◌↔◌};
 ghost use Rattle.path_meaning.specs.Graphs.{nodes, IsStorage};
-ghost use Rattle.vicinity.specs.NodeSets.{IsIn};
-ghost use Rattle.vicinity.specs.Arms.{ListsLive, LeadsTo};
-ghost use Rattle.vicinity.specs.Touching.{IsAwake};
-ghost use Rattle.vicinity.specs.Spreading.{size_of};
-ghost use Rattle.vicinity.specs.Flooding.{Wakes};
+ghost use Rattle.vicinity.specs.Words.{IsIn, ListsLive, LeadsTo, IsAwake, size_of, Wakes};
 
 use crate::arms::{arm_at, listed};
 use crate::live_list::LiveList;

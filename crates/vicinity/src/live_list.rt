@@ -1,8 +1,7 @@
 //! The places at a node, with those in front whose switches aren't open.
 ghost use Rattle.std.specs.Prelude.{◌≡◌, ◌<◌, [], length, replicate, Contains, IfOk, OnOk};
 ghost use Rattle.machine_parts.specs.Marking.{AreOnce};
-ghost use Rattle.vicinity.specs.Lists.{all_at};
-ghost use Rattle.vicinity.specs.LiveLists.{TurnsIn, AddsIn, AddsAt};
+ghost use Rattle.vicinity.specs.Words.{all_at, TurnsIn, AddsIn, AddsAt};
 
 use crate::arms::Places;
 use crate::turning::{spot_of, turn};

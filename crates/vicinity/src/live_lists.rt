@@ -2,10 +2,9 @@
 ghost use Rattle.std.specs.Prelude.{◌≡◌, ℕ, ◌+◌, ◌<◌, length, slice_set, Contains, Some, IfOk, OnOk};
 ghost use Rattle.path_meaning.specs.Graphs.{nodes};
 ghost use Rattle.machine_parts.specs.Marking.{AreOnce};
-ghost use Rattle.vicinity.specs.Lists.{places_of, all_at};
-ghost use Rattle.vicinity.specs.LiveLists.{AreListsOf, AreListedBelow, AddsEnds, TurnsAtNode, TurnsGate};
+ghost use Rattle.vicinity.specs.Words.{places_of, all_at, AreListsOf, AreListedBelow, AddsEnds, TurnsAtNode, TurnsGate};
 
-use crate::arms::{listed, switch_there};
+use crate::arms::listed;
 use crate::live_list::{LiveList, add_at, empty_lists};
 use crate::spots::{HEADS, Spots, hint_at, note_all, note_exchange};
 use crate::turning::conducts;
@@ -119,7 +118,7 @@ fn list_place(
     requires below { AreListedBelow graph.now state.now place ends.old gates.old }
     ensures more { OnOk result (AreListedBelow graph.now state.now (place + 1) ends.new gates.new) }
 {
-    let Some(switch) = switch_there(graph, place) else {
+    let Some(switch) = graph.switch_there(place) else {
         return Ok(());
     };
     let live = conducts(switch.kind, state[switch.gate]);
@@ -177,7 +176,7 @@ fn turn_one(
     requires { length ends.old ≡ nodes graph.now }
     ensures { TurnsGate graph.now gate was now (λ q. q ≡ place) ends.old ends.new }
 {
-    let Some(switch) = switch_there(graph, place) else {
+    let Some(switch) = graph.switch_there(place) else {
         return;
     };
     if switch.gate != gate {

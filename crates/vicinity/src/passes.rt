@@ -2,10 +2,7 @@
 //! goes on from there.
 ghost use Rattle.std.specs.Prelude.{◌≡◌, ℕ, ◌+◌, ◌*◌, ◌<◌, ◌≤◌, length, slice_index};
 ghost use Rattle.path_meaning.specs.Graphs.{nodes};
-ghost use Rattle.vicinity.specs.NodeSets.{IsIn};
-ghost use Rattle.vicinity.specs.Entries.{IsFloorAt, AreEntries};
-ghost use Rattle.vicinity.specs.Arms.{ListsLive};
-ghost use Rattle.vicinity.specs.Spreading.{Starts, cost_at, size_of};
+ghost use Rattle.vicinity.specs.Words.{IsIn, IsFloorAt, AreEntries, ListsLive, Starts, cost_at, size_of};
 
 use crate::live_list::LiveList;
 use crate::node_set::NodeSet;

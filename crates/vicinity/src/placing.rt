@@ -1,10 +1,7 @@
 //! A node gets a state from outside.
 ghost use Rattle.std.specs.Prelude.{◌≡◌, ℕ, ◌<◌, length, slice_set, Contains};
 ghost use Rattle.path_meaning.specs.Graphs.{nodes};
-ghost use Rattle.vicinity.specs.Arms.{LeadsTo};
-ghost use Rattle.vicinity.specs.LiveLists.{AreListsOf};
-ghost use Rattle.vicinity.specs.Flooding.{Wakes};
-ghost use Rattle.vicinity.specs.Stepping.{PlacesGroup};
+ghost use Rattle.vicinity.specs.Words.{LeadsTo, AreListsOf, Wakes, PlacesGroup};
 
 use crate::flood::{look, wake};
 use crate::live_lists::LiveLists;

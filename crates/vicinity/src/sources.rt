@@ -1,10 +1,7 @@
 //! What a node starts with in a pass: by itself, and from the input nodes next to it.
 ghost use Rattle.std.specs.Prelude.{◌≡◌, ◌+◌, ◌<◌, ◌≤◌, min, length, Some};
 ghost use Rattle.path_meaning.specs.Graphs.{nodes};
-ghost use Rattle.vicinity.specs.Entries.{own_strength, HasAbove, IsFloorAt, IsWay, HasSources};
-ghost use Rattle.vicinity.specs.Arms.{ListsLive};
-ghost use Rattle.vicinity.specs.Spreading.{cost_at};
-ghost use Rattle.vicinity.specs.Sources.{HasEdge, is_crossed};
+ghost use Rattle.vicinity.specs.Words.{own_strength, HasAbove, IsFloorAt, IsWay, HasSources, ListsLive, cost_at, HasEdge, is_crossed};
 
 use crate::arms::{Arm, arm_at, listed};
 use crate::flood::is_storage;

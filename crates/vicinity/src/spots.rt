@@ -1,6 +1,5 @@
 //! Where the places stand in the lists of their ends. No clause rests on it: it only saves the search.
 
-use crate::arms::switch_there;
 use crate::live_list::LiveList;
 use path_meaning::Graph;
 
@@ -19,7 +18,7 @@ pub(crate) const HEADS: Spots = Spots {
 
 /// Where a place was put last in the list of this node.
 pub(crate) fn hint_at(graph: &Graph, spots: &[Spots], place: usize, node: usize) -> usize {
-    let Some(switch) = switch_there(graph, place) else {
+    let Some(switch) = graph.switch_there(place) else {
         return 0;
     };
     match spots.get(place) {
@@ -37,7 +36,7 @@ pub(crate) fn note_spot(
     node: usize,
     spot: usize,
 ) {
-    let Some(switch) = switch_there(graph, place) else {
+    let Some(switch) = graph.switch_there(place) else {
         return;
     };
     if place >= spots.len() {

@@ -1,10 +1,7 @@
 //! A pass goes on from node to node until nothing more comes.
 ghost use Rattle.std.specs.Prelude.{◌≡◌, ℕ, ◌+◌, ◌<◌, ◌≤◌, length, slice_index};
 ghost use Rattle.path_meaning.specs.Graphs.{nodes};
-ghost use Rattle.vicinity.specs.NodeSets.{IsIn};
-ghost use Rattle.vicinity.specs.Entries.{IsWay, IsFloorAt, AreWays, IsSpreadOf, IsSpreadFrom};
-ghost use Rattle.vicinity.specs.Arms.{ListsLive};
-ghost use Rattle.vicinity.specs.Spreading.{Raises, IsSpreadOver, cost_at, owed};
+ghost use Rattle.vicinity.specs.Words.{IsIn, IsWay, IsFloorAt, AreWays, IsSpreadOf, IsSpreadFrom, ListsLive, Raises, IsSpreadOver, cost_at, owed};
 
 use crate::arms::{arm_at, listed};
 use crate::live_list::LiveList;

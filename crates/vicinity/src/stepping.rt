@@ -3,9 +3,7 @@ ghost use Rattle.std.specs.Prelude.{◌≡◌, ◌<◌, ◌≤◌, length, vec_c
 ghost use Rattle.std.specs.Bool.{OnTrue};
 ghost use Rattle.ternary.specs.declared.tern.Tern.{Tern};
 ghost use Rattle.path_meaning.specs.Graphs.{nodes};
-ghost use Rattle.vicinity.specs.Evaluating.{IsPaid};
-ghost use Rattle.vicinity.specs.LiveLists.{AreListsOf};
-ghost use Rattle.vicinity.specs.Stepping.{StepsGroup};
+ghost use Rattle.vicinity.specs.Words.{IsPaid, AreListsOf, StepsGroup};
 
 use crate::evaluation::{Scratch, evaluate};
 use crate::live_lists::LiveLists;

@@ -2,11 +2,8 @@
 ghost use Rattle.std.specs.Prelude.{◌≡◌, ℕ, ◌<◌, length, Contains, slice_set};
 ghost use Rattle.path_meaning.specs.Graphs.{nodes};
 ghost use Rattle.part_words.specs.declared.change.Change.{Change};
-ghost use Rattle.vicinity.specs.Flooding.{Wakes};
-ghost use Rattle.vicinity.specs.LiveLists.{AreListsOf};
-ghost use Rattle.vicinity.specs.Stepping.{TurnsAt, IsTaken, Touches};
+ghost use Rattle.vicinity.specs.Words.{Wakes, AreListsOf, TurnsAt, IsTaken, Touches};
 
-use crate::arms::switch_there;
 use crate::flood::wake;
 use crate::live_lists::LiveLists;
 use crate::node_set::NodeSet;
@@ -75,7 +72,7 @@ fn touch_at(graph: &Graph, place: usize, was: Tern, now: Tern, touched: &mut Nod
     requires nodes { length touched.old.inside ≡ nodes graph.now }
     ensures { Wakes graph.now (TurnsAt graph.now was now place) touched.old touched.new }
 {
-    let Some(switch) = switch_there(graph, place) else {
+    let Some(switch) = graph.switch_there(place) else {
         return;
     };
     if switch_state(switch.kind, was) == switch_state(switch.kind, now) {

@@ -1,10 +1,7 @@
 //! Large groups: their switches in a graph of their own, and which of its nodes are touched.
 ghost use Rattle.std.specs.Prelude.{◌≡◌, ℕ, ◌+◌, ◌<◌, ◌≤◌, length, slice_set, Contains, IfOk, vec_len, vec_capacity};
 ghost use Rattle.path_meaning.specs.Graphs.{nodes, IsStorage};
-ghost use Rattle.vicinity.specs.NodeSets.{IsIn};
-ghost use Rattle.vicinity.specs.LiveLists.{AreListsOf};
-ghost use Rattle.vicinity.specs.Evaluating.{AreChanges, IsPaid};
-ghost use Rattle.vicinity.specs.Wides.{Calms, Turned, PlacesWide};
+ghost use Rattle.vicinity.specs.Words.{IsIn, AreListsOf, AreChanges, IsPaid, Calms, Turned, PlacesWide};
 
 use crate::evaluation::{Scratch, evaluate};
 use crate::flood::wake;

@@ -1,4 +1,4 @@
--- What the code gives stands at the front of the outputs.
+-- What the code gives stands at the prefix of the outputs.
 use Rattle.std.proofs.Common.{◌≡◌, ◌++◌, List, ℕ, length, take, drop, map, sym, ap, subst, ◌∙◌, arith}
 use Rattle.std.proofs.Math.Seq.{take-append_seam}
 use Rattle.std.proofs.lemmas.List.{length-take-le}

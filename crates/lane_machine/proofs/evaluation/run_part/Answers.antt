@@ -1,4 +1,4 @@
--- What the code gives stands at the front of the outputs.
+-- What the code gives stands at the prefix of the outputs.
 use Rattle.std.proofs.Common.{arith}
 use Rattle.std.proofs.lemmas.List.{with_items_is}
 use Rattle.lane_machine.proofs.evaluation.run_part.Goals as goal

@@ -1,5 +1,5 @@
 -- One change more is taken over.
-use Rattle.std.proofs.Common.{◌<◌, get_or, ◌∙◌, arith}
+use Rattle.std.proofs.Common.{refl, inl, ◌<◌, get_or, ◌∙◌, arith}
 use Rattle.std.specs.Prelude.{length}
 use Rattle.std.proofs.lemmas.List.{get_or_default}
 use Rattle.std.proofs.lemmas.List.Elements.{Contains-get_or}
@@ -7,17 +7,31 @@ use Rattle.ternary.specs.declared.tern.Tern.TheVariants.{Zero}
 use Rattle.part_words.specs.declared.change.Change.{Change}
 use Rattle.machine_parts.specs.Readers.{readers_of}
 use Rattle.machine_parts.proofs.MarkLemmas.{MarksAll-reached}
+use Rattle.wide_groups.proofs.WideCases.{TurnedIn-none, TurnedIn-then, listed_turned}
 use Rattle.part_steps.proofs.TakingLemmas.{IsTaken-more}
 use Rattle.part_steps.proofs.stepping.take_over.Goals as goal
 
 first : Change
 first = record { node = 0; value = Zero }
 
-pub bounds-state-change : goal.bounds-state-change
+pub loop-change-init : goal.loop-change-init
+loop-change-init c = record {
+  taken = record { count = refl; taken = λ change there. absurd (omega (arith, there.1)); stays = λ node none. refl };
+  marks = record { count = refl; stays = λ k was. was; set = λ k any. absurd (omega (arith, any.changes_it.1)); only = λ k marked. inl marked };
+  turned = TurnedIn-none c.args.wide.now c.args.state.now;
+  waiting = refl;
+}
+
+pub write-requires-clause-listed : goal.write-requires-clause-listed
+write-requires-clause-listed c =
+    listed_turned c.args.wide.now c.loop-change.wide c.args.state.now c.loop-change.state c.loop-change.invariant.turned
+    c.loop-change.invariant.taken.count c.requires.wide
+
+pub write-requires-clause-inside : goal.write-requires-clause-inside
 unfolding first
-bounds-state-change c =
+write-requires-clause-inside c =
     let inside = c.requires.inside _ (Contains-get_or c.args.changes.now c.loop-change.change-index first c.loop-change-test.true) in
-    omega (arith, inside, c.loop-change.auto.state)
+    omega (arith, inside, c.loop-change.invariant.taken.count)
 
 pub of-requires : goal.of-requires
 unfolding first
@@ -43,10 +57,13 @@ loop-change-preserved c =
     let change = get_or changes i first in
     let is = get_or_default changes i first change test in
     let inside = c.requires.inside change (Contains-get_or changes i first test) in
-    let here : change.node < length c.loop-change.state = omega (arith, inside, c.loop-change.auto.state) in
+    let here : change.node < length c.loop-change.state = omega (arith, inside, c.loop-change.invariant.taken.count) in
     let lists = c.of.ensures in
     record {
-      taken = IsTaken-more changes i change c.args.state.now c.loop-change.state c.requires.agreed test is here c.loop-change.invariant.taken;
+      taken = rw c.write.ensures.state
+          (IsTaken-more changes i change c.args.state.now c.loop-change.state c.requires.agreed test is here c.loop-change.invariant.taken);
+      turned = TurnedIn-then c.args.wide.now c.loop-change.wide c.write.new.wide c.args.state.now c.loop-change.state c.write.new.state
+          c.loop-change.invariant.turned c.write.ensures.turned;
       marks = MarksAll-reached (λ (change : Change). readers_of c.args.readers.now change.node) changes i change c.of.result.now c.args.agenda.now.marks c.loop-change.agenda.marks
           c.mark_all.new.agenda.marks test is lists c.loop-change.invariant.marks c.mark_all.ensures.marks;
       waiting = c.mark_all.ensures.waiting ∙ c.loop-change.invariant.waiting;

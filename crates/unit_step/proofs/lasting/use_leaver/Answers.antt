@@ -1,4 +1,4 @@
--- A text that some part has stays where it is.
+-- A text that some part has stays if it is.
 use Rattle.std.proofs.Common.{◌<◌, length, sym, ap, ◌∙◌}
 use Rattle.analysis_cache.specs.Keeping.{texts_of}
 use Rattle.group_analysis.specs.Using.{used_texts}

@@ -1,4 +1,4 @@
--- There is room for as many as are in use, or for more; and what is used stands in front where something is cut.
+-- There is room for as many as are in use, or for more; and what is used stands in front if something is cut.
 use Rattle.std.proofs.Common.{◌≡◌, max, Some, length, take, sym, ap, ◌∙◌, arith}
 use Rattle.group_text.specs.FirstTexts.{first_texts}
 use Rattle.group_analysis.specs.Held.{set_of}

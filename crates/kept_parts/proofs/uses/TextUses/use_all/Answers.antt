@@ -24,10 +24,10 @@ stands c text is =
 
 pub use_text-requires : goal.use_text-requires
 use_text-requires c =
+    let number = c.loop-number.number - 1 in
     let uses = c.args.self.now in
     let old = texts_of c.args.kept.now in
     let text = c.index-known-number.result in
-    let number = c.loop-number.number - 1 in
     let later = in_use_from c.loop-number.number uses in
     let there = stands (goal.at.use_text-requires c).Then-is_used text c.index-known-number.is in
     let used = sym (c.is_used.ensures text there) ∙ c.if-is_used.true in
@@ -70,9 +70,8 @@ loop-number-preserved c =
 
 pub returns-clause-texts : goal.returns-clause-texts
 returns-clause-texts c =
-    let uses = c.args.self.now in
     let old = texts_of c.args.kept.now in
     let none : c.loop-number.number ≡ 0 = omega (arith, c.loop-number-test.false) in
     c.loop-number.invariant.texts
-    ∙ ap (λ n. all_to_front (in_use_from n uses) old) none
-    ∙ all_to_front-used (in_use uses) old
+    ∙ ap (λ n. all_to_front (in_use_from n c.args.self.now) old) none
+    ∙ all_to_front-used (in_use c.args.self.now) old

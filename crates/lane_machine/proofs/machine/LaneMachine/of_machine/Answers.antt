@@ -20,7 +20,7 @@ of_parts-requires c =
       columns = AreColumns-sound g c.args.lanes hi c.args.lo.now (c.requires.lows ∙ sym c.requires.highs) c.requires.sound;
       seated = rw parts (subst (λ n. AreSeated n m.parts) counted c.into_parts.ensures.seated);
       apart = rw parts c.into_parts.ensures.apart;
-      fresh = rw parts (λ k (stale : IsStale m.parts k). fits.coded k stale.part stale.stands stale.some stale.none);
+      fresh = rw parts (λ k (stale : IsStale m.parts k). fits.coded c.requires.without k stale.part stale.stands stale.some stale.none);
       reads = rw parts (λ k node (reads : ReadsAt m.parts k node). omega (arith, c.into_parts.ensures.reads k node reads, counted));
     }
 
@@ -28,5 +28,5 @@ pub returns-clause-fits : goal.returns-clause-fits
 returns-clause-fits c =
     let g = c.args.graph.now in
     if_made _ (FitsInLanes g) c.of_parts.result c.of_parts.ensures
-    (FitsInLanes-fresh g c.args.machine c.args.lanes c.into_parts.result.items c.args.hi.now c.args.lo.now c.requires.machine c.into_parts.ensures.parts
+    (FitsInLanes-fresh g c.args.machine c.args.lanes c.into_parts.result.items c.args.hi.now c.args.lo.now c.requires.machine c.requires.without c.into_parts.ensures.parts
     (c.requires.lows ∙ sym c.requires.highs) c.requires.sound)

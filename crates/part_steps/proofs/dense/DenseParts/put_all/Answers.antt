@@ -1,4 +1,4 @@
--- The seats are put where the parts are.
+-- The seats are put if the parts are.
 use Rattle.std.proofs.Common.{List, Option, refl, sym, subst, arith}
 use Rattle.std.specs.Vec.{with_items}
 use Rattle.std.proofs.lemmas.List.{with_items_is}

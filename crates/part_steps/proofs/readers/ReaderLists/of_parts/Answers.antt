@@ -1,4 +1,4 @@
--- All parts were listed, where none was.
+-- All parts were listed, if none was.
 use Rattle.std.proofs.Common.{ℕ, sym, subst, arith}
 use Rattle.std.specs.Prelude.{Contains}
 use Rattle.std.proofs.lemmas.List.{with_items_is}

@@ -51,6 +51,7 @@ returns-clause-starts c =
           (IsMachine-started parts nodes lists owners c.args.uses.numbers c.count_held-held.result room.changes room c.requires.formed c.requires.apart
           (c.in_ok-readers.ensures.count ∙ nodes_are) readers reads own (omega (arith, c.requires.numbered)) number refl fits);
       dense = dense;
+      without = refl;
       lasting = subst (λ list. AreLasting list c.args.uses.numbers nodes (length c.args.uses.known) c.in_ok-lasting.lasting) c.deref-6.ensures.value
           (subst (λ n. AreLasting c.deref-6.result.now c.args.uses.numbers n (length c.args.uses.known) c.in_ok-lasting.lasting) nodes_are
           c.in_ok-lasting.ensures.lasting);

@@ -6,6 +6,8 @@ use Rattle.ternary.specs.declared.tern.Tern.TheVariants.{Unk}
 use Rattle.part_steps.specs.Desks.{rooms}
 use Rattle.machine_parts.proofs.EditingLemmas.{none_more, IsMachine-grown}
 use Rattle.unit_step.proofs.LastingEdits.{AreLasting-same, AreLasting-grown, texts_numbered-grown}
+use Rattle.wide_groups.proofs.WideCases.{none_holds}
+use Rattle.machine_laws.specs.Machines.{MachineData}
 use Rattle.unit_step.proofs.machine.Machine.add_nodes.Goals as goal
 
 pub invariant_of-self-in_err-reserve-2 : goal.invariant_of-self-in_err-reserve-2
@@ -16,6 +18,7 @@ invariant_of-self-in_err-reserve-2 c =
       c.self.invariant.1,
       AreLasting-same i.body.parts.items i.body.uses.numbers (length i.body.state.items) (length i.body.uses.known) i.body.lasting c.self.invariant.2 i.body.uses.numbers _
           (λ k. refl) c.reserve-2.ensures.items refl,
+      none_holds _ _ _ i.body.wide (ap (λ (m : MachineData). m.wide) c.self.view_is ∙ c.requires.none),
     )
 
 pub invariant_of-self-in_err-grow : goal.invariant_of-self-in_err-grow
@@ -26,6 +29,7 @@ invariant_of-self-in_err-grow c =
       c.self.invariant.1,
       AreLasting-same i.body.parts.items i.body.uses.numbers (length i.body.state.items) (length i.body.uses.known) i.body.lasting c.self.invariant.2 i.body.uses.numbers _
           (λ k. refl) c.reserve-2.ensures.items refl,
+      none_holds _ _ _ i.body.wide (ap (λ (m : MachineData). m.wide) c.self.view_is ∙ c.requires.none),
     )
 
 pub invariant_of-self-2 : goal.invariant_of-self-2
@@ -60,6 +64,7 @@ invariant_of-self-2 c =
       AreLasting-grown i.body.parts.items i.body.uses.numbers count (length i.body.uses.known) i.body.lasting c.self.invariant.2 (length c.grow-2.new.state.items) _
           (omega (arith, states)) lasting_count
           (λ node. ap (λ list. slice_index_or list node None) lasting_are ∙ none_more i.body.lasting.numbers.items (nodes - count) node) refl,
+      none_holds _ _ _ i.body.wide (ap (λ (m : MachineData). m.wide) c.self.view_is ∙ c.requires.none),
     )
 
 pub returns-clause-ok : goal.returns-clause-ok

@@ -1,5 +1,5 @@
 -- What is woken fits the graph, and with the texts of the last build in front it leaves what a build leaves.
-use Rattle.std.proofs.Common.{◌≡◌, true, inl, All, sym, subst}
+use Rattle.std.proofs.Common.{◌∙◌, ◌≡◌, true, inl, All, sym, subst}
 use Rattle.std.proofs.lemmas.Result.{err_from_is_err_and}
 use Rattle.group_text.specs.FirstTexts.{is_among}
 use Rattle.group_analysis.specs.Using.{used_texts}
@@ -29,11 +29,11 @@ pub settle_last-requires-clause-used : goal.settle_last-requires-clause-used
 settle_last-requires-clause-used g c =
     used_filled c.args.graph.now c.args.self.now.last (texts_of c.args.kept.now) c.requires.last (texts_of c.wake.new.kept)
     (g.A.Analyst.analysed c.args.analyst.now) (g.A.Analyst.analysed c.wake.new.analyst) c.in_ok-fresh.fresh c.in_ok-fresh.ensures.fills
-    c.wake.new.self c.in_ok-fresh.ensures.rouses.fits
+    c.wake.new.self (c.in_ok-fresh.ensures.rouses.wide ∙ c.requires.none) c.in_ok-fresh.ensures.rouses.fits
 
 pub returns-clause-finishes : goal.returns-clause-finishes
 returns-clause-finishes g c =
-    Finishes-settled c.args.graph.now c.args.self.now c.wake.new.self c.settle_last.new.self c.in_ok-fresh.ensures.rouses c.settle_last.ensures.same
+    Finishes-settled c.args.graph.now c.args.self.now c.wake.new.self c.settle_last.new.self c.requires.none c.in_ok-fresh.ensures.rouses c.settle_last.ensures.same
     c.settle_last.ensures.order
 
 pub returns-clause-builds : goal.returns-clause-builds
@@ -42,7 +42,7 @@ returns-clause-builds g c =
     let last = c.settle_last.new.self.last in
     let now = texts_of c.settle_last.new.kept in
     let rouses = c.in_ok-fresh.ensures.rouses in
-    let has = HasLast-settled c.args.graph.now c.args.self.now c.wake.new.self c.settle_last.new.self rouses c.settle_last.ensures.same c.settle_last.ensures.order in
+    let has = HasLast-settled c.args.graph.now c.args.self.now c.wake.new.self c.settle_last.new.self c.requires.none rouses c.settle_last.ensures.same c.settle_last.ensures.order in
     let left : IsLeft c.args.kept.now.bound c.args.self.now.last (texts_of c.wake.new.kept) last now =
     subst (λ bound. IsLeft bound c.args.self.now.last (texts_of c.wake.new.kept) last now) c.in_ok-fresh.ensures.bound
     (subst (λ was. IsLeft c.wake.new.kept.bound was (texts_of c.wake.new.kept) last now) rouses.last c.settle_last.ensures.left) in

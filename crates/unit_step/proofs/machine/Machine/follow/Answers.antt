@@ -6,6 +6,7 @@ use Rattle.channel_groups.specs.Changes.{undo, nodes_before, nodes_after, touche
 use Rattle.group_meaning.specs.Groups.{Group, AreGroups}
 use Rattle.channel_groups.specs.Grouping.{GroupsData}
 use Rattle.unit_step.specs.contracts.machine.Machine.{the_view}
+use Rattle.vicinity.specs.Wides.{WideData}
 use Rattle.machine_laws.specs.Machines.{MachineData, groups_in}
 use Rattle.machine_laws.specs.Editing.{with_new_nodes, Edits}
 use Rattle.machine_laws.specs.Seating.{Clears, IsWithAny, RenewsAll}
@@ -121,9 +122,11 @@ returns-clause-ok g c =
     c.in_ok-extend_from_slice.ensures.items ∙ ap (λ list. found ++ list) (c.deref-2.ensures.value ∙ c.in_ok-nodes_after.ensures) in
     let begun = ap (λ (m : MachineData). record m { groups = c.replace.new.dest }) (grown g begin)
     ∙ ap (λ (groups : Option GroupsData). record old { groups = groups; state = with_new_nodes old.state (nodes graph); spare = spare }) c.replace.ensures.after in
-    let clears : Clears all (record old { groups = None; state = with_new_nodes old.state (nodes graph); spare = spare }) cleared =
+    let still : Clears all (record old { groups = None; state = with_new_nodes old.state (nodes graph); spare = spare }) cleared =
     subst (λ list. Clears list (record old { groups = None; state = with_new_nodes old.state (nodes graph); spare = spare }) cleared)
     c.deref-3.ensures.value (subst (λ m. Clears c.deref-3.result.now m cleared) begun c.in_ok-vacate_all.ensures.ok) in
+    let clears = subst (λ (wide : Option WideData). Clears all (record old { groups = None; state = with_new_nodes old.state (nodes graph); spare = spare; wide = wide }) cleared)
+    c.requires.none still in
     let renews : RenewsAll now.groups all cleared made = subst (λ list. RenewsAll now.groups list cleared made) c.deref-4.ensures.value c.in_ok-renew_all.ensures.ok in
     subst (Edits graph change old) (ap (λ (m : MachineData). record m { groups = Some now }) (sym c.self-3.view_is))
     (follows graph change old covers c.requires.wired c.graphs_are_wired.ensures now c.in_ok-regroup.ensures.ok spare found all found_are nodes_are
@@ -143,3 +146,10 @@ returns-in_err-renew_all-clause-ticks g c = ticks g (goal.at.returns-in_err-rene
 
 pub returns-clause-ticks : goal.returns-clause-ticks
 returns-clause-ticks g c = ticks g (goal.at.returns-clause-ticks g c).In-Some c.regroup.new.steps c.regroup.ensures.step
+
+pub vacate_all-requires : goal.vacate_all-requires
+vacate_all-requires g c =
+    record { none = ap (λ (m : MachineData). m.wide) (grown g (goal.at.vacate_all-requires g c).In-Some) ∙ c.requires.none }
+
+pub renew_all-requires-clause-none : goal.renew_all-requires-clause-none
+renew_all-requires-clause-none g c = c.vacate_all.ensures.wide

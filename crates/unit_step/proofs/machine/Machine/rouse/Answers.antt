@@ -31,6 +31,7 @@ use Rattle.unit_step.proofs.FinishingRoused.{AreMade, AreMade-held, parts_counte
 use Rattle.machine_laws.proofs.StayingParts.{IsMachine-wider}
 use Rattle.machine_parts.proofs.MachineLemmas.{HaveSameReaders-refl}
 use Rattle.unit_step.proofs.machine.Machine.rouse.Goals.{In_ok-fresh, After-numbers_of, In_ok-numbers, After-widen_for_codes, In_ok-seats, After-note_all}
+use Rattle.wide_groups.proofs.WideCases.{none_holds}
 use Rattle.unit_step.proofs.machine.Machine.rouse.Goals as goal
 
 pub held_parts-requires : goal.held_parts-requires
@@ -125,6 +126,7 @@ invariant_of-self c =
           c.self.invariant.0,
       c.self.invariant.1,
       lasting_numbered (goal.at.invariant_of-self c).After-numbers_of,
+      none_holds _ _ _ i.body.wide (ap (λ (m : MachineData). m.wide) c.self.view_is ∙ c.requires.none),
     )
 
 pub returns-in_err-numbers-clause-err : goal.returns-in_err-numbers-clause-err
@@ -137,6 +139,7 @@ invariant_of-self-in_err-widen_for_codes c =
       machine_wider (goal.at.invariant_of-self-in_err-widen_for_codes c).After-widen_for_codes i.body.readers (HaveSameReaders-refl i.body.readers),
       c.self.invariant.1,
       lasting_numbered (goal.at.invariant_of-self-in_err-widen_for_codes c).After-numbers_of,
+      none_holds _ _ _ i.body.wide (ap (λ (m : MachineData). m.wide) c.self.view_is ∙ c.requires.none),
     )
 
 pub returns-in_err-widen_for_codes-clause-err : goal.returns-in_err-widen_for_codes-clause-err
@@ -149,6 +152,7 @@ invariant_of-self-in_err-seats c =
       machine_wider (goal.at.invariant_of-self-in_err-seats c).After-widen_for_codes i.body.readers (HaveSameReaders-refl i.body.readers),
       c.seats_for.ensures.same i.body.parts.items c.self.invariant.1,
       lasting_numbered (goal.at.invariant_of-self-in_err-seats c).After-numbers_of,
+      none_holds _ _ _ i.body.wide (ap (λ (m : MachineData). m.wide) c.self.view_is ∙ c.requires.none),
     )
 
 pub returns-in_err-seats-clause-err : goal.returns-in_err-seats-clause-err
@@ -171,6 +175,7 @@ invariant_of-self-in_err-note_all c =
       machine_wider (goal.at.invariant_of-self-in_err-note_all c).After-widen_for_codes i.body.readers (HaveSameReaders-refl i.body.readers),
       c.seats_for.ensures.same i.body.parts.items c.self.invariant.1,
       lasting_noted (goal.at.invariant_of-self-in_err-note_all c).After-note_all,
+      none_holds _ _ _ i.body.wide (ap (λ (m : MachineData). m.wide) c.self.view_is ∙ c.requires.none),
     )
 
 pub returns-in_err-note_all-clause-err : goal.returns-in_err-note_all-clause-err
@@ -209,6 +214,7 @@ invariant_of-self-in_err-list_all c =
       machine_wider (goal.at.invariant_of-self-in_err-list_all c).After-widen_for_codes c.list_all.new.self c.in_err-list_all.ensures.err,
       c.seats_for.ensures.same i.body.parts.items c.self.invariant.1,
       lasting_noted (goal.at.invariant_of-self-in_err-list_all c).After-note_all,
+      none_holds _ _ _ i.body.wide (ap (λ (m : MachineData). m.wide) c.self.view_is ∙ c.requires.none),
     )
 
 pub returns-in_err-list_all-clause-err : goal.returns-in_err-list_all-clause-err
@@ -327,6 +333,7 @@ invariant_of-self-2 c =
           (sym c.rouse.ensures.marks) with_parts,
       dense,
       lasting,
+      none_holds _ _ _ i.body.wide (ap (λ (m : MachineData). m.wide) c.self.view_is ∙ c.requires.none),
     )
 
 pub returns-clause-rouses : goal.returns-clause-rouses
@@ -353,7 +360,7 @@ returns-clause-rouses c =
     let mid_are : texts_used c.numbers_of.new.uses ≡ v.uses = c.numbers_of.ensures.same in
     let base = Rouses-roused g v covers waking.groups waking.some slots waking.waiting fresh new (length i.body.state.items) made puts
     c.numbers_of.new.uses c.put_texts.new.uses numbers texts mid_are c.put_texts.ensures.known text_puts numbered waking.texts waking.fit
-    c.requires.railed sound in
+    (ap (λ (m : MachineData). m.wide) c.self.view_is ∙ c.requires.none) c.requires.railed sound in
     let used = texts_used c.put_texts.new.uses in
     let last = texts_lasting c.put_texts.new.uses.known c.note_all.new.self in
     let last_is : last ≡ v.last =

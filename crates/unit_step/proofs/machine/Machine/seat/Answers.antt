@@ -15,6 +15,7 @@ use Rattle.part_steps.specs.Dense.{AreDense}
 use Rattle.unit_step.specs.Lasting.{texts_lasting}
 use Rattle.machine_laws.proofs.SeatingLemmas.{IsMachine-roomier, IsMachine-seated}
 use Rattle.unit_step.proofs.LastingEdits.{AreLasting-same, AreLasting-seated}
+use Rattle.wide_groups.proofs.WideCases.{none_holds}
 use Rattle.unit_step.proofs.machine.Machine.seat.Goals as goal
 
 -- the numbers of the parts read as before
@@ -31,6 +32,7 @@ invariant_of-self-in_err-widen_for_parts c =
           c.widen_for_parts.ensures.values c.widen_for_parts.ensures.changes c.widen_for_parts.ensures.parts),
       c.make_room.ensures.same i.body.parts.items c.self.invariant.1,
       c.self.invariant.2,
+      none_holds _ _ _ i.body.wide (ap (λ (m : MachineData). m.wide) c.self.view_is ∙ c.requires.none),
     )
 
 pub invariant_of-self-in_err-add : goal.invariant_of-self-in_err-add
@@ -44,6 +46,7 @@ invariant_of-self-in_err-add c =
       c.make_room.ensures.same i.body.parts.items c.self.invariant.1,
       rw (ap (λ (uses : UsesData). length uses.known) c.in_err-add.ensures.err, ap (λ (uses : UsesData). uses.numbers) c.in_err-add.ensures.err)
           c.self.invariant.2,
+      none_holds _ _ _ i.body.wide (ap (λ (m : MachineData). m.wide) c.self.view_is ∙ c.requires.none),
     )
 
 pub invariant_of-self-in_err-wait_more : goal.invariant_of-self-in_err-wait_more
@@ -57,6 +60,7 @@ invariant_of-self-in_err-wait_more c =
       c.make_room.ensures.same i.body.parts.items c.self.invariant.1,
       rw c.add.ensures.known (AreLasting-same i.body.parts.items i.body.uses.numbers (length i.body.state.items) (length i.body.uses.known) i.body.lasting c.self.invariant.2
           c.add.new.self.numbers i.body.lasting (numbers_read i.body.uses c.add.new.self c.in_ok-add.ensures.ok) refl refl),
+      none_holds _ _ _ i.body.wide (ap (λ (m : MachineData). m.wide) c.self.view_is ∙ c.requires.none),
     )
 
 pub invariant_of-self-2 : goal.invariant_of-self-2
@@ -92,6 +96,7 @@ invariant_of-self-2 c =
       dense,
       rw c.add.ensures.known (AreLasting-seated i.body.parts.items i.body.uses.numbers (length i.body.state.items) (length i.body.uses.known) i.body.lasting c.self.invariant.2
           e c.add.new.self.numbers (numbers_read i.body.uses c.add.new.self c.in_ok-add.ensures.ok)),
+      none_holds _ _ _ i.body.wide (ap (λ (m : MachineData). m.wide) c.self.view_is ∙ c.requires.none),
     )
 
 pub returns-clause-ok : goal.returns-clause-ok
@@ -115,6 +120,7 @@ returns-clause-ok c =
         moves = refl;
         placed = refl;
         spare = refl;
+        wide = refl;
       };
     })
 

@@ -1,10 +1,15 @@
 -- A node is placed.
-use Rattle.std.proofs.Common.{◌≡◌, ◌<◌, ℕ, None, length, refl, sym, ap, subst, ◌∙◌, arith}
-use Rattle.std.specs.Prelude.{Contains, slice_index_or, slice_set}
-use Rattle.std.proofs.lemmas.List.{get_or_default, length-set}
+use Rattle.std.proofs.Common.{◌≡◌, ◌<◌, ℕ, List, None, length, refl, sym, ap, subst, ◌∙◌, arith}
+use Rattle.std.specs.Prelude.{Contains, slice_index_or, slice_set, vec_capacity}
+use Rattle.std.specs.Vec.{with_items}
+use Rattle.std.proofs.lemmas.List.{with_items_is, get_or_default, length-set}
+use Rattle.ternary.specs.declared.tern.Tern.{Tern}
 use Rattle.ternary.specs.Counts.{raised}
 use Rattle.unit_step.specs.contracts.machine.Machine.{the_view}
 use Rattle.machine_laws.specs.Machines.{MachineData, Places}
+use Rattle.wide_groups.specs.Moving.{PlacesIn}
+use Rattle.wide_groups.specs.Awake.{IsListedIn, HoldsWide}
+use Rattle.wide_groups.proofs.WideCases.{listed_in, holds_placed}
 use Rattle.part_steps.specs.Desks.{rooms}
 use Rattle.machine_parts.specs.Readers.{readers_of}
 use Rattle.unit_step.specs.Lasting.{AreLasting}
@@ -32,30 +37,60 @@ mark_all-requires c = λ k there.
     let reads = c.self.invariant.0.runs.reads c.args.node k (subst (λ xs. Contains xs k) lists there) in
     omega (arith, reads.stands.inside, c.self.invariant.0.runs.counted, c.mark_owner.ensures.marks.count)
 
+-- the states are as before, but for the node
+state_is : (c : After-mark_all) →
+    (with_items c.self.inside.body.state c.place.new.state).items ≡ slice_set c.self.inside.body.state.items c.args.node c.args.value
+state_is c =
+    let i = c.self.inside in
+    with_items_is i.body.state c.place.new.state (omega (arith, c.place.auto.state, c.deref_mut.ensures.len))
+    ∙ (c.place.ensures.state ∙ ap (λ list. slice_set list c.args.node c.args.value) c.deref_mut.ensures.value)
+
+-- what the placed node stirred is touched
+wide_placed : (c : After-mark_all) → PlacesIn c.self.inside.body.wide c.place.new.wide c.self.inside.body.state.items
+    (slice_set c.self.inside.body.state.items c.args.node c.args.value)
+wide_placed c =
+    let i = c.self.inside in
+    subst (λ list. PlacesIn i.body.wide c.place.new.wide list (slice_set list c.args.node c.args.value)) c.deref_mut.ensures.value
+    (subst (PlacesIn i.body.wide c.place.new.wide c.deref_mut.result.now) c.place.ensures.state c.place.ensures.places)
+
+pub place-requires-clause-listed : goal.place-requires-clause-listed
+place-requires-clause-listed c =
+    let i = c.self.inside in
+    subst (λ (list : List Tern). IsListedIn list i.body.wide) (sym c.deref_mut.ensures.value)
+    (listed_in i.body.parts.items i.body.state.items _ i.body.wide c.self.invariant.3)
+
 -- the node is placed, whatever the count of placed members
 places : (c : After-mark_all) → c.index-owner.result.now ≡ slice_index_or c.self.inside.body.owners.items c.args.node None → (placed : ℕ) →
     Places c.args.node c.args.value (the_view c.self.inside)
     (record (the_view c.self.inside) {
       marks = c.mark_all.new.agenda.marks;
-      state = slice_set c.self.inside.body.state.items c.args.node c.args.value;
+      state = (with_items c.self.inside.body.state c.place.new.state).items;
       placed = placed;
+      wide = c.place.new.wide;
     })
 places c owner_is placed =
     let i = c.self.inside in
-    Places-marked c.args.node c.args.value (the_view i) i.body.agenda.waiting i.body.readers i.body.owners.items i.body.uses.numbers i.body.held i.body.most (rooms i.body.desk)
+    subst (λ (state : List Tern). Places c.args.node c.args.value (the_view i)
+    (record (the_view i) { marks = c.mark_all.new.agenda.marks; state = state; placed = placed; wide = c.place.new.wide })) (sym (state_is c))
+    (Places-marked c.args.node c.args.value (the_view i) i.body.agenda.waiting i.body.readers i.body.owners.items i.body.uses.numbers i.body.held i.body.most (rooms i.body.desk)
     c.self.invariant.0 c.index-owner.result.now owner_is c.mark_owner.new.agenda.marks c.mark_all.new.agenda.marks c.mark_owner.ensures.marks
-    c.of.result.now c.of.ensures c.mark_all.ensures.marks placed
+    c.of.result.now c.of.ensures c.mark_all.ensures.marks placed c.place.new.wide (wide_placed c))
 
 pub invariant_of-self : goal.invariant_of-self
 invariant_of-self c =
-    let i = c.self.inside in (
+    let i = c.self.inside in
+    let at_end = (goal.at.invariant_of-self c).After-mark_all in
+    let state = state_is at_end in
+    let count = ap length state ∙ length-set i.body.state.items c.args.node c.args.value in (
       IsMachine-again i.body.parts.items i.body.agenda.marks c.mark_all.new.agenda.marks i.body.agenda.waiting c.mark_all.new.agenda.waiting
           (length i.body.state.items) _ i.body.readers i.body.owners.items i.body.uses.numbers i.body.held i.body.most (rooms i.body.desk) (rooms i.body.desk)
           (c.mark_all.ensures.marks.count ∙ c.mark_owner.ensures.marks.count) (c.mark_all.ensures.waiting ∙ c.mark_owner.ensures.waiting)
-          (length-set i.body.state.items c.args.node c.args.value) refl c.self.invariant.0,
+          count refl c.self.invariant.0,
       c.self.invariant.1,
-      subst (λ n. AreLasting i.body.parts.items i.body.uses.numbers n (length i.body.uses.known) i.body.lasting)
-          (sym (length-set i.body.state.items c.args.node c.args.value)) c.self.invariant.2,
+      subst (λ n. AreLasting i.body.parts.items i.body.uses.numbers n (length i.body.uses.known) i.body.lasting) (sym count) c.self.invariant.2,
+      subst (λ states. HoldsWide i.body.parts.items states (vec_capacity i.body.noted) c.place.new.wide) (sym state)
+          (holds_placed i.body.parts.items i.body.state.items _ _ i.body.wide c.place.new.wide (wide_placed at_end)
+          (length-set i.body.state.items c.args.node c.args.value) c.self.invariant.3),
     )
 
 pub returns-clause-places : goal.returns-clause-places

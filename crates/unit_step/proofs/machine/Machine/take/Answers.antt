@@ -1,12 +1,15 @@
 -- A step of the machine, by its parts.
-use Rattle.std.proofs.Common.{◌≡◌, ◌≢◌, ◌+◌, ◌≤◌, List, length, refl, sym, ap, subst, ◌∙◌, arith}
+use Rattle.std.proofs.Common.{◌≡◌, ◌≢◌, List, length, refl, sym, ap, subst, ◌∙◌, arith}
 use Rattle.std.specs.Bool.{OnTrue, OnFalse}
 use Rattle.std.specs.Vec.{with_items}
 use Rattle.std.proofs.lemmas.List.{with_items_is}
 use Rattle.ternary.specs.declared.tern.Tern.{Tern}
 use Rattle.oscillation_x.specs.Settling.{StaysOrBecomesX}
 use Rattle.machine_parts.specs.Marking.{marked_sum, instructions_of}
-use Rattle.machine_parts.specs.Stepping.{Moves, Remarks}
+use Rattle.std.specs.Prelude.{vec_capacity}
+use Rattle.machine_parts.specs.Stepping.{Remarks}
+use Rattle.wide_groups.specs.Moving.{MovesIn, RetouchesIn}
+use Rattle.wide_groups.specs.Awake.{HoldsWide, IsWorked}
 use Rattle.part_steps.specs.Desks.{rooms}
 use Rattle.unit_step.specs.Lasting.{AreLasting}
 use Rattle.machine_parts.proofs.MachineLemmas.{IsMachine-again}
@@ -16,7 +19,7 @@ use Rattle.unit_step.proofs.machine.Machine.take.Goals as goal
 
 pub advance-changed-requires : goal.advance-changed-requires
 advance-changed-requires g c =
-    rw (c.deref.ensures.value, c.deref_mut.ensures.value) (record { dense = c.self.invariant.1; runnable = c.self.invariant.0.runs })
+    rw (c.deref.ensures.value, c.deref_mut.ensures.value) (record { dense = c.self.invariant.1; runnable = c.self.invariant.0.runs; wide = c.self.invariant.3 })
 
 pub invariant_of-self : goal.invariant_of-self
 invariant_of-self g c =
@@ -30,6 +33,8 @@ invariant_of-self g c =
           step.marks.count step.waiting nodes step.rooms c.self.invariant.0,
       c.self.invariant.1,
       subst (λ n. AreLasting i.body.parts.items i.body.uses.numbers n (length i.body.uses.known) i.body.lasting) (sym nodes) c.self.invariant.2,
+      subst (λ state. HoldsWide i.body.parts.items state (vec_capacity c.advance-changed.new.noted) c.advance-changed.new.wide) (sym final)
+          (subst (λ list. HoldsWide list n (vec_capacity c.advance-changed.new.noted) c.advance-changed.new.wide) c.deref.ensures.value step.holds),
     )
 
 pub returns-clause-advances : goal.returns-clause-advances
@@ -44,9 +49,11 @@ returns-clause-advances g c =
     let step = c.advance-changed.ensures in
     let final = with_items_is i.body.state n (omega (arith, c.advance-changed.auto.state, c.deref_mut.ensures.len)) in
     rw (← c.self.view_is) (record {
-      moves = subst (Moves joining i.body.parts.items marks i.body.state.items) (sym final)
-          (subst (λ state. Moves joining i.body.parts.items marks state n) c.deref_mut.ensures.value
-          (subst (λ list. Moves joining list marks old n) c.deref.ensures.value step.moves));
+      moves = subst (MovesIn joining i.body.parts.items marks i.body.wide i.body.state.items) (sym final)
+          (subst (λ state. MovesIn joining i.body.parts.items marks i.body.wide state n) c.deref_mut.ensures.value
+          (subst (λ list. MovesIn joining list marks i.body.wide old n) c.deref.ensures.value step.moves));
+      wide = subst (RetouchesIn joining i.body.wide c.advance-changed.new.wide i.body.state.items) (sym final)
+          (subst (λ state. RetouchesIn joining i.body.wide c.advance-changed.new.wide state n) c.deref_mut.ensures.value step.retouches);
       marks = subst (λ state. Remarks joining i.body.parts.items marks i.body.state.items state new_marks) (sym final)
           (subst (λ state. Remarks joining i.body.parts.items marks state n new_marks) c.deref_mut.ensures.value
           (subst (λ list. Remarks joining list marks old n new_marks) c.deref.ensures.value step.marks));
@@ -63,8 +70,10 @@ pub returns-clause-ticks : goal.returns-clause-ticks
 returns-clause-ticks g c =
     let i = c.self.inside in
     rw (← c.self.view_is)
-    (subst (λ parts. c.advance-changed.new.steps ≤ c.args.steps.now + marked_sum instructions_of parts i.body.agenda.marks)
-    c.deref.ensures.value c.advance-changed.ensures.steps)
+    (subst (λ state. IsWorked (marked_sum instructions_of i.body.parts.items i.body.agenda.marks) i.body.wide state c.args.steps.now c.advance-changed.new.steps)
+    c.deref_mut.ensures.value
+    (subst (λ parts. IsWorked (marked_sum instructions_of parts i.body.agenda.marks) i.body.wide c.deref_mut.result.now c.args.steps.now c.advance-changed.new.steps)
+    c.deref.ensures.value c.advance-changed.ensures.steps))
 
 -- what holds of the states that were handed in, and of those that came back, holds of the machine's
 states_are : (g : Over) (c : After-advance-changed g) (P : List Tern → List Tern → Type 0) → P c.deref_mut.result.now c.advance-changed.new.state →

@@ -18,6 +18,7 @@ use Rattle.unit_step.specs.Lasting.{starts_of, texts_numbered, texts_lasting}
 use Rattle.machine_laws.proofs.SeatingLemmas.{seat_of, members_there, reads_there, IsMachine-vacated}
 use Rattle.unit_step.proofs.LastingEdits.{AreLasting-same, AreLasting-vacated}
 use Rattle.unit_step.proofs.machine.Machine.vacate.Goals.{After-replace-gone}
+use Rattle.wide_groups.proofs.WideCases.{none_holds}
 use Rattle.unit_step.proofs.machine.Machine.vacate.Goals as goal
 
 -- the part that was taken out is the one with this number
@@ -27,7 +28,7 @@ gone_read c =
 
 gone_stands : (c : After-replace-gone) → Stands c.self.inside.body.parts.items c.args.k c.replace-gone.result
 gone_stands c = record {
-  inside = omega (arith, c.requires, ap (λ (m : MachineData). length m.parts) c.self.view_is);
+  inside = omega (arith, c.requires.inside, ap (λ (m : MachineData). length m.parts) c.self.view_is);
   here = sym (gone_read c);
 }
 
@@ -57,6 +58,7 @@ invariant_of-self c =
       c.self.invariant.1,
       AreLasting-same i.body.parts.items i.body.uses.numbers (length i.body.state.items) (length i.body.uses.known) i.body.lasting c.self.invariant.2 i.body.uses.numbers
           c.note.new.self (λ k. refl) (ap (λ (list : Vec (Option ℕ) Global). list.items) c.note.ensures.numbers) c.in_err-note.ensures.err,
+      none_holds _ _ _ i.body.wide (ap (λ (m : MachineData). m.wide) c.self.view_is ∙ c.requires.none),
     )
 
 pub invariant_of-self-2 : goal.invariant_of-self-2
@@ -94,6 +96,7 @@ invariant_of-self-2 c =
           (rooms i.body.desk) c.self.invariant.0 k gone stands e vacant c.unlist.new.self c.disown.new.owners disowns unlists _ _ held most),
       dense,
       rw (c.free.ensures.numbers, c.free.ensures.known) lasting,
+      none_holds _ _ _ i.body.wide (ap (λ (m : MachineData). m.wide) c.self.view_is ∙ c.requires.none),
     )
 
 pub returns-clause-ok : goal.returns-clause-ok
@@ -116,5 +119,6 @@ returns-clause-ok c =
         moves = refl;
         placed = refl;
         spare = refl;
+        wide = refl;
       };
     })

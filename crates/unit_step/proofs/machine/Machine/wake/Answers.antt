@@ -1,4 +1,4 @@
--- Where no part waits, all have code.
+-- If no part waits, all have code.
 use Rattle.std.proofs.Common.{◌≡◌, refl, subst}
 use Rattle.group_text.specs.FirstTexts.{new_texts}
 use Rattle.analysis_cache.specs.Keeping.{texts_of}
@@ -13,7 +13,7 @@ use Rattle.unit_step.proofs.machine.Machine.wake.Given.{Over}
 use Rattle.unit_step.proofs.machine.Machine.wake.Goals.{Then-none_waits, In_ok-waking}
 use Rattle.unit_step.proofs.machine.Machine.wake.Goals as goal
 
--- where no part waits all have code
+-- if no part waits all have code
 all_coded : (g : Over) (c : Then-none_waits g) → AllCoded c.args.self.now
 all_coded g c = subst AllCoded c.self.view_is (none_stale _ _ _ _ _ _ c.self.invariant.0.runs (rw c.if-none_waits.true at c.none_waits.ensures))
 

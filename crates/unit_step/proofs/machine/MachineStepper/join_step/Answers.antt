@@ -1,4 +1,7 @@
 -- A joining step is the graph's joining step on a graph that the machine fits.
+use Rattle.std.proofs.Common.{Bool, true, List, ap₂}
+use Rattle.group_text.specs.Texts.{GroupTextData}
+use Rattle.wide_groups.proofs.WideCases.{known_still}
 use Rattle.machine_laws.proofs.FittingLemmas.{joining_steps_are_join_steps}
 use Rattle.unit_step.proofs.machine.MachineStepper.join_step.Goals as goal
 
@@ -13,3 +16,10 @@ returns-clause-nodes g c = c.take.ensures.advances.moves.count
 
 pub returns-clause-placed : goal.returns-clause-placed
 returns-clause-placed g c = c.take.ensures.advances.placed
+
+pub returns-clause-fixed : goal.returns-clause-fixed
+returns-clause-fixed g c =
+    let taken = c.take.ensures.advances in
+    let pair : List GroupTextData → Bool → List GroupTextData × Bool = λ last known. (last, known) in
+    ap₂ pair taken.last
+    (known_still true c.args.self.now.wide c.take.new.self.wide c.args.self.now.state c.take.new.self.state taken.wide)

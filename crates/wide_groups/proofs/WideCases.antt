@@ -1,0 +1,212 @@
+-- The groups that are stepped by vicinities, if they are known: what holds in both cases.
+use Rattle.std.proofs.Common.{◌≡◌, ℕ, ◌<◌, ◌≤◌, Bool, true, List, [], length, refl, sym, ap, subst, ◌∙◌, arith}
+use Rattle.std.specs.Prelude.{Contains, Option, None, Some, IfSome, is_some}
+use Rattle.ternary.specs.declared.tern.Tern.{Tern}
+use Rattle.path_meaning.specs.Graphs.{GraphData, IsStorage, nodes}
+use Rattle.group_meaning.proofs.LinkLemmas.{AreLinked-to}
+use Rattle.vicinity.specs.Vicinities.{live_graph}
+use Rattle.vicinity.specs.LiveLists.{AreListsOf}
+use Rattle.vicinity.specs.Touching.{IsAwake, SwitchChanges}
+use Rattle.vicinity.specs.Stepping.{Touches}
+use Rattle.vicinity.specs.Wides.{WideData, StaysWide, Calms, Turned, Retouches, PlacesWide}
+use Rattle.vicinity.proofs.LiveGraphs.{storage_whole}
+use Rattle.vicinity.proofs.TouchLemmas.{Touches-then, Touches-none}
+use Rattle.machine_parts.specs.declared.part.HeldPart.{HeldPart}
+use Rattle.machine_parts.specs.Parts.{HasMember, IsStale}
+use Rattle.machine_parts.specs.Stepping.{Moves}
+use Rattle.wide_groups.specs.Moving.{HasStaleOnly, IsAwakeIn, MovesIn, RetouchesIn, PlacesIn}
+use Rattle.wide_groups.specs.Awake.{HoldsWide, IsListedIn, CalmsIn, TurnedIn, ListsIn}
+
+-- what is awake is a storage node of the graph
+pub awake_storage : (g : GraphData) (state : List Tern) (touched : List ℕ) (node : ℕ) → IsAwake g state touched node → IsStorage g node
+awake_storage g state touched node (one, touch, near) = storage_whole g state node (AreLinked-to (live_graph g state) one node near)
+
+-- if no such groups are known nothing is awake
+pub none_awake : (state : List Tern) (node : ℕ) → ¬ IsAwakeIn None state node
+none_awake state node (one, there, near) = absurd (omega (arith, there.1))
+
+-- and a step is one of the parts alone
+pub moves_without : (joining : Bool) (parts : List HeldPart) (marks : List Bool) (old new : List Tern) → Moves joining parts marks old new →
+    MovesIn joining parts marks None old new
+moves_without joining parts marks old new moves = record {
+  count = moves.count;
+  given = moves.given;
+  awake = λ node value awake response. absurd (none_awake old node awake);
+  stays = λ node none asleep. moves.stays node none;
+}
+
+-- what is awake is a member of a stale part
+pub awake_stale : (parts : List HeldPart) (wide : Option WideData) → ((one : WideData) → wide ≡ Some one → HasStaleOnly parts one.graph) →
+    (state : List Tern) (node : ℕ) → IsAwakeIn wide state node → (k : ℕ) × HasMember parts k node × IsStale parts k
+awake_stale parts None only state node awake = absurd (none_awake state node awake)
+awake_stale parts (Some wide) only state node awake =
+    only wide refl node (awake_storage wide.graph state wide.touched.list node awake)
+
+pub stale_only_in : (parts : List HeldPart) (states : List Tern) (room : ℕ) (wide : Option WideData) → HoldsWide parts states room wide →
+    (one : WideData) → wide ≡ Some one → HasStaleOnly parts one.graph
+stale_only_in parts states room None holds one is = absurd (cc)
+stale_only_in parts states room (Some wide) holds one is =
+    let same : wide ≡ one = cc is in
+    subst (λ (w : WideData). HasStaleOnly parts w.graph) same holds.stale_only
+
+-- and is below the number of the states
+pub awake_inside : (parts : List HeldPart) (states : List Tern) (room : ℕ) (wide : Option WideData) → HoldsWide parts states room wide →
+    (state : List Tern) (node : ℕ) → IsAwakeIn wide state node → node < length states
+awake_inside parts states room None holds state node awake = absurd (none_awake state node awake)
+awake_inside parts states room (Some wide) holds state node awake =
+    let storage = awake_storage wide.graph state wide.touched.list node awake in
+    omega (arith, storage.inside, holds.listed.counted)
+
+-- without such groups all is well
+pub none_holds : (parts : List HeldPart) (states : List Tern) (room : ℕ) (wide : Option WideData) → wide ≡ None → HoldsWide parts states room wide
+none_holds parts states room None is = tt
+none_holds parts states room (Some wide) is = absurd (cc)
+
+-- one change after another
+StaysWide-then : (a b c : WideData) → StaysWide a b → StaysWide b c → StaysWide a c
+StaysWide-then a b c first then = record { large = then.large ∙ first.large; graph = then.graph ∙ first.graph }
+
+pub TurnedIn-none : (wide : Option WideData) (state : List Tern) → TurnedIn wide wide state state
+TurnedIn-none None state = tt
+TurnedIn-none (Some wide) state = record {
+  stays = record { large = refl; graph = refl };
+  live = λ lists. lists;
+  touches = Touches-none wide.graph state wide.touched.inside;
+}
+
+pub TurnedIn-then : (a b c : Option WideData) (old mid new : List Tern) → TurnedIn a b old mid → TurnedIn b c mid new → TurnedIn a c old new
+TurnedIn-then None None None old mid new first then = tt
+TurnedIn-then (Some a) (Some b) (Some c) old mid new first then = record {
+  stays = StaysWide-then a b c first.stays then.stays;
+  live = λ lists. (subst (λ g. AreListsOf g mid b.lists → AreListsOf g new c.lists) first.stays.graph then.live) (first.live lists);
+  touches = Touches-then a.graph old mid new a.touched.inside b.touched.inside c.touched.inside first.touches
+      (subst (λ g. Touches g mid new b.touched.inside c.touched.inside) first.stays.graph then.touches);
+}
+TurnedIn-then None None (Some c) old mid new first then = absurd then
+TurnedIn-then None (Some b) c old mid new first then = absurd first
+TurnedIn-then (Some a) None c old mid new first then = absurd first
+TurnedIn-then (Some a) (Some b) None old mid new first then = absurd then
+
+-- a step that was taken over touched what it stirred
+pub RetouchesIn-from : (joining : Bool) (a b c : Option WideData) (old new : List Tern) → ListsIn a → CalmsIn joining a b → TurnedIn b c old new →
+    ListsIn c → RetouchesIn joining a c old new
+RetouchesIn-from joining None None None old new before calms turned lists = tt
+RetouchesIn-from joining (Some a) (Some b) (Some c) old new before calms turned lists = record {
+  stays = StaysWide-then a b c calms.stays turned.stays;
+  kept = λ is node there. lists.listed node (turned.touches.stays node (calms.kept is node (before.only node there)));
+  all = λ node storage changed.
+      lists.listed node (turned.touches.all node (subst (λ g. IsStorage g node) (sym calms.stays.graph) storage)
+      (subst (λ g. SwitchChanges g old new node) (sym calms.stays.graph) changed));
+}
+RetouchesIn-from joining None None (Some c) old new before calms turned lists = absurd turned
+RetouchesIn-from joining None (Some b) c old new before calms turned lists = absurd calms
+RetouchesIn-from joining (Some a) None c old new before calms turned lists = absurd calms
+RetouchesIn-from joining (Some a) (Some b) None old new before calms turned lists = absurd turned
+
+-- after a step such groups are known if they were before
+pub retouched : (joining : Bool) (a c : Option WideData) (old new : List Tern) → RetouchesIn joining a c old new → (w : WideData) → c ≡ Some w →
+    (v : WideData) × (a ≡ Some v) × Retouches joining v w old new
+retouched joining None None old new retouches w is = absurd (cc)
+retouched joining None (Some c) old new retouches w is = absurd retouches
+retouched joining (Some a) None old new retouches w is = absurd retouches
+retouched joining (Some a) (Some c) old new retouches w is =
+    let same : c ≡ w = cc is in
+    (a, refl, subst (λ (one : WideData). Retouches joining a one old new) same retouches)
+
+pub none_retouched : (joining : Bool) (a c : Option WideData) (old new : List Tern) → RetouchesIn joining a c old new → c ≡ None → a ≡ None
+none_retouched joining None c old new retouches is = refl
+none_retouched joining (Some a) None old new retouches is = absurd retouches
+none_retouched joining (Some a) (Some c) old new retouches is = absurd (cc)
+
+pub retouched_none : (joining : Bool) (a c : Option WideData) (old new : List Tern) → RetouchesIn joining a c old new → a ≡ None → c ≡ None
+retouched_none joining None None old new retouches is = refl
+retouched_none joining None (Some c) old new retouches is = absurd retouches
+retouched_none joining (Some a) c old new retouches is = absurd (cc)
+
+pub known_still : (joining : Bool) (a c : Option WideData) (old new : List Tern) → RetouchesIn joining a c old new → is_some c ≡ is_some a
+known_still joining None None old new retouches = refl
+known_still joining None (Some c) old new retouches = absurd retouches
+known_still joining (Some a) None old new retouches = absurd retouches
+known_still joining (Some a) (Some c) old new retouches = refl
+
+-- and after a node was placed
+pub placed_wide : (a c : Option WideData) (old new : List Tern) → PlacesIn a c old new → (w : WideData) → c ≡ Some w →
+    (v : WideData) × (a ≡ Some v) × PlacesWide v w old new
+placed_wide None None old new places w is = absurd (cc)
+placed_wide None (Some c) old new places w is = absurd places
+placed_wide (Some a) None old new places w is = absurd places
+placed_wide (Some a) (Some c) old new places w is =
+    let same : c ≡ w = cc is in
+    (a, refl, subst (λ (one : WideData). PlacesWide a one old new) same places)
+
+pub none_placed : (a c : Option WideData) (old new : List Tern) → PlacesIn a c old new → c ≡ None → a ≡ None
+none_placed None c old new places is = refl
+none_placed (Some a) None old new places is = absurd places
+none_placed (Some a) (Some c) old new places is = absurd (cc)
+
+pub placed_none : (a c : Option WideData) (old new : List Tern) → PlacesIn a c old new → a ≡ None → c ≡ None
+placed_none None None old new places is = refl
+placed_none None (Some c) old new places is = absurd places
+placed_none (Some a) c old new places is = absurd (cc)
+
+-- if they are known as before, they aren't if they weren't
+pub still_none : (a c : Option WideData) → is_some c ≡ is_some a → a ≡ None → c ≡ None
+still_none a None same is = refl
+still_none None (Some c) same is = absurd (cc)
+still_none (Some a) (Some c) same is = absurd (cc)
+
+-- what a machine holds has all nodes, lists of their states, and room for their changes
+pub listed_in : (parts : List HeldPart) (states : List Tern) (room : ℕ) (wide : Option WideData) → HoldsWide parts states room wide →
+    IsListedIn states wide
+listed_in parts states room None holds = tt
+listed_in parts states room (Some wide) holds = holds.listed
+
+pub enough_in : (parts : List HeldPart) (states : List Tern) (room : ℕ) (wide : Option WideData) → HoldsWide parts states room wide →
+    IfSome wide (λ _. length states ≤ room)
+enough_in parts states room None holds = tt
+enough_in parts states room (Some wide) holds = holds.enough
+
+-- the lists are those of the states still
+pub listed_calm : (states : List Tern) (joining : Bool) (a b : Option WideData) → CalmsIn joining a b → IsListedIn states a → IsListedIn states b
+listed_calm states joining None None calms listed = tt
+listed_calm states joining (Some a) (Some b) calms listed = record {
+  counted = ap nodes calms.stays.graph ∙ listed.counted;
+  live = subst (λ g. AreListsOf g states b.lists) (sym calms.stays.graph) (subst (AreListsOf a.graph states) (sym calms.lists) listed.live);
+}
+listed_calm states joining None (Some b) calms listed = absurd calms
+listed_calm states joining (Some a) None calms listed = absurd calms
+
+pub listed_turned : (a b : Option WideData) (old new : List Tern) → TurnedIn a b old new → length new ≡ length old → IsListedIn old a → IsListedIn new b
+listed_turned None None old new turned count listed = tt
+listed_turned (Some a) (Some b) old new turned count listed = record {
+  counted = ap nodes turned.stays.graph ∙ (listed.counted ∙ sym count);
+  live = subst (λ g. AreListsOf g new b.lists) (sym turned.stays.graph) (turned.live listed.live);
+}
+listed_turned None (Some b) old new turned count listed = absurd turned
+listed_turned (Some a) None old new turned count listed = absurd turned
+
+-- the machine can go on with them
+pub holds_turned : (parts : List HeldPart) (old new : List Tern) (room : ℕ) (a c : Option WideData) (joining : Bool) → RetouchesIn joining a c old new →
+    length new ≡ length old → IsListedIn new c → HoldsWide parts old room a → HoldsWide parts new room c
+holds_turned parts old new room None None joining retouches count listed holds = tt
+holds_turned parts old new room None (Some c) joining retouches count listed holds = absurd retouches
+holds_turned parts old new room (Some a) None joining retouches count listed holds = absurd retouches
+holds_turned parts old new room (Some a) (Some c) joining retouches count listed holds = record {
+  listed = listed;
+  stale_only = subst (HasStaleOnly parts) (sym retouches.stays.graph) holds.stale_only;
+  enough = omega (arith, holds.enough, count);
+}
+
+pub holds_placed : (parts : List HeldPart) (old new : List Tern) (room : ℕ) (a c : Option WideData) → PlacesIn a c old new → length new ≡ length old →
+    HoldsWide parts old room a → HoldsWide parts new room c
+holds_placed parts old new room None None places count holds = tt
+holds_placed parts old new room None (Some c) places count holds = absurd places
+holds_placed parts old new room (Some a) None places count holds = absurd places
+holds_placed parts old new room (Some a) (Some c) places count holds = record {
+  listed = record {
+    counted = ap nodes places.stays.graph ∙ (holds.listed.counted ∙ sym count);
+    live = subst (λ g. AreListsOf g new c.lists) (sym places.stays.graph) places.live;
+  };
+  stale_only = subst (HasStaleOnly parts) (sym places.stays.graph) holds.stale_only;
+  enough = omega (arith, holds.enough, count);
+}

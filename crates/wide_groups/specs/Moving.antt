@@ -1,0 +1,53 @@
+-- A step of parts and of the groups that are stepped by vicinities, if they are known: which nodes take which values.
+-- After Bryant, "A Switch-Level Model and Simulator for MOS Digital Systems", 1984.
+use Rattle.std.specs.Prelude.{◌≡◌, ℕ, Bool, List, [], length, Option, None, Some}
+use Rattle.ternary.specs.declared.tern.Tern.{Tern}
+use Rattle.path_meaning.specs.Switching.{state_at}
+use Rattle.path_meaning.specs.Graphs.{GraphData, IsStorage}
+use Rattle.path_meaning.specs.Step.{IsResponse}
+use Rattle.part_words.specs.Noting.{after}
+use Rattle.machine_parts.specs.declared.part.HeldPart.{HeldPart}
+use Rattle.machine_parts.specs.Parts.{HasMember, IsStale}
+use Rattle.machine_parts.specs.Stepping.{IsGiven}
+use Rattle.vicinity.specs.Touching.{IsAwake}
+use Rattle.vicinity.specs.Wides.{WideData, Retouches, PlacesWide}
+
+-- the graph of the groups that are stepped by vicinities; if they aren't known it is empty
+abbrev pub graph_in : Option WideData → GraphData
+graph_in None = record { levels = []; places = [] }
+graph_in (Some wide) = wide.graph
+
+-- its touched nodes; if they aren't known there are none
+abbrev pub touched_in : Option WideData → List ℕ
+touched_in None = []
+touched_in (Some wide) = wide.touched.list
+
+-- a touched node of the groups that are stepped by vicinities is near the node
+abbrev pub IsAwakeIn : Option WideData → List Tern → ℕ → Type 0
+IsAwakeIn wide state node = IsAwake (graph_in wide) state (touched_in wide) node
+
+-- each storage node of the graph is a member of a stale part
+abbrev pub HasStaleOnly : List HeldPart → GraphData → Type 0
+HasStaleOnly parts g = (node : ℕ) → IsStorage g node → (k : ℕ) × HasMember parts k node × IsStale parts k
+
+-- each node that is given a value takes it, each that is awake takes its steady state, and every other node stays
+pub record MovesIn (joining : Bool) (parts : List HeldPart) (marks : List Bool) (wide : Option WideData) (old new : List Tern) : Type 0 where
+  pub count : length new ≡ length old
+  pub given : (node : ℕ) (value : Tern) → IsGiven parts marks old node value → state_at new node ≡ after joining (state_at old node) value
+  pub awake : (node : ℕ) (value : Tern) → IsAwakeIn wide old node → IsResponse (graph_in wide) old node value →
+      state_at new node ≡ after joining (state_at old node) value
+  pub stays : (node : ℕ) → ((value : Tern) → ¬ IsGiven parts marks old node value) → (¬ IsAwakeIn wide old node) → state_at new node ≡ state_at old node
+
+-- the groups that are stepped by vicinities are touched by what a step stirred, if they are known
+abbrev pub RetouchesIn : Bool → Option WideData → Option WideData → List Tern → List Tern → Type 0
+RetouchesIn joining None None old new = Unit {0}
+RetouchesIn joining (Some wide) (Some later) old new = Retouches joining wide later old new
+RetouchesIn joining None (Some later) old new = ⊥
+RetouchesIn joining (Some wide) None old new = ⊥
+
+-- and by what a placed node stirred
+abbrev pub PlacesIn : Option WideData → Option WideData → List Tern → List Tern → Type 0
+PlacesIn None None old new = Unit {0}
+PlacesIn (Some wide) (Some later) old new = PlacesWide wide later old new
+PlacesIn None (Some later) old new = ⊥
+PlacesIn (Some wide) None old new = ⊥
