@@ -31,6 +31,7 @@ impl Session {
         match give {
             Give::Set(list) => self.set(list),
             Give::Charge(list) => self.charge(list),
+            Give::Back(name) => self.back(name),
         }
     }
 

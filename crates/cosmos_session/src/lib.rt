@@ -9,7 +9,7 @@
 //! Unit steps are the compiled machine's. It is built at the first command that needs it, over the
 //! analyses that are kept. An edit makes the parts of the groups that it touches stale, and the next
 //! command that needs the machine gives these their codes; `IsMachineAfter` says what each command does
-//! to it. The state is held once, by the machine where there is one: `specs/Held.antt`. The lemmas on commands
+//! to it. The state is held once, by the machine if there is one: `specs/Held.antt`. The lemmas on commands
 //! are those of `session_meaning`, and crates above cite them there.
 //!
 //! ```text
@@ -22,17 +22,18 @@
 #![tactic(auto)]
 
 mod edits;
-mod expecting;
 mod giving;
 mod moving;
 mod preparing;
 mod refusals;
 mod regrouping;
 mod reporting;
+mod saving;
 mod session;
 mod setting;
 mod stage;
 mod stepping;
+mod telling;
 mod waves;
 
 pub use refusals::cycle_refusal;

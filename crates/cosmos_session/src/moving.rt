@@ -1,6 +1,6 @@
 //! What a session's machine does: it takes states that are set, unit steps, and phases that end at rest.
 
-ghost use Rattle.std.specs.Prelude.{◌≡◌, ◌≢◌, ℕ, ◌<◌, ◌≤◌, false, length, slice_set};
+ghost use Rattle.std.specs.Prelude.{◌≡◌, ◌≢◌, ℕ, ◌<◌, ◌≤◌, false, None, length, slice_set};
 ghost use Rattle.std.specs.Bool.{OnTrue, OnFalse};
 ghost use Rattle.ternary.specs.Counts.{raised};
 ghost use Rattle.path_meaning.specs.declared.TheConstants.{RAILS};
@@ -25,14 +25,17 @@ pub(crate) fn place(machine: &mut Machine, graph: &Graph, node: usize, value: Te
     requires no_rail { RAILS ≤ node }
     ensures state { machine.new.state ≡ slice_set machine.old.state node value }
     ensures puts { PutsNode graph.now node value (without_room machine.old) (without_room machine.new) }
+    ensures without { machine.old.wide ≡ None → machine.new.wide ≡ None }
 {
     machine.set_node(graph, node, value);
 }
 
 /// Takes a unit step of a graph that the machine fits.
 pub(crate) fn take_step(machine: &mut Machine, graph: &Graph)
-    requires { FitsGraph graph.now machine.old }
-    ensures { TakesStep graph.now machine.old machine.new }
+    requires fits { FitsGraph graph.now machine.old }
+    requires without { machine.old.wide ≡ None }
+    ensures takes { TakesStep graph.now machine.old machine.new }
+    ensures without { machine.new.wide ≡ None }
 {
     step_uncounted::<Brand>(machine, graph, Blank::new(1));
 }
@@ -41,9 +44,11 @@ pub(crate) fn take_step(machine: &mut Machine, graph: &Graph)
 /// more changes nothing, counts for nothing, and leaves no mark.
 pub(crate) fn settle_to_rest(machine: &mut Machine, graph: &Graph, limit: u64) -> Settled
     requires fits { FitsGraph graph.now machine.old }
+    requires without { machine.old.wide ≡ None }
     requires low { 1 ≤ limit }
     requires high { limit ≤ MOST_LIMIT }
-    ensures { TakesPhase graph.now limit machine.old machine.new result.steps result.joined }
+    ensures takes { TakesPhase graph.now limit machine.old machine.new result.steps result.joined }
+    ensures without { machine.new.wide ≡ None }
 {
     let settled = settle_uncounted::<Brand>(machine, graph, limit, Blank::new(1));
     if is_at_rest(settled, limit) {
@@ -66,8 +71,10 @@ fn step_uncounted<L: Ledger>(machine: &mut Machine, graph: &Graph, blank: Blank)
     requires parts { blank.parts ≡ L.parts }
     requires some { blank.parts ≢ 0 }
     requires fits { FitsGraph graph.now machine.old }
+    requires without { machine.old.wide ≡ None }
     ensures advances { Advances false machine.old machine.new }
     ensures step { TakesStep graph.now machine.old machine.new }
+    ensures without { machine.new.wide ≡ None }
 {
     machine.step(graph, &mut Steps::<L>::new(blank));
 }
@@ -90,6 +97,7 @@ fn settle_uncounted<L: Ledger>(
     ensures moves { machine.new.moves ≡ raised machine.old.moves result.steps }
     ensures placed { machine.new.placed ≡ machine.old.placed }
     ensures last { machine.new.last ≡ machine.old.last }
+    ensures without { machine.old.wide ≡ None → machine.new.wide ≡ None }
 {
     settle(machine, graph, limit, &mut Steps::<L>::new(blank))
 }
@@ -101,12 +109,14 @@ fn rest_uncounted<L: Ledger>(machine: &mut Machine, graph: &Graph, blank: Blank)
     requires some { blank.parts ≢ 0 }
     requires fits { FitsGraph graph.now machine.old }
     requires steady { IsStep graph.now machine.old.state machine.old.state }
+    requires without { machine.old.wide ≡ None }
     ensures state { machine.new.state ≡ machine.old.state }
     ensures fits { FitsGraph graph.now machine.new }
     ensures moves { machine.new.moves ≡ machine.old.moves }
     ensures placed { machine.new.placed ≡ machine.old.placed }
     ensures last { machine.new.last ≡ machine.old.last }
     ensures rests { (k : ℕ) → ¬ IsMarked machine.new.marks k }
+    ensures without { machine.new.wide ≡ None }
 {
     step_uncounted::<L>(machine, graph, blank);
 }

@@ -8,7 +8,7 @@ use session_meaning::ApplyFault;
 
 impl Session {
     /// Gets the session a machine that fits its circuit: the parts that edits made stale get their codes, or
-    /// the machine is built where there is none. The texts that aren't kept are analysed, kept and counted, and
+    /// the machine is built if there is none. The texts that aren't kept are analysed, kept and counted, and
     /// what is past the bound is cut.
     ///
     /// It is the last call of a command that can lack memory.

@@ -66,6 +66,7 @@ pub(crate) fn tell_refusal(circuit: &Circuit, tell: &Tell) -> Option<Refusal>
 {
     match tell {
         Tell::Expect(list) => expect_refusal(circuit, list.items()),
+        Tell::Show(names) => known_refusal(circuit, names.items()),
     }
 }
 

@@ -11,7 +11,7 @@ ghost use Rattle.session_meaning.specs.Outcomes.{Obeys};
 use crate::stage::Stage;
 use analysis_cache::{Analyst, Kept};
 use netlist::Circuit;
-use script_lang::Command;
+use script_lang::{Command, Name, StateList};
 use session_meaning::{ApplyFault, Clock, FIRST_LIMIT};
 use std::alloc::Global;
 use std::marker::Model;
@@ -20,11 +20,11 @@ use told_lines::Lines;
 use unit_step::Machine;
 
 /// A simulation session: a circuit, the state of its nodes, the nodes that are watched, the clocks,
-/// the limit of a phase, how many waveform lines there were, whether some expectation was not met,
-/// the texts whose analyses are kept, the most recently used first, perhaps a bound on their number, and how
-/// many were analysed since the last report.
+/// the limit of a phase, how many waveform lines there were, whether some expectation was not met, the names
+/// under which states are kept, the texts whose analyses are kept, the most recently used first, perhaps a
+/// bound on their number, and how many were analysed since the last report.
 ///
-/// Beside these data contracts see the machine that moves the state, where there is one: it is built
+/// Beside these data contracts see the machine that moves the state, if there is one: it is built
 /// at the first command that wants it, and lives through edits of the circuit.
 #[derive(Drop)]
 pub struct Session {
@@ -36,6 +36,7 @@ pub struct Session {
     pub(crate) limit: u64,
     pub(crate) count: u64,
     pub(crate) missed: bool,
+    pub(crate) saves: Vec<(Name, StateList)>,
     pub(crate) kept: Kept,
     pub(crate) fresh: u64,
 }
@@ -47,15 +48,15 @@ impl Model for Session {
 
     ghost Value = { HeldSession };
 
-    ghost view = { λ session. record { core = record { circuit = session.circuit; state = session.stage.state; watched = session.watched.items; clocks = session.clocks.items; limit = session.limit; count = session.count; missed = session.missed; bound = session.kept.bound; kept = kept_in session.stage.machine (texts_of session.kept); fresh = session.fresh }; machine = session.stage.machine } };
+    ghost view = { λ session. record { core = record { circuit = session.circuit; state = session.stage.state; watched = session.watched.items; clocks = session.clocks.items; limit = session.limit; count = session.count; missed = session.missed; saves = session.saves.items; bound = session.kept.bound; kept = kept_in session.stage.machine (texts_of session.kept); fresh = session.fresh }; machine = session.stage.machine } };
 
-    ghost invariant = { λ session. IsHeldSession (record { core = record { circuit = session.circuit; state = session.stage.state; watched = session.watched.items; clocks = session.clocks.items; limit = session.limit; count = session.count; missed = session.missed; bound = session.kept.bound; kept = kept_in session.stage.machine (texts_of session.kept); fresh = session.fresh }; machine = session.stage.machine })
+    ghost invariant = { λ session. IsHeldSession (record { core = record { circuit = session.circuit; state = session.stage.state; watched = session.watched.items; clocks = session.clocks.items; limit = session.limit; count = session.count; missed = session.missed; saves = session.saves.items; bound = session.kept.bound; kept = kept_in session.stage.machine (texts_of session.kept); fresh = session.fresh }; machine = session.stage.machine })
         × AreAmong (last_in session.stage.machine) (texts_of session.kept) };
 }
 
 impl Session {
     /// A session at its start: Gnd is 0, Vdd is 1 and every other node X; nothing is watched, there
-    /// are no clocks, a phase has the limit 100, nothing is kept, and there is no bound. At want of memory the circuit is
+    /// are no clocks, a phase has the limit 100, nothing is kept, and there is no bound. Out of memory the circuit is
     /// dropped.
     pub fn new(alloc: Global, circuit: Circuit) -> Result<Session, NoMemory>
         ensures { IfOk result (λ session. session ≡ record { core = start_of circuit; machine = None }) }
@@ -73,13 +74,14 @@ impl Session {
             limit: FIRST_LIMIT,
             count: 0,
             missed: false,
+            saves: Vec::new(alloc),
             kept,
             fresh: 0,
         })
     }
 
     /// A session at its start over another circuit, in which what this one keeps is kept still, without a bound.
-    /// At want of memory both are dropped.
+    /// Out of memory both are dropped.
     pub fn restart(self, circuit: Circuit) -> Result<Session, NoMemory>
         ensures { IfOk result (λ session. session
             ≡ record { core = record (start_of circuit) { kept = self.core.kept }; machine = None }) }
@@ -126,7 +128,7 @@ impl Session {
         !self.missed
     }
 
-    /// The machine that moves the state, where there is one: it covers the circuit, has the state, and
+    /// The machine that moves the state, if there is one: it covers the circuit, has the state, and
     /// each text whose code a part has is kept. After a unit step, a phase, a cycle or a report it fits the
     /// circuit, until an edit makes some of its parts stale. How much room it has for new nodes isn't told.
     pub fn machine(&self) -> Option<&Machine>
@@ -138,21 +140,21 @@ impl Session {
 
     /// Does a command, and tells its lines.
     ///
-    /// A refusal comes exactly where the command has one, the first of its causes, and changes nothing; a
-    /// command that needs the circuit built is refused last where a group is too large, and the first such
-    /// group is told. Before `step`, `phase`, `cycle` and `report` the circuit is built where it isn't: the
+    /// A refusal comes exactly if the command has one, the first of its causes, and changes nothing; a
+    /// command that needs the circuit built is refused last if a group is too large, and the first such
+    /// group is told. Before `step`, `phase`, `cycle` and `report` the circuit is built if it isn't: the
     /// analyst is given each text of its groups that isn't kept, once, and its code is kept. The texts of its
     /// groups are the most recently used ones then, and what is past the bound is cut, but none of these.
     ///
     /// The machine then stays. An edit makes the parts of the groups that it touches stale, and no others;
-    /// these get their codes at the next build. Only an edit can end with no machine where there was one: it
+    /// these get their codes at the next build. Only an edit can end with no machine if there was one: it
     /// lacked memory for that, or most of the machine's parts were left by groups that earlier edits dissolved; it
     /// is accepted, and the next build makes another machine, without analysing again what is kept.
     ///
     /// A fault of the hearer ends the command: nothing is told after the one call that failed, so its count
-    /// rose by one, and at no other answer. Then a front of the command's lines was heard, and of the next one a
-    /// part, and the data are as after a whole part of it: its effect, or of a `cycle` the phases at a front of its
-    /// places. Want of memory of the hearer while it is told a line is alike. Want of memory of any other kind
+    /// rose by one, and at no other answer. Then a prefix of the command's lines was heard, and of the next one a
+    /// part, and the data are as after a whole part of it: its effect, or of a `cycle` the phases at a prefix of its
+    /// places. Lack of memory of the hearer while it is told a line is alike. Lack of memory of any other kind
     /// changes nothing but what is kept: all memory is taken before the first unit step, also the hearer's room
     /// for a line, and a build last of all.
     pub fn apply<A: Analyst, L: Lines>(

@@ -30,6 +30,7 @@ impl Session {
             Setup::Limit(number) => self.set_limit(*number),
             Setup::Clock(list) => self.set_clocks(list),
             Setup::Keep(number) => self.set_bound(*number),
+            Setup::Save(name) => self.save(name),
         }
     }
 

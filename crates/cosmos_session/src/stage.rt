@@ -1,4 +1,4 @@
-//! The state of a session's nodes, and the machine that moves it, where there is one.
+//! The state of a session's nodes, and the machine that moves it, if there is one.
 
 ghost use Rattle.std.specs.Prelude.{◌≡◌, ◌+◌, ◌<◌, ◌≤◌, ◌⊎◌, true, None, Some, Err, is_some, length, count_by, option_map, slice_set, IfSome, IfOk, IfErr, OnOk, OnErr};
 ghost use Rattle.path_meaning.specs.declared.TheConstants.{RAILS};
@@ -35,7 +35,7 @@ pub(crate) enum Held {
     Built(Machine),
 }
 
-/// The state of each node, and the machine that moves it, where there is one.
+/// The state of each node, and the machine that moves it, if there is one.
 #[derive(Drop)]
 pub(crate) struct Stage {
     held: Held,
@@ -43,11 +43,13 @@ pub(crate) struct Stage {
 
 impl Model for Stage {
     ghost use Rattle.session_meaning.specs.Stages.{StageData};
-    ghost use Rattle.cosmos_session.specs.Held.{state_held, machine_held, spare_held};
+    ghost use Rattle.cosmos_session.specs.Held.{state_held, machine_held, spare_held, HasNoWide};
 
     ghost Value = { StageData };
 
     ghost view = { λ stage. record { state = state_held stage.held; machine = machine_held stage.held; spare = spare_held stage.held } };
+
+    ghost invariant = { λ stage. HasNoWide stage.held };
 }
 
 impl Stage {
@@ -71,7 +73,7 @@ impl Stage {
         }
     }
 
-    /// The machine, where there is one.
+    /// The machine, if there is one.
     pub(crate) fn machine(&self) -> Option<&Machine>
         ensures value { option_map (λ machine. without_room machine.now) result ≡ self.now.machine }
         ensures state { IfSome result (λ machine. machine.now.state ≡ self.now.state) }
@@ -82,7 +84,7 @@ impl Stage {
         }
     }
 
-    /// The state is the machine's, where there is one: a call of this is for its contract alone.
+    /// The state is the machine's, if there is one: a call of this is for its contract alone.
     pub(crate) fn is_the_machines(&self)
         ensures { IfSome self.now.machine (λ machine. machine.state ≡ self.now.state) }
     {
@@ -91,7 +93,7 @@ impl Stage {
 
     /// Takes room for the states of as many new nodes as one edit makes at most.
     ///
-    /// At want of memory too the state and the machine are as before.
+    /// Out of memory too the state and the machine are as before.
     pub(crate) fn reserve(&mut self) -> Result<(), NoMemory>
         ensures room { OnOk result (NEW_NODES ≤ self.new.spare) }
         ensures state { self.new.state ≡ self.old.state }
@@ -124,7 +126,7 @@ impl Stage {
         self.held = regrouped(held, graph, change, kept);
     }
 
-    /// Moves the texts of the machine's last build, where there is a machine, to the front of what is kept.
+    /// Moves the texts of the machine's last build, if there is a machine, to the front of what is kept.
     #[tactic(auto, using(session_meaning::proofs::LastLemmas::kept_alone))]
     pub(crate) fn use_last(&self, kept: &mut Kept)
         requires { AreAmong (last_in self.now.machine) (texts_of kept.old) }
@@ -138,7 +140,7 @@ impl Stage {
     }
 
     /// Gets a machine that fits the graph: the stale parts of the one that is there get their codes, and
-    /// where there is none one is built.
+    /// if there is none one is built.
     ///
     /// Texts that aren't kept are analysed first, each once, and kept; the answer is how many these are. What is
     /// kept, with the texts of this build in front, is what a build leaves. The refusals are those of a build;
@@ -233,7 +235,8 @@ impl Stage {
     /// How many distinct texts the groups of the machine, which is there, have.
     pub(crate) fn texts(&self) -> usize
         requires { is_some self.now.machine ≡ true }
-        ensures { IfSome self.now.machine (λ machine. result ≡ machine.texts) }
+        ensures value { IfSome self.now.machine (λ machine. result ≡ machine.texts) }
+        ensures without { IfSome self.now.machine (λ machine. machine.wide ≡ None) }
     {
         match &self.held {
             Held::Built(machine) => machine.texts(),

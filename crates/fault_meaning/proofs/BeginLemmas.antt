@@ -175,7 +175,7 @@ pub record HasStart (c : CircuitData) (kept : List GroupTextData) (fault : Optio
 pub ready-start_with : (c : CircuitData) (kept : List GroupTextData) → IsCircuit c → IsReady (start_with c kept)
 ready-start_with c kept is =
     let ready = ready-start c is in
-    record { netlist = ready.netlist; states = ready.states; sound = ready.sound; free = ready.free }
+    record { netlist = ready.netlist; states = ready.states; sound = ready.sound; free = ready.free; saved = ready.saved }
 
 one_done : (c : CircuitData) (kept : List GroupTextData) (command : Command) (new : SessionData) → IsCircuit c →
     Does (start_with c kept) command new [] → IsReady new

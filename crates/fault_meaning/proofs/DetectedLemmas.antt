@@ -1,4 +1,4 @@
--- A strong difference that shows first in a front of a trace's rows shows first in all of them.
+-- A strong difference that shows first in a prefix of a trace's rows shows first in all of them.
 use Rattle.std.proofs.Common.{◌≡◌, ℕ, ◌<◌, ◌++◌, zero, suc, inl, inr, List, [], ◌∷◌, length, slice_get, true, Bool, refl, sym, subst, ◌∙◌, arith}
 use Rattle.std.proofs.lemmas.Option.{slice_get_within}
 use Rattle.ternary.specs.declared.tern.Tern.{Tern}

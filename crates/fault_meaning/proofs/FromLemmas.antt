@@ -11,7 +11,7 @@ use Rattle.fault_meaning.specs.Early.{IsCalm, HasBearing, Lasts, IsCalmFrom, fro
 use Rattle.fault_meaning.proofs.CalmLemmas.{building_line}
 use Rattle.fault_meaning.proofs.PlaceLemmas.{is_next}
 
--- the lines so far, those that are left, and the number from which on those so far are calm, where there is one
+-- the lines so far, those that are left, and the number from which on those so far are calm, if there is one
 pub record HasScanned (all left : List (ℕ × List ℕ)) (from : Option ℕ) : Type 0 where
   pub done : List (ℕ × List ℕ)
   pub split : all ≡ done ++ left

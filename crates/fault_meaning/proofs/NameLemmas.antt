@@ -16,12 +16,12 @@ use Rattle.script_lang.specs.declared.command.Setup.TheVariants.{Watch}
 use Rattle.script_lang.specs.declared.command.Run.{Run}
 use Rattle.script_lang.specs.declared.command.Run.TheVariants.{Step, Phase, Cycle, Report}
 use Rattle.script_lang.specs.declared.command.Tell.{Tell}
-use Rattle.script_lang.specs.declared.command.Tell.TheVariants.{Expect}
+use Rattle.script_lang.specs.declared.command.Tell.TheVariants.{Expect, Show}
 use Rattle.session_meaning.specs.Sessions.{SessionData, places_of}
 use Rattle.session_meaning.specs.Preparing.{BuildsIf, builds}
-use Rattle.told_lines.specs.Lines.{Line, Wave, Unmet, Reported, Refused}
+use Rattle.told_lines.specs.Lines.{Line, Wave, Unmet, Shown, Reported, Refused}
 use Rattle.told_lines.specs.Noting.{rows_of, states_of}
-use Rattle.session_meaning.specs.Effects.{Effect, RunEffect, IsPhase, AreBeats, setup_after, told_by, with_beat, places_in, wave_by, is_state, unmet_line, unmet_lines}
+use Rattle.session_meaning.specs.Effects.{Effect, RunEffect, IsPhase, AreBeats, setup_after, told_by, with_beat, places_in, wave_by, is_state, shown_line, unmet_line, unmet_lines}
 use Rattle.session_meaning.specs.Outcomes.{Performs}
 use Rattle.script_meaning.specs.Runs.{Reading, Outcome, Runs, ends, passes, obeys, refuses}
 use Rattle.fault_sim.specs.declared.fault.Fault.{Fault}
@@ -32,6 +32,7 @@ use Rattle.fault_meaning.specs.Traces.{IsTrace}
 abbrev FitsIn : ℕ → Line → Type 0
 FitsIn most (Wave n k mark values) = length values ≤ most
 FitsIn most (Unmet name want got n) = Unit {0}
+FitsIn most (Shown name values) = Unit {0}
 FitsIn most (Reported groups texts new) = Unit {0}
 FitsIn most (Refused place code name count) = Unit {0}
 
@@ -44,6 +45,7 @@ module _ (some most : ℕ) (low : some ≤ most) where
   wider : (line : Line) → FitsIn some line → FitsIn most line
   wider (Wave n k mark values) fits = omega (arith, fits, low)
   wider (Unmet name want got n) fits = tt
+  wider (Shown name values) fits = tt
   wider (Reported groups texts new) fits = tt
   wider (Refused place code name count) fits = tt
 
@@ -106,6 +108,7 @@ unmet_fitting most session list = All-filter_map (FitsIn most) (unmet_line sessi
         let got = state_at session.state (node_named session.circuit item.0) in
         absurd (no_wave (is_state got item.1) item.0 item.1 got session.count n k mark values is)
     each item (Unmet name want got n) is = tt
+    each item (Shown name values) is = tt
     each item (Reported groups texts new) is = tt
     each item (Refused place code name count) is = tt
 
@@ -132,8 +135,14 @@ run_fitting old new Report lines effect =
           (All-cons (FitsIn (length new.watched)) _ [] tt (All-nil (FitsIn (length new.watched))));
     }
 
+shown_fitting : (most : ℕ) (session : SessionData) (names : List (List ℕ)) → All (FitsIn most) (map (shown_line session) names)
+shown_fitting most session [] = All-nil (FitsIn most)
+shown_fitting most session (name ∷ names) =
+    All-cons (FitsIn most) (shown_line session name) (map (shown_line session) names) tt (shown_fitting most session names)
+
 told_fitting : (most : ℕ) (session : SessionData) (tell : Tell) → All (FitsIn most) (told_by session tell)
 told_fitting most session (Expect list) = unmet_fitting most session list
+told_fitting most session (Show names) = shown_fitting most session names
 
 effect_fitting : (old new : SessionData) (command : Command) (lines : List Line) → Effect old command new lines → AreFitting old new lines
 effect_fitting old new (family.Edit edit) lines effect = still_fitting old new lines (ap (λ (session : SessionData). session.watched) effect.0) effect.1
@@ -175,6 +184,7 @@ rows_fitting most (Wave n k mark values ∷ lines) all =
     All-cons (λ (row : List Tern). length row ≤ most) values (states_of (rows_of lines)) (All-head (FitsIn most) (Wave n k mark values) lines all)
     (rows_fitting most lines (All-tail (FitsIn most) (Wave n k mark values) lines all))
 rows_fitting most (Unmet name want got n ∷ lines) all = rows_fitting most lines (All-tail (FitsIn most) (Unmet name want got n) lines all)
+rows_fitting most (Shown name values ∷ lines) all = rows_fitting most lines (All-tail (FitsIn most) (Shown name values) lines all)
 rows_fitting most (Reported groups texts new ∷ lines) all = rows_fitting most lines (All-tail (FitsIn most) (Reported groups texts new) lines all)
 rows_fitting most (Refused place code name count ∷ lines) all = rows_fitting most lines (All-tail (FitsIn most) (Refused place code name count) lines all)
 

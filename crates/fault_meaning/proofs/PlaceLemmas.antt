@@ -57,7 +57,7 @@ calm_past number next (text ∷ rest) low lasts =
 module _ {H : Type 0} (hear : H → Told → H) (part : H → Told → H → Type 0) (stuck : Option (ℕ × Tern)) (cut : Option ℕ) (from : Option ℕ) (old new : HeldSession)
     (line : ℕ × List ℕ) (left : List (ℕ × List ℕ)) (before after : H) (asked told : List GroupTextData) (placed : IsPlaced from (line ∷ left) old.core)
     (turn : TakesTurn hear part (masked_reading stuck) cut line old new before after asked told (Ok Accepted)) where
-  -- where it is one from which on all is calm, a build would find nothing new after it
+  -- if it is one from which on all is calm, a build would find nothing new after it
   current_then : (number : ℕ) → All (Lasts number) (line ∷ left) → (number < placed.next → IsCurrent old.core) → number ≤ placed.next → IsCurrent new.core
   current_then number lasts current low =
       let here = is_next placed.next placed.rest line left placed.numbered in

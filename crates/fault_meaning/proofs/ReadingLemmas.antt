@@ -12,7 +12,7 @@ use Rattle.fault_sim.specs.Masks.{masked_of, masked_reading_by, masked_reading}
 use Rattle.fault_sim.proofs.MaskLemmas.{unmasked-reading, masked_of-formed}
 use Rattle.script_meaning.specs.Runs.{plain_reading, IsSound}
 
--- where no node is stuck lines are read as ever
+-- if no node is stuck lines are read as ever
 pub masked-plain : masked_reading None ≡ plain_reading
 masked-plain = λ i c line. unmasked-reading c line i
 

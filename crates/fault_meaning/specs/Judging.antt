@@ -99,7 +99,7 @@ pub record TellsRefused (outcome : Outcome) (answer : Answer) : Type 0 where
   pub there : outcome.refused ≡ Some stopped
   pub told : answer ≡ record { status = status.ScriptRefused; text = refusal_text (Some stopped); texts = outcome.texts }
 
--- the answer to the faults of a list, by the good run: the same run without a fault, where nothing is kept at first
+-- the answer to the faults of a list, by the good run: the same run without a fault, if nothing is kept at first
 pub record IsJudgement (circuit : CircuitData) (script : List ℕ) (faults : List ListedFault) (answer : Answer) : Type 0 where
   pub outcome : Outcome
   pub runs : RunsUnder circuit script [] None outcome

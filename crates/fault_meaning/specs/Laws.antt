@@ -22,7 +22,7 @@ AsksNoBound line = (number : ℕ) → reading_of line.1 ≢ Ok (Some (family.Set
 abbrev pub NeverKeeps : List ℕ → Type 0
 NeverKeeps script = All AsksNoBound (lines_in script)
 
--- over the good run and the runs under all faults of a list no text of a group is analysed twice, where no line of the script asks for a bound
+-- over the good run and the runs under all faults of a list no text of a group is analysed twice, if no line of the script asks for a bound
 -- on what is kept
 abbrev pub TextsAreAnalysedOnce : Type 0
 TextsAreAnalysedOnce =

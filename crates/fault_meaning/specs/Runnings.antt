@@ -30,7 +30,7 @@ pub record BenchData : Type 0 where
   pub script : List ℕ
   pub kept : List GroupTextData
 
--- what a session keeps, where there is one
+-- what a session keeps, if there is one
 abbrev pub kept_in : Option HeldSession → List GroupTextData
 kept_in None = []
 kept_in (Some session) = session.core.kept
@@ -92,7 +92,7 @@ AreAllowed old [] = Unit {0}
 AreAllowed old (command ∷ commands) =
     (refusal_of old command ≡ None) × ((mid : SessionData) → Does old command mid [] → AreAllowed mid commands)
 
--- the line at which a run ended, where one is refused
+-- the line at which a run ended, if one is refused
 abbrev pub line_of : Halt → Option ℕ
 line_of End = None
 line_of (Refused number code) = Some number

@@ -19,12 +19,12 @@ use Rattle.fault_sim.specs.Masks.{masked_reading}
 abbrev pub start_with : CircuitData → List GroupTextData → SessionData
 start_with circuit kept = record (start_of circuit) { kept = kept }
 
--- the commands that stand before the script: those of the fault, where there is one
+-- the commands that stand before the script: those of the fault, if there is one
 abbrev pub commands_under : CircuitData → Option Fault → List Command
 commands_under circuit None = []
 commands_under circuit (Some fault) = commands_of circuit fault
 
--- the node that is stuck, and its state, where one is
+-- the node that is stuck, and its state, if one is
 abbrev pub stuck_under : Option Fault → Option (ℕ × Tern)
 stuck_under None = None
 stuck_under (Some fault) = stuck_by fault

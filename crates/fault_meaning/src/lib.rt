@@ -21,8 +21,8 @@
 //! For the proofs of crates above: `ListLemmas`, how far a list was read; `ReadingLemmas`, that a script is
 //! read as ever if no node is stuck, and soundly if one is; `BeginLemmas`, that a fault's commands are not
 //! refused; `RunLemmas`, what a run under a fault comes to; `BenchLemmas`, that it is one of a bench;
-//! `FromLemmas`, `PlaceLemmas` and `EndLemmas`, where it may end early; `JudgingLemmas`, how far the faults were
-//! judged; `FrontLemmas`, that the fronts of a script and a list are all that is read; `UniqueJudging`, that a
+//! `FromLemmas`, `PlaceLemmas` and `EndLemmas`, if it may end early; `JudgingLemmas`, how far the faults were
+//! judged; `FrontLemmas`, that the prefixes of a script and a list are all that is read; `UniqueJudging`, that a
 //! list has one answer.
 #![tactic(auto)]
 

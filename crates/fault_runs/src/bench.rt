@@ -1,11 +1,7 @@
 //! The bench on which the script is run under one fault after the other.
 
 ghost use Rattle.std.specs.Prelude.{◌≡◌, None, Some, IfOk};
-ghost use Rattle.netlist.specs.Circuits.{HasVisibleNames};
-ghost use Rattle.fault_sim.specs.Benches.{JudgesBy};
-ghost use Rattle.fault_sim.specs.Faults.{IsFault};
-ghost use Rattle.fault_meaning.specs.Runnings.{HasTraced};
-ghost use Rattle.fault_meaning.specs.Traces.{start_with};
+ghost use Rattle.fault_runs.specs.Words.{start_with, HasTraced, HasVisibleNames, IsFault, JudgesBy};
 
 use crate::early::{calm_from, judge_under};
 use crate::good::GoodRun;
@@ -24,9 +20,9 @@ pub(crate) struct FaultBench<'a> {
     alloc: Global,
     start: &'a Circuit,
     script: &'a [u8],
-    // The line of the script from which on nothing more is analysed, and what is kept stays, where there is one.
+    // The line of the script from which on nothing more is analysed, and what is kept stays, if there is one.
     calm_from: Option<u64>,
-    // None while it runs, and after want of memory: then nothing is kept.
+    // None while it runs, and after memory ran out: then nothing is kept.
     session: Option<Session>,
 }
 
@@ -79,7 +75,7 @@ impl<'a> FaultBench<'a> {
     }
 
     /// Runs the script under a fault that the start circuit can have, and gives the verdict on its trace
-    /// beside the good one. Where it can, the run ends early.
+    /// beside the good one. If it can, the run ends early.
     pub(crate) fn judge<A: Analyst>(
         &mut self,
         good: &GoodRun,

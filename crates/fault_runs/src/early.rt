@@ -1,12 +1,8 @@
 //! A run under a fault that ends at its first strong difference, where nothing after it is wanted.
 
 ghost use Rattle.std.specs.Prelude.{◌≡◌, Some, IfOk, IfSome};
-ghost use Rattle.netlist.specs.Circuits.{HasVisibleNames};
-ghost use Rattle.session_meaning.specs.Sessions.{IsReady};
-ghost use Rattle.fault_sim.specs.Benches.{JudgesBy};
-ghost use Rattle.fault_sim.specs.Faults.{IsFault};
+ghost use Rattle.fault_runs.specs.Words.{HasVisibleNames, IsFault, IsReady, IsTraced, JudgesBy, StandsAtStart};
 ghost use Rattle.fault_meaning.specs.Early as spec;
-ghost use Rattle.fault_meaning.specs.Runnings.{IsTraced, StandsAtStart};
 
 use crate::good::{GoodRun, is_ready};
 use crate::reader::Masked;
@@ -25,7 +21,7 @@ use ternary::NoMemory;
 use told_verdicts::Compare;
 
 /// The number of the first line of a script that builds and after which no line edits the circuit or is
-/// `keep`, where there is one.
+/// `keep`, if there is one.
 ///
 /// From that line on nothing more is analysed, and what is kept stays.
 pub(crate) fn calm_from(alloc: Global, script: &[u8]) -> Result<Option<u64>, NoMemory>
@@ -73,6 +69,7 @@ fn command_bearing(command: &Command) -> Bearing
         Command::Setup(Setup::Watch(_)) => Bearing::Stays,
         Command::Setup(Setup::Limit(_)) => Bearing::Stays,
         Command::Setup(Setup::Clock(_)) => Bearing::Stays,
+        Command::Setup(Setup::Save(_)) => Bearing::Stays,
         Command::Run(_) => Bearing::Builds,
         Command::Give(_) | Command::Tell(_) => Bearing::Stays,
     }
@@ -81,7 +78,7 @@ fn command_bearing(command: &Command) -> Bearing
 /// Runs a script under a fault, in a session that stands at the start, and gives the verdict on its trace beside
 /// a good one. The run is compared with the good one as its lines are told, and no row of it is held.
 ///
-/// Where no line of the script edits the circuit or is `keep` from one on that builds, the run ends at its first
+/// If no line of the script edits the circuit or is `keep` from one on that builds, the run ends at its first
 /// strong difference after that: nothing that follows can change the verdict, what was analysed, or what is kept.
 pub(crate) fn judge_under<A: Analyst>(
     alloc: Global,

@@ -1,10 +1,7 @@
 //! The good run of a script.
 
 ghost use Rattle.std.specs.Prelude.{◌≡◌, None, map, IfOk};
-ghost use Rattle.netlist.specs.Circuits.{called};
-ghost use Rattle.session_meaning.specs.Sessions.{IsReady};
-ghost use Rattle.told_lines.specs.Noting.{states_of};
-ghost use Rattle.fault_meaning.specs.Judging.{named_entry};
+ghost use Rattle.fault_runs.specs.Words.{called, named_entry, states_of, IsReady};
 ghost use Rattle.fault_meaning.specs.Runnings as spec;
 
 use cosmos_session::Session;
@@ -55,7 +52,7 @@ impl GoodRun {
         self.notes.rows()
     }
 
-    /// The name of an entry of the watch list, and no byte where there is none.
+    /// The name of an entry of the watch list, and no byte if there is none.
     pub(crate) fn entry_name(&self, entry: usize) -> &[u8]
         ensures { result.now ≡ named_entry self.now entry }
     {

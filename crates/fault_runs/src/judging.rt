@@ -2,15 +2,7 @@
 
 ghost use Rattle.std.specs.Prelude.{◌≡◌, ◌≢◌, None, All, IfOk, IfErr, OnOk, OnErr};
 ghost use Rattle.std.specs.Io.KnownBytes.{append_known};
-ghost use Rattle.port_edge.specs.Sending.{WritesPart};
-ghost use Rattle.netlist.specs.Circuits.{HasVisibleNames, IsCircuit};
-ghost use Rattle.wave_print.specs.Verdicts.{faults_line_of};
-ghost use Rattle.session_meaning.specs.Sessions.{start_of};
-ghost use Rattle.fault_sim.specs.Faults.{IsFault};
-ghost use Rattle.run_ends.specs.Ends.{IsToldBy};
-ghost use Rattle.run_ends.specs.Stops.{faults_written, IsRefusedOnce};
-ghost use Rattle.fault_meaning.specs.Judging.{AreJudgedFaults, IsJudgement, verdict_line};
-ghost use Rattle.fault_meaning.specs.Runnings.{TellsJudged};
+ghost use Rattle.fault_runs.specs.Words.{faults_line_of, faults_written, start_of, verdict_line, AreJudgedFaults, HasVisibleNames, IsCircuit, IsFault, IsJudgement, IsRefusedOnce, IsToldBy, TellsJudged, WritesPart};
 
 use crate::bench::FaultBench;
 use crate::good::{GoodRun, run_good};

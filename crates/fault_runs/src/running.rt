@@ -1,13 +1,7 @@
 //! The start of a run under a fault.
 
 ghost use Rattle.std.specs.Prelude.{◌≡◌, [], None, Some, All, OnOk};
-ghost use Rattle.netlist.specs.Circuits.{HasVisibleNames};
-ghost use Rattle.script_lang.specs.Forms.{IsFormed};
-ghost use Rattle.session_meaning.specs.Outcomes.{Does};
-ghost use Rattle.session_meaning.specs.Refusals.{refusal_of};
-ghost use Rattle.fault_sim.specs.Changes.{commands_in};
-ghost use Rattle.fault_sim.specs.Faults.{IsFault};
-ghost use Rattle.fault_meaning.specs.Traces.{AreDone, commands_under};
+ghost use Rattle.fault_runs.specs.Words.{commands_in, commands_under, refusal_of, AreDone, Does, HasVisibleNames, IsFault, IsFormed};
 ghost use Rattle.fault_meaning.specs.Runnings as spec;
 
 use cosmos_session::{ApplyFault, Session};
@@ -79,7 +73,7 @@ fn do_command<A: Analyst>(
     }
 }
 
-// The fault of a command that nothing but want of memory can end.
+// The fault of a command that nothing but lack of memory can end.
 fn want_of_memory(fault: ApplyFault) -> NoMemory
     requires { fault ≡ ApplyFault.NoMemory }
 {

@@ -28,7 +28,7 @@ commands_of-formed c (Stuck node state) is visible =
     (omega arith, All-cons (λ (i : List ℕ × Tern). IsVisibleName i.0) item [] named (All-nil (λ (i : List ℕ × Tern). IsVisibleName i.0)))
     (All-nil IsFormed))
 
--- the same of what was made, where there was memory for it
+-- the same of what was made, if there was memory for it
 pub commands_made : {E : Type 0} (c : CircuitData) (fault : Fault) (made : Result (Command × Option Command) E) → IsFault c fault →
     IfOk made (λ given. commands_in given ≡ commands_of c fault) → HasVisibleNames c → IfOk made (λ given. All IsFormed (commands_in given))
 commands_made c fault (Ok given) is same visible = subst (All IsFormed) (sym same) (commands_of-formed c fault is visible)

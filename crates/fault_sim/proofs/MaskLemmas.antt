@@ -10,7 +10,7 @@ use Rattle.script_lang.specs.declared.command.Command.TheVariants as family
 use Rattle.script_lang.specs.declared.command.Edit.{Edit}
 use Rattle.script_lang.specs.declared.command.Edit.TheVariants.{Store}
 use Rattle.script_lang.specs.declared.command.Give.{Give}
-use Rattle.script_lang.specs.declared.command.Give.TheVariants.{Set, Charge}
+use Rattle.script_lang.specs.declared.command.Give.TheVariants.{Set, Charge, Back}
 use Rattle.script_lang.specs.declared.command.Setup.{Setup}
 use Rattle.script_lang.specs.declared.command.Setup.TheVariants.{Clock}
 use Rattle.script_lang.specs.declared.command.ScriptFault.{ScriptFault}
@@ -44,7 +44,7 @@ charge_same : (list : List (List ℕ × Tern)) → 0 < length list → charge_le
 charge_same [] some = absurd (omega arith)
 charge_same (item ∷ list) some = refl
 
--- where no node is stuck, each well-formed command stays as it is
+-- if no node is stuck, each well-formed command stays as it is
 unmasked_edit : (c : CircuitData) (edit : Edit) → masked_edit c None edit ≡ Some edit
 unmasked_edit c (Store name size) = refl
 unmasked_edit c edit = refl
@@ -52,6 +52,7 @@ unmasked_edit c edit = refl
 unmasked_give : (c : CircuitData) (give : Give) → IsFormedGive give → masked_give c None give ≡ Some give
 unmasked_give c (Set list) formed = ap (λ given. Some (Set given)) (same_assignments list)
 unmasked_give c (Charge list) formed = ap charge_left (all_kept list) ∙ charge_same list formed.0
+unmasked_give c (Back name) formed = refl
 
 unmasked_setup : (c : CircuitData) (setup : Setup) → masked_setup c None setup ≡ setup
 unmasked_setup c (Clock list) = ap Clock (same_clocks list)
@@ -74,11 +75,11 @@ unmasked-reading c line = by (reading_of line) (reading-formed line)
     by (Ok (Some command)) formed = ap Ok (unmasked c command (formed command refl))
     by (Err fault) formed = refl
 
--- what is read of a line where no node is stuck
+-- what is read of a line if no node is stuck
 read_plain : (stuck : Option (ℕ × Tern)) (c : CircuitData) (line : List ℕ) → stuck ≡ None → masked_reading stuck c line ≡ reading_of line
 read_plain stuck c line none = ap (λ at. masked_reading at c line) none ∙ unmasked-reading c line
 
--- so what was read as ever was read where no node is stuck
+-- so what was read as ever was read if no node is stuck
 pub read_as : (stuck : Option (ℕ × Tern)) (c : CircuitData) (line : List ℕ) → stuck ≡ None → (result : Result (Option Command) ScriptFault) →
     IfOk result (λ left. reading_of line ≡ Ok left) → IfOk result (λ left. masked_reading stuck c line ≡ Ok left)
 read_as stuck c line none (Ok left) is = read_plain stuck c line none ∙ is
@@ -91,7 +92,7 @@ refused_as stuck c line none (Ok left) is = tt
 refused_as stuck c line none (Err fault) (inl want) = inl want
 refused_as stuck c line none (Err fault) (inr is) = inr (read_plain stuck c line none ∙ is)
 
--- a masked command is well formed, where the command is
+-- a masked command is well formed, if the command is
 edit-formed : (c : CircuitData) (stuck : Option (ℕ × Tern)) (edit : Edit) → IsFormedEdit edit → IfSome (masked_edit c stuck edit) IsFormedEdit
 edit-formed c stuck (Store name size) formed = by (is_stuck c stuck name)
   where
@@ -111,6 +112,7 @@ give-formed c stuck (Charge list) formed =
     left : (list : List (List ℕ × Tern)) → All (λ item. IsVisibleName item.0) list → IfSome (charge_left list) IsFormedGive
     left [] named = tt
     left (item ∷ list) named = (omega arith, named)
+give-formed c stuck (Back name) formed = formed
 
 setup-formed : (c : CircuitData) (stuck : Option (ℕ × Tern)) (setup : Setup) → IsFormedSetup setup → IsFormedSetup (masked_setup c stuck setup)
 setup-formed c stuck (Clock list) formed =
@@ -137,7 +139,7 @@ masked_of-formed c stuck (family.Setup setup) formed = setup-formed c stuck setu
 masked_of-formed c stuck (family.Run run) formed = formed
 masked_of-formed c stuck (family.Tell tell) formed = formed
 
--- the same of what was made, where there was memory for it
+-- the same of what was made, if there was memory for it
 pub masked_of-made : {E : Type 0} (c : CircuitData) (stuck : Option (ℕ × Tern)) (command : Command) (made : Result (Option Command) E) →
     IfOk made (λ left. left ≡ masked_of c stuck command) → IsFormed command → IfOk made (λ left. IfSome left IsFormed)
 masked_of-made c stuck command (Ok left) is formed = subst (λ left. IfSome left IsFormed) (sym is) (masked_of-formed c stuck command formed)

@@ -9,13 +9,13 @@ use Rattle.script_lang.specs.declared.command.Command.TheVariants as family
 use Rattle.script_lang.specs.declared.command.Edit.{Edit}
 use Rattle.script_lang.specs.declared.command.Edit.TheVariants.{Store}
 use Rattle.script_lang.specs.declared.command.Give.{Give}
-use Rattle.script_lang.specs.declared.command.Give.TheVariants.{Set, Charge}
+use Rattle.script_lang.specs.declared.command.Give.TheVariants.{Set, Charge, Back}
 use Rattle.script_lang.specs.declared.command.Setup.{Setup}
 use Rattle.script_lang.specs.declared.command.Setup.TheVariants.{Clock}
 use Rattle.script_lang.specs.declared.command.ScriptFault.{ScriptFault}
 use Rattle.script_lang.specs.Commands.{reading_of}
 
--- the name is that of the stuck node, where one is stuck
+-- the name is that of the stuck node, if one is stuck
 abbrev pub is_stuck : CircuitData → Option (ℕ × Tern) → List ℕ → Bool
 is_stuck c None name = false
 is_stuck c (Some stuck) name = option_map_or (λ node. node == stuck.0) (node_of c.names name) false
@@ -30,16 +30,17 @@ abbrev pub masked_edit : CircuitData → Option (ℕ × Tern) → Edit → Optio
 masked_edit c stuck (Store name size) = if is_stuck c stuck name then None else Some (Store name size)
 masked_edit c stuck edit = Some edit
 
--- `charge` of what is left of its words, where one is
+-- `charge` of what is left of its words, if one is
 abbrev pub charge_left : List (List ℕ × Tern) → Option Give
 charge_left [] = None
 charge_left (item ∷ items) = Some (Charge (item ∷ items))
 
 -- what gives states under a stuck node, if it does anything: each letter that `set` gives the node is the state at which it is stuck, and
--- each word that names it is taken out of `charge`
+-- each word that names it is taken out of `charge`; `back` gives it the state at which it is stuck in any case, since it was there at the save
 abbrev pub masked_give : CircuitData → Option (ℕ × Tern) → Give → Option Give
 masked_give c stuck (Set list) = Some (Set (map (λ item. (item.0, state_for c stuck item.0 item.1)) list))
 masked_give c stuck (Charge list) = charge_left (filter (λ item. not (is_stuck c stuck item.0)) list)
+masked_give c stuck (Back name) = Some (Back name)
 
 -- what sets what others go by under a stuck node: each letter that `clock` gives the node is the state at which it is stuck
 abbrev pub masked_setup : CircuitData → Option (ℕ × Tern) → Setup → Setup

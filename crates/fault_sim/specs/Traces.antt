@@ -12,7 +12,7 @@ pub record Trace : Type 0 where
   pub names : List (List ℕ)
   pub refused : Option ℕ
 
--- the good value and the fault's differ: strongly where one is 0 and the other 1, weakly where the good one is 0 or 1 and the fault's is X
+-- the good value and the fault's differ: strongly if one is 0 and the other 1, weakly where the good one is 0 or 1 and the fault's is X
 abbrev pub differs : Bool → Tern → Tern → Bool
 differs true Zero One = true
 differs true One Zero = true
@@ -65,7 +65,7 @@ pub record FirstInRow (strong : Bool) (good bad : List (List Tern)) (number entr
   pub first : DifferFirst strong good bad row entry
 
 -- the verdict on a trace beside the good one is the first of these that holds: at the first strong difference it is detected; it is refused
--- where it has a refused line; at the first weak difference it is possible; else it is undetected
+-- if it has a refused line; at the first weak difference it is possible; else it is undetected
 abbrev pub IsVerdict : Trace → Trace → Verdict → Type 0
 IsVerdict good bad (Detected row entry) = FirstInRow true good.rows bad.rows row entry
 IsVerdict good bad (Refused line) = AreAlike true good.rows bad.rows × (bad.refused ≡ Some line)

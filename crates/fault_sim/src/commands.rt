@@ -52,7 +52,7 @@ fn commands_by_kind(
     }
 }
 
-/// The node that is stuck under a fault, and its state, where one is.
+/// The node that is stuck under a fault, and its state, if one is.
 pub fn stuck_node(fault: Fault) -> Option<(usize, Tern)>
     ensures { result ≡ stuck_by fault }
 {

@@ -31,7 +31,7 @@ enum Kind {
     One,
 }
 
-/// Why a line of a list names no fault. Where several causes stand together, the first here wins.
+/// Why a line of a list names no fault. If several causes stand together, the first here wins.
 #[derive(Clone, Copy, Debug, Drop, Error, PartialEq, Eq)]
 pub enum ListFault {
     /// The line has more bytes than a line may have.
@@ -55,7 +55,7 @@ pub enum ListFault {
     Rail,
 }
 
-/// Reads a line of a list of faults in the circuit at the start: its fault, or None exactly where it
+/// Reads a line of a list of faults in the circuit at the start: its fault, or None exactly if it
 /// is no longer than a line may be and has no words or is a comment.
 ///
 /// A fault is `open K` or `closed K`, for a transistor's number, or `zero NAME` or `one NAME`, for a

@@ -14,10 +14,10 @@ use std::alloc::Global;
 use ternary::{NoMemory, Tern};
 
 /// The command that is obeyed in place of this one while a node is stuck at a state, or None exactly
-/// where nothing is.
+/// if nothing is.
 ///
 /// Each letter that `set` or `clock` gives the node is replaced by the state at which it is stuck;
-/// each word that names it is taken out of `charge`, which does nothing where no word is left; and
+/// each word that names it is taken out of `charge`, which does nothing if no word is left; and
 /// `store` of it does nothing. Names are looked up in the circuit as it is at the command. All other
 /// words stay.
 pub fn masked(
@@ -58,7 +58,7 @@ fn masked_by_family(mask: &Mask<'_>, command: Command) -> Result<Option<Command>
     }
 }
 
-/// Reads a line of the script while a node is stuck: what `read_command` gives, masked. Where no node is
+/// Reads a line of the script while a node is stuck: what `read_command` gives, masked. If no node is
 /// stuck its command is taken as it is, and not copied.
 pub fn read_masked(
     alloc: Global,
@@ -111,6 +111,7 @@ fn masked_give(mask: &Mask<'_>, give: Give) -> Result<Option<Give>, NoMemory>
             Ok(Some(Give::Set(list)))
         }
         Give::Charge(list) => masked_charge(mask, &list),
+        Give::Back(name) => Ok(Some(Give::Back(name))),
     }
 }
 

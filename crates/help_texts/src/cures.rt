@@ -9,11 +9,11 @@ use crate::finding::text_of;
 ///
 /// Each `{}` stands for the word concerned. For N1, N2, S1, S2, S3, P1, P2 and P3 it is the first word
 /// of the line; for N3 the format, for N5 the word that begins with `caps:`; for E1, E3, S6 and S7 the
-/// node's name as the line has it, for E6 the second name; for E2 and S5 the word in the place of the
-/// number, for S4 that in the place of the assignment or the kind; for E4 and E5 the strength and the
-/// size; for G1 and G2 the name that the refusal has; for P4 to P8 the subcircuit's name, for P10 the
-/// model's. The others have none.
-pub const CURES: [(&str, &str); 40] = [
+/// node's name as the line has it, for E6 the second name; for S16 the name; for E2 and S5 the word in
+/// the place of the number, for S4 that in the place of the assignment or the kind; for E4 and E5 the
+/// strength and the size; for G1 and G2 the name that the refusal has; for P4 to P8 the subcircuit's
+/// name, for P10 the model's. The others have none.
+pub const CURES: [(&str, &str); 42] = [
     (
         "L1 LineTooLong",
         "the line has more than 65,536 bytes; write it as several shorter ones",
@@ -117,6 +117,14 @@ pub const CURES: [(&str, &str); 40] = [
     (
         "S11 TooLong",
         "the script has more than 67,108,864 bytes; use 'cycle' for what repeats, or cut it in two",
+    ),
+    (
+        "S15 TooManySaves",
+        "64 other names keep states; save under one of these",
+    ),
+    (
+        "S16 NoSave",
+        "nothing is kept under '{}'; put a line 'save {}' before this one",
     ),
     (
         "F1 BadFault",

@@ -24,6 +24,8 @@ A script has a command on each line; a line that begins with | is a comment.
   input, store     make nodes inputs; make a node a storage node of a size
   set, charge      put 0, 1 or X on inputs; put it on storage nodes
   watch, expect    show nodes in each printed line; compare their states
+  show             print the states of nodes
+  save, back       keep all states under a name; give them back
   step, phase      one unit step; steps until nothing changes
   limit            how long a phase may be before what still moves becomes X
   clock, cycle     the letters of clocks; run through them N times

@@ -6,7 +6,7 @@ ghost use Rattle.help_texts.specs.Texts as spec;
 use crate::finding::text_of;
 
 /// Each request and each command of a script with its form, what it does, and what it is refused for.
-pub const TOPICS: [(&str, &str); 31] = [
+pub const TOPICS: [(&str, &str); 34] = [
     (
         "sim",
         "cosmos sim NET SCRIPT
@@ -69,8 +69,9 @@ Runs SCRIPT in L columns at once, L from 1 to 64. In 'set' and 'charge' a value
 is one letter for all columns, or L letters, the first for the first column:
 with L = 3 'set a=01X'. Each line has the number of its column before it; the
 first lines of all columns come first, then the second ones.
-Refused are 'expect', 'report' and 'keep' (S1 BadCommand), and a value of
-another number of letters (S4 BadValue); all else is as in 'sim'.
+Refused are 'expect', 'show', 'save', 'back', 'report' and 'keep'
+(S1 BadCommand), and a value of another number of letters (S4 BadValue); all
+else is as in 'sim'.
 ",
     ),
     (
@@ -257,6 +258,32 @@ Compares nodes with states; V is 0, 1, X or x. Each that differs prints a line,
 for nothing, and 'batch' has no 'expect'.
 Refused: S2 FewWords, S4 BadValue for a word that is no assignment;
 E1 UnknownNode.
+",
+    ),
+    (
+        "show",
+        "show NAME..
+Prints a line for each name, 'show out 0': the present state of its node. It
+builds nothing and changes nothing. In 'why', 'faults' and 'large' its lines
+aren't printed, and 'batch' has no 'show'.
+Refused: S2 FewWords; E1 UnknownNode.
+",
+    ),
+    (
+        "save",
+        "save NAME
+Keeps the present states of all nodes under NAME, any word, for 'back NAME'. It
+takes the place of what NAME kept. 'batch' has no 'save'.
+Refused: S2 FewWords, S3 ManyWords; S15 TooManySaves if 64 other names are kept.
+",
+    ),
+    (
+        "back",
+        "back NAME
+Gives every node that was there at 'save NAME', inputs too, the state that was
+kept; nodes made since keep theirs, and limits, clocks, the watch list, the
+circuit and counts stay. 'batch' has no 'back'.
+Refused: S2 FewWords, S3 ManyWords; S16 NoSave if NAME keeps nothing.
 ",
     ),
     (

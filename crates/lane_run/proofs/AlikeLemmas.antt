@@ -5,12 +5,12 @@ use Rattle.group_text.specs.Texts.{GroupTextData}
 use Rattle.circuit_texts.specs.Building.{HasTexts}
 use Rattle.script_lang.specs.declared.command.Command.TheVariants as family
 use Rattle.script_lang.specs.declared.command.Setup.{Setup}
-use Rattle.script_lang.specs.declared.command.Setup.TheVariants.{Watch}
+use Rattle.script_lang.specs.declared.command.Setup.TheVariants.{Watch, Save}
 use Rattle.script_lang.specs.declared.command.Run.{Run}
 use Rattle.script_lang.specs.declared.command.Run.TheVariants.{Step, Phase, Cycle, Report}
 use Rattle.lane_script.specs.declared.command.LaneCommand.{LaneCommand}
 use Rattle.lane_script.specs.declared.command.LaneCommand.TheVariants.{Values, Shared}
-use Rattle.lane_script.specs.Commands.{in_column}
+use Rattle.lane_script.specs.Commands.{in_column, IsSharedSetup}
 use Rattle.lane_script.specs.Forms.{IsFormed}
 use Rattle.session_meaning.specs.Sessions.{SessionData, places_of}
 use Rattle.session_meaning.specs.Refusals.{refusal_of}
@@ -53,10 +53,11 @@ beats_count [] session new lines (same, none) = ap less_states same
 beats_count (place ∷ places) session new lines (mid, front, back, phase, beats, whole) =
     beats_count places mid new back beats ∙ ap (λ (s : SessionData). counted_on places (less_states s)) phase.moved
 
--- what is set for later commands is set beside the states
-set_less : (session : SessionData) (setup : Setup) → less_states (setup_after session setup) ≡ setup_after (less_states session) setup
-set_less session (Watch names) = refl
-set_less session other = refl
+-- what is set for later commands in columns is set beside the states
+set_less : (session : SessionData) (setup : Setup) → IsSharedSetup setup → less_states (setup_after session setup) ≡ setup_after (less_states session) setup
+set_less session (Watch names) shared = refl
+set_less session (Save name) shared = absurd shared
+set_less session other shared = refl
 
 -- steps and reports keep sessions alike
 alike-run : (run : Run) (one two after later : SessionData) (lines more : List Line) → AreAlike one two → RunEffect one run after lines →
@@ -80,7 +81,8 @@ alike-effect lanes (Shared (family.Edit edit)) formed lane other one two after l
     kept_alike (λ s. record s { circuit = circuit_after s.circuit edit }) one two after later alike (ap less_states first.0) (ap less_states second.0)
 alike-effect lanes (Shared (family.Give give)) formed lane other one two after later lines more alike first second = absurd (formed.1)
 alike-effect lanes (Shared (family.Setup setup)) formed lane other one two after later lines more alike first second =
-    kept_alike (λ s. setup_after s setup) one two after later alike (ap less_states first.0 ∙ set_less one setup) (ap less_states second.0 ∙ set_less two setup)
+    kept_alike (λ s. setup_after s setup) one two after later alike (ap less_states first.0 ∙ set_less one setup formed.1)
+    (ap less_states second.0 ∙ set_less two setup formed.1)
 alike-effect lanes (Shared (family.Run run)) formed lane other one two after later lines more alike first second =
     alike-run run one two after later lines more alike first second
 alike-effect lanes (Shared (family.Tell tell)) formed lane other one two after later lines more alike first second = absurd (formed.1)

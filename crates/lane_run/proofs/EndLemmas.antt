@@ -103,7 +103,7 @@ module _ (lanes : ℕ) (columns : ℕ → SessionData) (are : AreReady lanes col
                 (subst (λ (does : Bool). BuildsIf does (columns lane) performs.mid texts) (none lane) performs.prepares).1 performs
           ]
 
-  -- one that builds, where the circuit has texts
+  -- one that builds, if the circuit has texts
   built_end : builds (in_column 0 command) ≡ true → refusal_of (columns 0) (in_column 0 command) ≡ None → (texts : List GroupTextData) → HasTexts (columns 0).circuit.graph texts →
       EndsTogether lanes columns command
   built_end building allowed texts has = performed (new_texts (columns 0).kept texts) each

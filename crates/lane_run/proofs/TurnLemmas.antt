@@ -40,7 +40,7 @@ takes_turn cut line command old new before after asked told refusals now (Err No
 takes_turn cut line command old new before after asked told refusals now (Err NoMemory) asks (inr (begins, more)) =
     (inr (record { command = command; asks = asks; begins = begins }), inr more)
 
--- a line that can't be read is refused in each column, where its fault has a code
+-- a line that can't be read is refused in each column, if its fault has a code
 pub are_unread : (lanes : ℕ) (cut : Option ℕ) (columns : ℕ → SessionData) (line : ℕ × List ℕ) (fault : ScriptFault) (code : FaultCode) → is_cut cut line.0 ≡ false →
     (fault ≡ script.NoMemory) ⊎ ((lane : ℕ) → lane < lanes → column_reading_of lanes lane line.1 ≡ Err fault) → script_code fault ≡ Some code →
     AreRefused lanes cut columns line (plain_cause code)

@@ -4,12 +4,12 @@ use Rattle.std.specs.Prelude.{codes, bytes_eq}
 use Rattle.std.proofs.lemmas.Slice.Eq.{bytes_eq-Decides}
 use Rattle.script_lang.specs.declared.command.Command.{Command}
 use Rattle.script_lang.specs.declared.command.Command.TheVariants as family
-use Rattle.script_lang.specs.declared.command.Give.TheVariants.{Set, Charge}
+use Rattle.script_lang.specs.declared.command.Give.TheVariants.{Set, Charge, Back}
 use Rattle.script_lang.specs.declared.command.Setup.{Setup}
-use Rattle.script_lang.specs.declared.command.Setup.TheVariants.{Keep}
+use Rattle.script_lang.specs.declared.command.Setup.TheVariants.{Keep, Save}
 use Rattle.script_lang.specs.declared.command.Run.{Run}
 use Rattle.script_lang.specs.declared.command.Run.TheVariants.{Report}
-use Rattle.script_lang.specs.declared.command.Tell.TheVariants.{Expect}
+use Rattle.script_lang.specs.declared.command.Tell.TheVariants.{Expect, Show}
 use Rattle.script_lang.specs.Commands.{reading_of_words, word_of, word_of_run, word_of_setup}
 use Rattle.script_lang.proofs.VerbLemmas.{first_word}
 use Rattle.lane_script.specs.declared.command.ValueCommand.TheVariants as value
@@ -48,6 +48,7 @@ shared_words word words made other is = by made (first_word word words made is)
   where
     setup_shared : (setup : Setup) → word ≡ word_of_setup setup → IsSharedSetup setup
     setup_shared (Keep number) is = left_out word (codes "keep") is refl other.out
+    setup_shared (Save name) is = left_out word (codes "save") is refl other.out
     setup_shared setup is = tt
 
     run_shared : (run : Run) → word ≡ word_of_run run → IsSharedRun run
@@ -58,6 +59,8 @@ shared_words word words made other is = by made (first_word word words made is)
     by (family.Edit edit) is = tt
     by (family.Give (Set list)) is = not_itself (codes "set") (ap (λ (text : List ℕ). bytes_eq text (codes "set")) (sym is) ∙ other.set)
     by (family.Give (Charge list)) is = not_itself (codes "charge") (ap (λ (text : List ℕ). bytes_eq text (codes "charge")) (sym is) ∙ other.charge)
+    by (family.Give (Back name)) is = left_out word (codes "back") is refl other.out
     by (family.Setup setup) is = setup_shared setup is
     by (family.Run run) is = run_shared run is
     by (family.Tell (Expect list)) is = left_out word (codes "expect") is refl other.out
+    by (family.Tell (Show names)) is = left_out word (codes "show") is refl other.out

@@ -20,7 +20,7 @@ use Rattle.lane_script.specs.Columns.{parts_in, word_in}
 use Rattle.lane_script.specs.Commands.{state_in, value_in}
 use Rattle.lane_script.specs.Values.{are_fit, lane_value_of, values_given}
 
--- what is made of the front and the rest, where both are there
+-- what is made of the front and the rest, if both are there
 abbrev joined : {X : Type 0} → Option X → Option (List X) → Option (List X)
 joined first rest = option_and_then (λ x. option_map (λ xs. x ∷ xs) rest) first
 

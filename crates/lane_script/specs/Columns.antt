@@ -18,13 +18,15 @@ gives_values verb = bytes_eq verb (codes "set") || bytes_eq verb (codes "charge"
 
 -- a script of columns has no such command
 abbrev pub is_left_out : List ℕ → Bool
-is_left_out verb = bytes_eq verb (codes "expect") || (bytes_eq verb (codes "report") || bytes_eq verb (codes "keep"))
+is_left_out verb =
+    bytes_eq verb (codes "expect") || bytes_eq verb (codes "show") || bytes_eq verb (codes "save") || bytes_eq verb (codes "back")
+    || bytes_eq verb (codes "report") || bytes_eq verb (codes "keep")
 
 -- letters of states, one for each column
 abbrev pub are_of_columns : ℕ → List ℕ → Bool
 are_of_columns lanes letters = is_some (states_of letters) && (length letters == lanes)
 
--- a word with these parts in a column: where its letters are those of the columns, the name with the letter of this one
+-- a word with these parts in a column: if its letters are those of the columns, the name with the letter of this one
 abbrev pub parts_in : ℕ → ℕ → List ℕ → List ℕ × List ℕ → List ℕ
 parts_in lanes lane word parts = if are_of_columns lanes parts.1 then parts.0 ++ equals ∷ slice_index parts.1 lane ∷ [] else word
 

@@ -7,7 +7,7 @@ use Rattle.script_lang.specs.declared.command.Command.TheVariants as family
 use Rattle.script_lang.specs.declared.command.Give.{Give}
 use Rattle.script_lang.specs.declared.command.Give.TheVariants as plain
 use Rattle.script_lang.specs.declared.command.Setup.{Setup}
-use Rattle.script_lang.specs.declared.command.Setup.TheVariants.{Keep}
+use Rattle.script_lang.specs.declared.command.Setup.TheVariants.{Keep, Save}
 use Rattle.script_lang.specs.declared.command.Run.{Run}
 use Rattle.script_lang.specs.declared.command.Run.TheVariants.{Report}
 use Rattle.lane_script.specs.declared.command.ValueCommand.{ValueCommand}
@@ -33,9 +33,10 @@ abbrev pub in_column : ℕ → LaneCommand → Command
 in_column lane (Values command list) = family.Give (plain_of command (map (value_in lane) list))
 in_column lane (Shared command) = command
 
--- columns are alike in what they have set: no bound on what is kept
+-- columns are alike in what they have set: no bound on what is kept, and no states are kept
 abbrev pub IsSharedSetup : Setup → Type 0
 IsSharedSetup (Keep number) = ⊥
+IsSharedSetup (Save name) = ⊥
 IsSharedSetup other = Unit {0}
 
 -- and in what has the circuit built: no report

@@ -12,12 +12,12 @@ use script_lang::{ClockList, Name, ScriptFault, StateList, beats, read_command};
 use std::alloc::Global;
 use ternary::NoMemory;
 
-/// Reads a line of a script for so many columns: its command, or None exactly where it is no longer than
+/// Reads a line of a script for so many columns: its command, or None exactly if it is no longer than
 /// a line may be and has no words or is a comment.
 ///
 /// The refusals are those of a plain script's line, in their order, in each column alike. A value of
-/// `set` and `charge` has one letter, or one for each column, and else is a bad value; `expect`, `report`
-/// and `keep` are no commands here.
+/// `set` and `charge` has one letter, or one for each column, and else is a bad value; `expect`, `show`,
+/// `save`, `back`, `report` and `keep` are no commands here.
 pub fn read_lane_command(
     alloc: Global,
     bytes: &[u8],
@@ -69,7 +69,7 @@ fn sort_of(verb: &[u8]) -> Sort
     match verb {
         b"set" => Sort::Valued(ValueCommand::Set),
         b"charge" => Sort::Valued(ValueCommand::Charge),
-        b"expect" | b"report" | b"keep" => Sort::LeftOut,
+        b"expect" | b"show" | b"save" | b"back" | b"report" | b"keep" => Sort::LeftOut,
         _ => Sort::Shared,
     }
 }
@@ -89,7 +89,7 @@ fn read_values(
     }
 }
 
-// All words as values, or None where one is none.
+// All words as values, or None if one is none.
 fn all_values(alloc: Global, words: Words<'_>, lanes: u32) -> Result<Option<ClockList>, NoMemory>
     ensures { IfOk result (λ found. found ≡ all_of (lane_value_of lanes) words.entry) }
 {
@@ -104,7 +104,7 @@ fn all_values(alloc: Global, words: Words<'_>, lanes: u32) -> Result<Option<Cloc
 }
 
 // The name and the states of a word `name=v` or `name=vvv..` with a letter for each column, or None
-// where the word is no such one.
+// if the word is no such one.
 fn lane_value(alloc: Global, word: &[u8], lanes: u32) -> Result<Option<(Name, StateList)>, NoMemory>
     ensures { IfOk result (λ found. found ≡ lane_value_of lanes word.now) }
 {

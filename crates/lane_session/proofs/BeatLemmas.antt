@@ -50,7 +50,7 @@ together-joined lanes start now next done more before mid after lines text so_fa
   grew = grew ∙ ap (λ known. append_known known text) so_far.grew ∙ append_known-append before so_far.text text;
 }
 
--- phases at a front of more places, after those that are done, are phases at a front of all
+-- phases at a prefix of more places, after those that are done, are phases at a prefix of all
 front_later : (start now last : SessionData) (all done more rest : List ℕ) (lines : List Line) → all ≡ done ++ (more ++ rest) →
     AreBeats start done now lines → FrontDone more now last → FrontDone all start last
 front_later start now last all done more rest lines split beats front = record {
@@ -66,7 +66,7 @@ front_later start now last all done more rest lines split beats front = record {
 record Left (rest : List ℕ) (next : SessionData) (end : SessionData × List Line) : Type 0 where
   pub beats : AreBeats next rest end.0 end.1
 
--- a part of the rows of more phases was sent, and a front of them done in each column: it is a part of the rows of all
+-- a part of the rows of more phases was sent, and a prefix of them done in each column: it is a part of the rows of all
 pub together-part : (lanes : ℕ) (start now next last : ℕ → SessionData) (all done more rest : List ℕ) (before mid after : Option (List ℕ)) (lines : ℕ → List Line) (text : List ℕ) →
     ((lane : ℕ) → lane < lanes → IsReady (start lane)) → all ≡ done ++ (more ++ rest) → BeatsDoneTogether lanes start now done before mid →
     ((lane : ℕ) → lane < lanes → AreBeats (now lane) more (next lane) (lines lane)) → Interleaves lanes lines text → WritesPart mid after text →

@@ -38,6 +38,7 @@ use Rattle.lane_session.specs.LaneSessions.{session_in, Stands}
 use Rattle.lane_session.specs.Stages.{HeldLanes, StageData, states_in, SameStates, IsSoundState, StandFirst, Serves, FitsIn, MovesTogether, KeepsFit, ReadiedTogether, ReadiesTogether, TooLargeTogether, StepTaken, AreSettled, BeatPut, with_columns, one_column, AreInside, Shares, QuietlyTogether}
 use Rattle.lane_session.proofs.EditLemmas.{edit_does}
 use Rattle.lane_session.proofs.BuildLemmas.{length-used_more}
+use Rattle.lane_session.proofs.RefusalLemmas.{AsksNoSave, edit-asks, values-ask}
 use Rattle.lane_session.proofs.SharedLemmas.{effect-edit, effect-values, refusal-shared}
 use Rattle.lane_session.proofs.ColumnStates.{data_of, AreSound-same, sound_after, done_quietly}
 
@@ -66,19 +67,19 @@ module _ (plain after : SessionData) (is : IsSession plain) (stage mid new : Sta
       (effect-edit plain after (states_in stage lane) count kept lane command edit shares.1)
 
   pub edit_quietly : QuietlyTogether (data_of plain stage count kept) (Shared command) (data_of after new count kept) (Ok tt)
-  edit_quietly = done_quietly plain is stage clocks limit kept count inside after new (Shared command) all_lanes shares.0 edited_effect
+  edit_quietly = done_quietly plain is stage clocks limit kept count inside after new (Shared command) all_lanes (λ lane. edit-asks command edit) shares.0 edited_effect
 
   pub edit_inside : new.machine ≡ None → AreInside after new clocks limit kept
   edit_inside none = record {
     clocks_are = inside.clocks_are ∙ sym (edit_does plain after command edit shares.1).clocks;
     limit_is = inside.limit_is ∙ sym (edit_does plain after command edit shares.1).limit;
-    sound = sound_after plain is stage clocks limit kept count inside after new (Shared command) all_lanes shares.0 edited_effect;
+    sound = sound_after plain is stage clocks limit kept count inside after new (Shared command) all_lanes (λ lane. edit-asks command edit) shares.0 edited_effect;
     machine = subst (λ (found : Option LaneData). IfSome found (Serves after.circuit.graph kept)) (sym none) tt;
   }
 
 -- ---- values
 
--- a machine that served serves still where it fits
+-- a machine that served serves still if it fits
 serves_still : (g : GraphData) (kept : List GroupTextData) (old new : Option LaneData) → KeepsFit g old new → IfSome old (Serves g kept) → IfSome new (Serves g kept)
 serves_still g kept None new none serves = subst (λ (found : Option LaneData). IfSome found (Serves g kept)) (sym none) tt
 serves_still g kept (Some machine) new (next, there, fits) serves =
@@ -108,13 +109,13 @@ module _ (plain after : SessionData) (is : IsSession plain) (stage new : StageDa
       (sym (states lane within ∙ ap (λ (c : CircuitData). assigned c (states_in stage lane) (map (value_in lane) list)) circuit_is)) (given lane)
 
   pub given_quietly : QuietlyTogether (data_of plain stage count kept) (Values kind list) (data_of after new count kept) (Ok tt)
-  given_quietly = done_quietly plain is stage clocks limit kept count inside after new (Values kind list) lanes shares.0 given_effect
+  given_quietly = done_quietly plain is stage clocks limit kept count inside after new (Values kind list) lanes (values-ask kind list) shares.0 given_effect
 
   pub given_inside : KeepsFit after.circuit.graph stage.machine new.machine → AreInside after new clocks limit kept
   given_inside keeps = record {
     clocks_are = inside.clocks_are ∙ sym (ap (λ (s : SessionData). s.clocks) shared_is.1);
     limit_is = inside.limit_is ∙ sym (ap (λ (s : SessionData). s.limit) shared_is.1);
-    sound = sound_after plain is stage clocks limit kept count inside after new (Values kind list) lanes shares.0 given_effect;
+    sound = sound_after plain is stage clocks limit kept count inside after new (Values kind list) lanes (values-ask kind list) shares.0 given_effect;
     machine = serves_still after.circuit.graph kept stage.machine new.machine keeps
         (subst (λ (c : CircuitData). IfSome stage.machine (Serves c.graph kept)) (sym circuit_is) inside.machine);
   }
@@ -123,21 +124,21 @@ module _ (plain after : SessionData) (is : IsSession plain) (stage new : StageDa
 
 -- a command that the plain session didn't do is refused so in each column
 pub unshared : (plain after : SessionData) (stage new : StageData) (kept : List GroupTextData) (count : ℕ) (command : LaneCommand) (fault : ApplyFault) → SameStates stage new →
-    Shares plain (in_column 0 command) after (Err fault) → QuietlyTogether (data_of plain stage count kept) command (data_of after new count kept) (Err fault)
-unshared plain after stage new kept count command (Refused refusal) same (cause, still) = (
-  λ lane within. refusal-shared plain after (states_in stage lane) count kept lane command ∙ cause,
+    ((lane : ℕ) → AsksNoSave (in_column lane command)) → Shares plain (in_column 0 command) after (Err fault) → QuietlyTogether (data_of plain stage count kept) command (data_of after new count kept) (Err fault)
+unshared plain after stage new kept count command (Refused refusal) same none (cause, still) = (
+  λ lane within. refusal-shared plain after (states_in stage lane) count kept lane command (none lane) ∙ cause,
   record {
     states = same.each;
     rest = ap₂ (λ (shared : SessionData) (lanes : ℕ). with_columns shared (record new { lanes = lanes }) count kept) still same.lanes;
   },
 )
-unshared plain after stage new kept count command (GroupNodes node many) same none = absurd none
-unshared plain after stage new kept count command (GroupSwitches node many) same none = absurd none
-unshared plain after stage new kept count command NoMemory same still = record {
+unshared plain after stage new kept count command (GroupNodes node many) same none never = absurd never
+unshared plain after stage new kept count command (GroupSwitches node many) same none never = absurd never
+unshared plain after stage new kept count command NoMemory same none still = record {
   states = same.each;
   rest = ap₂ (λ (shared : SessionData) (lanes : ℕ). with_columns shared (record new { lanes = lanes }) count kept) still same.lanes;
 }
-unshared plain after stage new kept count command WriteFault same none = absurd none
+unshared plain after stage new kept count command WriteFault same none never = absurd never
 
 -- what isn't done leaves the plain session's circuit, clocks and limit
 pub still_shared : (plain after : SessionData) (command : Command) (fault : ApplyFault) → Shares plain command after (Err fault) →
@@ -181,7 +182,7 @@ built_inside plain stage new clocks limit kept more inside same serves = record 
   machine = serves;
 }
 
--- where there is no machine none serves
+-- if there is no machine none serves
 pub none_serves : (g : GraphData) (kept : List GroupTextData) (found : Option LaneData) → found ≡ None → IfSome found (Serves g kept)
 none_serves g kept found none = subst (λ (f : Option LaneData). IfSome f (Serves g kept)) (sym none) tt
 

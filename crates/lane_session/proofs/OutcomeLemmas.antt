@@ -110,7 +110,7 @@ outgrown_together old mid command known asked told fault building allowed large 
   keeps = record { stands = large.stands; unwritten = refl; unasked = large.unasked };
 }
 
--- a build that was refused, or found want of memory, ends the command
+-- a build that was refused, or ran out of memory, ends the command
 pub unready_obeys : (old mid : HeldLanes) (command : LaneCommand) (known : Option (List ℕ)) (asked told : List GroupTextData) (refusals : ℕ) (fault : ApplyFault) →
     builds (in_column 0 command) ≡ true → ((lane : ℕ) → lane < old.core.lanes → refusal_of (session_in old.core lane) (in_column lane command) ≡ None) →
     ReadiesTogether old mid asked told (Err fault) → ObeysTogether old.core command mid.core known known asked told refusals refusals (Err fault)
@@ -211,7 +211,7 @@ module _ (old mid : HeldLanes) (command : LaneCommand) (asked told : List GroupT
     sent_obeys (Err WriteFault) lines text effect part rows sent cause counted = (begun_together new before after (session_in new) lines text effect rows sent part, counted)
     sent_obeys (Err NoMemory) lines text effect part rows sent cause counted = inr (begun_together new before after (session_in new) lines text effect rows sent part, counted)
 
--- a front of the phases of a cycle was done in each column after a build
+-- a prefix of the phases of a cycle was done in each column after a build
 cycle_begun : (old mid : HeldLanes) (times : ℕ) (asked told : List GroupTextData) (new : LaneSessionData) (before after : Option (List ℕ)) →
     ((lane : ℕ) → lane < old.core.lanes → refusal_of (session_in old.core lane) (family.Run (run.Cycle times)) ≡ None) → ReadiedTogether old mid asked told →
     BeatsBegunTogether old.core.lanes (places_in (places_of mid.core.clocks) times) (session_in mid.core) (session_in new) before after →
@@ -219,7 +219,7 @@ cycle_begun : (old mid : HeldLanes) (times : ℕ) (asked told : List GroupTextDa
 cycle_begun old mid times asked told new before after allowed ready begun =
     begun_together old mid (Shared (family.Run (run.Cycle times))) asked told refl allowed ready new before after begun.end begun.lines begun.text begun.beats begun.rows begun.written begun.done
 
--- phases at the places of a cycle were done in each column after a build, or a front of them: the cycle is obeyed
+-- phases at the places of a cycle were done in each column after a build, or a prefix of them: the cycle is obeyed
 pub cycle_obeys : (old mid : HeldLanes) (times : ℕ) (asked told : List GroupTextData) (new : LaneSessionData) (before after : Option (List ℕ)) (refusals now : ℕ)
     (result : Result (Unit {0}) ApplyFault) →
     ((lane : ℕ) → lane < old.core.lanes → refusal_of (session_in old.core lane) (family.Run (run.Cycle times)) ≡ None) → ReadiedTogether old mid asked told →

@@ -1,5 +1,5 @@
 -- Commands that take no step: what the plain session does of them, and what the parts of a session of columns are then.
-use Rattle.std.proofs.Common.{◌≡◌, ℕ, suc, ◌+◌, ◌-◌, ◌<◌, ◌≤◌, Bool, true, false, List, [], ◌∷◌, length, map, replicate, All, Option, None, Result, Ok, Err, IfSome, refl, sym, ap, subst, ◌∙◌, inl, inr, arith}
+use Rattle.std.proofs.Common.{◌≡◌, ℕ, suc, ◌+◌, ◌-◌, ◌<◌, ◌≤◌, Bool, true, false, List, [], ◌∷◌, length, map, replicate, All, None, Result, Ok, Err, IfSome, refl, sym, ap, subst, ◌∙◌, inl, inr, arith}
 use Rattle.std.specs.Prelude.{◌⊎◌}
 use Rattle.std.proofs.lemmas.List.Elements.{All-nil, All-cons, All-weaker}
 use Rattle.ternary.specs.declared.tern.Tern.{Tern}
@@ -34,6 +34,7 @@ use Rattle.lane_session.specs.LaneSessions.{LaneSessionData, session_in}
 use Rattle.lane_session.specs.Stages.{HeldLanes, StageData, states_in, AreSound, IsSoundState, Serves, AreInside, NamesFree, Shares, QuietlyTogether, one_column, with_columns, is_silent}
 use Rattle.lane_session.proofs.SharedLemmas.{effect-watch, effect-limit, effect-clock}
 use Rattle.lane_session.proofs.EditLemmas.{edit_does}
+use Rattle.lane_session.proofs.RefusalLemmas.{AsksNoSave}
 use Rattle.lane_session.proofs.InsideLemmas.{unshared, unshared_inside, none_serves}
 use Rattle.lane_session.proofs.ColumnStates.{done_quietly}
 use Rattle.lane_session.proofs.ColumnStates.{data_of, same_itself}
@@ -159,36 +160,36 @@ module _ (plain after : SessionData) (is : IsSession plain) (stage : StageData) 
   abbrev Came : Command → ℕ → Type 0
   Came c lane = Effect (one_column plain (states_in stage lane) count kept) c (one_column after (states_in stage lane) count kept) []
 
-  -- where it has its effect in each column, it comes to that
-  came : (result : Result (Unit {0}) ApplyFault) → (Effect plain command after [] → (lane : ℕ) → Came command lane) →
+  -- if it has its effect in each column, it comes to that
+  came : (result : Result (Unit {0}) ApplyFault) → AsksNoSave command → (Effect plain command after [] → (lane : ℕ) → Came command lane) →
       Shares plain command after result → Comes result
-  came (Ok done) effect shares =
-      done_quietly plain is stage clocks limit kept count inside after stage (Shared command) refl shares.0 (λ lane within. effect shares.1 lane)
-  came (Err fault) effect shares = unshared plain after stage stage kept count (Shared command) fault (same_itself stage) shares
+  came (Ok done) none effect shares =
+      done_quietly plain is stage clocks limit kept count inside after stage (Shared command) refl (λ lane. none) shares.0 (λ lane within. effect shares.1 lane)
+  came (Err fault) none effect shares = unshared plain after stage stage kept count (Shared command) fault (same_itself stage) (λ lane. none) shares
 
   -- and so does one that is this command, in the session that is held
   module _ (held : HeldLanes) (view : held_of plain stage kept count ≡ held) where
-    came_as : (same : Command) → command ≡ same → (Effect plain same after [] → (lane : ℕ) → Came same lane) →
+    came_as : (same : Command) → command ≡ same → AsksNoSave same → (Effect plain same after [] → (lane : ℕ) → Came same lane) →
         (result : Result (Unit {0}) ApplyFault) → Shares plain command after result →
         QuietlyTogether held.core (Shared command) (data_of after stage count kept) result
-    came_as same is effect result shares =
+    came_as same is none effect result shares =
         subst (λ (s : HeldLanes). QuietlyTogether s.core (Shared command) (data_of after stage count kept) result) view
-        (came result
+        (came result (subst AsksNoSave (sym is) none)
         (λ done lane.
         subst (λ (c : Command). Came c lane) (sym is) (effect (subst (λ (c : Command). Effect plain c after []) is done) lane))
         shares)
 
     pub watch_quietly : (names : List (List ℕ)) → command ≡ family.Setup (Watch names) → (result : Result (Unit {0}) ApplyFault) →
         Shares plain command after result → QuietlyTogether held.core (Shared command) (data_of after stage count kept) result
-    watch_quietly names watch = came_as (family.Setup (Watch names)) watch (λ effect lane. effect-watch plain after (states_in stage lane) count kept lane names effect)
+    watch_quietly names watch = came_as (family.Setup (Watch names)) watch tt (λ effect lane. effect-watch plain after (states_in stage lane) count kept lane names effect)
 
     pub limit_quietly : (number : ℕ) → command ≡ family.Setup (Limit number) → (result : Result (Unit {0}) ApplyFault) →
         Shares plain command after result → QuietlyTogether held.core (Shared command) (data_of after stage count kept) result
-    limit_quietly number limited = came_as (family.Setup (Limit number)) limited (λ effect lane. effect-limit plain after (states_in stage lane) count kept lane number effect)
+    limit_quietly number limited = came_as (family.Setup (Limit number)) limited tt (λ effect lane. effect-limit plain after (states_in stage lane) count kept lane number effect)
 
     pub clock_quietly : (list : List (List ℕ × List Tern)) → command ≡ family.Setup (Clock list) → (result : Result (Unit {0}) ApplyFault) →
         Shares plain command after result → QuietlyTogether held.core (Shared command) (data_of after stage count kept) result
-    clock_quietly list clock = came_as (family.Setup (Clock list)) clock (λ effect lane. effect-clock plain after (states_in stage lane) count kept lane list effect)
+    clock_quietly list clock = came_as (family.Setup (Clock list)) clock tt (λ effect lane. effect-clock plain after (states_in stage lane) count kept lane list effect)
 
   -- and the parts are in step after each of them
   pub watch_inside : (names : List (List ℕ)) → command ≡ family.Setup (Watch names) → (result : Result (Unit {0}) ApplyFault) → Shares plain command after result →
@@ -208,11 +209,11 @@ module _ (plain after : SessionData) (is : IsSession plain) (stage : StageData) 
 
 -- a command that the plain session didn't do leaves the columns as they are
 pub unmoved_quietly : (held : HeldLanes) (plain after : SessionData) (stage : StageData) (kept : List GroupTextData) (count : ℕ) (command : LaneCommand) (fault : ApplyFault) →
-    held_of plain stage kept count ≡ held → Shares plain (in_column 0 command) after (Err fault) →
+    held_of plain stage kept count ≡ held → ((lane : ℕ) → AsksNoSave (in_column lane command)) → Shares plain (in_column 0 command) after (Err fault) →
     QuietlyTogether held.core command (data_of after stage count kept) (Err fault)
-unmoved_quietly held plain after stage kept count command fault view shares =
+unmoved_quietly held plain after stage kept count command fault view none shares =
     subst (λ (s : HeldLanes). QuietlyTogether s.core command (data_of after stage count kept) (Err fault)) view
-    (unshared plain after stage stage kept count command fault (same_itself stage) shares)
+    (unshared plain after stage stage kept count command fault (same_itself stage) none shares)
 
 -- ---- the start
 

@@ -21,7 +21,7 @@ use Rattle.session_meaning.specs.Effects.{Effect, assigned}
 use Rattle.session_meaning.specs.Outcomes.{Does}
 use Rattle.machine_laws.specs.Editing.{with_new_nodes}
 use Rattle.lane_session.specs.Stages.{one_column}
-use Rattle.lane_session.proofs.RefusalLemmas.{refused_alike}
+use Rattle.lane_session.proofs.RefusalLemmas.{AsksNoSave, beside, refused_alike, saved_alike}
 
 module _ (plain after : SessionData) (state : List Tern) (count : ℕ) (kept : List GroupTextData) (lane : ℕ) where
   abbrev old : SessionData
@@ -58,10 +58,13 @@ module _ (plain after : SessionData) (state : List Tern) (count : ℕ) (kept : L
   effect-clock list effect = (ap (λ (shared : SessionData). one_column shared state count kept) effect.0, refl)
 
   -- the column's command is refused as the first column's is
-  pub refusal-shared : (command : LaneCommand) → refusal_of old (in_column lane command) ≡ refusal_of plain (in_column 0 command)
-  refusal-shared command = refused_alike plain state plain.limit count false None kept (raised 0 (length kept)) command lane 0
+  pub refusal-shared : (command : LaneCommand) → AsksNoSave (in_column lane command) →
+      refusal_of old (in_column lane command) ≡ refusal_of plain (in_column 0 command)
+  refusal-shared command none =
+      saved_alike (beside plain state plain.limit count false None kept (raised 0 (length kept))) [] (in_column lane command) none
+      ∙ refused_alike plain state plain.limit count false None kept (raised 0 (length kept)) command lane 0
 
   -- so the column does what its command says
-  pub does-shared : (command : LaneCommand) (new : SessionData) → refusal_of plain (in_column 0 command) ≡ None →
+  pub does-shared : (command : LaneCommand) (new : SessionData) → AsksNoSave (in_column lane command) → refusal_of plain (in_column 0 command) ≡ None →
       Effect old (in_column lane command) new [] → Does old (in_column lane command) new []
-  does-shared command new allowed effect = record { allowed = refusal-shared command ∙ allowed; effect = effect }
+  does-shared command new none allowed effect = record { allowed = refusal-shared command none ∙ allowed; effect = effect }

@@ -54,7 +54,7 @@ columns_readied old mid asked told ready is lane inside =
     let within : lane < old.core.lanes = subst (λ (n : ℕ). lane < n) (lanes_stand old.core mid.core kept ready.stands) inside in
     let here = is lane within in
     subst IsReady (sym (column_stands old.core mid.core kept ready.stands lane within))
-    (record { netlist = here.netlist; states = here.states; sound = here.sound; free = here.free })
+    (record { netlist = here.netlist; states = here.states; sound = here.sound; free = here.free; saved = here.saved })
 
 -- and the clocks' nodes are input nodes still
 pub inputs_readied : (old mid : HeldLanes) (asked told : List GroupTextData) → ReadiedTogether old mid asked told →

@@ -1,5 +1,5 @@
 -- The data of a session of columns: each column is the session of a plain script.
-use Rattle.std.specs.Prelude.{◌≡◌, ℕ, ◌<◌, ◌≤◌, false, List, length, None}
+use Rattle.std.specs.Prelude.{◌≡◌, ℕ, ◌<◌, ◌≤◌, false, List, [], length, None}
 use Rattle.ternary.specs.declared.tern.Tern.{Tern}
 use Rattle.ternary.specs.Counts.{raised}
 use Rattle.group_text.specs.Texts.{GroupTextData}
@@ -25,8 +25,8 @@ pub record LaneSessionData : Type 0 where
 abbrev pub states_of : LaneSessionData → ℕ → List Tern
 states_of session lane = column lane session.hi session.lo
 
--- the session of a plain script with these data: no expectation was missed, there is no bound on what is kept, and all of that was analysed
--- since the last report, since a script for columns has none of the three
+-- the session of a plain script with these data: no expectation was missed, no states are kept under names, there is no bound on the texts
+-- that are kept, and all of these were analysed since the last report, since a script for columns has no command for any of it
 abbrev pub script_session : CircuitData → List Tern → List ℕ → List ClockData → ℕ → ℕ → List GroupTextData → SessionData
 script_session circuit state watched clocks limit count kept = record {
   circuit = circuit;
@@ -36,6 +36,7 @@ script_session circuit state watched clocks limit count kept = record {
   limit = limit;
   count = count;
   missed = false;
+  saves = [];
   bound = None;
   kept = kept;
   fresh = raised 0 (length kept);

@@ -6,7 +6,6 @@ use Rattle.group_text.specs.Texts.{GroupTextData}
 use Rattle.circuit_texts.specs.declared.texts.BuildFault.{BuildFault}
 use Rattle.circuit_texts.specs.Sizes.{TellsTooLarge}
 use Rattle.lane_machine.specs.Building.{IsCutInColumns}
-use Rattle.script_lang.specs.declared.command.Command.{Command}
 use Rattle.lane_script.specs.declared.command.LaneCommand.{LaneCommand}
 use Rattle.lane_script.specs.Commands.{in_column}
 use Rattle.session_meaning.specs.declared.fault.Refusal.{Refusal}
@@ -54,7 +53,7 @@ pub record RefusesSizeTogether (old : LaneSessionData) (command : LaneCommand) (
   pub first : TellsTooLarge old.circuit.graph fault
   pub keeps : KeepsTogether old new before after asked told
 
--- all is as before, but that a front of the texts that a build analyses may be kept, or all of them, as a build keeps them
+-- all is as before, but that a prefix of the texts that a build analyses may be kept, or all of them, as a build keeps them
 pub record StaysTogether (old new : LaneSessionData) (before after : Option (List ℕ)) (asked told : List GroupTextData) : Type 0 where
   pub stands : Stands old new new.kept
   pub cut_off : IsCutInColumns old.circuit.graph None old.kept new.kept asked told

@@ -1,4 +1,4 @@
--- The states of all columns in words, and the machine that moves them, where there is one: what calls inside the session do to both.
+-- The states of all columns in words, and the machine that moves them, if there is one: what calls inside the session do to both.
 use Rattle.std.specs.Io.KnownBytes.{append_known}
 use Rattle.std.specs.Prelude.{◌≡◌, ℕ, ◌+◌, ◌-◌, ◌*◌, ◌<◌, ◌≤◌, Bool, List, [], ◌++◌, length, map, min, slice_index_or, Option, None, Some, Result, Ok, Err, IfSome, IfNone, is_some, true, false, vec_len, vec_capacity}
 use Rattle.ternary.specs.declared.tern.Tern.{Tern}
@@ -58,7 +58,7 @@ HasValuesBelow count states words = (lane : ℕ) → lane < count → HasValue l
 
 -- ---- the states and the machine
 
--- how many columns there are, both rails of each node's states, bit i for column i, the machine, where there is one, and for how many nodes
+-- how many columns there are, both rails of each node's states, bit i for column i, the machine, if there is one, and for how many nodes
 -- more there is room
 pub record StageData : Type 0 where
   pub lanes : ℕ
@@ -80,7 +80,7 @@ abbrev pub lo_held : Held → List ℕ
 lo_held (Still rails) = rails.lo.items
 lo_held (Built machine) = machine.lo
 
--- the machine, where there is one
+-- the machine, if there is one
 abbrev pub machine_held : Held → Option LaneData
 machine_held (Still rails) = None
 machine_held (Built machine) = Some machine
@@ -181,7 +181,7 @@ one_column plain state count kept = script_session plain.circuit state plain.wat
 abbrev pub NamesFree : CircuitData → List ℕ → Type 0
 NamesFree c name = (is_some (node_of c.names name) ≡ true) × (RAILS ≤ node_named c name)
 
--- a session of columns as calls inside it see it: its data, and the machine, where there is one
+-- a session of columns as calls inside it see it: its data, and the machine, if there is one
 pub record HeldLanes : Type 0 where
   pub core : LaneSessionData
   pub machine : Option LaneData
@@ -246,7 +246,7 @@ pub record TooLargeTogether (old new : LaneSessionData) (asked told : List Group
   pub stands : Stands old new old.kept
   pub unasked : told ≡ asked
 
--- a build found want of memory: all is as before, but that a front of the texts that it analyses may be kept, or all of them, as a build
+-- a build ran out of memory: all is as before, but that a prefix of the texts that it analyses may be kept, or all of them, as a build
 -- keeps them
 pub record CutOffTogether (old new : LaneSessionData) (asked told : List GroupTextData) : Type 0 where
   pub stands : Stands old new new.kept
@@ -314,7 +314,7 @@ pub record BeatsDoneTogether (lanes : ℕ) (start now : ℕ → SessionData) (do
 abbrev pub BeatsDoneInAll : LaneSessionData → LaneSessionData → List ℕ → Option (List ℕ) → Option (List ℕ) → Type 0
 BeatsDoneInAll start now done before after = BeatsDoneTogether start.lanes (session_in start) (session_in now) done before after
 
--- in each column the phases at a front of these places were done, and a part of the rows of all was sent, from the start
+-- in each column the phases at a prefix of these places were done, and a part of the rows of all was sent, from the start
 pub record BeatsBegunTogether (lanes : ℕ) (places : List ℕ) (start now : ℕ → SessionData) (before after : Option (List ℕ)) : Type 0 where
   pub end : ℕ → SessionData
   pub lines : ℕ → List Line
@@ -324,7 +324,7 @@ pub record BeatsBegunTogether (lanes : ℕ) (places : List ℕ) (start now : ℕ
   pub written : WritesPart before after text
   pub done : (lane : ℕ) → lane < lanes → FrontDone places (start lane) (now lane)
 
--- in each column the phases at these places were done and their rows sent, or those at a front of them and a part of the rows
+-- in each column the phases at these places were done and their rows sent, or those at a prefix of them and a part of the rows
 abbrev pub TakesBeatsTogether : ℕ → List ℕ → (ℕ → SessionData) → (ℕ → SessionData) → Option (List ℕ) → Option (List ℕ) → Result (Unit {0}) ApplyFault → Type 0
 TakesBeatsTogether lanes places old new before after (Ok _) = BeatsDoneTogether lanes old new places before after
 TakesBeatsTogether lanes places old new before after (Err fault) = BeatsBegunTogether lanes places old new before after

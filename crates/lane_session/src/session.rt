@@ -47,7 +47,7 @@ impl Model for LaneSession {
 }
 
 impl LaneSession {
-    /// A session at its start in each of so many columns, 1 to 64. At want of memory the circuit is dropped.
+    /// A session at its start in each of so many columns, 1 to 64. Out of memory the circuit is dropped.
     pub fn new(alloc: Global, circuit: Circuit, lanes: u32) -> Result<LaneSession, NoMemory>
         requires some { 1 ≤ lanes }
         requires few { lanes ≤ 64 }
@@ -94,8 +94,8 @@ impl LaneSession {
     /// once for all columns: the analyst is given each text of its groups that isn't kept, once, and its code is
     /// kept. The texts of its groups are the most recently used ones then; nothing is cut.
     ///
-    /// A fault of the sink ends the command: then a front of the lines was written, and each column is as after a
-    /// whole part of the command. Want of memory of the sink is alike. Want of memory of any other kind changes
+    /// A fault of the sink ends the command: then a prefix of the lines was written, and each column is as after a
+    /// whole part of the command. Lack of memory of the sink is alike. Lack of memory of any other kind changes
     /// nothing but what is kept: all memory is taken before the first unit step, a build last of all.
     pub fn apply<A: Analyst, S: Sink>(
         &mut self,

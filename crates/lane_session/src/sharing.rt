@@ -89,7 +89,7 @@ impl LaneSession {
             Setup::Watch(names) => self.watch(shared, names),
             Setup::Limit(number) => self.set_limit(shared, *number),
             Setup::Clock(list) => self.set_clocks(shared, list),
-            Setup::Keep(_) => unreachable!(),
+            Setup::Keep(_) | Setup::Save(_) => unreachable!(),
         }
     }
 

@@ -1,11 +1,10 @@
-//! The states of all columns, and the machine that moves them, where there is one.
+//! The states of all columns, and the machine that moves them, if there is one.
 
 ghost use Rattle.std.specs.Prelude.{List, ◌≡◌, ℕ, ◌+◌, ◌-◌, ◌<◌, ◌≤◌, ◌⊎◌, None, Some, Err, [], ◌∷◌, ◌++◌, length, replicate, slice_index_or, slice_set, vec_len, vec_capacity, IfOk, IfErr, IfSome, OnOk, OnErr};
 ghost use Rattle.ternary.specs.declared.tern.Tern.{Tern};
 ghost use Rattle.ternary.specs.declared.tern.Tern.TheVariants.{Zero, One, Unk};
 ghost use Rattle.path_meaning.specs.declared.TheConstants.{RAILS};
-ghost use Rattle.path_meaning.specs.Rails.{IsRailed};
-ghost use Rattle.path_meaning.specs.Step.{IsStep};
+ghost use Rattle.path_meaning.specs.Words.{IsRailed, IsStep};
 ghost use Rattle.oscillation_x.specs.declared.settling.Settled.{Settled};
 ghost use Rattle.oscillation_x.specs.Settling.{Settles};
 ghost use Rattle.unit_step.specs.declared.editing.TheConstants.{NEW_NODES};
@@ -42,7 +41,7 @@ pub(crate) enum Held {
     Built(LaneMachine),
 }
 
-/// The states of all columns, and the machine that moves them, where there is one.
+/// The states of all columns, and the machine that moves them, if there is one.
 #[derive(Drop)]
 pub(crate) struct LaneStage {
     lanes: u32,
@@ -109,7 +108,7 @@ impl LaneStage {
 
     /// Lets the machine go, if there is one, and takes room for as many new nodes as one edit makes at most.
     ///
-    /// The states stay, at want of memory too; the machine stays then.
+    /// The states stay, out of memory too; the machine stays then.
     pub(crate) fn loosen(&mut self, alloc: Global) -> Result<(), NoMemory>
         ensures same { SameStates self.old self.new }
         ensures loose { OnOk result (self.new.machine ≡ None) }
@@ -223,7 +222,7 @@ impl LaneStage {
     }
 }
 
-// The same states in rails of their own, with room for as many new nodes as one edit makes at most. Where a column has
+// The same states in rails of their own, with room for as many new nodes as one edit makes at most. If a column has
 // neither rail of a node, X stands.
 fn copied_rails(alloc: Global, hi: &[u64], lo: &[u64]) -> Result<Rails, AllocError>
     ensures states { IfOk result (λ rails. (lane : ℕ) → lane < 64 → HasLane lane rails.hi.items rails.lo.items (column lane hi.now lo.now)) }

@@ -93,7 +93,7 @@ fn has_bit(word: u64, lane: usize) -> bool
     (word >> lane) & 1 == 1
 }
 
-/// Words that have a rail in each column, and the same states: where neither is set, X stands.
+/// Words that have a rail in each column, and the same states: if neither is set, X stands.
 pub(crate) fn railed(hi: u64, lo: u64) -> Words
     ensures { (lane : ℕ) → lane < 64 → HasValue lane (machine.state_in lane (hi, lo)) result }
 {

@@ -32,6 +32,13 @@ fn each_kind_of_line_is_printed_with_its_column(rt: HostRuntime) -> Result<(), F
         },
     )?;
     out.tell(
+        10,
+        Line::Shown {
+            name: b"bus",
+            values: &[Tern::Unk, Tern::Zero],
+        },
+    )?;
+    out.tell(
         63,
         Line::Reported {
             groups: 3,
@@ -51,7 +58,7 @@ fn each_kind_of_line_is_printed_with_its_column(rt: HostRuntime) -> Result<(), F
     assert!(rt; out.missed);
     let sink = out.inner.into_sink();
     let text =
-        "1 7 2* 1X\n10 expect q=1 got 0 after 7\n64 groups 3 texts 2 new 1\nscript line 4: G1 GroupNodes s1 201\n";
+        "1 7 2* 1X\n10 expect q=1 got 0 after 7\n11 show bus X0\n64 groups 3 texts 2 new 1\nscript line 4: G1 GroupNodes s1 201\n";
     assert_eq!(rt; sink.written(), text.as_bytes());
     Ok(())
 }

@@ -29,7 +29,7 @@ letters_at word at last =
     let same : length word - suffix_len (λ x. not (is_equals x)) word ≡ at + 1 = omega arith in
     ap (λ n. drop n word) same
 
--- a word with an `=` is cut there, where both parts have a byte
+-- a word with an `=` is cut there, if both parts have a byte
 pub parts_at : (word : List ℕ) (at : ℕ) → IsLastEquals word at →
     parts_of word ≡ (if is_word (take at word) && is_word (drop (at + 1) word) then Some (take at word, drop (at + 1) word) else None)
 parts_at word at last =
@@ -46,7 +46,7 @@ parts_none word absent =
     let same : length word - suffix_len (λ x. not (is_equals x)) word - 1 ≡ 0 = omega arith in
     ap (λ n. if is_word (take n word) && is_word (after_last is_equals word) then Some (take n word, after_last is_equals word) else None) same
 
--- a list has a byte exactly where it isn't empty
+-- a list has a byte exactly if it isn't empty
 pub has_byte : (part : List ℕ) → (length part ≡ 0 → ⊥) → is_word part ≡ true
 has_byte [] some = absurd (some refl)
 has_byte (byte ∷ part) some = refl
@@ -62,7 +62,7 @@ is_none part test is held = eqb-true _ _ (sym is ∙ held)
 pub is_some : (part : List ℕ) (test : Bool) → test ≡ (length part == 0) → test ≡ false → length part ≡ 0 → ⊥
 is_some part test is failed none = let both : true ≡ false = sym (eq-eqb _ _ none) ∙ sym is ∙ failed in cc
 
--- a word cut at its last `=`, where a part is empty
+-- a word cut at its last `=`, if a part is empty
 pub cut_none : (word : List ℕ) (at : ℕ) → IsLastEquals word at → (length (take at word) ≡ 0) ⊎ (length (drop (at + 1) word) ≡ 0) → parts_of word ≡ None
 cut_none word at last (inl none) =
     parts_at word at last ∙ ap (λ b. if b && is_word (drop (at + 1) word) then Some (take at word, drop (at + 1) word) else None) (has_none (take at word) none)
@@ -74,7 +74,7 @@ cut_none word at last (inr none) =
     neither true parts = refl
     neither false parts = refl
 
--- a word cut at its last `=`, where both parts have a byte
+-- a word cut at its last `=`, if both parts have a byte
 pub cut_some : (word : List ℕ) (at : ℕ) → IsLastEquals word at → (length (take at word) ≡ 0 → ⊥) → (length (drop (at + 1) word) ≡ 0 → ⊥) →
     parts_of word ≡ Some (take at word, drop (at + 1) word)
 cut_some word at last name letters =

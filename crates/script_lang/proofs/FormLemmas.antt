@@ -20,14 +20,14 @@ use Rattle.script_lang.specs.declared.command.Command.{Command}
 use Rattle.script_lang.specs.declared.command.Command.TheVariants as family
 use Rattle.script_lang.specs.declared.command.Edit.{Edit}
 use Rattle.script_lang.specs.declared.command.Edit.TheVariants.{Input, Store, Add, Del, Strength, Kind, Wire}
-use Rattle.script_lang.specs.declared.command.Give.TheVariants.{Set, Charge}
-use Rattle.script_lang.specs.declared.command.Setup.TheVariants.{Watch, Limit, Clock, Keep}
+use Rattle.script_lang.specs.declared.command.Give.TheVariants.{Set, Charge, Back}
+use Rattle.script_lang.specs.declared.command.Setup.TheVariants.{Watch, Limit, Clock, Keep, Save}
 use Rattle.script_lang.specs.declared.command.Run.TheVariants.{Step, Phase, Cycle, Report}
-use Rattle.script_lang.specs.declared.command.Tell.TheVariants.{Expect}
+use Rattle.script_lang.specs.declared.command.Tell.TheVariants.{Expect, Show}
 use Rattle.script_lang.specs.declared.command.ScriptFault.{ScriptFault}
 use Rattle.script_lang.specs.declared.command.ScriptFault.TheVariants.{BadValue, BadNumber}
 use Rattle.script_lang.specs.Parts.{all_of, assignment_of, beats_of, is_equals, parts_of, state_of, states_of, times_of, times_within}
-use Rattle.script_lang.specs.Commands.{add_by, add_with, by_terminals, assignments_given, clocks_given, command_by, commanded, commanded_by, del_by, kind_by, kind_given, names_given, number_given, reading_of_words, some_command, store_by, strength_by, times_given, verb_of, wire_by, wire_with}
+use Rattle.script_lang.specs.Commands.{add_by, add_with, by_terminals, assignments_given, clocks_given, command_by, commanded, commanded_by, del_by, kind_by, kind_given, name_given, names_given, number_given, reading_of_words, some_command, store_by, strength_by, times_given, verb_of, wire_by, wire_with}
 use Rattle.script_lang.specs.Forms.{AreAssignments, AreBeats, AreNames, AreTerminalNames, IsFormed, IsFormedEdit, IsTimes}
 use Rattle.line_words.specs.Visible.{IsVisibleName}
 use Rattle.script_lang.proofs.GivenLemmas.{holds_alone, holds_in, holds_of, holds_of_two, pair_given, terminals_given}
@@ -52,12 +52,12 @@ IsVisibleName-part word name letters is cut =
       has_byte (after_last is_equals word) words.1,
     )
 
--- what is made of a value, where something is
+-- what is made of a value, if something is
 mapped : {X Y : Type 0} (f : X → Y) (from : Option X) (value : Y) → option_map f from ≡ Some value → (x : X) × (from ≡ Some x) × (f x ≡ value)
 mapped f None value is = cc
 mapped f (Some x) value is = (x, refl, cc)
 
--- where a word is cut and its letters give something, that stands with the name
+-- if a word is cut and its letters give something, that stands with the name
 given_parts : {X : Type 0} (f : List ℕ → Option X) (cut : Option (List ℕ × List ℕ)) (item : List ℕ × X) →
     option_and_then (λ parts. option_map (λ x. (parts.0, x)) (f parts.1)) cut ≡ Some item →
     (letters : List ℕ) × (cut ≡ Some (item.0, letters)) × (f letters ≡ Some item.1)
@@ -69,7 +69,7 @@ given_parts {X} f (Some (name, letters)) item found =
       made.1 ∙ ap Some (ap (λ (i : List ℕ × X). i.1) made.2),
     )
 
--- what two steps give, where both give something
+-- what two steps give, if both give something
 both_some : {X Y Z : Type 0} (f : X → Y → Z) (first : Option X) (rest : Option Y) (value : Z) →
     option_and_then (λ x. option_map (λ y. f x y) rest) first ≡ Some value → (x : X) × (y : Y) × (first ≡ Some x) × (rest ≡ Some y) × (f x y ≡ value)
 both_some f None rest value is = cc
@@ -137,6 +137,12 @@ formed_times (word ∷ []) number is = in_range (decimal_of word) (given_some (t
         let both = cond_some (nat_le 1 n && nat_le n MOST_TIMES) n number within in
         let bounds = and_parts (nat_le 1 n) (nat_le n MOST_TIMES) both.0 in
         subst IsTimes both.1 (leb-true 1 n bounds.0, leb-true n MOST_TIMES bounds.1)
+
+-- a name alone is a word
+formed_name : (words : List (List ℕ)) (name : List ℕ) → All IsVisibleName words → name_given words ≡ Ok name → IsVisibleName name
+formed_name [] name are is = cc
+formed_name (word ∷ []) name are is = subst IsVisibleName (let same : word ≡ name = cc in same) (All-head IsVisibleName word [] are)
+formed_name (word ∷ other ∷ words) name are is = cc
 
 -- the name of `store` is a word
 formed_store : (words : List (List ℕ)) (made : Edit) → All IsVisibleName words → store_by words ≡ Ok made → IsFormedEdit made
@@ -219,6 +225,8 @@ formed_by (Some verb.Clock) words made are is =
 formed_by (Some verb.Cycle) words made are is = holds_in IsFormed family.Run Cycle (times_given words) made (formed_times words) is
 formed_by (Some verb.Expect) words made are is =
     holds_in IsFormed family.Tell Expect (assignments_given words) made (λ list given. formed_assignments words list are given) is
+formed_by (Some verb.Show) words made are is =
+    holds_in IsFormed family.Tell Show (names_given words) made (λ names given. formed_names words names are given) is
 formed_by (Some verb.Add) words made are is =
     edit_formed (add_by words) made (λ edit given. formed_terminals add_with words edit (formed_add edit) are given) is
 formed_by (Some verb.Del) words made are is = edit_formed (del_by words) made (formed_del words) is
@@ -228,8 +236,12 @@ formed_by (Some verb.Wire) words made are is =
     edit_formed (wire_by words) made (λ edit given. formed_terminals wire_with words edit (formed_wire edit) are given) is
 formed_by (Some verb.Report) words made are is = holds_alone IsFormed (family.Run Report) words made tt is
 formed_by (Some verb.Keep) words made are is = holds_in IsFormed family.Setup Keep (times_given words) made (formed_times words) is
+formed_by (Some verb.Save) words made are is =
+    holds_in IsFormed family.Setup Save (name_given words) made (λ name given. formed_name words name are given) is
+formed_by (Some verb.Back) words made are is =
+    holds_in IsFormed family.Give Back (name_given words) made (λ name given. formed_name words name are given) is
 
--- what the words of a line ask for is well formed, where they are names
+-- what the words of a line ask for is well formed, if they are names
 formed_line : (words : List (List ℕ)) (found : Option Command) → All IsVisibleName words → reading_of_words words ≡ Ok found → IfSome found IsFormed
 formed_line words None are is = tt
 formed_line [] (Some command) are is = cc

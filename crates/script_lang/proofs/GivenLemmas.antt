@@ -5,7 +5,7 @@ use Rattle.script_lang.specs.declared.command.Edit.{Edit}
 use Rattle.script_lang.specs.declared.command.ScriptFault.{ScriptFault}
 use Rattle.script_lang.specs.Commands.{alone, by_pair, by_terminals, commanded, commanded_by}
 
--- what it was made of, where it was
+-- what it was made of, if it was
 pub made_of : {X Y : Type 0} (command : X → Y) (given : Result X ScriptFault) (made : Y) →
     commanded command given ≡ Ok made → (x : X) × (given ≡ Ok x) × (command x ≡ made)
 made_of command (Ok x) made is = (x, refl, cc)

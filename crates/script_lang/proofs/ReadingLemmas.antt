@@ -13,14 +13,14 @@ use Rattle.script_lang.specs.declared.command.Command.{Command}
 use Rattle.script_lang.specs.declared.command.Command.TheVariants as family
 use Rattle.script_lang.specs.declared.command.Edit.{Edit}
 use Rattle.script_lang.specs.declared.command.Edit.TheVariants.{Input, Store, Add, Del, Strength, Kind, Wire}
-use Rattle.script_lang.specs.declared.command.Give.TheVariants.{Set, Charge}
-use Rattle.script_lang.specs.declared.command.Setup.TheVariants.{Watch, Limit, Clock, Keep}
+use Rattle.script_lang.specs.declared.command.Give.TheVariants.{Set, Charge, Back}
+use Rattle.script_lang.specs.declared.command.Setup.TheVariants.{Watch, Limit, Clock, Keep, Save}
 use Rattle.script_lang.specs.declared.command.Run.TheVariants.{Step, Phase, Cycle, Report}
-use Rattle.script_lang.specs.declared.command.Tell.TheVariants.{Expect}
+use Rattle.script_lang.specs.declared.command.Tell.TheVariants.{Expect, Show}
 use Rattle.script_lang.specs.declared.command.ScriptFault.{ScriptFault}
 use Rattle.script_lang.specs.declared.command.ScriptFault.TheVariants.{NoMemory, BadValue, BadNumber}
 use Rattle.script_lang.specs.Parts.{all_of, assignment_of, beats_of, kind_of, times_of}
-use Rattle.script_lang.specs.Commands.{verb_of, names_given, assignments_given, clocks_given, times_given, kind_given, number_given, commanded, commanded_by, alone, by_pair, by_terminals, store_by, add_by, add_with, del_by, strength_by, kind_by, wire_by, wire_with, command_by, some_command, reading_of_words, reading_by, reading_of}
+use Rattle.script_lang.specs.Commands.{verb_of, name_given, names_given, assignments_given, clocks_given, times_given, kind_given, number_given, commanded, commanded_by, alone, by_pair, by_terminals, store_by, add_by, add_with, del_by, strength_by, kind_by, wire_by, wire_with, command_by, some_command, reading_of_words, reading_by, reading_of}
 use Rattle.script_lang.specs.Forms.{IsFormed}
 use Rattle.script_lang.proofs.FormLemmas.{formed_words}
 
@@ -38,6 +38,11 @@ commanded-named command (Err fault) named same = named (let e : fault ≡ NoMemo
 family-named : {X Y : Type 0} (whole : Y → Command) (command : X → Y) (given : Result X ScriptFault) → given ≢ Err NoMemory →
     commanded whole (commanded command given) ≢ Err NoMemory
 family-named whole command given named = commanded-named whole (commanded command given) (commanded-named command given named)
+
+name-named : (words : List (List ℕ)) → name_given words ≢ Err NoMemory
+name-named [] same = cc
+name-named (name ∷ []) same = cc
+name-named (name ∷ other ∷ words) same = cc
 
 names-named : (words : List (List ℕ)) → names_given words ≢ Err NoMemory
 names-named [] same = cc
@@ -131,6 +136,7 @@ command-named (Some verb.Phase) words same = alone-named (family.Run Phase) word
 command-named (Some verb.Clock) words same = family-named family.Setup Clock (clocks_given words) (clocks-named words) same
 command-named (Some verb.Cycle) words same = family-named family.Run Cycle (times_given words) (times-named words) same
 command-named (Some verb.Expect) words same = family-named family.Tell Expect (assignments_given words) (assignments-named words) same
+command-named (Some verb.Show) words same = family-named family.Tell Show (names_given words) (names-named words) same
 command-named (Some verb.Add) words same = commanded-named family.Edit (add_by words) (terminals-named add_with add-named words) same
 command-named (Some verb.Del) words same = commanded-named family.Edit (del_by words) (del-named words) same
 command-named (Some verb.Strength) words same = commanded-named family.Edit (strength_by words) (strength-named words) same
@@ -138,6 +144,8 @@ command-named (Some verb.Kind) words same = commanded-named family.Edit (kind_by
 command-named (Some verb.Wire) words same = commanded-named family.Edit (wire_by words) (terminals-named wire_with wire-named words) same
 command-named (Some verb.Report) words same = alone-named (family.Run Report) words same
 command-named (Some verb.Keep) words same = family-named family.Setup Keep (times_given words) (times-named words) same
+command-named (Some verb.Save) words same = family-named family.Setup Save (name_given words) (name-named words) same
+command-named (Some verb.Back) words same = family-named family.Give Back (name_given words) (name-named words) same
 
 some-named : (answer : Result Command ScriptFault) → answer ≢ Err NoMemory → some_command answer ≢ Err NoMemory
 some-named (Ok command) named same = cc
@@ -147,7 +155,7 @@ words-named : (words : List (List ℕ)) → reading_of_words words ≢ Err NoMem
 words-named [] same = cc
 words-named (word ∷ words) same = some-named (command_by (verb_of word) words) (command-named (verb_of word) words) same
 
--- want of memory is the reading of no line
+-- lack of memory is the reading of no line
 pub reading-named : (line : List ℕ) → reading_of line ≢ Err NoMemory
 reading-named line = by (line_fault line) (is_comment line)
   where

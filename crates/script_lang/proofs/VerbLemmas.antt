@@ -10,13 +10,13 @@ use Rattle.script_lang.specs.declared.command.Command.{Command}
 use Rattle.script_lang.specs.declared.command.Command.TheVariants as family
 use Rattle.script_lang.specs.declared.command.Edit.{Edit}
 use Rattle.script_lang.specs.declared.command.Edit.TheVariants.{Input, Store, Add, Del, Strength, Kind, Wire}
-use Rattle.script_lang.specs.declared.command.Give.TheVariants.{Set, Charge}
-use Rattle.script_lang.specs.declared.command.Setup.TheVariants.{Watch, Limit, Clock, Keep}
+use Rattle.script_lang.specs.declared.command.Give.TheVariants.{Set, Charge, Back}
+use Rattle.script_lang.specs.declared.command.Setup.TheVariants.{Watch, Limit, Clock, Keep, Save}
 use Rattle.script_lang.specs.declared.command.Run.TheVariants.{Step, Phase, Cycle, Report}
-use Rattle.script_lang.specs.declared.command.Tell.TheVariants.{Expect}
+use Rattle.script_lang.specs.declared.command.Tell.TheVariants.{Expect, Show}
 use Rattle.script_lang.specs.declared.command.ScriptFault.{ScriptFault}
 use Rattle.script_lang.specs.declared.command.ScriptFault.TheVariants.{BadNumber}
-use Rattle.script_lang.specs.Commands.{add_by, add_with, by_terminals, assignments_given, clocks_given, command_by, commanded, commanded_by, del_by, kind_by, kind_given, names_given, number_given, reading_of_words, some_command, store_by, strength_by, times_given, verb_of, wire_by, wire_with, word_of, word_of_edit}
+use Rattle.script_lang.specs.Commands.{add_by, add_with, by_terminals, assignments_given, clocks_given, command_by, commanded, commanded_by, del_by, kind_by, kind_given, name_given, names_given, number_given, reading_of_words, some_command, store_by, strength_by, times_given, verb_of, wire_by, wire_with, word_of, word_of_edit}
 use Rattle.script_lang.proofs.GivenLemmas.{holds_alone, holds_in, holds_of, holds_of_two, pair_given, terminals_given}
 
 -- the word of a verb
@@ -32,6 +32,7 @@ text_of verb.Phase = codes "phase"
 text_of verb.Clock = codes "clock"
 text_of verb.Cycle = codes "cycle"
 text_of verb.Expect = codes "expect"
+text_of verb.Show = codes "show"
 text_of verb.Add = codes "add"
 text_of verb.Del = codes "del"
 text_of verb.Strength = codes "strength"
@@ -39,6 +40,8 @@ text_of verb.Kind = codes "type"
 text_of verb.Wire = codes "wire"
 text_of verb.Report = codes "report"
 text_of verb.Keep = codes "keep"
+text_of verb.Save = codes "save"
+text_of verb.Back = codes "back"
 
 -- the word is that of the verb, if there is one
 abbrev IsWordOf : List ℕ → Option Verb → Type 0
@@ -66,13 +69,16 @@ verb_word word =
     (found_by word verb.Clock _
     (found_by word verb.Cycle _
     (found_by word verb.Expect _
+    (found_by word verb.Show _
     (found_by word verb.Add _
     (found_by word verb.Del _
     (found_by word verb.Strength _
     (found_by word verb.Kind _
     (found_by word verb.Wire _
     (found_by word verb.Report _
-    (found_by word verb.Keep None tt)))))))))))))))))
+    (found_by word verb.Keep _
+    (found_by word verb.Save _
+    (found_by word verb.Back None tt))))))))))))))))))))
 
 -- ---- the word of what was made
 
@@ -146,6 +152,7 @@ command_word verb.Phase words made is = holds_alone (Has (codes "phase")) (famil
 command_word verb.Clock words made is = holds_in (Has (codes "clock")) family.Setup Clock (clocks_given words) made (λ _ _. refl) is
 command_word verb.Cycle words made is = holds_in (Has (codes "cycle")) family.Run Cycle (times_given words) made (λ _ _. refl) is
 command_word verb.Expect words made is = holds_in (Has (codes "expect")) family.Tell Expect (assignments_given words) made (λ _ _. refl) is
+command_word verb.Show words made is = holds_in (Has (codes "show")) family.Tell Show (names_given words) made (λ _ _. refl) is
 command_word verb.Add words made is =
     edit_word (codes "add") (add_by words) made (λ edit given. terminals_word add_with (codes "add") words edit (add_word edit) given) is
 command_word verb.Del words made is = edit_word (codes "del") (del_by words) made (del_word words) is
@@ -155,6 +162,8 @@ command_word verb.Wire words made is =
     edit_word (codes "wire") (wire_by words) made (λ edit given. terminals_word wire_with (codes "wire") words edit (wire_word edit) given) is
 command_word verb.Report words made is = holds_alone (Has (codes "report")) (family.Run Report) words made refl is
 command_word verb.Keep words made is = holds_in (Has (codes "keep")) family.Setup Keep (times_given words) made (λ _ _. refl) is
+command_word verb.Save words made is = holds_in (Has (codes "save")) family.Setup Save (name_given words) made (λ _ _. refl) is
+command_word verb.Back words made is = holds_in (Has (codes "back")) family.Give Back (name_given words) made (λ _ _. refl) is
 
 -- a line that asks for a command begins with the command's word
 pub first_word : (word : List ℕ) (words : List (List ℕ)) (made : Command) → reading_of_words (word ∷ words) ≡ Ok (Some made) → word ≡ word_of made

@@ -16,13 +16,13 @@ use Rattle.script_lang.specs.declared.command.Command.TheVariants as family
 use Rattle.script_lang.specs.declared.command.Edit.{Edit}
 use Rattle.script_lang.specs.declared.command.Edit.TheVariants.{Input, Store, Add, Del, Strength, Kind, Wire}
 use Rattle.script_lang.specs.declared.command.Give.{Give}
-use Rattle.script_lang.specs.declared.command.Give.TheVariants.{Set, Charge}
+use Rattle.script_lang.specs.declared.command.Give.TheVariants.{Set, Charge, Back}
 use Rattle.script_lang.specs.declared.command.Setup.{Setup}
-use Rattle.script_lang.specs.declared.command.Setup.TheVariants.{Watch, Limit, Clock, Keep}
+use Rattle.script_lang.specs.declared.command.Setup.TheVariants.{Watch, Limit, Clock, Keep, Save}
 use Rattle.script_lang.specs.declared.command.Run.{Run}
 use Rattle.script_lang.specs.declared.command.Run.TheVariants.{Step, Phase, Cycle, Report}
 use Rattle.script_lang.specs.declared.command.Tell.{Tell}
-use Rattle.script_lang.specs.declared.command.Tell.TheVariants.{Expect}
+use Rattle.script_lang.specs.declared.command.Tell.TheVariants.{Expect, Show}
 use Rattle.script_lang.specs.declared.command.ScriptFault.{ScriptFault}
 use Rattle.script_lang.specs.declared.command.ScriptFault.TheVariants.{LineTooLong, BadByte, BadCommand, FewWords, ManyWords, BadValue, BadNumber}
 use Rattle.script_lang.specs.Parts.{all_of, assignment_of, beats_of, kind_of, times_of}
@@ -41,13 +41,22 @@ verb_of word =
     else (if bytes_eq word (codes "clock") then Some verb.Clock
     else (if bytes_eq word (codes "cycle") then Some verb.Cycle
     else (if bytes_eq word (codes "expect") then Some verb.Expect
+    else (if bytes_eq word (codes "show") then Some verb.Show
     else (if bytes_eq word (codes "add") then Some verb.Add
     else (if bytes_eq word (codes "del") then Some verb.Del
     else (if bytes_eq word (codes "strength") then Some verb.Strength
     else (if bytes_eq word (codes "type") then Some verb.Kind
     else (if bytes_eq word (codes "wire") then Some verb.Wire
     else (if bytes_eq word (codes "report") then Some verb.Report
-    else (if bytes_eq word (codes "keep") then Some verb.Keep else None)))))))))))))))))
+    else (if bytes_eq word (codes "keep") then Some verb.Keep
+    else (if bytes_eq word (codes "save") then Some verb.Save
+    else (if bytes_eq word (codes "back") then Some verb.Back else None))))))))))))))))))))
+
+-- one name alone
+abbrev pub name_given : List (List ℕ) → Result (List ℕ) ScriptFault
+name_given [] = Err FewWords
+name_given (name ∷ []) = Ok name
+name_given (name ∷ other ∷ words) = Err ManyWords
 
 -- one name or more
 abbrev pub names_given : List (List ℕ) → Result (List (List ℕ)) ScriptFault
@@ -159,6 +168,7 @@ command_by (Some verb.Phase) words = alone (family.Run Phase) words
 command_by (Some verb.Clock) words = commanded family.Setup (commanded Clock (clocks_given words))
 command_by (Some verb.Cycle) words = commanded family.Run (commanded Cycle (times_given words))
 command_by (Some verb.Expect) words = commanded family.Tell (commanded Expect (assignments_given words))
+command_by (Some verb.Show) words = commanded family.Tell (commanded Show (names_given words))
 command_by (Some verb.Add) words = commanded family.Edit (add_by words)
 command_by (Some verb.Del) words = commanded family.Edit (del_by words)
 command_by (Some verb.Strength) words = commanded family.Edit (strength_by words)
@@ -166,8 +176,10 @@ command_by (Some verb.Kind) words = commanded family.Edit (kind_by words)
 command_by (Some verb.Wire) words = commanded family.Edit (wire_by words)
 command_by (Some verb.Report) words = alone (family.Run Report) words
 command_by (Some verb.Keep) words = commanded family.Setup (commanded Keep (times_given words))
+command_by (Some verb.Save) words = commanded family.Setup (commanded Save (name_given words))
+command_by (Some verb.Back) words = commanded family.Give (commanded Back (name_given words))
 
--- a line's command, where it has words
+-- a line's command, if it has words
 abbrev pub some_command : Result Command ScriptFault → Result (Option Command) ScriptFault
 some_command (Ok command) = Ok (Some command)
 some_command (Err fault) = Err fault
@@ -201,6 +213,7 @@ word_of_edit (Wire number gate source drain) = codes "wire"
 abbrev pub word_of_give : Give → List ℕ
 word_of_give (Set list) = codes "set"
 word_of_give (Charge list) = codes "charge"
+word_of_give (Back name) = codes "back"
 
 -- of one that sets what others go by
 abbrev pub word_of_setup : Setup → List ℕ
@@ -208,6 +221,7 @@ word_of_setup (Watch names) = codes "watch"
 word_of_setup (Limit number) = codes "limit"
 word_of_setup (Clock list) = codes "clock"
 word_of_setup (Keep number) = codes "keep"
+word_of_setup (Save name) = codes "save"
 
 -- of one that has the circuit built
 abbrev pub word_of_run : Run → List ℕ
@@ -219,6 +233,7 @@ word_of_run Report = codes "report"
 -- of one that tells
 abbrev pub word_of_tell : Tell → List ℕ
 word_of_tell (Expect list) = codes "expect"
+word_of_tell (Show names) = codes "show"
 
 -- of any command
 abbrev pub word_of : Command → List ℕ

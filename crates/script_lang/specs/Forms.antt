@@ -7,13 +7,13 @@ use Rattle.script_lang.specs.declared.command.Command.TheVariants as family
 use Rattle.script_lang.specs.declared.command.Edit.{Edit}
 use Rattle.script_lang.specs.declared.command.Edit.TheVariants.{Input, Store, Add, Del, Strength, Kind, Wire}
 use Rattle.script_lang.specs.declared.command.Give.{Give}
-use Rattle.script_lang.specs.declared.command.Give.TheVariants.{Set, Charge}
+use Rattle.script_lang.specs.declared.command.Give.TheVariants.{Set, Charge, Back}
 use Rattle.script_lang.specs.declared.command.Setup.{Setup}
-use Rattle.script_lang.specs.declared.command.Setup.TheVariants.{Watch, Limit, Clock, Keep}
+use Rattle.script_lang.specs.declared.command.Setup.TheVariants.{Watch, Limit, Clock, Keep, Save}
 use Rattle.script_lang.specs.declared.command.Run.{Run}
 use Rattle.script_lang.specs.declared.command.Run.TheVariants.{Step, Phase, Cycle, Report}
 use Rattle.script_lang.specs.declared.command.Tell.{Tell}
-use Rattle.script_lang.specs.declared.command.Tell.TheVariants.{Expect}
+use Rattle.script_lang.specs.declared.command.Tell.TheVariants.{Expect, Show}
 use Rattle.line_words.specs.Visible.{IsVisibleName}
 
 -- one name or more
@@ -50,6 +50,7 @@ IsFormedEdit (Wire number gate source drain) = AreTerminalNames gate source drai
 abbrev pub IsFormedGive : Give → Type 0
 IsFormedGive (Set list) = AreAssignments list
 IsFormedGive (Charge list) = AreAssignments list
+IsFormedGive (Back name) = IsVisibleName name
 
 -- and what sets: its number of times is in range
 abbrev pub IsFormedSetup : Setup → Type 0
@@ -57,6 +58,7 @@ IsFormedSetup (Watch names) = AreNames names
 IsFormedSetup (Limit number) = IsTimes number
 IsFormedSetup (Clock list) = AreBeats list
 IsFormedSetup (Keep number) = IsTimes number
+IsFormedSetup (Save name) = IsVisibleName name
 
 -- and what has the circuit built
 abbrev pub IsFormedRun : Run → Type 0
@@ -68,6 +70,7 @@ IsFormedRun Report = Unit {0}
 -- and what tells
 abbrev pub IsFormedTell : Tell → Type 0
 IsFormedTell (Expect list) = AreAssignments list
+IsFormedTell (Show names) = AreNames names
 
 -- a command is well formed: its lists have an item, its names are names, and its number of times is in range
 abbrev pub IsFormed : Command → Type 0

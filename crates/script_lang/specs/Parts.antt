@@ -10,7 +10,7 @@ use Rattle.line_words.specs.Decimals.{decimal_of}
 use Rattle.line_words.specs.Words.{is_word}
 use Rattle.script_lang.specs.declared.TheConstants.{MOST_TIMES}
 
--- what each item gives, in order, or none where some item gives none
+-- what each item gives, in order, or none if some item gives none
 abbrev pub all_of : {X Y : Type 0} → (X → Option Y) → List X → Option (List Y)
 all_of f [] = Some []
 all_of f (item ∷ items) = option_and_then (λ first. option_map (λ rest. first ∷ rest) (all_of f items)) (f item)
@@ -23,7 +23,7 @@ equals = 61
 abbrev pub is_equals : ℕ → Bool
 is_equals byte = byte == equals
 
--- the name and the letters of a word `name=letters`, cut at its last `=`, where both have a byte
+-- the name and the letters of a word `name=letters`, cut at its last `=`, if both have a byte
 abbrev pub parts_of : List ℕ → Option (List ℕ × List ℕ)
 parts_of word =
     let name = before_last is_equals word in
@@ -40,7 +40,7 @@ state_of (letter ∷ other ∷ letters) = None
 abbrev pub assignment_of : List ℕ → Option (List ℕ × Tern)
 assignment_of word = option_and_then (λ parts. option_map (λ state. (parts.0, state)) (state_of parts.1)) (parts_of word)
 
--- the states of letters, or none where a byte is no letter of a state
+-- the states of letters, or none if a byte is no letter of a state
 abbrev pub states_of : List ℕ → Option (List Tern)
 states_of letters = all_of of_letter letters
 
@@ -48,7 +48,7 @@ states_of letters = all_of of_letter letters
 abbrev pub beats_of : List ℕ → Option (List ℕ × List Tern)
 beats_of word = option_and_then (λ parts. option_map (λ states. (parts.0, states)) (states_of parts.1)) (parts_of word)
 
--- the number, where it is from 1 to `MOST_TIMES`
+-- the number, if it is from 1 to `MOST_TIMES`
 abbrev pub times_within : ℕ → Option ℕ
 times_within number = if nat_le 1 number && nat_le number MOST_TIMES then Some number else None
 

@@ -26,7 +26,7 @@ pub enum Edit {
     /// `store NAME SIZE`: makes the node a storage node of this size; its state stays.
     Store(Name, u64),
     /// `add KIND GATE SOURCE DRAIN [STRENGTH]`: adds a transistor, whose strength is the usual one
-    /// of its kind where none is given. New names make storage nodes of size 1.
+    /// of its kind if none is given. New names make storage nodes of size 1.
     Add {
         kind: SwitchKind,
         gate: Name,
@@ -57,6 +57,8 @@ pub enum Give {
     Set(AssignList),
     /// `charge NAME=V..`: sets storage nodes, from left to right.
     Charge(AssignList),
+    /// `back NAME`: gives each node that was there the state that was kept under the name.
+    Back(Name),
 }
 
 /// A command that sets what later commands go by.
@@ -70,6 +72,8 @@ pub enum Setup {
     Clock(ClockList),
     /// `keep N`: sets the bound on the number of texts whose analyses are kept, from the next build on.
     Keep(u64),
+    /// `save NAME`: keeps the present states of all nodes under the name.
+    Save(Name),
 }
 
 /// A command that has the circuit built first.
@@ -91,9 +95,11 @@ pub enum Run {
 pub enum Tell {
     /// `expect NAME=V..`: a line for each node that isn't in this state.
     Expect(AssignList),
+    /// `show NAME..`: a line for each node, with its state.
+    Show(NameList),
 }
 
-/// Why a line of a script is no command. Where several causes stand together, the first here wins;
+/// Why a line of a script is no command. If several causes stand together, the first here wins;
 /// among bad values and numbers, that of the first bad word.
 #[derive(Clone, Copy, Debug, Drop, Error, PartialEq, Eq)]
 pub enum ScriptFault {
@@ -118,8 +124,8 @@ pub enum ScriptFault {
     /// A word that should be a number is none, or is out of range.
     #[error("the number isn't one")]
     BadNumber,
-    /// There was want of memory.
-    #[error("want of memory")]
+    /// Memory ran out.
+    #[error("out of memory")]
     NoMemory,
 }
 

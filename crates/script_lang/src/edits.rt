@@ -9,7 +9,7 @@ use line_words::{Words, decimal};
 use std::alloc::Global;
 use ternary::NoMemory;
 
-/// Reads the kind, the terminals and, where it is there, the strength of `add`.
+/// Reads the kind, the terminals and, if it is there, the strength of `add`.
 pub(crate) fn read_add(
     alloc: Global,
     mut words: Words<'_>,
@@ -47,7 +47,7 @@ pub(crate) fn read_add(
     }))
 }
 
-// The first word, and those of a transistor's gate, source and drain behind it; None where there are
+// The first word, and those of a transistor's gate, source and drain behind it; None if there are
 // fewer.
 fn with_terminals<'a>(words: &mut Words<'a>) -> Option<(&'a [u8], &'a [u8], &'a [u8], &'a [u8])>
     ensures some { IfSome result (λ found. words.old
@@ -78,7 +78,7 @@ pub(crate) fn read_del(mut words: Words<'_>) -> Result<Edit, ScriptFault>
     }
 }
 
-// The two words, where there are neither fewer nor more.
+// The two words, if there are neither fewer nor more.
 fn pair<'a>(mut words: Words<'a>) -> Result<(&'a [u8], &'a [u8]), ScriptFault>
     ensures ok { IfOk result (λ pair. words.entry ≡ pair.0.now ∷ pair.1.now ∷ []) }
     ensures refused { IfErr result (λ fault.

@@ -9,7 +9,7 @@ ghost use Rattle.script_lang.specs.declared.TheConstants.{MOST_TIMES};
 
 /// A law: a line asks for a well-formed command or for nothing, or is refused by a cause.
 pub fn readings_are_commands_or_refusals()
-    // Want of memory is the reading of no line.
+    // Lack of memory is the reading of no line.
     ensures named { (line : List ℕ) → reading_of line ≢ Err fault.NoMemory }
     ensures formed { (line : List ℕ) (command : Command) → reading_of line ≡ Ok (Some command) → IsFormed command }
 {}

@@ -9,7 +9,7 @@ use path_meaning::SwitchKind;
 use std::alloc::Global;
 use ternary::{NoMemory, Tern};
 
-/// The name and the state of a word `name=v`, or None where the word is no assignment.
+/// The name and the state of a word `name=v`, or None if the word is no assignment.
 pub(crate) fn assignment(alloc: Global, word: &[u8]) -> Result<Option<(Name, Tern)>, NoMemory>
     ensures { IfOk result (λ found. found ≡ assignment_of word.now) }
 {
@@ -22,8 +22,8 @@ pub(crate) fn assignment(alloc: Global, word: &[u8]) -> Result<Option<(Name, Ter
     Ok(Some((Name::from_slice(alloc, name)?, state)))
 }
 
-/// The name and the states of a word `name=vvv..`, cut at its last `=`, or None where the word is no such
-/// one: where a part is empty, or a byte after the `=` is no letter of a state.
+/// The name and the states of a word `name=vvv..`, cut at its last `=`, or None if the word is no such
+/// one: if a part is empty, or a byte after the `=` is no letter of a state.
 pub fn beats(alloc: Global, word: &[u8]) -> Result<Option<(Name, StateList)>, NoMemory>
     ensures { IfOk result (λ found. found ≡ beats_of word.now) }
 {
@@ -36,7 +36,7 @@ pub fn beats(alloc: Global, word: &[u8]) -> Result<Option<(Name, StateList)>, No
     Ok(Some((Name::from_slice(alloc, name)?, states)))
 }
 
-/// The number of a word, from 1 to the most that there may be, or None where it is no such one.
+/// The number of a word, from 1 to the most that there may be, or None if it is no such one.
 pub(crate) fn times(word: &[u8]) -> Option<u64>
     ensures { result ≡ times_of word.now }
 {
@@ -65,7 +65,7 @@ fn state(letters: &[u8]) -> Option<Tern>
     }
 }
 
-// The states of letters, or None where a byte is no letter of a state.
+// The states of letters, or None if a byte is no letter of a state.
 fn states(alloc: Global, letters: &[u8]) -> Result<Option<StateList>, NoMemory>
     ensures { IfOk result (λ states. states ≡ states_of letters.now) }
 {
@@ -79,7 +79,7 @@ fn states(alloc: Global, letters: &[u8]) -> Result<Option<StateList>, NoMemory>
     Ok(Some(states))
 }
 
-// The name and the letters of a word, cut at its last `=`, where both have a byte.
+// The name and the letters of a word, cut at its last `=`, if both have a byte.
 fn cut_at_last_equals(word: &[u8]) -> Option<(&[u8], &[u8])>
     ensures { option_map (λ parts. (parts.0.now, parts.1.now)) result ≡ parts_of word.now }
 {

@@ -1,7 +1,7 @@
 //! Reading a line of a script.
 ghost use Rattle.std.specs.Prelude.{◌≡◌, ◌⊎◌, Err, Ok, IfErr, IfOk, IfSome};
 ghost use Rattle.script_lang.specs.Parts.{all_of, assignment_of, beats_of};
-ghost use Rattle.script_lang.specs.Commands.{alone, assignments_given, clocks_given, command_by, names_given, reading_of, reading_of_words, store_by, times_given};
+ghost use Rattle.script_lang.specs.Commands.{alone, assignments_given, clocks_given, command_by, name_given, names_given, reading_of, reading_of_words, store_by, times_given};
 ghost use Rattle.script_lang.specs.Forms.{IsFormed};
 
 use crate::command::{Command, Edit, Give, Run, ScriptFault, Setup, Tell};
@@ -13,7 +13,7 @@ use line_words::{LineFault, Words, check_line, decimal, is_comment, words};
 use std::alloc::Global;
 use ternary::NoMemory;
 
-/// Reads a line of a script: its command, or None exactly where it is no longer than a line may be
+/// Reads a line of a script: its command, or None exactly if it is no longer than a line may be
 /// and has no words or is a comment.
 ///
 /// The refusals are those of `ScriptFault`, in its order.
@@ -84,6 +84,7 @@ fn read_verb(
             let list = read_assignments(alloc, words)?;
             Ok(list.map(Tell::Expect).map(Command::Tell))
         }
+        Some(Verb::Show) => Ok(read_names(alloc, words)?.map(Tell::Show).map(Command::Tell)),
         Some(Verb::Add) => Ok(read_add(alloc, words)?.map(Command::Edit)),
         Some(Verb::Del) => Ok(read_del(words).map(Command::Edit)),
         Some(Verb::Strength) => Ok(read_strength(words).map(Command::Edit)),
@@ -91,8 +92,27 @@ fn read_verb(
         Some(Verb::Wire) => Ok(read_wire(alloc, words)?.map(Command::Edit)),
         Some(Verb::Report) => Ok(read_alone(Command::Run(Run::Report), words)),
         Some(Verb::Keep) => Ok(read_times(words).map(Setup::Keep).map(Command::Setup)),
+        Some(Verb::Save) => Ok(
+            read_name(alloc, words)?
+                .map(Setup::Save)
+                .map(Command::Setup),
+        ),
+        Some(Verb::Back) => Ok(read_name(alloc, words)?.map(Give::Back).map(Command::Give)),
         None => Ok(Err(ScriptFault::BadCommand)),
     }
+}
+
+// Reads one name alone.
+fn read_name(alloc: Global, mut words: Words<'_>) -> Result<Result<Name, ScriptFault>, NoMemory>
+    ensures { IfOk result (λ answer. answer ≡ name_given words.entry) }
+{
+    let Some(name) = words.next() else {
+        return Ok(Err(ScriptFault::FewWords));
+    };
+    if words.next().is_some() {
+        return Ok(Err(ScriptFault::ManyWords));
+    }
+    Ok(Ok(Name::from_slice(alloc, name)?))
 }
 
 // Reads one name or more.
@@ -132,7 +152,7 @@ fn read_assignments(
     }
 }
 
-// All words as assignments, or None where one is none.
+// All words as assignments, or None if one is none.
 fn all_assignments(alloc: Global, words: Words<'_>) -> Result<Option<AssignList>, NoMemory>
     ensures { IfOk result (λ found. found ≡ all_of assignment_of words.entry) }
 {
@@ -157,7 +177,7 @@ fn read_clocks(alloc: Global, words: Words<'_>) -> Result<Result<ClockList, Scri
     }
 }
 
-// All words as the letters of clocks, or None where one is none.
+// All words as the letters of clocks, or None if one is none.
 fn all_clocks(alloc: Global, words: Words<'_>) -> Result<Option<ClockList>, NoMemory>
     ensures { IfOk result (λ found. found ≡ all_of beats_of words.entry) }
 {

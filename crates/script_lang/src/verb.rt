@@ -15,6 +15,7 @@ pub(crate) enum Verb {
     Clock,
     Cycle,
     Expect,
+    Show,
     Add,
     Del,
     Strength,
@@ -22,6 +23,8 @@ pub(crate) enum Verb {
     Wire,
     Report,
     Keep,
+    Save,
+    Back,
 }
 
 /// The verb that a word is, compared byte by byte.
@@ -40,6 +43,7 @@ pub(crate) fn verb_named(word: &[u8]) -> Option<Verb>
         b"clock" => Some(Verb::Clock),
         b"cycle" => Some(Verb::Cycle),
         b"expect" => Some(Verb::Expect),
+        b"show" => Some(Verb::Show),
         b"add" => Some(Verb::Add),
         b"del" => Some(Verb::Del),
         b"strength" => Some(Verb::Strength),
@@ -47,6 +51,8 @@ pub(crate) fn verb_named(word: &[u8]) -> Option<Verb>
         b"wire" => Some(Verb::Wire),
         b"report" => Some(Verb::Report),
         b"keep" => Some(Verb::Keep),
+        b"save" => Some(Verb::Save),
+        b"back" => Some(Verb::Back),
         _ => None,
     }
 }

@@ -29,7 +29,7 @@ use Rattle.script_meaning.proofs.LowerLemmas.{command_ends, ready-performs}
 use Rattle.run_ends.proofs.SizeLemmas.{size_caused}
 use Rattle.script_meaning.proofs.FirstRefusedLemmas.{after_command-twice}
 
--- a fault of a line has a code, but for want of memory
+-- a fault of a line has a code, but for lack of memory
 pub script_coded : (fault : ScriptFault) → fault ≢ script.NoMemory → (code : FaultCode) × (script_code fault ≡ Some code)
 script_coded script.LineTooLong other = (_, refl)
 script_coded script.BadByte other = (_, refl)

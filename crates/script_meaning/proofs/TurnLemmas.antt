@@ -39,7 +39,7 @@ module _ {H : Type 0} (hear : H → Told → H) (part : H → Told → H → Typ
   takes_turn reading cut line command old new before after asked told refusals now (Err NoMemory) asks (inr (begins, more)) =
       (inr (record { command = command; asks = asks; begins = begins }), inr more)
 
--- a line that can't be read is refused, where its fault has a code
+-- a line that can't be read is refused, if its fault has a code
 pub is_unread : (reading : Reading) (cut : Option ℕ) (session : SessionData) (line : ℕ × List ℕ) (fault : ScriptFault) (code : FaultCode) → is_cut cut line.0 ≡ false →
     (fault ≡ script.NoMemory) ⊎ (reading session.circuit line.1 ≡ Err fault) → script_code fault ≡ Some code → IsRefused reading cut session line (plain_cause code)
 is_unread reading cut session line fault code inside (inl want) coded =

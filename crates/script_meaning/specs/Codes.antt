@@ -7,7 +7,7 @@ use Rattle.session_meaning.specs.declared.fault.Refusal.TheVariants as refusal
 use Rattle.wave_print.specs.declared.faults.FaultCode.{FaultCode}
 use Rattle.wave_print.specs.declared.faults.FaultCode.TheVariants as code
 
--- of a line of a script that is no command; want of memory has none
+-- of a line of a script that is no command; lack of memory has none
 abbrev pub script_code : ScriptFault → Option FaultCode
 script_code script.LineTooLong = Some code.L1LineTooLong
 script_code script.BadByte = Some code.L2BadByte
@@ -32,3 +32,5 @@ refusal_code refusal.NotStore = code.S7NotStore
 refusal_code refusal.ClockLength = code.S8ClockLength
 refusal_code refusal.NoClock = code.S9NoClock
 refusal_code refusal.TooManyWatched = code.S10TooManyWatched
+refusal_code refusal.TooManySaves = code.S15TooManySaves
+refusal_code refusal.NoSave = code.S16NoSave

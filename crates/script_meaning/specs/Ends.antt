@@ -26,7 +26,7 @@ pub record RunsShort {H : Type 0} (hear : H → Told → H) (part : H → Told �
   pub runs : Runs reading cut start lines outcome
   pub heard : HearsFront hear part before after (of_column 0 (lines_told outcome))
 
--- what running a script comes to; where the run stopped, nothing was heard, or a front of what it tells
+-- what running a script comes to; where the run stopped, nothing was heard, or a prefix of what it tells
 abbrev pub TellsRun : {H : Type 0} → (H → Told → H) → (H → Told → H → Type 0) → Reading → Option ℕ → SessionData → List (ℕ × List ℕ) → SessionData → H → H →
     List GroupTextData → List GroupTextData → Result end.End Stop → Type 0
 TellsRun hear part reading cut start lines new before after asked told (Ok ending) = HasRun hear reading cut start lines new before after asked told ending

@@ -43,7 +43,7 @@ pub record EndsAtFirst (reading : Reading) (cut : Option ℕ) (start : SessionDa
   pub refused : IsRefused reading cut session line cause
   pub told : outcome ≡ after_command wrote texts (refused_at session line.0 cause)
 
--- a script runs to this outcome exactly where all its lines are obeyed, or those before the first refused one
+-- a script runs to this outcome exactly if all its lines are obeyed, or those before the first refused one
 abbrev pub RunsEndAtTheFirst : Type 0
 RunsEndAtTheFirst =
     (reading : Reading) (cut : Option ℕ) (start : SessionData) (lines : List (ℕ × List ℕ)) (outcome : Outcome) →

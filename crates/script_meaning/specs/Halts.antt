@@ -50,7 +50,7 @@ pub record BreaksOff {H : Type 0} (hear : H → Told → H) (part : H → Told �
   pub runs : Runs reading cut start lines outcome
   pub heard : HearsFront hear part before after (of_column 0 outcome.lines)
 
--- what obeying the lines of a script comes to; where it stopped, nothing was heard, or a front of what its lines tell
+-- what obeying the lines of a script comes to; where it stopped, nothing was heard, or a prefix of what its lines tell
 abbrev pub TellsHalt : {H : Type 0} → (H → Told → H) → (H → Told → H → Type 0) → Reading → Option ℕ → SessionData → List (ℕ × List ℕ) → SessionData → H → H →
     List GroupTextData → List GroupTextData → Result Halt Stop → Type 0
 TellsHalt hear part reading cut start lines new before after asked told (Ok halt) = HaltsAt hear reading cut start lines new before after asked told halt

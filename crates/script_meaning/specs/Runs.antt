@@ -34,7 +34,7 @@ Reading = CircuitData → List ℕ → Result (Option Command) ScriptFault
 abbrev pub plain_reading : Reading
 plain_reading circuit line = reading_of line
 
--- a reading refuses no line for want of memory, and each command that it gives is well formed
+-- a reading refuses no line for lack of memory, and each command that it gives is well formed
 pub record IsSound (reading : Reading) : Type 0 where
   pub named : (circuit : CircuitData) (line : List ℕ) → reading circuit line ≢ Err NoMemory
   pub formed : (circuit : CircuitData) (line : List ℕ) (command : Command) → reading circuit line ≡ Ok (Some command) → IsFormed command

@@ -11,7 +11,7 @@
 //!
 //! ```text
 //! the script "set a=1\nphase\n"    halts at Halt::End
-//! the script "phase\nset b=1\n"    halts at Halt::Refused(2, FaultCode::E1UnknownNode), where no node is b
+//! the script "phase\nset b=1\n"    halts at Halt::Refused(2, FaultCode::E1UnknownNode), if no node is b
 //! ```
 //!
 //! For the proofs of crates above: `FirstRefusedLemmas`, how what comes of a script's lines joins;

@@ -1,4 +1,5 @@
 mod UnfailingLemmas
+mod SizeLemmas
 mod SummedLemmas
 mod ReasonedLemmas
 pub mod UniqueAnswers

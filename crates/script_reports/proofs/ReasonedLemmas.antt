@@ -23,6 +23,7 @@ use Rattle.run_ends.specs.Answers.{Answer, plain_answer, IsRefusalFor, IsTooLarg
 use Rattle.script_meaning.specs.Halts.{HasObeyed, HasOutgrown, HaltsAt, TellsRefusal}
 use Rattle.run_ends.specs.Ends.{IsTold, IsToldBy, status_of}
 use Rattle.run_ends.proofs.EndLemmas.{told_as}
+use Rattle.script_reports.proofs.SizeLemmas.{told_too_large}
 use Rattle.script_reports.specs.Reasoned.{unknown_node_line, ExplainsNode, IsExplained, IsExplainedAt, IsReasoned}
 use Rattle.script_reports.specs.Explaining.{TellsSize, IsHaltExplained, hear_nothing}
 
@@ -77,15 +78,9 @@ module _ (script name : List ℕ) (circuit : CircuitData) (new : SessionData) (o
   pub told_size : (number : ℕ) (fault : BuildFault) (result : Result end.End Stop) →
       HasOutgrown hear_nothing plain_reading (cut_line script) (start_of circuit) (lines_in script) new tt tt asked told number fault →
       IsTold (IsTooLarge new.circuit (Script number) ScriptRefused) old last result → IsToldBy (IsReasoned script name circuit) old last asked told result
-  told_size number fault (Ok ending) outgrown written =
-      let large = written.right in
-      told_line number large.cause (Ok ending) (outgrown.halted large.fault large.cause large.first large.named)
-      (record { answer = written.answer; right = large.told; ended = written.ended; grew = written.grew })
-  told_size number fault (Err stop) outgrown (inl same) = inl same
-  told_size number fault (Err stop) outgrown (inr begun) =
-      let large = begun.right in
-      told_line number large.cause (Err stop) (outgrown.halted large.fault large.cause large.first large.named)
-      (inr (record { answer = begun.answer; right = large.told; part = begun.part }))
+  told_size number fault result outgrown written =
+      told_too_large new.circuit (Script number) ScriptRefused (IsReasoned script name circuit) old last asked told result
+      (λ large cause first named line. told_line number cause result (outgrown.halted large cause first named) line) written
 
   -- of an answer about where the lines ended
   pub told_halt : (halt : Halt) (result : Result end.End Stop) → HaltsAt hear_nothing plain_reading (cut_line script) (start_of circuit) (lines_in script) new tt tt asked told halt →
@@ -101,7 +96,7 @@ halted_size script circuit new asked told End halts = tt
 halted_size script circuit new asked told (Refused number code) halts = tt
 halted_size script circuit new asked told (TooLarge number fault) halts = halts.first
 
--- where a printer was told of a refusal, its line was written
+-- if a printer was told of a refusal, its line was written
 pub printed_refusal : (page after : Page) (stopped : RefusedLine) (result : Result end.End Stop) → TellsRefusal print PrintsPart page after stopped result →
     IsTold (IsRefusalFor (Script stopped.line) stopped.cause ScriptRefused) page.written after.written result
 printed_refusal page after stopped (Ok ending) (is, heard) = record {

@@ -19,6 +19,7 @@ use Rattle.run_ends.specs.Answers.{Answer, plain_answer, IsRefusalFor, IsTooLarg
 use Rattle.run_ends.specs.Ends.{IsTold, IsToldBy}
 use Rattle.script_meaning.specs.Runs.{RefusedLine, plain_reading}
 use Rattle.script_meaning.specs.Halts.{HasObeyed, HasOutgrown}
+use Rattle.script_reports.proofs.SizeLemmas.{told_too_large}
 use Rattle.script_reports.specs.Summaries.{summed_up, IsBlank, IsSummedUp}
 
 -- an answer with this text was told, and its texts were analysed
@@ -76,12 +77,6 @@ module _ (cut : Option ℕ) (start : SessionData) (lines : List (ℕ × List ℕ
       HasOutgrown counted plain_reading cut start lines now before after asked told number fault →
       IsTold (IsTooLarge now.circuit (Script number) ScriptRefused) old new result →
       IsToldBy (IsSummedUp before.nodes before.switches cut start lines) old new asked told result
-  told_outgrown number fault (Ok ending) outgrown written =
-      let large = written.right in
-      told_halted number large.cause (Ok ending) (outgrown.halted large.fault large.cause large.first large.named)
-      (record { answer = written.answer; right = large.told; ended = written.ended; grew = written.grew })
-  told_outgrown number fault (Err stop) outgrown (inl same) = inl same
-  told_outgrown number fault (Err stop) outgrown (inr begun) =
-      let large = begun.right in
-      told_halted number large.cause (Err stop) (outgrown.halted large.fault large.cause large.first large.named)
-      (inr (record { answer = begun.answer; right = large.told; part = begun.part }))
+  told_outgrown number fault result outgrown written =
+      told_too_large now.circuit (Script number) ScriptRefused (IsSummedUp before.nodes before.switches cut start lines) old new asked told result
+      (λ large cause first named line. told_halted number cause result (outgrown.halted large cause first named) line) written

@@ -10,7 +10,7 @@ use Rattle.script_meaning.specs.declared.halt.Halt.{Halt}
 use Rattle.script_meaning.specs.Runs.{Reading}
 use Rattle.script_meaning.specs.Halts.{HaltsAt, TellsHalt}
 
--- where they were not stopped they end
+-- if they were not stopped they end
 pub halts_obeyed : {H : Type 0} (hear : H → Told → H) (part : H → Told → H → Type 0) (reading : Reading) (cut : Option ℕ) (start : SessionData)
     (lines : List (ℕ × List ℕ)) (new : SessionData) (before after : H) (asked told : List GroupTextData) (result : Result Halt Stop) →
     TellsHalt hear part reading cut start lines new before after asked told result →
@@ -18,7 +18,7 @@ pub halts_obeyed : {H : Type 0} (hear : H → Told → H) (part : H → Told →
 halts_obeyed hear part reading cut start lines new before after asked told (Ok halt) tells = tells
 halts_obeyed hear part reading cut start lines new before after asked told (Err stop) tells = tt
 
--- they are stopped by want of memory alone
+-- they are stopped by lack of memory alone
 pub memory_alone : {T : Type 0} (result : Result T Stop) → IfErr result (λ stop. stop ≢ Read) → 0 ≡ faults_written 0 result → IfErr result (λ stop. stop ≡ Memory)
 memory_alone (Ok value) other none = tt
 memory_alone (Err Read) other none = absurd (other refl)

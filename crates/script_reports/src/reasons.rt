@@ -1,26 +1,14 @@
 //! What `why` writes: the reasons of a node at the end of a script.
 
 ghost use Rattle.std.specs.Prelude.{◌≡◌, ◌≢◌, ◌<◌, IfOk, IfErr, IfSome};
-ghost use Rattle.path_meaning.specs.Graphs.{nodes};
-ghost use Rattle.path_meaning.specs.Spread.{rail_of};
+ghost use Rattle.script_reports.specs.Words.{faults_written, hear_nothing, node_of, nodes, plain_reading, AreGroupsOf, ExplainsNode, ExplainsRail, HaltsAt, IsCircuit, IsExplained, IsHaltExplained, IsReady, IsReasoned, IsRefusedOnce, IsTold, IsToldBy, TellsSize};
 ghost use Rattle.line_words.specs.Files as file;
-ghost use Rattle.netlist.specs.Circuits.{IsCircuit};
-ghost use Rattle.netlist.specs.Names.{node_of};
-ghost use Rattle.why_path.specs.Reasons.{Explains};
-ghost use Rattle.session_meaning.specs.Sessions.{IsReady};
-ghost use Rattle.script_meaning.specs.Runs.{plain_reading};
-ghost use Rattle.script_meaning.specs.Halts.{HaltsAt};
-ghost use Rattle.run_ends.specs.Ends.{IsTold, IsToldBy};
-ghost use Rattle.run_ends.specs.Stops.{faults_written, IsRefusedOnce};
 ghost use Rattle.run_ends.specs.declared.status.Status.TheVariants as status;
-ghost use Rattle.script_reports.specs.Reasoned.{ExplainsRail, ExplainsNode, IsExplained, IsReasoned};
-ghost use Rattle.script_reports.specs.Explaining.{AreGroupsOf, TellsSize, IsHaltExplained, hear_nothing};
 
 use channel_groups::Groups;
 use cosmos_session::Session;
 use group_analysis::Analyst;
 use netlist::Circuit;
-use path_meaning::Walk;
 use port_edge::{Sink, send};
 use run_ends::{End, Stop, refuse};
 use script_meaning::Halt;
@@ -54,6 +42,7 @@ pub fn explain<S: Sink + Drop, A: Analyst>(
 }
 
 // Obeys the lines of a script, which nobody hears.
+#[tactic(auto, using(crate::proofs::UnfailingLemmas::memory_alone))]
 fn run_unwritten<A: Analyst>(
     alloc: Global,
     session: &mut Session,
@@ -137,7 +126,7 @@ fn write_reasons<S: Sink>(
     }
 }
 
-// The two lines that explain a node, by the groups that the session's machine has; where there is no machine,
+// The two lines that explain a node, by the groups that the session's machine has; if there is no machine,
 // they are found.
 fn reasons_text(alloc: Global, session: &Session, node: usize) -> Result<Vec<u8>, NoMemory>
     requires { node < nodes session.now.core.circuit.graph }
@@ -152,7 +141,7 @@ fn reasons_text(alloc: Global, session: &Session, node: usize) -> Result<Vec<u8>
     }
 }
 
-// The groups of the present circuit, where the session has a machine.
+// The groups of the present circuit, if the session has a machine.
 fn kept_groups(session: &Session) -> Option<&Groups>
     ensures { IfSome result (λ groups. AreGroupsOf session.now.core.circuit.graph groups.now) }
 {
@@ -196,28 +185,8 @@ fn rail_line(
     requires groups { AreGroupsOf session.now.core.circuit.graph groups.now }
     ensures { IfOk result (λ line. ExplainsRail session.now.core.circuit session.now.core.state node one line.items) }
 {
-    let walk = walk_to(alloc, session, groups, node, one)?;
-    reason_line(
-        alloc,
-        session.circuit(),
-        session.state(),
-        one,
-        walk.as_ref(),
-    )
-}
-
-// A best reason for a rail of a node, if there is one.
-fn walk_to(
-    alloc: Global,
-    session: &Session,
-    groups: &Groups,
-    node: usize,
-    one: bool,
-) -> Result<Option<Walk>, NoMemory>
-    requires node { node < nodes session.now.core.circuit.graph }
-    requires groups { AreGroupsOf session.now.core.circuit.graph groups.now }
-    ensures { IfOk result (Explains (rail_of one) session.now.core.circuit.graph session.now.core.state node) }
-{
-    let graph = session.circuit().graph();
-    group_reason(alloc, graph, session.state(), groups, node, one)
+    let circuit = session.circuit();
+    let state = session.state();
+    let walk = group_reason(alloc, circuit.graph(), state, groups, node, one)?;
+    reason_line(alloc, circuit, state, one, walk.as_ref())
 }

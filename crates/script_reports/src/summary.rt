@@ -3,19 +3,8 @@
 ghost use Rattle.std.specs.Prelude.{◌≡◌, ◌≢◌, [], IfOk, IfErr, count_by, is_some};
 ghost use Rattle.path_meaning.specs.Graphs as graphs;
 ghost use Rattle.line_words.specs.Files as file;
-ghost use Rattle.netlist.specs.Circuits.{IsCircuit};
-ghost use Rattle.sim_read.specs.Meaning.{netlist_of};
-ghost use Rattle.wave_print.specs.Lines.{summary_line_of};
-ghost use Rattle.told_lines.specs.Sums.{counted, summary_of};
-ghost use Rattle.session_meaning.specs.Sessions.{IsReady};
-ghost use Rattle.script_meaning.specs.Runs.{plain_reading};
-ghost use Rattle.script_meaning.specs.Halts.{HaltsAt};
+ghost use Rattle.script_reports.specs.Words.{counted, faults_written, netlist_of, plain_answer, plain_reading, summary_line_of, summary_of, HaltsAt, IsBlank, IsCircuit, IsReady, IsRefusedOnce, IsSampleSummary, IsSummary, IsSummedUp, IsTold, IsToldBy};
 ghost use Rattle.command_line.specs.Samples as samples;
-ghost use Rattle.script_reports.specs.Answers.{IsSampleSummary, IsSummary};
-ghost use Rattle.run_ends.specs.Answers.{plain_answer};
-ghost use Rattle.script_reports.specs.Summaries.{IsBlank, IsSummedUp};
-ghost use Rattle.run_ends.specs.Ends.{IsTold, IsToldBy};
-ghost use Rattle.run_ends.specs.Stops.{faults_written, IsRefusedOnce};
 ghost use Rattle.run_ends.specs.declared.status.Status.TheVariants as status;
 
 use circuit_reports::{refuse_net, switches};
@@ -156,6 +145,7 @@ fn sum_up_lines<S: Sink, A: Analyst>(
 }
 
 // Obeys the lines of a script, whose waveform lines are counted as they are told.
+#[tactic(auto, using(crate::proofs::UnfailingLemmas::memory_alone))]
 fn count_lines<A: Analyst>(
     alloc: Global,
     session: &mut Session,

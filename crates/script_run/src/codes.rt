@@ -7,7 +7,7 @@ use cosmos_session::Refusal;
 use script_lang::ScriptFault;
 use wave_print::FaultCode;
 
-/// The code of a line that is no command; want of memory has none.
+/// The code of a line that is no command; lack of memory has none.
 pub fn script_code(fault: ScriptFault) -> Option<FaultCode>
     ensures { result ≡ spec.script_code fault }
 {
@@ -40,5 +40,7 @@ pub fn refusal_code(refusal: Refusal) -> FaultCode
         Refusal::ClockLength => FaultCode::S8ClockLength,
         Refusal::NoClock => FaultCode::S9NoClock,
         Refusal::TooManyWatched => FaultCode::S10TooManyWatched,
+        Refusal::TooManySaves => FaultCode::S15TooManySaves,
+        Refusal::NoSave => FaultCode::S16NoSave,
     }
 }

@@ -1,8 +1,7 @@
 //! How the lines of a script are read.
 
 ghost use Rattle.std.specs.Prelude.{◌≡◌, ◌⊎◌, Ok, Err, IfOk, IfErr, IfSome};
-ghost use Rattle.script_lang.specs.Forms.{IsFormed};
-ghost use Rattle.script_meaning.specs.Runs.{Reading, IsSound};
+ghost use Rattle.script_run.specs.Words.{IsFormed, IsSound, Reading};
 
 use netlist::Circuit;
 use script_lang::{Command, ScriptFault, read_command};
@@ -15,7 +14,7 @@ use std::alloc::Global;
 pub trait LineReader {
     ghost reading: { Self → Reading };
 
-    /// Reads a line in a circuit: the command that it asks for, or None exactly where there is nothing to do.
+    /// Reads a line in a circuit: the command that it asks for, or None exactly if there is nothing to do.
     fn read(
         &self,
         alloc: Global,

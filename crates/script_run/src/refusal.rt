@@ -1,10 +1,7 @@
 //! The line of the refusal at which a script ended.
 
 ghost use Rattle.std.specs.Prelude.{◌≡◌, ◌≢◌, Some, IfErr};
-ghost use Rattle.circuit_texts.specs.Sizes.{TellsTooLarge};
-ghost use Rattle.run_ends.specs.Causes.{Cause, size_cause};
-ghost use Rattle.run_ends.specs.Stops.{faults_written, IsRefusedOnce};
-ghost use Rattle.script_meaning.specs.Halts.{IsCutShort, TellsCutShort, TellsRefusal};
+ghost use Rattle.script_run.specs.Words.{faults_written, size_cause, Cause, IsCutShort, IsRefusedOnce, TellsCutShort, TellsRefusal, TellsTooLarge};
 
 use circuit_texts::BuildFault;
 use netlist::Circuit;
@@ -113,7 +110,7 @@ fn refuse_line<L: Lines>(
     }
 }
 
-// Notes the cure of a refused line with this word; for want of memory it notes nothing.
+// Notes the cure of a refused line with this word; for lack of memory it notes nothing.
 fn note_cure<L: Lines>(alloc: Global, line: u64, code: FaultCode, word: &[u8], out: &mut L)
     ensures heard { L.heard out.new ≡ L.heard out.old }
     ensures faults { L.faults out.new ≡ L.faults out.old }

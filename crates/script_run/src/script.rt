@@ -2,14 +2,7 @@
 
 ghost use Rattle.std.specs.Prelude.{◌≡◌, ◌≢◌, ℕ, None, IfErr};
 ghost use Rattle.line_words.specs.Files as file;
-ghost use Rattle.session_meaning.specs.Sessions.{IsReady};
-ghost use Rattle.session_meaning.specs.Sinks.{faults_applied};
-ghost use Rattle.script_meaning.specs.Runs.{plain_reading, status_told};
-ghost use Rattle.script_meaning.specs.Turns.{TakesTurn, turn_after};
-ghost use Rattle.script_meaning.specs.Halts.{TellsHalt};
-ghost use Rattle.script_meaning.specs.Ends.{TellsRun};
-ghost use Rattle.run_ends.specs.Ends.{status_of};
-ghost use Rattle.run_ends.specs.Stops.{faults_written, IsRefusedOnce};
+ghost use Rattle.script_run.specs.Words.{faults_applied, faults_written, plain_reading, status_of, status_told, turn_after, IsReady, IsRefusedOnce, TakesTurn, TellsHalt, TellsRun};
 
 use crate::codes::{refusal_code, script_code};
 use crate::reader::{LineReader, Plain};

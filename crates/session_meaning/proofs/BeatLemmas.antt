@@ -141,7 +141,7 @@ module _ {H : Type 0} (hear : H → Told → H) where
       subst (λ (places : List ℕ). BeatsDone session session places before before) (sym (no_cycle count))
       (record { lines = []; beats = (refl, refl); heard = refl })
 
-  -- phases at a front of more places, after those that are done, are phases at a front of all
+  -- phases at a prefix of more places, after those that are done, are phases at a prefix of all
   front_more : (start now next : SessionData) (all done more rest : List ℕ) (before mid : H) → all ≡ done ++ (more ++ rest) →
       BeatsDone start now done before mid → FrontDone more now next → FrontDone all start next
   front_more start now next all done more rest before mid split so_far front = record {
@@ -162,7 +162,7 @@ module _ {H : Type 0} (hear : H → Told → H) where
         beats_joined start now next done (place ∷ []) before mid after sent.lines so_far
         (one_beat now next place sent.lines (subst (λ (s : SessionData). IsPhase s next sent.lines) beat sent.phase)) sent.sent
 
-    -- a part of the lines of more phases was heard, and a front of them done: it is a part of the lines of all
+    -- a part of the lines of more phases was heard, and a prefix of them done: it is a part of the lines of all
     beats_part : (start now next last : SessionData) (all done more rest : List ℕ) (before mid after : H) (lines : List Line) →
         IsReady start → all ≡ done ++ (more ++ rest) → BeatsDone start now done before mid → AreBeats now more next lines →
         HearsPart hear part mid after (of_column 0 lines) → FrontDone more now last → BeatsBegun hear part all start last before after

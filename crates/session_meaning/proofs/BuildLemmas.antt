@@ -22,7 +22,7 @@ pub texts-grown : (old new : KeptData) → IsGrown old new → (more : List Grou
 texts-grown old new grown =
     (entry_texts grown.more, ap (λ entries. entry_texts entries) grown.grown ∙ map-append (λ (entry : GroupTextData × CodeData). entry.0) old.entries grown.more)
 
--- the machine serves what the table has, where it serves what stands there with the texts of its last build in front
+-- the machine serves what the table has, if it serves what stands there with the texts of its last build in front
 pub serves-table : (session : HeldSession) (table : List GroupTextData) → session.core.kept ≡ kept_in session.machine table →
     AreAmong (last_in session.machine) table → IsHeldSession session →
     IfSome session.machine (Serves session.core.circuit.graph session.core.state table)
@@ -48,7 +48,7 @@ module _ (session : HeldSession) (spare : ℕ) (bound : Option ℕ) (stage : Sta
   abbrev before : StageData
   before = record { state = session.core.state; machine = session.machine; spare = spare }
 
-  -- where a build was refused, more texts may be kept
+  -- if a build was refused, more texts may be kept
   module _ (table more new : List GroupTextData) (grown : new ≡ table ++ more) (same : stage ≡ before) where
     -- a session is one then
     pub held-refused : session.core.kept ≡ kept_in session.machine table → IsHeldSession session →
@@ -76,7 +76,7 @@ module _ (session : HeldSession) (spare : ℕ) (bound : Option ℕ) (stage : Sta
 
   module _ (kept : List GroupTextData) (fresh count : ℕ) (asked told : List GroupTextData) (built : BuiltFrom session.core.circuit.graph before stage)
       (builds : Builds session.core.circuit.graph session.core.bound session.core.kept kept asked told count) where
-    -- where it was done, a session is one too
+    -- if it was done, a session is one too
     pub held-built : IsHeldSession session →
         IsHeldSession (record { core = record session.core { state = stage.state; bound = bound; kept = kept; fresh = fresh }; machine = stage.machine })
     held-built held = record {

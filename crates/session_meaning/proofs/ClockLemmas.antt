@@ -63,6 +63,7 @@ IsSession-clocks session list clocks formed even none same within is = record {
     states = is.ready.states;
     sound = is.ready.sound;
     free = rw same (clocks_past session.circuit list (set_past session.circuit list none));
+    saved = is.ready.saved;
   };
   watched = is.watched;
   few = is.few;
@@ -78,7 +79,7 @@ pub IsSession-beside : (session : SessionData) (state : List Tern) (count : ℕ)
     length state ≡ nodes session.circuit.graph → IsSound state → IsSession session →
     IsSession (record session { state = state; count = count; missed = missed; bound = bound; kept = kept; fresh = fresh })
 IsSession-beside session state count missed bound kept fresh known sound is = record {
-  ready = record { netlist = is.ready.netlist; states = known; sound = sound; free = is.ready.free };
+  ready = record { netlist = is.ready.netlist; states = known; sound = sound; free = is.ready.free; saved = is.ready.saved };
   watched = is.watched;
   few = is.few;
   clocks = is.clocks;

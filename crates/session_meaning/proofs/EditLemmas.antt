@@ -43,6 +43,7 @@ use Rattle.session_meaning.specs.Machines.{Serves, Survives, IsHeldSession, kept
 use Rattle.session_meaning.specs.Outcomes.{Does, Quietly}
 use Rattle.session_meaning.specs.Stages.{StageData, EditsFrom}
 use Rattle.session_meaning.proofs.UndoLemmas.{Undoes}
+use Rattle.session_meaning.proofs.SaveLemmas.{saves-grown}
 use Rattle.session_meaning.proofs.StateLemmas.{past_rails}
 use Rattle.session_meaning.proofs.StayingLemmas.{bounding, keeps_bound}
 
@@ -82,6 +83,7 @@ IsReady-grown session c is_circuit more is =
         vdd = get_or_append_left session.state rest Zero VDD (omega (arith, railed, is.states)) ∙ is.sound.vdd;
       };
       free = is.free;
+      saved = saves-grown (nodes session.circuit.graph) (nodes c.graph) session.saves more is.saved;
     }
 
 -- and is one
@@ -100,7 +102,7 @@ IsSession-grown session c is_circuit more is = record {
   high = is.high;
 }
 
--- where no node is new, no state is
+-- if no node is new, no state is
 pub same_states : (state : List Tern) (count : ℕ) → count ≤ length state → with_new_nodes state count ≡ state
 same_states state count few =
     let none : count - length state ≡ 0 = omega (few, arith) in
@@ -163,7 +165,7 @@ module _ (session : HeldSession) (c : CircuitData) (change : Change) (undoes : U
       machine = IfSome-weaker stage.machine serves-edited edits;
     }
 
-    -- and the machine, where there is one, was there before
+    -- and the machine, if there is one, was there before
     pub survives-edited : IfSome stage.machine (Survives session.machine)
     survives-edited = IfSome-weaker stage.machine
         (λ machine from. record { before = from.before; was = from.was; moves = from.edits.moves; placed = from.edits.placed }) edits
@@ -261,7 +263,7 @@ pub the_fault : (found : Option EditFault) (fault : EditFault) → Err fault ≡
 the_fault None fault answered = absurd (cc)
 the_fault (Some other) fault answered = cc
 
--- which refuses its command, or is want of memory
+-- which refuses its command, or is lack of memory
 pub refused_quietly : (old new : HeldSession) (command : Command) (found : Option EditFault) (fault : EditFault) →
     refusal_of old.core command ≡ edit_refusal found → found ≡ Some fault → new ≡ old → Quietly old command new (Err (fault_of_edit fault))
 refused_quietly old new command found edit.NoSuchSwitch is there same = (is ∙ ap edit_refusal there, same)
@@ -305,7 +307,7 @@ abbrev pub halted : HeldSession → CircuitData → StageData → List GroupText
 halted session c stage table =
     record { core = record session.core { circuit = c; state = stage.state; kept = kept_in stage.machine table }; machine = stage.machine }
 
--- is the one from before where they are
+-- is the one from before if they are
 pub same-halted : (session : HeldSession) (c : CircuitData) (stage : StageData) (table : List GroupTextData) → c ≡ session.core.circuit →
     stage.state ≡ session.core.state → stage.machine ≡ session.machine → session.core.kept ≡ kept_in session.machine table →
     halted session c stage table ≡ session

@@ -6,6 +6,7 @@ use Rattle.std.specs.Prelude.{if◌then◌else◌, ◌⊎◌}
 use Rattle.std.proofs.lemmas.List.{length-set, length-replicate}
 use Rattle.std.proofs.lemmas.List.Elements.{All-nil}
 use Rattle.std.proofs.lemmas.Bool.Decides.{nat_tests}
+use Rattle.ternary.specs.declared.tern.Tern.{Tern}
 use Rattle.ternary.specs.declared.tern.Tern.TheVariants.{Unk}
 use Rattle.strength_order.specs.declared.TheConstants.{INPUT_LEVEL}
 use Rattle.strength_order.specs.Levels.{IsLevel, level_of_size}
@@ -30,23 +31,25 @@ use Rattle.script_lang.specs.declared.command.Command.TheVariants as family
 use Rattle.script_lang.specs.declared.command.Edit.{Edit}
 use Rattle.script_lang.specs.declared.command.Edit.TheVariants.{Input, Store, Add, Del, Strength, Kind, Wire}
 use Rattle.script_lang.specs.declared.command.Give.{Give}
-use Rattle.script_lang.specs.declared.command.Give.TheVariants.{Set, Charge}
+use Rattle.script_lang.specs.declared.command.Give.TheVariants.{Set, Charge, Back}
 use Rattle.script_lang.specs.declared.command.Setup.{Setup}
-use Rattle.script_lang.specs.declared.command.Setup.TheVariants.{Clock}
+use Rattle.script_lang.specs.declared.command.Setup.TheVariants.{Clock, Save}
 use Rattle.script_lang.specs.declared.command.Run.{Run}
 use Rattle.script_lang.specs.declared.command.Run.TheVariants.{Step, Phase, Cycle, Report}
 use Rattle.script_lang.specs.Forms.{IsFormed}
 use Rattle.session_meaning.specs.declared.fault.Refusal.{Refusal}
 use Rattle.session_meaning.specs.declared.fault.Refusal.TheVariants.{Rail, BadSize}
+use Rattle.session_meaning.specs.Saves.{kept_under, FitsSave}
 use Rattle.session_meaning.specs.Sessions.{SessionData, ClockData, IsReady, start_of, places_of}
 use Rattle.session_meaning.specs.Refusals.{refusal_of, refusal_of_edit, refusal_of_give, refusal_of_setup, first_refusal, rail_refusal, store_refusal, length_refusal, strength_for}
 use Rattle.session_meaning.specs.Preparing.{builds, with_present, IsBuild, BuildsIf}
 use Rattle.told_lines.specs.Lines.{Line, Reported}
-use Rattle.session_meaning.specs.Effects.{Effect, RunEffect, IsPhase, AreBeats, circuit_after, given_by, setup_after, with_told, told_by, with_inputs, assigned, with_beat, moved_to, wave_by, places_in, with_circuit}
+use Rattle.session_meaning.specs.Effects.{Effect, RunEffect, IsPhase, AreBeats, circuit_after, state_given, setup_after, with_told, told_by, with_inputs, assigned, with_beat, moved_to, wave_by, places_in, with_circuit}
 use Rattle.session_meaning.specs.Outcomes.{Does, Performs}
 use Rattle.session_meaning.proofs.RefusalLemmas.{first_refusal-none, or_else-none}
 use Rattle.session_meaning.proofs.StateLemmas.{length-assigned, length-states_with, length-settles, set_past, charged_past, clocks_past, sound-assigned, sound-states_with, sound-step, sound-settles}
 use Rattle.session_meaning.proofs.OutcomeLemmas.{built_performs, still_performs}
+use Rattle.session_meaning.proofs.SaveLemmas.{kept-fits, with_save-fits, fits-present, length-back, sound-back}
 use Rattle.session_meaning.proofs.SizeLemmas.{texts_or_size}
 use Rattle.session_meaning.proofs.EditLemmas.{IsReady-grown, nodes-with_inputs, unrefused_add, unrefused_strength}
 
@@ -112,6 +115,7 @@ phase-ready session new lines phase ready = rw phase.moved (record {
   states = length-settles session.circuit.graph session.state session.limit phase.next phase.steps phase.joined ready.states phase.settles;
   sound = sound-settles session.circuit ready.netlist session.state session.limit phase.next phase.steps phase.joined ready.states phase.settles ready.sound;
   free = ready.free;
+  saved = ready.saved;
 })
 
 -- so do clocks' states at a place
@@ -121,6 +125,7 @@ with_beat-ready session place ready = record {
   states = length-states_with session.clocks place session.state ∙ ready.states;
   sound = sound-states_with session.clocks place session.state ready.free ready.sound;
   free = ready.free;
+  saved = ready.saved;
 }
 
 -- every state has a phase
@@ -172,7 +177,7 @@ effect_exists : (session : SessionData) → IsReady session → (command : Comma
     (new : SessionData) × (lines : List Line) × Effect session command new lines
 effect_exists session ready (family.Edit edit) has = (with_circuit session (circuit_after session.circuit edit), [], (refl, refl))
 effect_exists session ready (family.Give give) has =
-    (record session { state = assigned session.circuit session.state (given_by give) }, [], (refl, refl))
+    (record session { state = state_given session give }, [], (refl, refl))
 effect_exists session ready (family.Setup setup) has = (setup_after session setup, [], (refl, refl))
 effect_exists session ready (family.Run run) has = run_exists session ready run (has refl)
 effect_exists session ready (family.Tell tell) has =
@@ -181,7 +186,7 @@ effect_exists session ready (family.Tell tell) has =
 -- a build keeps the data ready
 ready-build : (old mid : SessionData) (texts : List GroupTextData) → IsBuild old mid texts → IsReady old → IsReady mid
 ready-build old mid texts build ready =
-    rw build.used (record { netlist = ready.netlist; states = ready.states; sound = ready.sound; free = ready.free })
+    rw build.used (record { netlist = ready.netlist; states = ready.states; sound = ready.sound; free = ready.free; saved = ready.saved })
 
 -- how a formed command ends: it is refused by the data, or for the size of a group, or it is done
 pub data Ends (session : SessionData) (command : Command) : Type 0 where
@@ -190,7 +195,7 @@ pub data Ends (session : SessionData) (command : Command) : Type 0 where
       Ends session command
   performed : (new : SessionData) (lines : List Line) (texts : List GroupTextData) → Performs session command new lines texts → Ends session command
 
--- a command that builds nothing is done where it isn't refused
+-- a command that builds nothing is done if it isn't refused
 still_ends : (session : SessionData) (command : Command) → IsReady session → builds command ≡ false → refusal_of session command ≡ None →
     Ends session command
 still_ends session command ready still allowed =
@@ -219,20 +224,49 @@ ends session command ready formed = by (refusal_of session command) (builds comm
     by None true is does (inl has) = built_ends session command has.0 ready does is has.1
     by None true is does (inr large) = too_large large.0 is does large.1
 
--- nodes that are given states, and aren't refused, are past the rails
-given_past : (c : CircuitData) (give : Give) → refusal_of_give c give ≡ None → All (λ item. RAILS ≤ node_named c item.0) (given_by give)
-given_past c (Set list) allowed = set_past c list allowed
-given_past c (Charge list) allowed = charged_past c list allowed
+-- the data stay ready where nodes past the rails get states
+ready-assigned : (old : SessionData) (list : List (List ℕ × Tern)) → All (λ item. RAILS ≤ node_named old.circuit item.0) list → IsReady old →
+    IsReady (record old { state = assigned old.circuit old.state list })
+ready-assigned old list past ready = record {
+  netlist = ready.netlist;
+  states = length-assigned old.circuit list old.state ∙ ready.states;
+  sound = sound-assigned old.circuit list old.state past ready.sound;
+  free = ready.free;
+  saved = ready.saved;
+}
+
+-- so they do by a command that gives states and isn't refused
+ready-give : (old : SessionData) (give : Give) → refusal_of_give old give ≡ None → IsReady old → IsReady (record old { state = state_given old give })
+ready-give old (Set list) allowed ready = ready-assigned old list (set_past old.circuit list allowed) ready
+ready-give old (Charge list) allowed ready = ready-assigned old list (charged_past old.circuit list allowed) ready
+ready-give old (Back name) allowed ready =
+    let fits = kept-fits (nodes old.circuit.graph) old.saves name ready.saved in
+    record {
+      netlist = ready.netlist;
+      states = length-back (nodes old.circuit.graph) (kept_under old.saves name) old.state ready.states fits ∙ ready.states;
+      sound = sound-back (nodes old.circuit.graph) (kept_under old.saves name) old.state ready.sound fits;
+      free = ready.free;
+      saved = ready.saved;
+    }
 
 -- the data stay ready with what is set for later commands
-ready-set : (old : SessionData) (setup : Setup) → refusal_of_setup old.circuit (length old.watched) setup ≡ None → IsReady old → IsReady (setup_after old setup)
+ready-set : (old : SessionData) (setup : Setup) → refusal_of_setup old setup ≡ None → IsReady old → IsReady (setup_after old setup)
 ready-set old (Clock list) allowed ready = record {
   netlist = ready.netlist;
   states = ready.states;
   sound = ready.sound;
   free = clocks_past old.circuit list (set_past old.circuit list (or_else-none (length_refusal list) _ allowed).1);
+  saved = ready.saved;
 }
-ready-set old other allowed ready = record { netlist = ready.netlist; states = ready.states; sound = ready.sound; free = ready.free }
+ready-set old (Save name) allowed ready = record {
+  netlist = ready.netlist;
+  states = ready.states;
+  sound = ready.sound;
+  free = ready.free;
+  saved = with_save-fits (nodes old.circuit.graph) old.saves name old.state ready.saved (fits-present old ready);
+}
+ready-set old other allowed ready =
+    record { netlist = ready.netlist; states = ready.states; sound = ready.sound; free = ready.free; saved = ready.saved }
 
 -- and after steps and reports
 ready-run : (old new : SessionData) (run : Run) (lines : List Line) → RunEffect old run new lines → IsReady old → IsReady new
@@ -241,27 +275,23 @@ ready-run old new Step lines effect ready = rw effect.moved (record {
   states = effect.step.count;
   sound = sound-step old.circuit ready.netlist old.state effect.next effect.step ready.sound;
   free = ready.free;
+  saved = ready.saved;
 })
 ready-run old new Phase lines effect ready = phase-ready old new lines effect ready
 ready-run old new (Cycle times) lines effect ready = beats-ready (places_in (places_of old.clocks) times) old new lines effect ready
 ready-run old new Report lines effect ready =
-    rw effect.moved (record { netlist = ready.netlist; states = ready.states; sound = ready.sound; free = ready.free })
+    rw effect.moved (record { netlist = ready.netlist; states = ready.states; sound = ready.sound; free = ready.free; saved = ready.saved })
 
 -- so an effect keeps the data ready
 ready-effect : (old new : SessionData) (command : Command) (lines : List Line) → refusal_of old command ≡ None → Effect old command new lines →
     IsReady old → IsReady new
 ready-effect old new (family.Edit edit) lines allowed effect ready =
     rw (effect.0) (IsReady-grown old (circuit_after old.circuit edit) (IsCircuit-after old.circuit edit allowed ready.netlist) (nodes-after old.circuit edit) ready)
-ready-effect old new (family.Give give) lines allowed effect ready = rw (effect.0) (record {
-  netlist = ready.netlist;
-  states = length-assigned old.circuit (given_by give) old.state ∙ ready.states;
-  sound = sound-assigned old.circuit (given_by give) old.state (given_past old.circuit give allowed) ready.sound;
-  free = ready.free;
-})
+ready-effect old new (family.Give give) lines allowed effect ready = rw (effect.0) (ready-give old give allowed ready)
 ready-effect old new (family.Setup setup) lines allowed effect ready = rw (effect.0) (ready-set old setup allowed ready)
 ready-effect old new (family.Run run) lines allowed effect ready = ready-run old new run lines effect ready
 ready-effect old new (family.Tell tell) lines allowed effect ready =
-    rw (effect.0) (record { netlist = ready.netlist; states = ready.states; sound = ready.sound; free = ready.free })
+    rw (effect.0) (record { netlist = ready.netlist; states = ready.states; sound = ready.sound; free = ready.free; saved = ready.saved })
 
 -- what a command does keeps the data ready
 pub ready-does : (session new : SessionData) (command : Command) (lines : List Line) → IsReady session → Does session command new lines → IsReady new
@@ -285,4 +315,5 @@ ready-start circuit is = record {
   states = omega (arith, length-replicate (nodes circuit.graph - RAILS) Unk, is.railed);
   sound = record { gnd = refl; vdd = refl };
   free = All-nil (λ (clock : ClockData). RAILS ≤ clock.node);
+  saved = All-nil (λ (save : List ℕ × List Tern). FitsSave (nodes circuit.graph) save.1);
 }

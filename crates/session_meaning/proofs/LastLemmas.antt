@@ -1,4 +1,4 @@
--- The texts of a machine's last build, which stand in front of what is kept: where there is no machine, after a build, and where a build was
+-- The texts of a machine's last build, which stand in front of what is kept: if there is no machine, after a build, and where a build was
 -- refused.
 use Rattle.std.proofs.Common.{◌≡◌, ℕ, Bool, true, false, ◌||◌, List, [], ◌++◌, Option, sym, ap, subst, ◌∙◌, arith}
 use Rattle.path_meaning.specs.Graphs.{GraphData}
@@ -14,7 +14,7 @@ use Rattle.machine_laws.specs.Beginnings.{HasLast}
 use Rattle.machine_laws.proofs.KeptLemmas.{among_more}
 use Rattle.session_meaning.specs.Machines.{AreAmong}
 
--- where there is no machine, what is kept stands as the table has it
+-- if there is no machine, what is kept stands as the table has it
 pub kept_alone : (kept : List GroupTextData) → kept ≡ used_texts [] kept
 kept_alone kept = sym (used_texts-none kept)
 
@@ -35,7 +35,7 @@ pub still_among : (texts kept more new : List GroupTextData) → new ≡ kept ++
 still_among texts kept more new grown among =
     subst (AreAmong texts) (sym grown) (λ k d inside. among_more kept more _ (among k d inside))
 
--- the texts of the last build are the present ones, where nothing was edited since
+-- the texts of the last build are the present ones, if nothing was edited since
 pub last_present : (g : GraphData) (last present : List GroupTextData) → HasLast g last → HasTexts g present → last ≡ present
 last_present g last present is has = is has.groups has.are ∙ sym has.texts_are
 
@@ -71,7 +71,7 @@ cut_off_alone g old new before after cut_off =
     subst (λ (texts : List GroupTextData). IsCutOff g texts (used_texts [] new) before after) (kept_alone old)
     (subst (λ (texts : List GroupTextData). IsCutOff g old texts before after) (kept_alone new) cut_off)
 
--- a machine's texts are among those of the table where they are with the last ones in front
+-- a machine's texts are among those of the table if they are with the last ones in front
 pub table_keeps : (g : GraphData) (last shown kept : List GroupTextData) (machine : MachineData) → shown ≡ used_texts last kept → AreAmong last kept →
     IsKeptBy g shown machine → IsKeptBy g kept machine
 table_keeps g last shown kept machine is among known k part stands coded group is_part =

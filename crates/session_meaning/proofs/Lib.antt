@@ -3,6 +3,7 @@ pub mod LineLemmas
 pub mod SizeLemmas
 pub mod OutcomeLemmas
 pub mod StateLemmas
+pub mod SaveLemmas
 pub mod EditLemmas
 pub mod EffectLemmas
 pub mod BeatLemmas
@@ -10,6 +11,7 @@ pub mod ClockLemmas
 pub mod RestLemmas
 pub mod RoomLemmas
 pub mod MachineLemmas
+pub mod BackLemmas
 pub mod StayingLemmas
 pub mod TickLemmas
 pub mod UndoLemmas

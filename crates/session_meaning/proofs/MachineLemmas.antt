@@ -227,7 +227,7 @@ places-assigned c names None new none = none
 places-assigned c names (Some machine) new (next, there, assigns) =
     record { machine = next; there = there; parts = assigns.parts; moves = assigns.moves; marks = assigns.marks }
 
--- where all of the nodes are input nodes no member was placed
+-- if all of the nodes are input nodes no member was placed
 pub unplaced-assigned : (c : CircuitData) (names : List (List ℕ)) (old new : Option MachineData) → IfSome old (Covers c.graph) → AssignsIn c names old new →
     All (λ name. level_of c.graph (node_named c name) ≡ INPUT_LEVEL) names → placed_of new ≡ placed_of old
 unplaced-assigned c names None new covers none inputs = ap placed_of none

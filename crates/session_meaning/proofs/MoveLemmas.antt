@@ -44,7 +44,7 @@ ends_behind limit front line ends =
     let same : line ≡ wave = cc in
     record { front = []; n = ends.n; k = ends.k; values = ends.values; last = ap (λ (one : Line). one ∷ []) same; few = ends.few }
 
--- where there is no line there is no rest
+-- if there is no line there is no rest
 ends_nowhere : (limit : ℕ) → ¬ EndsAtRest limit []
 ends_nowhere limit ends =
     let wave : Line = Wave ends.n ends.k false ends.values in

@@ -112,7 +112,7 @@ module _ {H : Type 0} (hear : H → Told → H) (part : H → Told → H → Typ
       sent_obeys old new command lines ready.texts before after asked told refusals now result
       (built_performs old.core mid.core new.core command lines ready.texts building ready.build allowed effect) done ready.analysed sent cause counted
 
-  -- phases at the places of a cycle were done after a build, or a front of them: the cycle is obeyed
+  -- phases at the places of a cycle were done after a build, or a prefix of them: the cycle is obeyed
   pub cycle_obeys : (old mid new : HeldSession) (times : ℕ) (before after : H) (asked told : List GroupTextData) (refusals now : ℕ)
       (result : Result (Unit {0}) ApplyFault) → refusal_of old.core (family.Run (Cycle times)) ≡ None → Readied old mid asked told →
       TakesBeats hear part (places_in (places_of mid.core.clocks) times) mid.core new.core before after result → IfErr result IsSinkFault →

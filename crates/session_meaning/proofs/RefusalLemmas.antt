@@ -4,13 +4,10 @@ use Rattle.std.proofs.lemmas.List.Elements.{All-nil, All-cons, All-weaker}
 use Rattle.ternary.specs.declared.tern.Tern.{Tern}
 use Rattle.netlist.specs.Names.{node_of}
 use Rattle.netlist.specs.Circuits.{CircuitData}
-use Rattle.script_lang.specs.declared.command.Tell.{Tell}
-use Rattle.script_lang.specs.declared.command.Tell.TheVariants.{Expect}
 use Rattle.session_meaning.specs.declared.fault.Refusal.{Refusal}
-use Rattle.session_meaning.specs.Refusals.{first_refusal, or_else, known_refusal, set_refusal, charge_refusal, refusal_of_tell}
-use Rattle.session_meaning.specs.Stages.{IsToldKnown}
+use Rattle.session_meaning.specs.Refusals.{first_refusal, or_else, known_refusal, set_refusal, charge_refusal}
 
--- each of two refusals is none where the first of them is
+-- each of two refusals is none if the first of them is
 pub or_else-none : (first second : Option Refusal) → or_else first second ≡ None → (first ≡ None) × (second ≡ None)
 or_else-none None second none = (refl, none)
 or_else-none (Some refusal) second none = absurd (cc)
@@ -20,7 +17,7 @@ pub first_refusal-none : {X : Type 0} (f : X → Option Refusal) (item : X) (ite
     (f item ≡ None) × (first_refusal f items ≡ None)
 first_refusal-none f item items none = or_else-none (f item) (first_refusal f items) none
 
--- where there is none among them, no item has one
+-- if there is none among them, no item has one
 pub none_of_all : {X : Type 0} (f : X → Option Refusal) (items : List X) → first_refusal f items ≡ None → All (λ item. f item ≡ None) items
 none_of_all {X} f [] none = All-nil (λ item. f item ≡ None)
 none_of_all {X} f (item ∷ items) none =
@@ -42,7 +39,7 @@ pub is_some-charged : (c : CircuitData) (found : Option ℕ) → charge_refusal 
 is_some-charged c None none = absurd (cc)
 is_some-charged c (Some node) none = refl
 
--- the names of a `watch` that isn't refused are in use
+-- the names of a `watch` or a `show` that isn't refused are in use
 pub names_known : (c : CircuitData) (names : List (List ℕ)) → first_refusal (λ name. known_refusal (node_of c.names name)) names ≡ None →
     All (λ name. is_some (node_of c.names name) ≡ true) names
 names_known c names none =
@@ -64,12 +61,8 @@ charged_known c list none =
     (λ item. is_some-charged c (node_of c.names item.0)) list (none_of_all (λ item. charge_refusal c (node_of c.names item.0)) list none)
 
 -- and those of an `expect` that isn't refused
-expected_known : (c : CircuitData) (list : List (List ℕ × Tern)) → first_refusal (λ item. known_refusal (node_of c.names item.0)) list ≡ None →
+pub expected_known : (c : CircuitData) (list : List (List ℕ × Tern)) → first_refusal (λ item. known_refusal (node_of c.names item.0)) list ≡ None →
     All (λ item. is_some (node_of c.names item.0) ≡ true) list
 expected_known c list none =
     All-weaker (λ (item : List ℕ × Tern). known_refusal (node_of c.names item.0) ≡ None) (λ item. is_some (node_of c.names item.0) ≡ true)
     (λ item. is_some-known (node_of c.names item.0)) list (none_of_all (λ item. known_refusal (node_of c.names item.0)) list none)
-
--- those of a command that tells, and isn't refused, are in use
-pub told_known : (c : CircuitData) (tell : Tell) → refusal_of_tell c tell ≡ None → IsToldKnown c tell
-told_known c (Expect list) allowed = expected_known c list allowed

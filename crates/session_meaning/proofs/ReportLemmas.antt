@@ -1,5 +1,5 @@
 -- A report: the machine's numbers are those of the circuit's groups and of their texts.
-use Rattle.std.proofs.Common.{◌≡◌, ℕ, List, [], ◌∷◌, length, map, count_by, Option, IfSome, refl, sym, ap, subst, ◌∙◌}
+use Rattle.std.proofs.Common.{◌≡◌, ℕ, List, [], ◌∷◌, length, map, count_by, Option, None, IfSome, refl, sym, ap, subst, ◌∙◌}
 use Rattle.std.proofs.lemmas.List.{length-map}
 use Rattle.path_meaning.specs.Graphs.{GraphData}
 use Rattle.group_meaning.proofs.UniqueGroups.{unique}
@@ -15,10 +15,11 @@ use Rattle.session_meaning.specs.Machines.{FitsIn}
 
 -- the line with the machine's numbers is the report's
 pub reported : (session : SessionData) (found : Option MachineData) (groups texts : ℕ) → FitsIn session.circuit.graph found →
+    IfSome found (λ machine. machine.wide ≡ None) →
     (list : List GroupTextData) → HasTexts session.circuit.graph list →
     IfSome found (λ machine. groups ≡ count_by has_members machine.parts) → IfSome found (λ machine. texts ≡ machine.texts) →
     IsReported session (record session { fresh = 0 }) (Reported groups texts session.fresh ∷ [])
-reported session found groups texts built list has counted told =
+reported session found groups texts built without list has counted told =
     let g : GraphData = session.circuit.graph in
     let machine = built.machine in
     let covers = built.fits.covers in
@@ -29,8 +30,9 @@ reported session found groups texts built list has counted told =
     subst (λ (m : Option MachineData). IfSome m (λ machine. groups ≡ count_by has_members machine.parts)) built.there counted in
     let tells : texts ≡ machine.texts = subst (λ (m : Option MachineData). IfSome m (λ machine. texts ≡ machine.texts)) built.there told in
     let all : groups ≡ length list = counts ∙ covers.number ∙ ap length (sym same) ∙ sym number in
+    let none : machine.wide ≡ None = subst (λ (m : Option MachineData). IfSome m (λ machine. machine.wide ≡ None)) built.there without in
     let distinct : texts ≡ length (first_texts list) =
-    tells ∙ built.fits.texts has.groups has.are ∙ ap (λ (ts : List GroupTextData). length (first_texts ts)) (sym made) in
+    tells ∙ built.fits.texts none has.groups has.are ∙ ap (λ (ts : List GroupTextData). length (first_texts ts)) (sym made) in
     record {
       texts = list;
       has = has;

@@ -31,7 +31,7 @@ keeps_bound P session bound kept limit same holds =
 -- a session whose machine's last build is the one from before, and which keeps what its table had in front of which these texts stood
 module _ (session : HeldSession) (old : Option MachineData) (table : List GroupTextData) (same : last_in session.machine ≡ last_in old)
     (stood : session.core.kept ≡ kept_in old table) where
-  -- what holds of it holds where its table is read anew
+  -- what holds of it holds if its table is read anew
   pub staying : (P : HeldSession → Type 0) → P session → P (keeping session (kept_in session.machine table))
   staying P holds =
       keeps_same P session (kept_in session.machine table) (ap (λ (last : List GroupTextData). used_texts last table) same ∙ sym stood) holds

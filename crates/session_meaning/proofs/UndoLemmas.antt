@@ -27,7 +27,7 @@ pub record Undoes (g before : GraphData) (change : Change) : Type 0 where
   pub texts : (kept : List GroupTextData) (machine : MachineData) → Covers before machine → IsKeptBy before kept machine →
       IsKeptBy (undo g change) kept machine
 
--- where that is the graph before
+-- if that is the graph before
 undoes-same : (g before : GraphData) (change : Change) → undo g change ≡ before → nodes before ≤ nodes g → IsWired before →
     Undoes g before change
 undoes-same g before change is more wired = record {

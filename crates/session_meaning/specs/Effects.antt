@@ -19,16 +19,17 @@ use Rattle.script_lang.specs.declared.command.Command.TheVariants as family
 use Rattle.script_lang.specs.declared.command.Edit.{Edit}
 use Rattle.script_lang.specs.declared.command.Edit.TheVariants.{Input, Store, Add, Del, Strength, Kind, Wire}
 use Rattle.script_lang.specs.declared.command.Give.{Give}
-use Rattle.script_lang.specs.declared.command.Give.TheVariants.{Set, Charge}
+use Rattle.script_lang.specs.declared.command.Give.TheVariants.{Set, Charge, Back}
 use Rattle.script_lang.specs.declared.command.Setup.{Setup}
-use Rattle.script_lang.specs.declared.command.Setup.TheVariants.{Watch, Limit, Clock, Keep}
+use Rattle.script_lang.specs.declared.command.Setup.TheVariants.{Watch, Limit, Clock, Keep, Save}
 use Rattle.script_lang.specs.declared.command.Run.{Run}
 use Rattle.script_lang.specs.declared.command.Run.TheVariants.{Step, Phase, Cycle, Report}
 use Rattle.script_lang.specs.declared.command.Tell.{Tell}
-use Rattle.script_lang.specs.declared.command.Tell.TheVariants.{Expect}
+use Rattle.script_lang.specs.declared.command.Tell.TheVariants.{Expect, Show}
+use Rattle.session_meaning.specs.Saves.{state_back, with_save}
 use Rattle.session_meaning.specs.Sessions.{SessionData, ClockData, places_of}
 use Rattle.session_meaning.specs.Refusals.{strength_for}
-use Rattle.told_lines.specs.Lines.{Line, Wave, Unmet, Reported, is_unmet}
+use Rattle.told_lines.specs.Lines.{Line, Wave, Unmet, Shown, Reported, is_unmet}
 
 -- the circuit with the named nodes as input nodes
 abbrev pub with_inputs : CircuitData → List (List ℕ) → CircuitData
@@ -111,6 +112,10 @@ unmet_line session item =
 abbrev pub unmet_lines : SessionData → List (List ℕ × Tern) → List Line
 unmet_lines session list = filter_map (unmet_line session) list
 
+-- the line of a name that is shown: the state of its node
+abbrev pub shown_line : SessionData → List ℕ → Line
+shown_line session name = Shown name (state_at session.state (node_named session.circuit name) ∷ [])
+
 -- the data with this circuit in place of theirs: each node that is new is X
 abbrev pub with_circuit : SessionData → CircuitData → SessionData
 with_circuit old c = record old { circuit = c; state = old.state ++ replicate (nodes c.graph - length old.state) Unk }
@@ -134,10 +139,11 @@ circuit_after c (Strength number strength) = with_strength c number strength
 circuit_after c (Kind number kind) = with_kind c number kind
 circuit_after c (Wire number gate source drain) = with_wires c number gate source drain
 
--- the names that are given states, with these
-abbrev pub given_by : Give → List (List ℕ × Tern)
-given_by (Set list) = list
-given_by (Charge list) = list
+-- the state after a command that gives nodes states
+abbrev pub state_given : SessionData → Give → List Tern
+state_given old (Set list) = assigned old.circuit old.state list
+state_given old (Charge list) = assigned old.circuit old.state list
+state_given old (Back name) = state_back old.saves name old.state
 
 -- the data after a command that sets what others go by
 abbrev pub setup_after : SessionData → Setup → SessionData
@@ -145,6 +151,7 @@ setup_after old (Watch names) = record old { watched = old.watched ++ map (node_
 setup_after old (Limit number) = record old { limit = number }
 setup_after old (Clock list) = record old { clocks = map (clock_of old.circuit) list }
 setup_after old (Keep number) = record old { bound = Some number }
+setup_after old (Save name) = record old { saves = with_save old.saves name old.state }
 
 -- the effect of a command that has the circuit built
 abbrev pub RunEffect : SessionData → Run → SessionData → List Line → Type 0
@@ -156,6 +163,7 @@ RunEffect old Report new lines = IsReported old new lines
 -- the lines of a command that tells
 abbrev pub told_by : SessionData → Tell → List Line
 told_by session (Expect list) = unmet_lines session list
+told_by session (Show names) = map (shown_line session) names
 
 -- the data after these lines were told: whether one of them was of an expectation that isn't met is remembered
 abbrev pub with_told : SessionData → List Line → SessionData
@@ -164,7 +172,7 @@ with_told old lines = record old { missed = old.missed || list_any is_unmet line
 -- the effect of a command: from the data before it, the data after it and its lines
 abbrev pub Effect : SessionData → Command → SessionData → List Line → Type 0
 Effect old (family.Edit edit) new lines = (new ≡ with_circuit old (circuit_after old.circuit edit)) × (lines ≡ [])
-Effect old (family.Give give) new lines = (new ≡ record old { state = assigned old.circuit old.state (given_by give) }) × (lines ≡ [])
+Effect old (family.Give give) new lines = (new ≡ record old { state = state_given old give }) × (lines ≡ [])
 Effect old (family.Setup setup) new lines = (new ≡ setup_after old setup) × (lines ≡ [])
 Effect old (family.Run run) new lines = RunEffect old run new lines
 Effect old (family.Tell tell) new lines = (new ≡ with_told old lines) × (lines ≡ told_by old tell)

@@ -1,7 +1,9 @@
 -- Laws of commands: what one does is determined.
-use Rattle.std.specs.Prelude.{◌≡◌, List}
+use Rattle.std.specs.Prelude.{◌≡◌, ℕ, List, length}
+use Rattle.ternary.specs.declared.tern.Tern.{Tern}
 use Rattle.group_text.specs.Texts.{GroupTextData}
 use Rattle.script_lang.specs.declared.command.Command.{Command}
+use Rattle.session_meaning.specs.Saves.{state_back, with_save}
 use Rattle.session_meaning.specs.Sessions.{SessionData}
 use Rattle.told_lines.specs.Lines.{Line}
 use Rattle.session_meaning.specs.Effects.{Effect}
@@ -12,6 +14,12 @@ abbrev pub EffectsAreUnique : Type 0
 EffectsAreUnique =
     (old new other : SessionData) (command : Command) (lines more : List Line) → Effect old command new lines → Effect old command other more →
     (new ≡ other) × (lines ≡ more)
+
+-- what `back` gives if no node was made since the save is the whole state that was kept
+abbrev pub SavesComeBack : Type 0
+SavesComeBack =
+    (saves : List (List ℕ × List Tern)) (name : List ℕ) (state later : List Tern) → length later ≡ length state →
+    state_back (with_save saves name state) name later ≡ state
 
 -- with what is built before it, it comes to one thing: one outcome, one list of lines, and the same texts of groups are analysed for it
 abbrev pub CommandsPerformOneThing : Type 0

@@ -1,3 +1,4 @@
+pub mod Saves
 pub mod Sessions
 pub mod Refusals
 pub mod Preparing

@@ -4,6 +4,7 @@ use Rattle.std.specs.Prelude.{◌≡◌, ◌≢◌, ℕ, ◌<◌, ◌⊎◌, Boo
 use Rattle.ternary.specs.declared.tern.Tern.{Tern}
 use Rattle.ternary.specs.Counts.{raised}
 use Rattle.path_meaning.specs.Graphs.{GraphData}
+use Rattle.path_meaning.specs.Switching.{state_at}
 use Rattle.group_text.specs.Texts.{GroupTextData}
 use Rattle.group_text.specs.FirstTexts.{is_among}
 use Rattle.group_analysis.specs.Using.{used_texts}
@@ -17,7 +18,7 @@ use Rattle.netlist.specs.Edits.{node_named}
 use Rattle.script_lang.specs.declared.command.Command.{Command}
 use Rattle.script_lang.specs.declared.command.Command.TheVariants as family
 use Rattle.script_lang.specs.declared.command.Give.{Give}
-use Rattle.script_lang.specs.declared.command.Give.TheVariants.{Set, Charge}
+use Rattle.script_lang.specs.declared.command.Give.TheVariants.{Set, Charge, Back}
 use Rattle.script_lang.specs.declared.command.Run.{Run}
 use Rattle.script_lang.specs.declared.command.Run.TheVariants.{Step, Phase, Cycle, Report}
 use Rattle.session_meaning.specs.Sessions.{SessionData, HeldSession, IsSession}
@@ -29,7 +30,7 @@ use Rattle.session_meaning.specs.Effects.{RunEffect}
 abbrev pub without_room : MachineData → MachineData
 without_room machine = record machine { spare = 0 }
 
--- the texts that the groups had at the last build, in order; where there is no machine, none
+-- the texts that the groups had at the last build, in order; if there is no machine, none
 abbrev pub last_in : Option MachineData → List GroupTextData
 last_in None = []
 last_in (Some machine) = machine.last
@@ -67,12 +68,12 @@ pub record FitsIn (g : GraphData) (found : Option MachineData) : Type 0 where
 abbrev pub IsBuilt : HeldSession → Type 0
 IsBuilt session = FitsIn session.core.circuit.graph session.machine
 
--- how often the machine moved; where there is none, never
+-- how often the machine moved; if there is none, never
 abbrev pub moves_of : Option MachineData → ℕ
 moves_of None = 0
 moves_of (Some machine) = machine.moves
 
--- how often one of its members was placed; where there is none, never
+-- how often one of its members was placed; if there is none, never
 abbrev pub placed_of : Option MachineData → ℕ
 placed_of None = 0
 placed_of (Some machine) = machine.placed
@@ -90,7 +91,7 @@ pub record EndsAtRest (limit : ℕ) (lines : List Line) : Type 0 where
   pub last : lines ≡ front ++ Wave n k false values ∷ []
   pub few : k < limit
 
--- a step was done by the machine, which fits the circuit: it moved once where something changed, and those parts alone are marked that
+-- a step was done by the machine, which fits the circuit: it moved once if something changed, and those parts alone are marked that
 -- read a node which did
 pub record StepsMachine (old new : HeldSession) : Type 0 where
   pub machine : MachineData
@@ -138,6 +139,25 @@ abbrev pub PlacesIn : CircuitData → List (List ℕ) → Option MachineData →
 PlacesIn c names None new = new ≡ None
 PlacesIn c names (Some machine) new = PlacesNamed c names machine new
 
+-- the part with this number has a node as a member or reads one whose states differ
+pub record ConcernsOther (before after : List Tern) (parts : List HeldPart) (k : ℕ) : Type 0 where
+  pub node : ℕ
+  pub differs : state_at before node ≢ state_at after node
+  pub concerns : Concerns parts k node
+
+-- the nodes whose states differ were placed in the machine: it didn't move, and those parts alone are marked more that such a node concerns
+pub record PlacesOthers (before after : List Tern) (old : MachineData) (new : Option MachineData) : Type 0 where
+  pub machine : MachineData
+  pub there : new ≡ Some machine
+  pub parts : machine.parts ≡ old.parts
+  pub moves : machine.moves ≡ old.moves
+  pub marks : (k : ℕ) → IsMarked machine.marks k → IsMarked old.marks k ⊎ ConcernsOther before after old.parts k
+
+-- they were placed in the machine, if there is one
+abbrev pub PlacesOthersIn : List Tern → List Tern → Option MachineData → Option MachineData → Type 0
+PlacesOthersIn before after None new = new ≡ None
+PlacesOthersIn before after (Some machine) new = PlacesOthers before after machine new
+
 -- there is a machine, which fits the circuit, and neither moved nor had a member placed
 pub record BuildsMachine (old new : HeldSession) : Type 0 where
   pub machine : MachineData
@@ -153,7 +173,7 @@ pub record Survives (old : Option MachineData) (machine : MachineData) : Type 0 
   pub moves : machine.moves ≡ before.moves
   pub placed : machine.placed ≡ before.placed
 
--- the circuit was edited: where there is a machine, it was there before
+-- the circuit was edited: if there is a machine, it was there before
 abbrev pub EditsMachine : HeldSession → HeldSession → Type 0
 EditsMachine old new = IfSome new.machine (Survives old.machine)
 
@@ -162,6 +182,7 @@ abbrev pub GivesMachine : HeldSession → Give → HeldSession → Type 0
 GivesMachine old (Set list) new =
     PlacesIn old.core.circuit (map (λ item. item.0) list) old.machine new.machine × (placed_of new.machine ≡ placed_of old.machine)
 GivesMachine old (Charge list) new = PlacesIn old.core.circuit (map (λ item. item.0) list) old.machine new.machine
+GivesMachine old (Back name) new = PlacesOthersIn old.core.state new.core.state old.machine new.machine
 
 -- the circuit was built, and more was done, as the command says
 abbrev pub RunsMachine : HeldSession → Run → HeldSession → Type 0

@@ -60,14 +60,14 @@ pub record RefusesSize {H : Type 0} (old : HeldSession) (command : Command) (new
   pub first : TellsTooLarge old.core.circuit.graph fault
   pub keeps : Keeps old new before after asked told
 
--- all is as before, but that a front of the texts that a build analyses may be kept
+-- all is as before, but that a prefix of the texts that a build analyses may be kept
 pub record Stays {H : Type 0} (old new : HeldSession) (before after : H) (asked told : List GroupTextData) : Type 0 where
   pub core : new.core ≡ record old.core { kept = new.core.kept }
   pub machine : new.machine ≡ old.machine
   pub cut_off : IsCutOff old.core.circuit.graph old.core.kept new.core.kept asked told
   pub unheard : after ≡ before
 
--- the phases at a front of these places were done, and none of those after it
+-- the phases at a prefix of these places were done, and none of those after it
 pub record FrontDone (places : List ℕ) (old new : SessionData) : Type 0 where
   pub done : List ℕ
   pub left : List ℕ
@@ -75,7 +75,7 @@ pub record FrontDone (places : List ℕ) (old new : SessionData) : Type 0 where
   pub lines : List Line
   pub beats : AreBeats old done new lines
 
--- the data are as after a whole part of the command: of a cycle the phases at a front of its places, of any other command its effect
+-- the data are as after a whole part of the command: of a cycle the phases at a prefix of its places, of any other command its effect
 abbrev pub DoesPart : SessionData → Command → SessionData → Type 0
 DoesPart old (family.Run (Cycle times)) new = FrontDone (places_in (places_of old.clocks) times) old new
 DoesPart old command new = (lines : List Line) × Effect old command new lines
@@ -125,7 +125,7 @@ Obeys hear part old command new before after asked told refusals now result =
 abbrev pub Sent : {H : Type 0} → (H → Told → H) → (H → Told → H → Type 0) → H → H → List Line → Result (Unit {0}) ApplyFault → Type 0
 Sent hear part before after lines result = Hears hear part before after (of_column 0 lines) result
 
--- the phases at a front of these places were done, and a part of the lines of all was heard, from the start
+-- the phases at a prefix of these places were done, and a part of the lines of all was heard, from the start
 pub record BeatsBegun {H : Type 0} (hear : H → Told → H) (part : H → Told → H → Type 0) (places : List ℕ) (old new : SessionData)
     (before after : H) : Type 0 where
   pub end : SessionData
@@ -134,7 +134,7 @@ pub record BeatsBegun {H : Type 0} (hear : H → Told → H) (part : H → Told 
   pub heard : HearsPart hear part before after (of_column 0 lines)
   pub done : FrontDone places old new
 
--- the phases at these places were done and their lines heard, or those at a front of them and a part of the lines
+-- the phases at these places were done and their lines heard, or those at a prefix of them and a part of the lines
 abbrev pub TakesBeats : {H : Type 0} → (H → Told → H) → (H → Told → H → Type 0) → List ℕ → SessionData → SessionData → H → H →
     Result (Unit {0}) ApplyFault → Type 0
 TakesBeats hear part places old new before after (Ok _) =

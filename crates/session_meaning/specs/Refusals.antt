@@ -1,5 +1,5 @@
 -- When a command is refused: the first of these causes, in the order in which they stand for its command.
-use Rattle.std.specs.Prelude.{ℕ, Bool, ◌+◌, ◌==◌, List, [], ◌∷◌, length, nat_lt, unwrap_or, Option, Some, None, if◌then◌else◌}
+use Rattle.std.specs.Prelude.{ℕ, Bool, ◌+◌, ◌==◌, List, [], ◌∷◌, length, nat_lt, nat_le, unwrap_or, Option, Some, None, if◌then◌else◌}
 use Rattle.strength_order.specs.declared.TheConstants.{INPUT_LEVEL}
 use Rattle.ternary.specs.declared.tern.Tern.{Tern}
 use Rattle.path_meaning.specs.Graphs.{level_of}
@@ -16,16 +16,17 @@ use Rattle.script_lang.specs.declared.command.Command.TheVariants as family
 use Rattle.script_lang.specs.declared.command.Edit.{Edit}
 use Rattle.script_lang.specs.declared.command.Edit.TheVariants.{Input, Store, Add, Del, Strength, Kind, Wire}
 use Rattle.script_lang.specs.declared.command.Give.{Give}
-use Rattle.script_lang.specs.declared.command.Give.TheVariants.{Set, Charge}
+use Rattle.script_lang.specs.declared.command.Give.TheVariants.{Set, Charge, Back}
 use Rattle.script_lang.specs.declared.command.Setup.{Setup}
-use Rattle.script_lang.specs.declared.command.Setup.TheVariants.{Watch, Limit, Clock, Keep}
+use Rattle.script_lang.specs.declared.command.Setup.TheVariants.{Watch, Limit, Clock, Keep, Save}
 use Rattle.script_lang.specs.declared.command.Run.{Run}
 use Rattle.script_lang.specs.declared.command.Run.TheVariants.{Step, Phase, Cycle, Report}
 use Rattle.script_lang.specs.declared.command.Tell.{Tell}
-use Rattle.script_lang.specs.declared.command.Tell.TheVariants.{Expect}
-use Rattle.session_meaning.specs.declared.TheConstants.{MOST_WATCHED}
+use Rattle.script_lang.specs.declared.command.Tell.TheVariants.{Expect, Show}
+use Rattle.session_meaning.specs.declared.TheConstants.{MOST_WATCHED, MOST_SAVES}
 use Rattle.session_meaning.specs.declared.fault.Refusal.{Refusal}
-use Rattle.session_meaning.specs.declared.fault.Refusal.TheVariants.{UnknownNode, NoSuchSwitch, Rail, BadStrength, BadSize, TooManyNodes, TooManySwitches, NotInput, NotStore, ClockLength, NoClock, TooManyWatched}
+use Rattle.session_meaning.specs.declared.fault.Refusal.TheVariants.{UnknownNode, NoSuchSwitch, Rail, BadStrength, BadSize, TooManyNodes, TooManySwitches, NotInput, NotStore, ClockLength, NoClock, TooManyWatched, TooManySaves, NoSave}
+use Rattle.session_meaning.specs.Saves.{kept_under, other_saves}
 use Rattle.session_meaning.specs.Sessions.{SessionData, ClockData}
 
 -- one refusal, or else another
@@ -78,6 +79,15 @@ expect_refusal c list = first_refusal (λ item. known_refusal (node_of c.names i
 abbrev pub watch_refusal : ℕ → Option Refusal
 watch_refusal count = if nat_lt MOST_WATCHED count then Some TooManyWatched else None
 
+-- as many other names keep states as may
+abbrev pub save_refusal : List (List ℕ × List Tern) → List ℕ → Option Refusal
+save_refusal saves name = if nat_le MOST_SAVES (other_saves saves name) then Some TooManySaves else None
+
+-- nothing is kept
+abbrev pub back_refusal : Option (List Tern) → Option Refusal
+back_refusal None = Some NoSave
+back_refusal (Some state) = None
+
 -- two clocks have different numbers of letters: some clock has another number than the first
 abbrev pub length_refusal : List (List ℕ × List Tern) → Option Refusal
 length_refusal [] = None
@@ -105,7 +115,7 @@ making_refusal (Some MakingFault.AliasTaken) = None
 making_refusal (Some MakingFault.TooManyNodes) = Some TooManyNodes
 making_refusal (Some MakingFault.TooManySwitches) = Some TooManySwitches
 
--- the refusal of an edit of a transistor that is there; such an edit gives no node a second name, and its want of memory is no refusal
+-- the refusal of an edit of a transistor that is there; such an edit gives no node a second name, and its lack of memory is no refusal
 abbrev pub edit_refusal : Option EditFault → Option Refusal
 edit_refusal None = None
 edit_refusal (Some fault.NoSuchSwitch) = Some NoSuchSwitch
@@ -128,18 +138,20 @@ refusal_of_edit c (Kind number kind) = edit_refusal (number_fault c number)
 refusal_of_edit c (Wire number gate source drain) = edit_refusal (wire_fault c number gate source drain)
 
 -- of a command that gives nodes states
-abbrev pub refusal_of_give : CircuitData → Give → Option Refusal
-refusal_of_give c (Set list) = first_refusal (λ item. set_refusal c (node_of c.names item.0)) list
-refusal_of_give c (Charge list) = first_refusal (λ item. charge_refusal c (node_of c.names item.0)) list
+abbrev pub refusal_of_give : SessionData → Give → Option Refusal
+refusal_of_give session (Set list) = first_refusal (λ item. set_refusal session.circuit (node_of session.circuit.names item.0)) list
+refusal_of_give session (Charge list) = first_refusal (λ item. charge_refusal session.circuit (node_of session.circuit.names item.0)) list
+refusal_of_give session (Back name) = back_refusal (kept_under session.saves name)
 
--- of one that sets what others go by, if so many nodes are watched
-abbrev pub refusal_of_setup : CircuitData → ℕ → Setup → Option Refusal
-refusal_of_setup c watched (Watch names) =
-    or_else (first_refusal (λ name. known_refusal (node_of c.names name)) names) (watch_refusal (watched + length names))
-refusal_of_setup c watched (Limit number) = None
-refusal_of_setup c watched (Clock list) =
-    or_else (length_refusal list) (first_refusal (λ item. set_refusal c (node_of c.names item.0)) list)
-refusal_of_setup c watched (Keep number) = None
+-- of one that sets what others go by
+abbrev pub refusal_of_setup : SessionData → Setup → Option Refusal
+refusal_of_setup session (Watch names) =
+    or_else (first_refusal (λ name. known_refusal (node_of session.circuit.names name)) names) (watch_refusal (length session.watched + length names))
+refusal_of_setup session (Limit number) = None
+refusal_of_setup session (Clock list) =
+    or_else (length_refusal list) (first_refusal (λ item. set_refusal session.circuit (node_of session.circuit.names item.0)) list)
+refusal_of_setup session (Keep number) = None
+refusal_of_setup session (Save name) = save_refusal session.saves name
 
 -- of one that has the circuit built, by the data alone
 abbrev pub refusal_of_run : CircuitData → List ClockData → Run → Option Refusal
@@ -151,11 +163,12 @@ refusal_of_run c clocks Report = None
 -- of one that tells
 abbrev pub refusal_of_tell : CircuitData → Tell → Option Refusal
 refusal_of_tell c (Expect list) = expect_refusal c list
+refusal_of_tell c (Show names) = first_refusal (λ name. known_refusal (node_of c.names name)) names
 
 -- the refusal of a command, by the data before it: no state is a cause of one
 abbrev pub refusal_of : SessionData → Command → Option Refusal
 refusal_of session (family.Edit edit) = refusal_of_edit session.circuit edit
-refusal_of session (family.Give give) = refusal_of_give session.circuit give
-refusal_of session (family.Setup setup) = refusal_of_setup session.circuit (length session.watched) setup
+refusal_of session (family.Give give) = refusal_of_give session give
+refusal_of session (family.Setup setup) = refusal_of_setup session setup
 refusal_of session (family.Run run) = refusal_of_run session.circuit session.clocks run
 refusal_of session (family.Tell tell) = refusal_of_tell session.circuit tell

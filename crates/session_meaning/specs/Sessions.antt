@@ -11,6 +11,7 @@ use Rattle.machine_laws.specs.Machines.{MachineData}
 use Rattle.netlist.specs.Circuits.{CircuitData, IsCircuit}
 use Rattle.script_lang.specs.declared.TheConstants.{MOST_TIMES}
 use Rattle.session_meaning.specs.declared.TheConstants.{MOST_WATCHED, FIRST_LIMIT}
+use Rattle.session_meaning.specs.Saves.{AreSaves}
 
 -- a clock: a node, and its states at the places of a cycle
 pub record ClockData : Type 0 where
@@ -18,8 +19,9 @@ pub record ClockData : Type 0 where
   pub states : List Tern
 
 -- the circuit, the state of its nodes, the nodes that are watched, the clocks, the limit of a phase, how many waveform lines there
--- were, whether some `expect` was not met, the bound on the number of texts that are kept, where there is one, the texts of groups whose
--- analyses are kept, the most recently used first, and how many were analysed since the last report
+-- were, whether some `expect` was not met, the names under which states are kept, with these, the bound on the number of texts that are
+-- kept, if there is one, the texts of groups whose analyses are kept, the most recently used first, and how many were analysed since the
+-- last report
 pub record SessionData : Type 0 where
   pub circuit : CircuitData
   pub state : List Tern
@@ -28,11 +30,12 @@ pub record SessionData : Type 0 where
   pub limit : ℕ
   pub count : ℕ
   pub missed : Bool
+  pub saves : List (List ℕ × List Tern)
   pub bound : Option ℕ
   pub kept : List GroupTextData
   pub fresh : ℕ
 
--- a session: its data, and the machine that moves its state, where there is one
+-- a session: its data, and the machine that moves its state, if there is one
 pub record HeldSession : Type 0 where
   pub core : SessionData
   pub machine : Option MachineData
@@ -48,6 +51,7 @@ start_of circuit = record {
   limit = FIRST_LIMIT;
   count = 0;
   missed = false;
+  saves = [];
   bound = None;
   kept = [];
   fresh = 0;
@@ -62,13 +66,14 @@ places_of (clock ∷ clocks) = length clock.states
 abbrev pub have_places : ℕ → List ClockData → Bool
 have_places count clocks = list_all (λ clock. length clock.states == count) clocks
 
--- the circuit is one, there is one state for each node, the rails have theirs, and no clock's node is a rail: so each command has an
--- outcome, after which the rails have their states still
+-- the circuit is one, there is one state for each node, the rails have theirs, also in the states that are kept, and no clock's node is a
+-- rail: so each command has an outcome, after which the rails have their states still
 pub record IsReady (session : SessionData) : Type 0 where
   pub netlist : IsCircuit session.circuit
   pub states : length session.state ≡ nodes session.circuit.graph
   pub sound : IsSound session.state
   pub free : All (λ clock. RAILS ≤ clock.node) session.clocks
+  pub saved : AreSaves (nodes session.circuit.graph) session.saves
 
 -- the session is ready; each watched node is a node, and so is each clock's; the watched nodes are few, the limit is within its range,
 -- and all clocks have the same number of places, one at least

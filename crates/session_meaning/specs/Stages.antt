@@ -1,5 +1,5 @@
--- The state of a session's nodes, and the machine that moves it, where there is one: what calls inside the session do to both.
-use Rattle.std.specs.Prelude.{◌≡◌, ◌≢◌, ℕ, ◌+◌, ◌<◌, ◌≤◌, ◌⊎◌, Bool, true, false, List, ◌++◌, length, All, Option, None, Some, is_some, Result, Ok, Err}
+-- The state of a session's nodes, and the machine that moves it, if there is one: what calls inside the session do to both.
+use Rattle.std.specs.Prelude.{◌≡◌, ◌≢◌, ℕ, ◌+◌, ◌<◌, ◌⊎◌, Bool, false, List, ◌++◌, All, Option, None, Some, Result, Ok, Err}
 use Rattle.ternary.specs.declared.tern.Tern.{Tern}
 use Rattle.ternary.specs.Counts.{raised}
 use Rattle.strength_order.specs.declared.TheConstants.{INPUT_LEVEL}
@@ -19,33 +19,17 @@ use Rattle.machine_laws.specs.Fitting.{Covers, FitsGraph, IsKeptBy}
 use Rattle.machine_laws.specs.Editing.{Edits}
 use Rattle.channel_groups.specs.declared.change.Change.{Change}
 use Rattle.netlist.specs.Circuits.{CircuitData}
-use Rattle.netlist.specs.Names.{node_of}
 use Rattle.netlist.specs.Edits.{node_named}
-use Rattle.wave_print.specs.declared.lines.TheConstants.{COLUMN_ROOM, EXPECT_LINE_ROOM}
-use Rattle.script_lang.specs.declared.command.Tell.{Tell}
-use Rattle.script_lang.specs.declared.command.Tell.TheVariants.{Expect}
 use Rattle.session_meaning.specs.declared.fault.ApplyFault.{ApplyFault}
 use Rattle.session_meaning.specs.declared.fault.ApplyFault.TheVariants.{Refused, GroupNodes, GroupSwitches, WriteFault, NoMemory}
 use Rattle.session_meaning.specs.Sessions.{SessionData, HeldSession, ClockData}
 use Rattle.told_lines.specs.Lines.{Line, Told}
 use Rattle.session_meaning.specs.Effects.{IsUnitStep, IsPhase, AreBeats, IsReported, moved_to}
 use Rattle.session_meaning.specs.Preparing.{IsBuild}
-use Rattle.session_meaning.specs.Machines.{ConcernsNamed, BuildsMachine, MovesMachine, moves_of, placed_of}
+use Rattle.session_meaning.specs.Machines.{ConcernsNamed, ConcernsOther, BuildsMachine, MovesMachine, moves_of, placed_of}
 use Rattle.session_meaning.specs.Outcomes.{Sent}
 
--- the names of a command that tells are in use
-abbrev pub IsToldKnown : CircuitData → Tell → Type 0
-IsToldKnown c (Expect list) = All (λ item. is_some (node_of c.names item.0) ≡ true) list
-
--- there is room for the line of each of these names
-abbrev pub AreInRoom : ℕ → List (List ℕ × Tern) → Type 0
-AreInRoom room list = All (λ item. COLUMN_ROOM + (EXPECT_LINE_ROOM + length item.0) ≤ room) list
-
--- there is room for each line of a command that tells
-abbrev pub IsToldInRoom : ℕ → Tell → Type 0
-IsToldInRoom room (Expect list) = AreInRoom room list
-
--- the state, the machine, where there is one, and for how many nodes more there is room
+-- the state, the machine, if there is one, and for how many nodes more there is room
 pub record StageData : Type 0 where
   pub state : List Tern
   pub machine : Option MachineData
@@ -104,6 +88,25 @@ abbrev pub AssignsIn : CircuitData → List (List ℕ) → Option MachineData �
 AssignsIn c names None new = new ≡ None
 AssignsIn c names (Some machine) new = (next : MachineData) × (new ≡ Some next) × Assigns c names machine next
 
+-- a node with this state was given that one: it is the same, or the node was placed in the machine, if there is one
+abbrev pub PutsOtherIn : GraphData → ℕ → Tern → Tern → Option MachineData → Option MachineData → Type 0
+PutsOtherIn g node value before old new = ((value ≡ before) × (new ≡ old)) ⊎ ((value ≢ before) × PutsIn g node value old new)
+
+-- the nodes whose states differ were placed in a machine: it covers a graph that it covered, its texts are kept that were, those of the last
+-- build are the same, it didn't move, and those parts alone are marked more that such a node concerns
+pub record PutsOthers (g : GraphData) (before after : List Tern) (old new : MachineData) : Type 0 where
+  pub covers : Covers g old → Covers g new
+  pub known : (kept : List GroupTextData) → IsKeptBy g kept old → IsKeptBy g kept new
+  pub last : new.last ≡ old.last
+  pub parts : new.parts ≡ old.parts
+  pub moves : new.moves ≡ old.moves
+  pub marks : (k : ℕ) → IsMarked new.marks k → IsMarked old.marks k ⊎ ConcernsOther before after old.parts k
+
+-- they were placed in the machine, if there is one
+abbrev pub PutsOthersIn : GraphData → List Tern → List Tern → Option MachineData → Option MachineData → Type 0
+PutsOthersIn g before after None new = new ≡ None
+PutsOthersIn g before after (Some machine) new = (next : MachineData) × (new ≡ Some next) × PutsOthers g before after machine next
+
 -- clocks' nodes were placed in a machine: it fits a graph that it fitted, its texts are kept that were, those of the last build are the
 -- same, it didn't move, and where all are input nodes no member was placed
 pub record Ticks (g : GraphData) (clocks : List ClockData) (old new : MachineData) : Type 0 where
@@ -118,7 +121,7 @@ abbrev pub TicksIn : GraphData → List ClockData → Option MachineData → Opt
 TicksIn g clocks None new = new ≡ None
 TicksIn g clocks (Some machine) new = (next : MachineData) × (new ≡ Some next) × Ticks g clocks machine next
 
--- a machine took a unit step of the graph: it moved once where something changed, those parts alone are marked that read a node which
+-- a machine took a unit step of the graph: it moved once if something changed, those parts alone are marked that read a node which
 -- did, and the texts of the last build are the same
 pub record TakesStep (g : GraphData) (old new : MachineData) : Type 0 where
   pub step : IsStep g old.state new.state
@@ -156,7 +159,7 @@ pub record Readied (old new : HeldSession) (asked told : List GroupTextData) : T
   pub analysed : told ≡ asked ++ texts
   pub machine : BuildsMachine old new
 
--- a build found want of memory: all is as before, but that a front of the texts that it analyses may be kept
+-- a build ran out of memory: all is as before, but that a prefix of the texts that it analyses may be kept
 pub record CutOff (old new : HeldSession) (asked told : List GroupTextData) : Type 0 where
   pub core : new.core ≡ record old.core { kept = new.core.kept }
   pub machine : new.machine ≡ old.machine

@@ -35,6 +35,10 @@ pub enum Refusal {
     NoClock,
     /// The watch list would have more than `MOST_WATCHED` entries.
     TooManyWatched,
+    /// As many other names keep states as may: `MOST_SAVES`.
+    TooManySaves,
+    /// Nothing is kept under the name.
+    NoSave,
 }
 
 /// Why a command was not done, or not to its end.
@@ -50,7 +54,7 @@ pub enum ApplyFault {
     GroupSwitches { node: usize, count: u64 },
     /// The sink failed.
     WriteFault,
-    /// There was want of memory.
+    /// Memory ran out.
     NoMemory,
 }
 

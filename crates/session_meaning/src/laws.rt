@@ -1,19 +1,25 @@
 //! What holds of a session's machine and of its commands, whatever they are.
 
 ghost use Rattle.std.specs.Prelude.{◌≡◌};
-ghost use Rattle.session_meaning.specs.Laws.{CommandsPerformOneThing, EffectsAreUnique};
+ghost use Rattle.session_meaning.specs.Laws.{CommandsPerformOneThing, EffectsAreUnique, SavesComeBack};
 ghost use Rattle.session_meaning.specs.Machines.{OnlyEditsLoseMachines};
-ghost use Rattle.session_meaning.specs.declared.TheConstants.{MOST_WATCHED, FIRST_LIMIT};
+ghost use Rattle.session_meaning.specs.declared.TheConstants.{MOST_WATCHED, MOST_SAVES, FIRST_LIMIT};
 
 /// A law: where an accepted command found a machine and leaves none, it edited the circuit.
 pub fn only_edits_lose_the_machine()
     ensures { OnlyEditsLoseMachines }
 {}
 
-/// A law: the watch list has up to 256 entries, and the limit of a phase is 100 at the start.
+/// A law: the watch list has up to 256 entries, up to 64 names keep states, and the limit of a phase is 100 at the start.
 pub fn limits_are_as_stated()
     ensures watched { MOST_WATCHED ≡ 256 }
+    ensures saves { MOST_SAVES ≡ 64 }
     ensures limit { FIRST_LIMIT ≡ 100 }
+{}
+
+/// A law: what `save` keeps of all nodes comes back, whole if no node was made since, whatever came between.
+pub fn saves_come_back()
+    ensures { SavesComeBack }
 {}
 
 /// A law: what a command does is determined. `effect`: it has one outcome and one list of lines. `performed`: so it

@@ -3,7 +3,7 @@
 //!
 //! The main types are `Refusal` and `ApplyFault`: why a command is refused, or was not done. The crates above
 //! use the definitions in `specs/`. `SessionData` are a session's data, and `HeldSession` has the machine too,
-//! where there is one. `refusal_of` is the first refusal of a command; `Effect` is what one that isn't refused
+//! if there is one. `refusal_of` is the first refusal of a command; `Effect` is what one that isn't refused
 //! does, and the lines that it tells; `Obeys` is what a call comes to, to the data, to what is heard of the
 //! lines and to the texts that are analysed. `IsMachineAfter` is what each command does to the machine, and
 //! the law `only_edits_lose_the_machine` says that no others end without the one that was there. By the law
@@ -17,8 +17,8 @@
 //! For the proofs of crates above: `EffectLemmas`, how each formed command ends, and that what is
 //! done keeps the data ready. They cite `BeatLemmas`, `ClockLemmas`, `EditLemmas`, `LeavingLemmas`, `LineLemmas`, `MachineLemmas`,
 //! `OutcomeLemmas`, `RefusalLemmas`, `SizeLemmas`, `StateLemmas`, `UniqueBuilds` and `UniqueEffects` too,
-//! whose heads say what they are of. `cosmos_session` cites the others: `BuildLemmas`, `LastLemmas`,
-//! `MoveLemmas`, `ReportLemmas`, `RestLemmas`, `RoomLemmas`, `StayingLemmas`, `TickLemmas` and `UndoLemmas`.
+//! whose heads say what they are of. `cosmos_session` cites the others: `BackLemmas`, `BuildLemmas`, `LastLemmas`,
+//! `MoveLemmas`, `ReportLemmas`, `RestLemmas`, `RoomLemmas`, `SaveLemmas`, `StayingLemmas`, `TickLemmas` and `UndoLemmas`.
 //!
 //! After Bryant, "A Switch-Level Model and Simulator for MOS Digital Systems", 1984, and Bryant, Beatty,
 //! Brace, Cho and Sheffler, "COSMOS: A Compiled Simulator for MOS Circuits", 1987.
@@ -31,11 +31,16 @@ mod switches;
 
 pub use clock::{Clock, places_of};
 pub use fault::{ApplyFault, Refusal};
-pub use laws::{commands_have_one_effect, limits_are_as_stated, only_edits_lose_the_machine};
+pub use laws::{
+    commands_have_one_effect, limits_are_as_stated, only_edits_lose_the_machine, saves_come_back,
+};
 pub use switches::SwitchEdit;
 
 /// The most entries of the watch list.
 pub const MOST_WATCHED: usize = 256;
+
+/// The most names under which states are kept.
+pub const MOST_SAVES: usize = 64;
 
 /// The limit of a phase before any command sets it.
 pub const FIRST_LIMIT: u64 = 100;

@@ -56,7 +56,7 @@ written-part page after lines is =
     } in
     sends_part page.written (append_known page.written front) after.written (text_printed page.numbered lines) next rest sent part
 
--- and where a front of them was heard, and perhaps a part of the next one
+-- and where a prefix of them was heard, and perhaps a part of the next one
 pub written-front : (page after : Page) (lines : List Told) → HearsFront print PrintsPart page after lines →
     WritesPart page.written after.written (text_printed page.numbered lines)
 written-front page after lines (inl (left, is)) = (
@@ -95,7 +95,7 @@ plain-all page column lines plain =
     ∙ ap (λ (numbered : Bool). append_known page.written (text_printed numbered (of_column column lines))) plain
     ∙ ap (append_known page.written) (text-plain column lines)
 
--- and where a front of them was heard, and perhaps a part of the next one
+-- and where a prefix of them was heard, and perhaps a part of the next one
 pub plain-front : (page after : Page) (column : ℕ) (lines : List Line) → page.numbered ≡ false →
     HearsFront print PrintsPart page after (of_column column lines) → WritesPart page.written after.written (text_of lines)
 plain-front page after column lines plain is =

@@ -7,7 +7,7 @@ abbrev pub hear_all : {H : Type 0} → (H → Told → H) → H → List Told �
 hear_all hear before [] = before
 hear_all hear before (told ∷ others) = hear_all hear (hear before told) others
 
--- a part of these lines was heard, from the start: a front of them, and of the next one a part, or nothing
+-- a part of these lines was heard, from the start: a prefix of them, and of the next one a part, or nothing
 pub record HearsPart {H : Type 0} (hear : H → Told → H) (part : H → Told → H → Type 0) (before after : H) (lines : List Told) : Type 0 where
   pub front : List Told
   pub next : Told

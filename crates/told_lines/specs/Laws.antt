@@ -7,7 +7,7 @@ use Rattle.told_lines.specs.Printing.{Page, print, text_printed}
 use Rattle.told_lines.specs.Noting.{WaveRowData, note, rows_of}
 use Rattle.told_lines.specs.Sums.{counted, summary_of}
 
--- a printer wrote the text of the lines that it heard, and of a single column that of the lines alone, where it doesn't number columns
+-- a printer wrote the text of the lines that it heard, and of a single column that of the lines alone, if it doesn't number columns
 pub record LinesArePrinted : Type 0 where
   pub all : (page : Page) (lines : List Told) → (hear_all print page lines).written ≡ append_known page.written (text_printed page.numbered lines)
   pub plain : (column : ℕ) (lines : List Line) → text_printed false (of_column column lines) ≡ text_of lines

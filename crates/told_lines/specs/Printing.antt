@@ -20,7 +20,7 @@ abbrev pub text_printed : Bool → List Told → List ℕ
 text_printed numbered [] = []
 text_printed numbered (told ∷ others) = printed numbered told ++ text_printed numbered others
 
--- whether a printer numbers columns, and what it has written, where that is told
+-- whether a printer numbers columns, and what it has written, if that is told
 pub record Page : Type 0 where
   pub numbered : Bool
   pub written : Option (List ℕ)

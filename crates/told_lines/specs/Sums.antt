@@ -13,7 +13,7 @@ is_state One One = true
 is_state Unk Unk = true
 is_state left right = false
 
--- one where there is the mark
+-- one if there is the mark
 abbrev pub mark_count : Bool → ℕ
 mark_count true = 1
 mark_count false = 0

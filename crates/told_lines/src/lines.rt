@@ -26,6 +26,11 @@ pub enum Line<'a> {
         got: Tern,
         n: u64,
     },
+    /// What is shown of a name: the name, and the states of its nodes.
+    Shown {
+        name: &'a [u8],
+        values: &'a [Tern],
+    },
     /// A report: how many groups and distinct texts there are, and how many texts were analysed since the last
     /// report.
     Reported {

@@ -7,7 +7,7 @@ ghost use Rattle.told_lines.specs.Printing.{printed, start_of};
 
 use crate::lines::Line;
 use wave_print::{
-    COLUMN_ROOM, LineBuf, column_start, expect_line, fault_line, report_line, wave_line,
+    COLUMN_ROOM, LineBuf, column_start, expect_line, fault_line, report_line, show_line, wave_line,
 };
 
 /// Puts the line of a column, with the column's number before it or without.
@@ -31,7 +31,7 @@ fn put_start(out: &mut LineBuf, column: u32, line: Line)
     ensures short { length (start_of column (line_seen line.entry)) ≤ COLUMN_ROOM }
 {
     match line {
-        Line::Wave { .. } | Line::Unmet { .. } | Line::Reported { .. } => {
+        Line::Wave { .. } | Line::Unmet { .. } | Line::Shown { .. } | Line::Reported { .. } => {
             column_start(out, u64::from(column) + 1)
         }
         Line::Refused { .. } => {}
@@ -48,6 +48,7 @@ fn put_line(out: &mut LineBuf, line: Line)
     match line {
         Line::Wave { n, k, mark, values } => wave_line(out, n, k, mark, values),
         Line::Unmet { name, want, got, n } => expect_line(out, name, want, got, n),
+        Line::Shown { name, values } => show_line(out, name, values),
         Line::Reported {
             groups,
             texts,

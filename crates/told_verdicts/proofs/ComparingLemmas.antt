@@ -2,7 +2,7 @@
 use Rattle.std.proofs.Common.{◌≡◌, ℕ, zero, suc, ◌+◌, Bool, true, false, List, [], ◌∷◌, Option, None, Some, MatchOption, inl, inr, refl, sym, ap, ◌∙◌, subst, arith}
 use Rattle.std.proofs.lemmas.Option.{slice_get_within}
 use Rattle.ternary.specs.declared.tern.Tern.{Tern}
-use Rattle.told_lines.specs.Lines.{Line, Wave, Unmet, Reported, Refused}
+use Rattle.told_lines.specs.Lines.{Line, Wave, Unmet, Shown, Reported, Refused}
 use Rattle.told_lines.specs.Hearing.{hear_all, of_column}
 use Rattle.told_lines.specs.Noting.{WaveRowData, rows_of, states_of}
 use Rattle.fault_sim.specs.Traces.{Trace, AreAlike, AreAlikeRows, DifferFirstAt, FirstInRow, IsBefore, IsDifference, IsVerdict}
@@ -29,22 +29,10 @@ record IsFirstFrom (strong : Bool) (row : ℕ) (goods bads : List (List Tern)) (
 module _ (strong : Bool) (good bad : List Tern) (goods bads : List (List Tern)) where
   -- a later row is one of the others
   behind : (row entry : ℕ) → IsDifference strong (good ∷ goods) (bad ∷ bads) (suc row) entry → IsDifference strong goods bads row entry
-  behind row entry is = record {
-    good_row = is.good_row;
-    bad_row = is.bad_row;
-    in_good = is.in_good;
-    in_bad = is.in_bad;
-    differ = is.differ;
-  }
+  behind row entry is = record { good_row = is.good_row; bad_row = is.bad_row; in_good = is.in_good; in_bad = is.in_bad; differ = is.differ }
 
   before : (row entry : ℕ) → IsDifference strong goods bads row entry → IsDifference strong (good ∷ goods) (bad ∷ bads) (suc row) entry
-  before row entry is = record {
-    good_row = is.good_row;
-    bad_row = is.bad_row;
-    in_good = is.in_good;
-    in_bad = is.in_bad;
-    differ = is.differ;
-  }
+  before row entry is = record { good_row = is.good_row; bad_row = is.bad_row; in_good = is.in_good; in_bad = is.in_bad; differ = is.differ }
 
   -- the first rows are alike
   unlike : AreAlikeRows strong good bad → (entry : ℕ) → ¬ IsDifference strong (good ∷ goods) (bad ∷ bads) zero entry
@@ -149,6 +137,7 @@ comes_to column (Wave n k mark values ∷ lines) (good ∷ left) row strong weak
       weak_is = others.weak_is ∙ place_or-later weak (next false) (first_from false (row + 1) (states_of left) (states_of (rows_of lines)));
     }
 comes_to column (Unmet name want got n ∷ lines) left row strong weak = comes_to column lines left row strong weak
+comes_to column (Shown name values ∷ lines) left row strong weak = comes_to column lines left row strong weak
 comes_to column (Reported groups texts fresh ∷ lines) left row strong weak = comes_to column lines left row strong weak
 comes_to column (Refused place code name count ∷ lines) left row strong weak = comes_to column lines left row strong weak
 

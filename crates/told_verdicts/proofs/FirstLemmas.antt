@@ -26,22 +26,10 @@ module _ (strong : Bool) (value other : Tern) (good bad : List Tern) where
 
   -- at a later entry the others do
   behind : (entry : ℕ) → DifferAt strong (value ∷ good) (other ∷ bad) (suc entry) → DifferAt strong good bad entry
-  behind entry is = record {
-    good_value = is.good_value;
-    bad_value = is.bad_value;
-    in_good = is.in_good;
-    in_bad = is.in_bad;
-    differ = is.differ;
-  }
+  behind entry is = record { good_value = is.good_value; bad_value = is.bad_value; in_good = is.in_good; in_bad = is.in_bad; differ = is.differ }
 
   before : (entry : ℕ) → DifferAt strong good bad entry → DifferAt strong (value ∷ good) (other ∷ bad) (suc entry)
-  before entry is = record {
-    good_value = is.good_value;
-    bad_value = is.bad_value;
-    in_good = is.in_good;
-    in_bad = is.in_bad;
-    differ = is.differ;
-  }
+  before entry is = record { good_value = is.good_value; bad_value = is.bad_value; in_good = is.in_good; in_bad = is.in_bad; differ = is.differ }
 
   -- where the first values don't differ, they are no first difference
   unlike : differs strong value other ≡ false → ¬ DifferAt strong (value ∷ good) (other ∷ bad) zero

@@ -1,10 +1,10 @@
--- The lines of faults: where one was met, its code and word, and for a group that is too large
+-- The lines of faults: if one was met, its code and word, and for a group that is too large
 -- also which group it is and how large. Each line ends with LF.
 use Rattle.std.specs.Prelude.{ℕ, List, [], ◌++◌, codes, decimal}
 use Rattle.wave_print.specs.declared.faults.FaultPlace.{FaultPlace}
 use Rattle.wave_print.specs.declared.faults.FaultPlace.TheVariants.{Net, NetWhole, Script, List as OfList, Node}
 use Rattle.wave_print.specs.declared.faults.FaultCode.{FaultCode}
-use Rattle.wave_print.specs.declared.faults.FaultCode.TheVariants.{L1LineTooLong, L2BadByte, N1BadRecord, N2FewWords, N3Format, N4TooLong, N5BadCaps, G1GroupNodes, G2GroupSwitches, E1UnknownNode, E2NoSuchSwitch, E3Rail, E4BadStrength, E5BadSize, E6AliasTaken, E7TooManyNodes, E8TooManySwitches, S1BadCommand, S2FewWords, S3ManyWords, S4BadValue, S5BadNumber, S6NotInput, S7NotStore, S8ClockLength, S9NoClock, S10TooManyWatched, S11TooLong, F1BadFault, F2TooLong}
+use Rattle.wave_print.specs.declared.faults.FaultCode.TheVariants.{L1LineTooLong, L2BadByte, N1BadRecord, N2FewWords, N3Format, N4TooLong, N5BadCaps, G1GroupNodes, G2GroupSwitches, E1UnknownNode, E2NoSuchSwitch, E3Rail, E4BadStrength, E5BadSize, E6AliasTaken, E7TooManyNodes, E8TooManySwitches, S1BadCommand, S2FewWords, S3ManyWords, S4BadValue, S5BadNumber, S6NotInput, S7NotStore, S8ClockLength, S9NoClock, S10TooManyWatched, S11TooLong, S15TooManySaves, S16NoSave, F1BadFault, F2TooLong}
 
 -- words with the number of a line: `<words><line>: `
 abbrev pub numbered_of : List ℕ → ℕ → List ℕ
@@ -48,6 +48,8 @@ text_of S8ClockLength = codes "S8 ClockLength"
 text_of S9NoClock = codes "S9 NoClock"
 text_of S10TooManyWatched = codes "S10 TooManyWatched"
 text_of S11TooLong = codes "S11 TooLong"
+text_of S15TooManySaves = codes "S15 TooManySaves"
+text_of S16NoSave = codes "S16 NoSave"
 text_of F1BadFault = codes "F1 BadFault"
 text_of F2TooLong = codes "F2 TooLong"
 
@@ -55,7 +57,7 @@ text_of F2TooLong = codes "F2 TooLong"
 abbrev pub group_of : List ℕ → ℕ → List ℕ
 group_of name count = codes " " ++ name ++ codes " " ++ decimal count
 
--- what follows on a fault's text: the group where it is too large, else nothing
+-- what follows on a fault's text: the group if it is too large, else nothing
 abbrev pub detail_of : FaultCode → List ℕ → ℕ → List ℕ
 detail_of G1GroupNodes name count = group_of name count
 detail_of G2GroupSwitches name count = group_of name count

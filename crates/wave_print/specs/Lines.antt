@@ -1,4 +1,4 @@
--- The printed lines that tell no fault: waveform, expect, report, check, group and summary. Each ends with LF.
+-- The printed lines that tell no fault: waveform, expect, show, report, check, group and summary. Each ends with LF.
 use Rattle.std.specs.Prelude.{ℕ, Bool, true, false, List, [], ◌∷◌, ◌++◌, map, codes, decimal, Option, Some, None}
 use Rattle.ternary.specs.declared.tern.Tern.{Tern}
 use Rattle.ternary.specs.Tern.{letter}
@@ -9,7 +9,7 @@ abbrev pub mark_of : Bool → List ℕ
 mark_of true = codes "*"
 mark_of false = []
 
--- one letter for each state, in order and without blanks; `-` where there is no state
+-- one letter for each state, in order and without blanks; `-` if there is no state
 abbrev pub values_of : List Tern → List ℕ
 values_of [] = codes "-"
 values_of (value ∷ values) = map letter (value ∷ values)
@@ -31,6 +31,10 @@ expect_line_of name want got n =
     codes "expect " ++ name ++ codes "=" ++ (letter want ∷ []) ++ codes " got " ++ (letter got ∷ [])
     ++ codes " after " ++ decimal n ++ codes "\n"
 
+-- the show line: `show <name> <values>`
+abbrev pub show_line_of : List ℕ → List Tern → List ℕ
+show_line_of name values = codes "show " ++ name ++ codes " " ++ values_of values ++ codes "\n"
+
 -- the start of a column's line: `<number> `
 abbrev pub column_start_of : ℕ → List ℕ
 column_start_of number = decimal number ++ codes " "
@@ -41,7 +45,7 @@ check_line_of nodes switches names =
     codes "ok nodes " ++ decimal nodes ++ codes " switches " ++ decimal switches ++ codes " names "
     ++ decimal names ++ codes "\n"
 
--- the number of the text of a group; `-` where the group is too large to have one
+-- the number of the text of a group; `-` if the group is too large to have one
 abbrev pub text_number_of : Option ℕ → List ℕ
 text_number_of None = codes "-"
 text_number_of (Some number) = decimal number

@@ -87,6 +87,10 @@ pub enum FaultCode {
     S10TooManyWatched,
     /// A script goes past 67,108,864 bytes.
     S11TooLong,
+    /// 64 other names keep states.
+    S15TooManySaves,
+    /// Nothing is kept under the name.
+    S16NoSave,
     /// A line of the list isn't two words that name a fault.
     F1BadFault,
     /// A list goes past 67,108,864 bytes.
@@ -128,6 +132,8 @@ impl FaultCode {
             FaultCode::S9NoClock => b"S9 NoClock",
             FaultCode::S10TooManyWatched => b"S10 TooManyWatched",
             FaultCode::S11TooLong => b"S11 TooLong",
+            FaultCode::S15TooManySaves => b"S15 TooManySaves",
+            FaultCode::S16NoSave => b"S16 NoSave",
             FaultCode::F1BadFault => b"F1 BadFault",
             FaultCode::F2TooLong => b"F2 TooLong",
         }

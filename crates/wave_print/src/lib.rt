@@ -24,8 +24,9 @@ pub use laws::limits_are_as_stated;
 pub use line_buf::LineBuf;
 pub use lines::{
     CHECK_LINE_ROOM, COLUMN_ROOM, EXPECT_LINE_ROOM, GROUP_START_ROOM, MOST_VALUES,
-    REPORT_LINE_ROOM, SUMMARY_LINE_ROOM, Summary, WAVE_LINE_ROOM, check_line, column_start,
-    expect_line, group_name, group_start, line_end, report_line, summary_line, wave_line,
+    REPORT_LINE_ROOM, SHOW_LINE_ROOM, SUMMARY_LINE_ROOM, Summary, WAVE_LINE_ROOM, check_line,
+    column_start, expect_line, group_name, group_start, line_end, report_line, show_line,
+    summary_line, wave_line,
 };
 pub use verdicts::{
     FAULTS_LINE_ROOM, VERDICT_LINE_ROOM, detected_line, faults_line, possible_line, refused_line,

@@ -1,6 +1,6 @@
 ghost use Rattle.std.specs.Prelude.{◌≡◌, ◌+◌, ◌≤◌, ◌++◌, length, map, codes, decimal};
 ghost use Rattle.ternary.specs.Tern.{letter};
-ghost use Rattle.wave_print.specs.Lines.{mark_of, values_of, wave_line_of, report_line_of, expect_line_of, column_start_of, check_line_of, text_number_of, group_start_of, circuit_of, waves_of, states_of, summary_line_of};
+ghost use Rattle.wave_print.specs.Lines.{mark_of, values_of, wave_line_of, report_line_of, expect_line_of, show_line_of, column_start_of, check_line_of, text_number_of, group_start_of, circuit_of, waves_of, states_of, summary_line_of};
 
 use crate::line_buf::LineBuf;
 use itoa::Buffer;
@@ -39,6 +39,9 @@ pub const REPORT_LINE_ROOM: usize = 300;
 
 /// Room for any expect line, beyond that for its name.
 pub const EXPECT_LINE_ROOM: usize = 60;
+
+/// Room for any show line, beyond that for its name and its states.
+pub const SHOW_LINE_ROOM: usize = 60;
 
 /// Room for the start of any column's line.
 pub const COLUMN_ROOM: usize = 21;
@@ -107,6 +110,21 @@ pub fn expect_line(out: &mut LineBuf, name: &[u8], want: Tern, got: Tern, n: u64
     out.append(b" got ");
     out.push(got.letter());
     append_count(out, b" after ", n);
+    out.append(b"\n");
+}
+
+/// Appends the line of a `show`, `show <name> <values>` and LF: one letter for each state, and `-` where there
+/// is none.
+pub fn show_line(out: &mut LineBuf, name: &[u8], values: &[Tern])
+    requires room { SHOW_LINE_ROOM + (length name.now + length values.now) ≤ out.old.spare }
+    ensures bytes { out.new.bytes ≡ out.old.bytes ++ show_line_of name.now values.now }
+    ensures spare { out.new.spare + length (show_line_of name.now values.now) ≡ out.old.spare }
+    ensures short { length (show_line_of name.now values.now) ≤ SHOW_LINE_ROOM + (length name.now + length values.now) }
+{
+    out.append(b"show ");
+    out.append(name);
+    out.append(b" ");
+    append_values(out, values);
     out.append(b"\n");
 }
 

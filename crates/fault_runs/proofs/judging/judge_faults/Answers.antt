@@ -1,4 +1,4 @@
--- The faults that were read are those of the list; where the list is refused its line is the answer.
+-- The faults that were read are those of the list; if the list is refused its line is the answer.
 use Rattle.std.proofs.Common.{sym, ap, subst, ◌∙◌}
 use Rattle.wave_print.specs.declared.faults.FaultPlace.TheVariants as place
 use Rattle.run_ends.specs.declared.status.Status.TheVariants as status

@@ -4,6 +4,9 @@ use Rattle.std.proofs.lemmas.Slice.Eq.{text_from_reads}
 use Rattle.script_lang.specs.Commands.{verb_of}
 use Rattle.script_lang.proofs.verb.verb_named.Goals as goal
 
+pub returns-in-input : goal.returns-in-input
+returns-in-input c = ap verb_of (sym (text_from_reads c.args.word.now (codes "input") (omega arith) (search rules)))
+
 pub returns-in-store : goal.returns-in-store
 returns-in-store c = ap verb_of (sym (text_from_reads c.args.word.now (codes "store") (omega arith) (search rules)))
 

@@ -31,6 +31,7 @@ explains_rail c state node one walk lent same explains (Err fault) told = tt
 
 pub returns : goal.returns
 returns c =
+    let explains = rw (c.graph.ensures.value, c.circuit-circuit.ensures.value, c.state-state.ensures) at c.in_ok-walk.ensures in
     explains_rail c.args.session.now.core.circuit c.args.session.now.core.state c.args.node c.args.one c.in_ok-walk.walk c.as_ref.result c.as_ref.ensures.value
-    c.in_ok-walk.ensures c.reason_line.result
-    (rw (← c.circuit.ensures.value, ← c.state.ensures) c.reason_line.ensures)
+    explains c.reason_line.result
+    (rw (← c.circuit-circuit.ensures.value, ← c.state-state.ensures) c.reason_line.ensures)

@@ -1,12 +1,9 @@
 -- Counting never fails.
 use Rattle.line_words.specs.Files as file
-use Rattle.script_reports.proofs.UnfailingLemmas.{halts_obeyed, memory_alone}
+use Rattle.script_reports.proofs.UnfailingLemmas.{halts_obeyed}
 use Rattle.script_reports.proofs.summary.count_lines.Goals as goal
 
 pub returns-clause-halts : goal.returns-clause-halts
 returns-clause-halts g c =
     halts_obeyed _ _ _ (file.cut_line c.args.text.now) c.args.session.now.core (file.lines_in c.args.text.now) c.obey_lines.new.session.core _ _
     (g.A.Analyst.analysed c.args.analyst.now) (g.A.Analyst.analysed c.obey_lines.new.analyst) c.obey_lines.result c.obey_lines.ensures.told
-
-pub returns-clause-memory : goal.returns-clause-memory
-returns-clause-memory g c = memory_alone c.obey_lines.result c.obey_lines.ensures.no_read c.obey_lines.ensures.write

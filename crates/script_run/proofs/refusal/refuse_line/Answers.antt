@@ -1,4 +1,4 @@
--- The line was not told for want of memory, or a part of it was heard.
+-- The line was not told for lack of memory, or a part of it was heard.
 use Rattle.std.proofs.Common.{[], inl, inr, refl}
 use Rattle.std.proofs.lemmas.Result.{err_from_is_err_and}
 use Rattle.script_run.proofs.refusal.refuse_line.Goals as goal

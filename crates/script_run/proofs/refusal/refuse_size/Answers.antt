@@ -24,7 +24,7 @@ switches_named : (c : CircuitData) (size : BuildFault) (node count : ℕ) (name 
 switches_named c size node count name is found =
     ap (size_cause c) is ∙ ap (λ (known : Option (List ℕ)). Some (cause_of G2GroupSwitches count known)) found
 
--- want of memory is no size
+-- lack of memory is no size
 no_want : (c : CircuitData) → TellsTooLarge c.graph NoMemory → ⊥
 no_want c tells =
     let caused = size_caused c NoMemory tells in

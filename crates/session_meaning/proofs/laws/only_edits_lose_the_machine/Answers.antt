@@ -1,15 +1,16 @@
 -- Each command that is no edit says of the machine that is there that it is there still.
 use Rattle.std.proofs.Common.{◌≡◌, ℕ, List, true, Option, None, Some, is_some, refl, sym, ◌∙◌}
+use Rattle.ternary.specs.declared.tern.Tern.{Tern}
 use Rattle.machine_laws.specs.Machines.{MachineData}
 use Rattle.netlist.specs.Circuits.{CircuitData}
 use Rattle.script_lang.specs.declared.command.Command.{Command}
 use Rattle.script_lang.specs.declared.command.Command.TheVariants as family
 use Rattle.script_lang.specs.declared.command.Give.{Give}
-use Rattle.script_lang.specs.declared.command.Give.TheVariants.{Set, Charge}
+use Rattle.script_lang.specs.declared.command.Give.TheVariants.{Set, Charge, Back}
 use Rattle.script_lang.specs.declared.command.Run.{Run}
 use Rattle.script_lang.specs.declared.command.Run.TheVariants.{Step, Phase, Cycle, Report}
 use Rattle.session_meaning.specs.Sessions.{HeldSession}
-use Rattle.session_meaning.specs.Machines.{PlacesIn, GivesMachine, RunsMachine, IsMachineAfter, edits}
+use Rattle.session_meaning.specs.Machines.{PlacesIn, PlacesOthersIn, GivesMachine, RunsMachine, IsMachineAfter, edits}
 use Rattle.session_meaning.proofs.laws.only_edits_lose_the_machine.Goals as goal
 
 -- none is there, and one is
@@ -28,9 +29,15 @@ placed_lost : (c : CircuitData) (names : List (List ℕ)) (old new : Option Mach
 placed_lost c names None new places some none = absurd (cc)
 placed_lost c names (Some machine) new places some none = none_there new places.machine places.there none
 
+-- so it is where the nodes whose states differ were
+others_lost : (before after : List Tern) (old new : Option MachineData) → PlacesOthersIn before after old new → is_some old ≡ true → new ≡ None → ⊥
+others_lost before after None new places some none = absurd (cc)
+others_lost before after (Some machine) new places some none = none_there new places.machine places.there none
+
 by_give : (old new : HeldSession) (give : Give) → GivesMachine old give new → is_some old.machine ≡ true → new.machine ≡ None → ⊥
 by_give old new (Set list) after some none = placed_lost old.core.circuit _ old.machine new.machine after.0 some none
 by_give old new (Charge list) after some none = placed_lost old.core.circuit _ old.machine new.machine after some none
+by_give old new (Back name) after some none = others_lost old.core.state new.core.state old.machine new.machine after some none
 
 by_run : (old new : HeldSession) (run : Run) → RunsMachine old run new → new.machine ≡ None → ⊥
 by_run old new Step after none = none_there new.machine after.machine after.there none

@@ -11,7 +11,7 @@ use Rattle.session_meaning.proofs.LastLemmas.{kept_alone, none_missing}
 use Rattle.session_meaning.proofs.BuildLemmas.{core-kept}
 use Rattle.cosmos_session.proofs.session.Session.restart.Goals as goal
 
--- the session with this bound, where the table has these texts
+-- the session with this bound, if the table has these texts
 abbrev keeping : HeldSession → Option ℕ → List GroupTextData → HeldSession
 keeping session bound table =
     record { core = record session.core { bound = bound; kept = kept_in session.machine table }; machine = session.machine }

@@ -1,9 +1,10 @@
-use Rattle.std.proofs.Common.{◌≡◌, Bool, ◌||◌, refl, sym, ap, None}
+use Rattle.std.proofs.Common.{◌≡◌, ◌≤◌, Bool, ◌||◌, refl, sym, ap, None, arith}
+use Rattle.std.proofs.lemmas.List.Elements.{All-weaker}
+use Rattle.told_lines.specs.Lines.{room_of}
 use Rattle.script_lang.specs.declared.command.Command.TheVariants as family
 use Rattle.session_meaning.specs.Refusals.{refusal_of}
 use Rattle.session_meaning.specs.Effects.{told_by}
 use Rattle.cosmos_session.specs.contracts.session.Session.{the_view}
-use Rattle.session_meaning.proofs.RefusalLemmas.{told_known}
 use Rattle.session_meaning.proofs.OutcomeLemmas.{still_obeys}
 use Rattle.cosmos_session.proofs.session.Session.tell.Goals as goal
 
@@ -16,13 +17,16 @@ returns-in-Some-clause-obeys g c = λ texts. (
   refl,
 )
 
-pub tell_lines-told-requires-clause-known : goal.tell_lines-told-requires-clause-known
-tell_lines-told-requires-clause-known g c =
-    rw (← c.self.view_is) (told_known c.self.inside.circuit c.args.tell.now (sym (rw c.in_default.is at c.tell_refusal.ensures)))
+pub tell_lines-told-requires-clause-allowed : goal.tell_lines-told-requires-clause-allowed
+tell_lines-told-requires-clause-allowed g c = rw (← c.self.view_is) (sym (rw c.in_default.is at c.tell_refusal.ensures))
+
+pub tell_lines-told-requires-clause-room : goal.tell_lines-told-requires-clause-room
+tell_lines-told-requires-clause-room g c =
+    All-weaker (λ line. room_of line ≤ c.room_to_tell.result) (λ line. room_of line ≤ g.L.Lines.room c.reserve.new.self)
+    (λ line fits. let enough = c.in_ok-reserve.ensures.ok in omega (arith, fits, enough)) (told_by c.args.self.now.core c.args.tell.now) c.room_to_tell.ensures
 
 pub misses-missed-requires : goal.misses-missed-requires
-misses-missed-requires g c =
-    rw (← c.self.view_is) (told_known c.self.inside.circuit c.args.tell.now (sym (rw c.in_default.is at c.tell_refusal.ensures)))
+misses-missed-requires g c = rw (← c.self.view_is) (sym (rw c.in_default.is at c.tell_refusal.ensures))
 
 pub returns-clause-obeys : goal.returns-clause-obeys
 returns-clause-obeys g c = λ texts.

@@ -1,16 +1,19 @@
 use Rattle.std.proofs.Common.{◌∙◌, arith}
 use Rattle.std.proofs.lemmas.Result.{err_from_is_err_and}
 use Rattle.told_lines.proofs.HearingLemmas.{so_far-more, so_far-stopped}
-use Rattle.session_meaning.proofs.LineLemmas.{unmet-next}
+use Rattle.session_meaning.proofs.LineLemmas.{unmet-next, unmet_room-at}
+use Rattle.session_meaning.proofs.RefusalLemmas.{expected_known}
 use Rattle.cosmos_session.proofs.session.Session.tell_unmet.Goals as goal
 
 pub tell_if_unmet-requires-clause-known : goal.tell_if_unmet-requires-clause-known
 tell_if_unmet-requires-clause-known g c =
-    rw (c.items.ensures, c.loop-name-item.is) (c.requires.known c.loop-name.name-index c.loop-name-item.result (omega arith))
+    let known = expected_known c.args.self.now.core.circuit c.args.list.now c.requires.allowed in
+    rw (c.items.ensures, c.loop-name-item.is) (known c.loop-name.name-index c.loop-name-item.result (omega arith))
 
 pub tell_if_unmet-requires-clause-room : goal.tell_if_unmet-requires-clause-room
 tell_if_unmet-requires-clause-room g c =
-    rw (c.loop-name.invariant.room, c.items.ensures, c.loop-name-item.is) (c.requires.room c.loop-name.name-index c.loop-name-item.result (omega arith))
+    rw (c.loop-name.invariant.room, c.items.ensures) (unmet_room-at c.args.self.now.core c.args.list.now c.loop-name.name-index c.loop-name-item.result _
+    (omega arith) c.loop-name-item.is c.requires.room)
 
 pub returns-in_err-tell_if_unmet-clause-sent : goal.returns-in_err-tell_if_unmet-clause-sent
 returns-in_err-tell_if_unmet-clause-sent g c =

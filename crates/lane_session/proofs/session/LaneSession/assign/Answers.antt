@@ -10,6 +10,7 @@ use Rattle.session_meaning.specs.Refusals.{refusal_of}
 use Rattle.session_meaning.specs.Effects.{Effect}
 use Rattle.lane_session.specs.Stages.{HeldLanes, Shares}
 use Rattle.lane_session.proofs.FormLemmas.{formed_in}
+use Rattle.lane_session.proofs.RefusalLemmas.{values-ask}
 use Rattle.lane_session.proofs.InsideLemmas.{given_inside, given_quietly}
 use Rattle.lane_session.proofs.QuietLemmas.{values_fit, values_free, values_circuit, unmoved_quietly}
 use Rattle.lane_session.proofs.session.LaneSession.assign.Goals.{In_ok-share}
@@ -63,7 +64,7 @@ returns-in_err-share c =
     let first = rw c.items.ensures at c.in_ok-first.ensures in
     rw (stopped.1, stopped.2)
     (unmoved_quietly c.args.self.now i.plain.core c.share.new.plain.core i.stage (texts_of i.kept) i.count (Values c.args.kind c.args.list.now)
-    c.in_err-share.field-0.0 c.self.view_is
+    c.in_err-share.field-0.0 c.self.view_is (values-ask c.args.kind c.args.list.now)
     (subst (λ (given : Command). Shares i.plain.core given c.share.new.plain.core (Err c.in_err-share.field-0.0)) first c.in_err-share.ensures.shares))
 
 pub returns : goal.returns

@@ -6,6 +6,7 @@ use Rattle.analysis_cache.specs.Keeping.{texts_of}
 use Rattle.lane_script.specs.declared.command.LaneCommand.TheVariants.{Shared}
 use Rattle.lane_session.specs.Stages.{HeldLanes, QuietlyTogether, states_in}
 use Rattle.lane_session.proofs.ColumnLemmas.{length-column-min}
+use Rattle.lane_session.proofs.RefusalLemmas.{edit-asks}
 use Rattle.lane_session.proofs.InsideLemmas.{built_inside, unshared_inside, edit_inside, none_serves, kept_stands, unshared, edit_quietly}
 use Rattle.lane_session.proofs.ColumnStates.{data_of}
 use Rattle.lane_session.proofs.QuietLemmas.{room_for_edit}
@@ -68,7 +69,7 @@ returns-in_err-share c =
     (λ (s : HeldLanes). QuietlyTogether s.core (Shared c.args.shared.now) (data_of c.share.new.plain.core c.loosen.new.self i.count (texts_of i.kept)) (Err c.in_err-share.field-0.0))
     c.self.view_is
     (unshared i.plain.core c.share.new.plain.core i.stage c.loosen.new.self (texts_of i.kept) i.count (Shared c.args.shared.now) c.in_err-share.field-0.0 c.loosen.ensures.same
-    c.in_err-share.ensures.shares))
+    (λ lane. edit-asks c.args.shared.now c.requires.edit) c.in_err-share.ensures.shares))
 
 pub returns : goal.returns
 returns c =

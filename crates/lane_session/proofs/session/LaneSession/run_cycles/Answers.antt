@@ -71,8 +71,8 @@ loop-cycle-preserved g c =
 
 pub returns-clause-beats : goal.returns-clause-beats
 returns-clause-beats g c =
-    let start = c.args.self.now.core in
     let all : c.loop-cycle._cycle ≡ c.args.times = omega arith in
+    let start = c.args.self.now.core in
     subst
     (λ (cycle : ℕ). BeatsDoneInAll start c.loop-cycle.self.core (places_in (places_of start.clocks) cycle)
     (g.S.Sink.written c.args.out.now) (g.S.Sink.written c.loop-cycle.out))
