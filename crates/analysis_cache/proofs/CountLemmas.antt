@@ -28,7 +28,7 @@ AreLeft rows next rest = TakesFirst (deref_pair {K = GroupTextData} {X = Shared}
 abbrev pub is_next : GroupTextData → Option Lent → Bool
 is_next text next = option_map_or (λ one. same_text text one.0.now) next false
 
--- of a front of texts at most as many are distinct as there are
+-- of a prefix of texts at most as many are distinct as there are
 pub length-first : (texts : List GroupTextData) → length (first_texts texts) ≤ length texts
 length-first [] = omega arith
 length-first (text ∷ texts) = omega (arith, fewer (λ other. not (same_text other text)) (first_texts texts), length-first texts)
@@ -97,6 +97,6 @@ module _ (front : List GroupTextData) (text : GroupTextData) (back others : List
         let same : one.0.now ≡ text = cc in
         ap (same_text text) same ∙ same_text_equivalence.refl text
 
-    -- the next row has the text exactly where the text appears first
+    -- the next row has the text exactly if the text appears first
     pub is_next-first : (next : Option Lent) (rest : Rows) → AreLeft (drop count rows) next rest → is_next text next ≡ not (is_among front text)
     is_next-first next rest left = by_known (is_among front text) next rest refl left

@@ -1,4 +1,4 @@
--- Entries that are cut from the back, one after the other: what is left is a front of what there was, and the texts of the others were cut.
+-- Entries that are cut from the back, one after the other: what is left is a prefix of what there was, and the texts of the others were cut.
 use Rattle.std.proofs.Common.{◌≡◌, ℕ, zero, suc, ◌+◌, ◌-◌, ◌<◌, ◌≤◌, List, [], ◌∷◌, length, take, drop, get_or, None, Some, Result, Ok, Err, OnOk, sym, ap, ◌∙◌, arith}
 use Rattle.std.specs.Prelude.{slice_get}
 use Rattle.std.proofs.lemmas.List.{drop_more, get_or-take, length-map, length-take, take-map, take-take}

@@ -14,7 +14,7 @@ use Rattle.analysis_cache.proofs.NewTextLemmas.{is_among-kept, is_among-themselv
 use Rattle.analysis_cache.proofs.HeldLemmas.{with_texts-append}
 use Rattle.analysis_cache.proofs.UseLemmas.{used_texts-fresh}
 
--- a text is kept exactly where there is code of it
+-- a text is kept exactly if there is code of it
 pub is_some-among : {Lent : Type 0} (code : Option Lent) (among : Bool) → is_none code ≡ not among → among ≡ is_some code
 is_some-among None among is = not-true among (sym is)
 is_some-among (Some code) among is = not-false among (sym is)
@@ -95,7 +95,7 @@ module _ (old now : KeptData) (before after : List GroupTextData) (held_before h
           number = omega (arith, fills.number, ap length (goes_on []), length-append (new_texts (texts_of old) front) (text ∷ []));
         }
 
-    -- where it can't be kept, a front of the new texts is
+    -- if it can't be kept, a prefix of the new texts is
     pub KeepsSome-lacking : LacksText now next after later held_after held_later text → (back : List GroupTextData) →
         KeepsSome old next before later held_before held_later (front ++ text ∷ back)
     KeepsSome-lacking lacks back =

@@ -28,7 +28,7 @@ set-grown : (texts more : List GroupTextData) → with_texts (set_of texts) more
 set-grown texts more = same_set (λ other.
     or_swap (is_among more other) (is_among texts other) ∙ sym (list_any-append (same_text other) texts more))
 
--- what is in a front is none of those behind it, where all are apart
+-- what is in a front is none of those behind it, if all are apart
 none_behind : (front back : List GroupTextData) (text : GroupTextData) → IsDistinct same_text (front ++ back) → is_among front text ≡ true →
     is_among back text ≡ false
 none_behind front [] text apart is = refl
@@ -72,7 +72,7 @@ set-front text kept is =
     one : All (λ text. is_among kept text ≡ true) (text ∷ [])
     one = All-cons (λ text. is_among kept text ≡ true) text [] is (All-nil (λ text. is_among kept text ≡ true))
 
--- where nothing is done it holds them still
+-- if nothing is done it holds them still
 pub HoldsNearlyKept-same : (kept : KeptData) (held : TextSet) → HoldsKept kept held → HoldsNearlyKept kept held
 HoldsNearlyKept-same kept held holds = record { further = []; one = inl refl; are = holds }
 

@@ -1,5 +1,5 @@
 -- The new texts of a list, as the list is passed from its front: what a text adds, and what the texts behind it add.
--- A text adds itself where it is neither kept nor among the texts before it. So the new texts of a front are a front of the new texts.
+-- A text adds itself if it is neither kept nor among the texts before it. So the new texts of a front are a prefix of the new texts.
 use Rattle.std.proofs.Common.{◌≡◌, Bool, true, false, not, cond, ◌||◌, ◌&&◌, List, [], ◌∷◌, ◌++◌, filter, All, refl, sym, ap, ◌∙◌, append-nil, true≢false}
 use Rattle.std.specs.List.{list_any}
 use Rattle.std.proofs.lemmas.List.Elements.{filter-append}
@@ -10,7 +10,7 @@ use Rattle.std.proofs.lemmas.Map.Made.{All-is_member}
 use Rattle.group_text.specs.Compared.{same_text, same_text_decides, same_text_equivalence}
 use Rattle.group_text.specs.FirstTexts.{is_among, first_texts, new_texts}
 
--- one of two holds where the first does, or where the first doesn't and the second does
+-- one of two holds if the first does, or where the first doesn't and the second does
 pub or_else : (a b : Bool) → (a || (not a && b)) ≡ (a || b)
 or_else true b = refl
 or_else false b = refl
@@ -53,7 +53,7 @@ module _ {X : Type 0} where
       by false true false k t s = rest ∙ ap (λ b. b && some) s
       by false false same k t s = rest ∙ ap (λ b. b && some) s
 
-  -- where what passes the one test answers the other alike, one of what the other leaves passes where one of all does and the answer is yes
+  -- where what passes the one test answers the other alike, one of what the other leaves passes if one of all does and the answer is yes
   pub list_any-filter : (test p : X → Bool) (answer : Bool) → ((x : X) → test x ≡ true → p x ≡ answer) → (xs : List X) →
       list_any test (filter p xs) ≡ (answer && list_any test xs)
   list_any-filter test p answer alike [] = sym (and_right answer false refl)
@@ -64,7 +64,7 @@ module _ {X : Type 0} where
 pub alike_text : (question : GroupTextData → Bool) (text other : GroupTextData) → same_text text other ≡ true → question other ≡ question text
 alike_text question text other same = ap question (sym ((same_text_decides text other).0 same))
 
--- a text is among the first appearances exactly where it is among the texts
+-- a text is among the first appearances exactly if it is among the texts
 pub is_among-first : (texts : List GroupTextData) (text : GroupTextData) → is_among (first_texts texts) text ≡ is_among texts text
 is_among-first [] text = refl
 is_among-first (first ∷ texts) text =
@@ -74,7 +74,7 @@ is_among-first (first ∷ texts) text =
     ∙ or_else (same_text text first) (is_among (first_texts texts) text)
     ∙ ap (λ b. same_text text first || b) (is_among-first texts text)
 
--- a text is kept, once the new ones of some texts are, exactly where it was kept or is among those
+-- a text is kept, once the new ones of some texts are, exactly if it was kept or is among those
 pub is_among-kept : (kept texts : List GroupTextData) (text : GroupTextData) →
     is_among (kept ++ new_texts kept texts) text ≡ (is_among kept text || is_among texts text)
 is_among-kept kept texts text =
@@ -89,7 +89,7 @@ is_among-kept kept texts text =
 pub is_among-themselves : (texts : List GroupTextData) → All (λ text. is_among texts text ≡ true) texts
 is_among-themselves texts = All-is_member same_text_equivalence texts
 
--- where nothing is kept, all distinct texts are new
+-- if nothing is kept, all distinct texts are new
 pub new_texts-none_kept : (texts : List GroupTextData) → new_texts [] texts ≡ first_texts texts
 new_texts-none_kept texts = filter_every (λ text. true) (λ text. refl) (first_texts texts)
 
@@ -109,7 +109,7 @@ first_texts-append (first ∷ front) back =
 abbrev pub added_texts : List GroupTextData → List GroupTextData → List GroupTextData → List GroupTextData
 added_texts kept front texts = filter (λ text. not (is_among kept text)) (filter (λ text. not (is_among front text)) texts)
 
--- the new texts of a front are a front of the new texts
+-- the new texts of a front are a prefix of the new texts
 new_texts-append : (kept front back : List GroupTextData) → new_texts kept (front ++ back) ≡ new_texts kept front ++ added_texts kept front (first_texts back)
 new_texts-append kept front back =
     ap (filter (λ text. not (is_among kept text))) (first_texts-append front back)

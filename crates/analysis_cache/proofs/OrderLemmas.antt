@@ -1,4 +1,4 @@
--- What is promised of the order of what is kept, where it isn't brought about at each build: which texts are used, one list of them after another;
+-- What is promised of the order of what is kept, if it isn't brought about at each build: which texts are used, one list of them after another;
 -- how what is new stands behind; and what a cut leaves, however the present texts were listed.
 use Rattle.std.proofs.Common.{◌≡◌, ℕ, ◌-◌, ◌≤◌, max, take, Bool, true, false, not, cond, ◌&&◌, ◌||◌, List, [], ◌∷◌, ◌++◌, filter, length, All, Option, None, Some, refl, sym, ap, ◌∙◌, append_assoc, append-nil, length-append, true≢false, arith}
 use Rattle.std.specs.List.{IsDistinct, AllByRecursion}
@@ -192,7 +192,7 @@ kept_after-any_order bound present others kept same =
     ∙ behind-others bound present kept)
     ∙ sym (kept_after-front bound present kept)
 
--- where there is a bound, that is so for what is cut
+-- if there is a bound, that is so for what is cut
 pub cut-any_order : (bound : ℕ) (present others kept : List GroupTextData) → ((text : GroupTextData) → is_among present text ≡ is_among others text) →
     used_texts present (kept_after (Some bound) others kept) ≡ kept_after (Some bound) present kept
 cut-any_order bound = kept_after-any_order (Some bound)
@@ -215,7 +215,7 @@ length-used present kept there =
         list_any-filter (same_text text) (is_among present) (is_among present text) (alike_text (is_among present) text) kept
         ∙ and_from (is_among present text) (is_among kept text) here (among_all (is_among kept) true present there text here)
 
--- so where there is room for what is kept nothing is cut
+-- so if there is room for what is kept nothing is cut
 pub within-roomy : (bound : ℕ) (present kept : List GroupTextData) → length kept ≤ room_for bound present →
     All (λ text. is_among kept text ≡ true) present → kept_after (Some bound) present kept ≡ used_texts present kept
 within-roomy bound present kept roomy there =

@@ -13,7 +13,7 @@ use Rattle.analysis_cache.proofs.NewTextLemmas.{is_among-first}
 use Rattle.analysis_cache.proofs.UseLemmas.{take_front}
 use Rattle.analysis_cache.proofs.DistinctLemmas.{filter-again}
 
--- a test takes out nothing of a front of what passed it
+-- a test takes out nothing of a prefix of what passed it
 filter-front : {X : Type 0} (p : X → Bool) (n : ℕ) (xs : List X) → filter p (take n (filter p xs)) ≡ take n (filter p xs)
 filter-front p zero xs = refl
 filter-front p (suc n) [] = refl

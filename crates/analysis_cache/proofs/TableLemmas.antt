@@ -44,7 +44,7 @@ lookup-shown (row ∷ rows) text = by (same_text text row.0) (lookup-shown rows 
     by true rest = refl
     by false rest = rest
 
--- a text has no row exactly where it isn't shown
+-- a text has no row exactly if it isn't shown
 pub is_none-lookup : (rows : Rows) (text : GroupTextData) →
     is_none (lookup (same_text text) rows) ≡ not (is_among (entry_texts (shown rows)) text)
 is_none-lookup [] text = refl
@@ -177,7 +177,7 @@ pub shown-push : (rows : Rows) (text : GroupTextData) (shared : Shared) →
     shown (rows ++ (text, shared) ∷ []) ≡ shown rows ++ (text, shared.value) ∷ []
 shown-push rows text shared = map-append _ rows ((text, shared) ∷ [])
 
--- where nothing is kept, nothing is kept twice
+-- if nothing is kept, nothing is kept twice
 pub IsKept-none : IsKept []
 unfolding IsDistinct
 IsKept-none = record { apart = tt; means = All-nil (λ (entry : Entry). MeansText entry.0 entry.1) }
@@ -231,7 +231,7 @@ IsKept-some old new some kept distinct =
           (shown new) (All-contains_itself (shown new));
     }
 
--- what holds on an answer holds where there is one
+-- what holds on an answer holds if there is one
 pub answered : {T E P : Type 0} (result : Result T E) → true ≡ is_ok result → OnOk result P → P
 answered (Ok value) is fact = fact
 answered (Err fault) is fact = absurd (true≢false is)
@@ -251,11 +251,11 @@ shown-popped rows =
     sym (take-map _ (length rows - 1) rows)
     ∙ ap (λ n. take (n - 1) (shown rows)) (sym (length-map rows _))
 
--- no text has two rows where none is kept twice
+-- no text has two rows if none is kept twice
 pub apart_in : (rows : Rows) → IsKept (shown rows) → IsDistinct same_text (keys_of rows)
 apart_in rows kept = subst (IsDistinct same_text) (entry_texts-shown rows) kept.apart
 
--- a table to which a text was put behind, or not for want of memory, keeps each text once, under its own code
+-- a table to which a text was put behind, or not for lack of memory, keeps each text once, under its own code
 pub IsKept-put : {E : Type 0} (result : Result (Unit {0}) E) (old new : Table) (text : GroupTextData) (code : Shared) →
     IsKept (shown old.entries) → old.cap ≡ 2 ^ 64 - 1 → MeansText text code.value →
     OnOk result (new ≡ lru_cache (old.entries ++ (text, code) ∷ []) old.cap) →

@@ -35,7 +35,7 @@ all_to_front-used (text ∷ present) kept =
     (filter-append others (first_texts present) behind
     ∙ ap (λ l. filter others (first_texts present) ++ l) (filter_neither (λ other. same_text other text) (is_among present) kept))
 
--- a text is kept once the present ones were used exactly where it is present or was kept
+-- a text is kept once the present ones were used exactly if it is present or was kept
 pub is_among-used : (present kept : List GroupTextData) (text : GroupTextData) →
     is_among (used_texts present kept) text ≡ (is_among present text || is_among kept text)
 is_among-used present kept text =
@@ -77,7 +77,7 @@ used_texts-fresh present kept =
         by true here rest = cond-false (not (is_among present text)) _ _ (ap not here) ∙ rest
         by false here rest = rest
 
--- a text that stands before others is none of them, where all are apart
+-- a text that stands before others is none of them, if all are apart
 pub apart_from : (front : List GroupTextData) (next : GroupTextData) (back : List GroupTextData) (text : GroupTextData) →
     IsDistinct same_text (front ++ next ∷ back) → is_among front text ≡ true → same_text text next ≡ false
 unfolding IsDistinct
@@ -109,7 +109,7 @@ first_texts-new front text back is =
     first_texts-append front (text ∷ back)
     ∙ ap (λ l. first_texts front ++ l) (cond-true (not (is_among front text)) _ _ (ap not is))
 
--- a list's front stays where there is room for it
+-- a list's front stays if there is room for it
 pub take_front : {X : Type 0} (front back : List X) (n : ℕ) → length front ≤ n → take n (front ++ back) ≡ front ++ take (n - length front) back
 take_front front back n room =
     let whole : n ≡ length front + (n - length front) = omega arith in

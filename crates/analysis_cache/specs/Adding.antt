@@ -1,4 +1,4 @@
--- Texts that are added to what is kept, or aren't for want of memory.
+-- Texts that are added to what is kept, or aren't for lack of memory.
 use Rattle.std.specs.Prelude.{◌≡◌, ℕ, ◌⊎◌, List, [], ◌∷◌, ◌++◌, length}
 use Rattle.group_text.specs.Texts.{GroupTextData}
 use Rattle.group_text.specs.FirstTexts.{new_texts}

@@ -19,7 +19,7 @@ Entry = GroupTextData × CodeData
 abbrev pub entry_texts : List Entry → List GroupTextData
 entry_texts entries = map (λ entry. entry.0) entries
 
--- what is kept: texts, each with its code, the most recently used first; and the bound on their number, where there is one
+-- what is kept: texts, each with its code, the most recently used first; and the bound on their number, if there is one
 pub record KeptData : Type 0 where
   pub entries : List Entry
   pub bound : Option ℕ
@@ -57,7 +57,7 @@ pub record KeepsAll (old new : KeptData) (before after : List GroupTextData) (he
       ≡ without_texts (with_texts held_before (new_texts (texts_of old) present)) (cut_after old.bound present (texts_of old))
   pub number : count ≡ length (new_texts (texts_of old) present)
 
--- a front of the new texts was analysed, in order, and is kept behind what was kept; at most the next one was analysed beside. The
+-- a prefix of the new texts was analysed, in order, and is kept behind what was kept; at most the next one was analysed beside. The
 -- texts that were analysed are held, and nothing was cut
 pub record KeepsSome (old new : KeptData) (before after : List GroupTextData) (held_before held_after : TextSet)
     (present : List GroupTextData) : Type 0 where

@@ -4,3 +4,4 @@ pub mod Table
 pub mod Cutting
 pub mod Holding
 pub mod Laws
+pub mod Words

@@ -1,14 +1,7 @@
 ghost use Rattle.std.specs.Prelude.{◌≡◌, ◌<◌, ◌≤◌, ◌-◌, ℕ, max, length, List, [], option_map, All, None, Some, IsTrue, false, take, drop, IfOk, IfSome, OnOk, OnErr, is_none, not, Contains};
-ghost use Rattle.group_analysis.specs.Meaning.{MeansText};
-ghost use Rattle.group_analysis.specs.Held.{set_of, without_texts};
-ghost use Rattle.group_text.specs.FirstTexts.{first_texts, is_among};
-ghost use Rattle.group_text.specs.Texts.{GroupTextData};
-ghost use Rattle.group_analysis.specs.Using.{used_texts, within, past, kept_after, cut_after};
-ghost use Rattle.group_analysis.specs.Using.{to_front};
-ghost use Rattle.analysis_cache.specs.Keeping.{Entry, IsKept, code_in, KeepsAll, KeepsSome, texts_of};
-ghost use Rattle.analysis_cache.specs.Adding.{AddsText, FillsAll, LacksText};
-ghost use Rattle.analysis_cache.specs.Cutting.{StartsWith};
-ghost use Rattle.analysis_cache.specs.Holding.{HoldsKept, HoldsNearlyKept};
+ghost use Rattle.group_analysis.specs.Words.{MeansText, set_of, without_texts, used_texts, within, past, kept_after, cut_after, to_front};
+ghost use Rattle.group_text.specs.Words.{first_texts, is_among, GroupTextData};
+ghost use Rattle.analysis_cache.specs.Words.{Entry, IsKept, code_in, KeepsAll, KeepsSome, texts_of, AddsText, FillsAll, LacksText, StartsWith, HoldsKept, HoldsNearlyKept};
 
 use crate::recent::Recent;
 use group_analysis::Analyst;
@@ -71,7 +64,7 @@ impl Kept {
         self.recent.size()
     }
 
-    /// The code of a text, None exactly where the text isn't kept. It takes no memory, and isn't a use of
+    /// The code of a text, None exactly if the text isn't kept. It takes no memory, and isn't a use of
     /// the text.
     pub fn code(&self, text: &GroupText) -> Option<&Rc<Code>>
         ensures code { option_map (λ code. code.now.value) result ≡ code_in self.now text.now }
@@ -81,7 +74,7 @@ impl Kept {
         self.recent.code(text)
     }
 
-    /// The bound on the number of texts, where there is one.
+    /// The bound on the number of texts, if there is one.
     pub fn bound(&self) -> Option<u64>
         ensures { result ≡ self.now.bound }
     {
@@ -100,8 +93,8 @@ impl Kept {
     /// are kept, in front of all others.
     ///
     /// The present texts come first, in order of first appearance, and after them the other kept texts in
-    /// their order. Where there is a bound, what is past it is cut, but no present text; the analyst
-    /// releases what is cut, and is compacted. The answer is how many texts were new. At want of memory a
+    /// their order. If there is a bound, what is past it is cut, but no present text; the analyst
+    /// releases what is cut, and is compacted. The answer is how many texts were new. Out of memory a
     /// front of the new texts was analysed and is kept behind what was kept, at most the next one was
     /// analysed without being kept, and nothing was moved or cut.
     pub fn ensure<A: Analyst>(
@@ -220,7 +213,7 @@ impl Kept {
 
     /// Cuts all but the first so many texts, whatever the bound is. It takes no memory but for the smaller pool.
     ///
-    /// The analyst releases what is cut, and is compacted where that was something.
+    /// The analyst releases what is cut, and is compacted if that was something.
     pub fn cut_to<A: Analyst>(&mut self, room: usize, analyst: &mut A)
         ensures entries { self.new.entries ≡ take room self.old.entries }
         ensures bound { self.new.bound ≡ self.old.bound }

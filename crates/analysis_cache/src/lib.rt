@@ -13,7 +13,7 @@
 //! with the bound 1, and the inverters alone: the nor's text is cut, and is new when it comes again
 //! ```
 //!
-//! `fill` and `put_first` are the two halves of `ensure`: where no text is new the second alone serves, and it
+//! `fill` and `put_first` are the two halves of `ensure`: if no text is new the second alone serves, and it
 //! takes no memory. The laws say that the distinct ones of some present texts serve in their place
 //! (`distinct_texts_serve`), and that a further build with the same present texts changes nothing
 //! (`builds_settle`).

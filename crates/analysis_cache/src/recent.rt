@@ -3,13 +3,10 @@ ghost use Rattle.std.specs.Prelude.{◌≡◌, ◌-◌, ◌^◌, ◌<◌, [], �
 ghost use Rattle.std.specs.List.{IsDistinct};
 ghost use Rattle.std.specs.Map.{keys_of, lookup};
 ghost use Rattle.lru.specs.LruCache.{lru_cache};
-ghost use Rattle.group_analysis.specs.Meaning.{MeansText};
-ghost use Rattle.group_text.specs.FirstTexts.{first_texts, is_among};
-ghost use Rattle.group_text.specs.Compared.{same_text};
-ghost use Rattle.group_analysis.specs.Using.{room_for, to_front, used_texts};
-ghost use Rattle.analysis_cache.specs.Cutting.{StartsWith};
+ghost use Rattle.group_analysis.specs.Words.{MeansText, room_for, to_front, used_texts};
+ghost use Rattle.group_text.specs.Words.{first_texts, is_among, same_text};
+ghost use Rattle.analysis_cache.specs.Words.{StartsWith, Entry, IsKept, entry_texts};
 ghost use Rattle.std.specs.Option.{option_map_or};
-ghost use Rattle.analysis_cache.specs.Keeping.{Entry, IsKept, entry_texts};
 
 use group_text::GroupText;
 use lru::LruCache;
@@ -71,7 +68,7 @@ impl Recent {
         }
     }
 
-    // The code of a text, None exactly where it isn't here.
+    // The code of a text, None exactly if it isn't here.
     pub(crate) fn code(&self, text: &GroupText) -> Option<&Rc<Code>>
         ensures code { option_map (λ code. code.now.value) result ≡ lookup (same_text text.now) self.now }
         ensures means { IfSome result (λ code. MeansText text.now code.now.value) }
@@ -127,7 +124,7 @@ impl Recent {
     }
 
     // For how many texts there is room: so many as the bound, or as there are distinct ones among these,
-    // which stand in front, where these are more.
+    // which stand in front, if these are more.
     pub(crate) fn room(&self, bound: u64, texts: &[GroupText]) -> usize
         requires { StartsWith (first_texts texts.now) (entry_texts self.now) }
         ensures { result ≡ room_for bound texts.now }

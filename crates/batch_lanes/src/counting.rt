@@ -1,8 +1,7 @@
 //! The counts of the columns.
 ghost use Rattle.std.specs.Prelude.{◌≡◌, ℕ, ◌+◌, ◌<◌, ◌≤◌, ◌^◌, All, length, slice_index_or};
-ghost use Rattle.batch_words.specs.Lanes.{is_in_lane};
+ghost use Rattle.batch_lanes.specs.Words.{counted, is_in_lane, none_yet};
 ghost use Rattle.oscillation_x.specs.declared.settling.Settled.{Settled};
-ghost use Rattle.batch_lanes.specs.Settling.{counted, none_yet};
 
 use oscillation_x::Settled;
 

@@ -1,11 +1,9 @@
 //! Settling of all columns in one run.
 ghost use Rattle.std.specs.Prelude.{◌≡◌, ℕ, ◌+◌, ◌<◌, ◌≤◌, false, length, slice_index_or};
 ghost use Rattle.std.specs.Bool.{OnTrue};
-ghost use Rattle.path_meaning.specs.Step.{IsStep};
+ghost use Rattle.batch_lanes.specs.Words.{none_yet, IsStep, Joins, Settles, Stepping};
 ghost use Rattle.oscillation_x.specs.declared.settling.TheConstants.{MOST_LIMIT};
 ghost use Rattle.oscillation_x.specs.declared.settling.Settled.{Settled};
-ghost use Rattle.oscillation_x.specs.Settling.{Stepping, Settles};
-ghost use Rattle.batch_lanes.specs.Settling.{Joins, none_yet};
 
 use crate::counting::{clear, count_all};
 use crate::stepping::LaneStepper;

@@ -1,10 +1,7 @@
 //! What steps: the states of several columns that take unit steps and joining steps of a graph.
 ghost use Rattle.std.specs.Prelude.{◌≡◌, ◌≢◌, ℕ, ◌^◌, ◌<◌, ◌≤◌, true, false, List, length};
+ghost use Rattle.batch_lanes.specs.Words.{is_in_lane, GraphData, IsJoinStep, IsStep, StaysOrBecomesX};
 ghost use Rattle.ternary.specs.declared.tern.Tern.{Tern};
-ghost use Rattle.path_meaning.specs.Graphs.{GraphData};
-ghost use Rattle.path_meaning.specs.Step.{IsStep};
-ghost use Rattle.oscillation_x.specs.Settling.{IsJoinStep, StaysOrBecomesX};
-ghost use Rattle.batch_words.specs.Lanes.{is_in_lane};
 
 use path_meaning::Graph;
 

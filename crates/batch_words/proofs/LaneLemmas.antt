@@ -18,7 +18,7 @@ bit_small word lane = omega arith
 
 -- ---- tests of bits
 
--- true where the first is turned by the second
+-- true if the first is turned by the second
 abbrev pub turn : Bool → Bool → Bool
 turn a true = not a
 turn a false = a
@@ -117,7 +117,7 @@ low-table true false = refl
 low-table false true = refl
 low-table false false = refl
 
--- the rails of an output, X where neither is set
+-- the rails of an output, X if neither is set
 pub lane-high : (lane one other : ℕ) → other < 2 ^ 64 → lane < 64 →
     is_in_lane lane (bit_or one (18446744073709551615 - other)) ≡ may_one (settled (is_in_lane lane one) (is_in_lane lane other))
 lane-high lane one other fits inside =

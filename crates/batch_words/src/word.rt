@@ -26,7 +26,7 @@ fn kind_word(kind: StepKind, a: u64, b: u64) -> u64
     ((a & (b | turned | either)) | (b & either)) ^ turned
 }
 
-// All columns where the kind is a Not, else none.
+// All columns if the kind is a Not, else none.
 fn not_mask(kind: StepKind) -> u64
     ensures { (lane : ℕ) → lane < 64 → is_in_lane lane result ≡ is_not kind }
 {
@@ -36,7 +36,7 @@ fn not_mask(kind: StepKind) -> u64
     }
 }
 
-// All columns where the kind is an Or, else none.
+// All columns if the kind is an Or, else none.
 fn or_mask(kind: StepKind) -> u64
     ensures { (lane : ℕ) → lane < 64 → is_in_lane lane result ≡ is_or kind }
 {
@@ -46,7 +46,7 @@ fn or_mask(kind: StepKind) -> u64
     }
 }
 
-// The rail "may be 1" of an output whose rails these are: where neither is set, the output is X.
+// The rail "may be 1" of an output whose rails these are: if neither is set, the output is X.
 pub(crate) fn high_word(one: u64, zero: u64) -> u64
     ensures { (lane : ℕ) → lane < 64 → is_in_lane lane result ≡ may_one (settled (is_in_lane lane one) (is_in_lane lane zero)) }
 {

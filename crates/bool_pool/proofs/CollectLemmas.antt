@@ -127,7 +127,7 @@ rises_from place places limit below rises (suc k) inside =
     let next : suc k + 1 ≡ suc (k + 1) = omega arith in
     rw next (rises k (omega arith))
 
--- places rise where there is none
+-- places rise if there is none
 rises_none : IsStrictlyIncreasing []
 rises_none k inside = absurd (omega (arith, inside))
 

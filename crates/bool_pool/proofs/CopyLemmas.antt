@@ -91,7 +91,7 @@ noted_is : (noted : Option Id) → IsSome noted → noted ≡ Some (unwrap_or no
 noted_is None some = absurd (false≢true some)
 noted_is (Some id) some = refl
 
--- where a copy is noted the place is listed
+-- if a copy is noted the place is listed
 pub listed_some : (old : List Gate) (places : List ℕ) (new : List Gate) (ids : ℕ → Option Id) (k : ℕ) → AreCopied old places new ids
     → IsSome (ids k) → IsCopied old places new (place_in ids) k (place_in ids k)
 listed_some old places new ids k copied some = copied.copies k (id_in ids k) (noted_is (ids k) some)

@@ -52,14 +52,14 @@ AllWithin-extends old new listed bound [] extends within = tt
 AllWithin-extends old new listed bound (i ∷ is) extends within =
     (IsWithin-extends old new listed bound i extends within.0, AllWithin-extends old new listed bound is extends within.1)
 
--- what is reached from formulas that are within is listed, where it is an operation
+-- what is reached from formulas that are within is listed, if it is an operation
 any_listed : (gates : List Gate) (listed : List ℕ) (bound j : ℕ) (is : List ℕ) → AllWithin gates listed bound is
     → AnyReaches gates is j → IsOperation (gate_at gates j) → Contains listed j
 any_listed gates listed bound j [] within reached operation = absurd reached
 any_listed gates listed bound j (i ∷ is) within (inl reached) operation = within.0.operations j reached operation
 any_listed gates listed bound j (i ∷ is) within (inr reached) operation = any_listed gates listed bound j is within.1 reached operation
 
--- and below the bound, where it is a variable
+-- and below the bound, if it is a variable
 any_below : (gates : List Gate) (listed : List ℕ) (bound j v : ℕ) (is : List ℕ) → AllWithin gates listed bound is
     → AnyReaches gates is j → IsVariable (gate_at gates j) v → v < bound
 any_below gates listed bound j v [] within reached variable = absurd reached

@@ -7,3 +7,4 @@ pub mod Pairs
 pub mod Compact
 pub mod Collecting
 pub mod Copying
+pub mod Words

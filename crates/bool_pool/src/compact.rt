@@ -21,7 +21,7 @@ impl Pool {
     /// The gates that the roots reach correspond one to one to those of the new pool, operands to
     /// operands. So each formula keeps its value, and it reaches as many gates as before. The cost
     /// goes by the gates that are reached, whatever else this pool has. The new pool looks its gates
-    /// up by the keys of this one. Want of memory is the only error.
+    /// up by the keys of this one. Lack of memory is the only error.
     pub fn compact(&self, alloc: Global, roots: &[Id]) -> Result<(Pool, Vec<Id>), NoMemory>
         requires { All (λ root. root.place < length self.now) roots.now }
         ensures count { IfOk result (λ made. length made.1.items ≡ length roots.now) }

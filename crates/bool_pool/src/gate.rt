@@ -14,9 +14,9 @@ pub enum Gate {
     True,
     /// The variable with this number.
     Var(u32),
-    /// True where the formula is false.
+    /// True if the formula is false.
     Not(Id),
-    /// True where both formulas are true.
+    /// True if both formulas are true.
     And(Id, Id),
     /// True where at least one of both formulas is true.
     Or(Id, Id),

@@ -92,7 +92,7 @@ impl Pool {
     /// The formula of a constant.
     ///
     /// Like each maker, it takes one step, whatever the outcome, and adds at most one gate, at the
-    /// end. Want of memory is the only error, and leaves the pool as it was.
+    /// end. Lack of memory is the only error, and leaves the pool as it was.
     pub fn constant<L: Ledger>(&mut self, b: bool, steps: &mut Steps<L>) -> Result<Id, NoMemory>
         ensures extends { Extends self.old self.new }
         ensures one { length self.new ≤ length self.old + 1 }
@@ -134,7 +134,7 @@ impl Pool {
         self.take(choice)
     }
 
-    /// The formula that is true where both formulas are.
+    /// The formula that is true if both formulas are.
     pub fn and<L: Ledger>(&mut self, a: Id, b: Id, steps: &mut Steps<L>) -> Result<Id, NoMemory>
         requires first { a.place < length self.old }
         requires second { b.place < length self.old }

@@ -10,7 +10,7 @@ use std::collections::BTreeSet;
 impl Pool {
     /// The places that the formulas at these places reach, in ascending order.
     ///
-    /// The cost goes by the gates that are reached, whatever else the pool has. Want of memory is the
+    /// The cost goes by the gates that are reached, whatever else the pool has. Lack of memory is the
     /// only error.
     pub fn reached_places(
         &self,

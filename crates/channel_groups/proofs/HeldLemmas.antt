@@ -95,7 +95,7 @@ find_held p (Some first ∷ slots) (suc k) group is passes before =
     let fails : p first ≡ false = before 0 first (omega arith) refl in
     rw fails (find_held p slots k group is passes (λ j other below at. before (suc j) other (omega arith) at))
 
--- where none passes none is found
+-- if none passes none is found
 pub find_held-none : (p : Group → Bool) (slots : List (Option Group)) → ((k : ℕ) (group : Group) → slot_at slots k ≡ Some group → p group ≡ false) →
     find p (held slots) ≡ None
 find_held-none p [] fails = refl
@@ -223,7 +223,7 @@ found_place p (y ∷ xs) x found =
           (suc rest.0, omega (arith, rest.1), rest.2, rest.3)
     ]
 
--- the group that an id of the list finds stands in the list where the id does
+-- the group that an id of the list finds stands in the list if the id does
 pub group_at_id : (groups : List Group) → IsStrictlyIncreasing (map id_of groups) → (nodes : List ℕ) → nodes ≡ map id_of groups → (k id : ℕ) → k < length groups →
     get_or nodes k 0 ≡ id → (group : Group) → group_with groups id ≡ Some group → get_or groups k group ≡ group
 group_at_id groups ascending nodes is k id inside at group found =
@@ -270,7 +270,7 @@ count_held [] = refl
 count_held (None ∷ slots) = sum_by-cons (λ (slot : Option Group). cond (is_some slot) 1 0) None slots ∙ omega (arith, count_held slots)
 count_held (Some group ∷ slots) = sum_by-cons (λ (slot : Option Group). cond (is_some slot) 1 0) (Some group) slots ∙ omega (arith, count_held slots)
 
--- the group of an id in the list of all ids stands in the list of groups where the id does
+-- the group of an id in the list of all ids stands in the list of groups if the id does
 pub group_of_id : (groups : List Group) → IsStrictlyIncreasing (map id_of groups) → (ids : List GroupId) → map (λ (id : GroupId). id.node) ids ≡ map id_of groups →
     (k : ℕ) (d : GroupId) → k < length ids → (group : Group) → group_with groups (get_or ids k d).node ≡ Some group →
     (k < length groups) × (get_or groups k group ≡ group)

@@ -137,7 +137,7 @@ Finds-more g roots i old seen new inside so_far one =
           ];
     }
 
--- where no group came in
+-- if no group came in
 pub AreFoundFrom-none : (roots : List ℕ) (fresh : List Group) → AreFoundFrom roots fresh fresh
 AreFoundFrom-none roots fresh = record { from = λ group there. inl there }
 

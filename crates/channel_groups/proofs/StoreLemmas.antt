@@ -179,7 +179,7 @@ module _ (h : GraphData) (change : Change) (classes : List (Option ℕ)) (slots 
       gone plan.touched seen fresh plan.found.each plan.found.all plan.found.only plan.gone_rooted plan.new_rooted
       classes_1 classes_2 classes_3 slots_1 slots_2 slots_3 class_gone slot_gone class_seen slot_seen puts
 
--- all groups of a graph are put in where there were none: as after an edit of a graph without nodes
+-- all groups of a graph are put in if there were none: as after an edit of a graph without nodes
 module _ (h : GraphData) (wired : IsWired h) (classes more : List (Option ℕ)) (slots filled : List (Option Group))
     (no_class : (n : ℕ) → class_at classes n ≡ None) (no_slot : (n : ℕ) → slot_at slots n ≡ None)
     (seen : List ℕ) (fresh : List Group) (found : AreFound h seen fresh) (rooted : (n : ℕ) → n < nodes h → IsStorage h n → Contains seen n)
@@ -355,7 +355,7 @@ AddsGroup-noted found group gone more is notes = record {
   only = λ n there. elim (notes.only n there) [ inl before ↦ inl before | inr member ↦ inr (group, is, member) ];
 }
 
--- where a node has no group it has no class
+-- if a node has no group it has no class
 pub no_class-at_node : (classes : List (Option ℕ)) (slots : List (Option Group)) (node : ℕ) → IsHeld classes slots → group_at_node classes slots node ≡ None →
     class_at classes node ≡ None
 no_class-at_node classes slots node are none = by (class_at classes node) refl none

@@ -83,7 +83,7 @@ module _ (g h : GraphData) (before after : List ℕ) (differ : DifferAt g h befo
         let next = links.1.0 in
         links_before places next n links.1.2 (joined_before place m next member links.1.1 (LinksOver-from h places next n links.1.2))
 
-    -- a switch touches the members in the one graph where it does in the other
+    -- a switch touches the members in the one graph if it does in the other
     touches_stay : (place : ℕ) → TouchesAny g group.members place → TouchesAny h group.members place
     touches_stay place = TouchesAny-moved g h group.members place (place_stays place)
 

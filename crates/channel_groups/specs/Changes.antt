@@ -63,7 +63,7 @@ nodes_after g change =
 abbrev pub is_among : List ℕ → ℕ → Bool
 is_among xs node = list_any (λ x. x == node) xs
 
--- an old group is touched where it has a node as a member that the edit changed
+-- an old group is touched if it has a node as a member that the edit changed
 abbrev pub is_touched : Change → Group → Bool
 is_touched change group = list_any (is_among (nodes_before change)) group.members
 
@@ -71,7 +71,7 @@ is_touched change group = list_any (is_among (nodes_before change)) group.member
 abbrev pub in_some : List Group → ℕ → Bool
 in_some groups node = list_any (λ group. is_among group.members node) groups
 
--- a new group is touched where it has as a member a node that the edit changed, or some member of a touched old group
+-- a new group is touched if it has as a member a node that the edit changed, or some member of a touched old group
 abbrev pub is_touched_now : GraphData → Change → List Group → Group → Bool
 is_touched_now g change old group =
     list_any (λ node. is_among (nodes_after g change) node || in_some (filter (is_touched change) old) node) group.members

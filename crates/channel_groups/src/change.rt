@@ -1,7 +1,6 @@
 //! How a graph was before one edit.
 
 ghost use Rattle.std.specs.Prelude.{◌≡◌, ◌++◌, IfOk, OnOk};
-ghost use Rattle.path_meaning.specs.Graphs.{nodes, place_at, FitsPlace};
 ghost use Rattle.channel_groups.specs.Changes.{changed_place, nodes_before, nodes_after, ends_before, ends_after, ends_of, levelled};
 
 use path_meaning::{Graph, Switch};
@@ -67,20 +66,8 @@ fn add_ends_after(
     ensures { OnOk result (found.new.items ≡ found.old.items ++ ends_after graph.now place) }
 {
     match place {
-        Some((place, _)) => add_ends(switch_there(graph, place), found),
+        Some((place, _)) => add_ends(graph.switch_there(place), found),
         None => Ok(()),
-    }
-}
-
-/// What stands at a place; past the last place nothing does.
-pub(crate) fn switch_there(graph: &Graph, place: usize) -> Option<Switch>
-    ensures value { result ≡ place_at graph.now.places place }
-    ensures fits { FitsPlace (nodes graph.now) result }
-{
-    if place < graph.places() {
-        graph.switch_at(place)
-    } else {
-        None
     }
 }
 

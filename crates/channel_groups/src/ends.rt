@@ -131,7 +131,7 @@ pub(crate) fn reserve_place(lists: &mut Vec<Places>, node: usize) -> Result<(), 
     Ok(())
 }
 
-/// Lists a place at one node in place of another, where it had been listed.
+/// Lists a place at one node in place of another, if it had been listed.
 pub(crate) fn move_place(
     lists: &mut Vec<Places>,
     spots: &mut Vec<usize>,

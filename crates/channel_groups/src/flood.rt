@@ -153,7 +153,7 @@ fn look_at_changed<L: Ledger>(
     }
 }
 
-/// Looks at a place from a node: where its switch has an end there, the place is listed, and the
+/// Looks at a place from a node: if its switch has an end there, the place is listed, and the
 /// node at the other end is found if it is a storage node.
 fn look<L: Ledger>(
     graph: &Graph,

@@ -79,8 +79,8 @@ impl Groups {
         })
     }
 
-    /// Makes them the groups of the graph after an edit, where they are those of the graph before
-    /// it. At want of memory they are as before.
+    /// Makes them the groups of the graph after an edit, if they are those of the graph before
+    /// it. Out of memory they are as before.
     ///
     /// The work is that of the groups that the edit touches: an old group is touched where an end of
     /// the changed place's old switch, or the node whose level changed, is a member of it; a new one
@@ -128,7 +128,7 @@ impl Groups {
         count_some(&self.held.slots)
     }
 
-    /// The id of the group that has this node as a member, or `None` exactly where none has it: at an
+    /// The id of the group that has this node as a member, or `None` exactly if none has it: at an
     /// input node.
     pub fn group_of(&self, node: usize) -> Option<GroupId>
         requires { node < self.now.nodes }
@@ -139,7 +139,7 @@ impl Groups {
         Some(group.id())
     }
 
-    /// The least id that is at least `from`, or `None` exactly where there is none.
+    /// The least id that is at least `from`, or `None` exactly if there is none.
     pub fn next_id(&self, from: usize) -> Option<GroupId>
         ensures value { option_map (λ id. id.node) result ≡ option_map id_of (find (λ group. nat_le from (id_of group)) self.now.groups) }
         ensures id { IfSome result (λ id. IsId self.now.groups id.node) }

@@ -10,7 +10,7 @@ ghost use Rattle.channel_groups.specs.Grouping.{held as groups_in, IsHeld};
 ghost use Rattle.channel_groups.specs.Search.{search_cost};
 ghost use Rattle.channel_groups.specs.Writing.{SameHeld, SameEnds, IsPlan, IsRoomy, before_cost, IsCheap};
 
-use crate::change::{Change, changed_place, nodes_after, nodes_before, switch_there};
+use crate::change::{Change, changed_place, nodes_after, nodes_before};
 use crate::ends::{Ends, grow_lists, grow_spots, move_place, reserve_place};
 use crate::held::{Held, clear, grow_held, put_all};
 use crate::search::{Found, each_once, members_touched, try_roots};
@@ -90,7 +90,7 @@ fn reserve_ends(ends: &mut Ends, graph: &Graph, change: &Change) -> Result<(), A
     let Some((place, _)) = change.place else {
         return Ok(());
     };
-    let Some(switch) = switch_there(graph, place) else {
+    let Some(switch) = graph.switch_there(place) else {
         return Ok(());
     };
     reserve_place(&mut ends.firsts, switch.a)?;
@@ -191,7 +191,7 @@ pub(crate) fn relist(ends: &mut Ends, graph: &Graph, change: &Change)
     let Some((place, old)) = change.place else {
         return;
     };
-    let new = switch_there(graph, place);
+    let new = graph.switch_there(place);
     move_place(
         &mut ends.firsts,
         &mut ends.first_spots,

@@ -140,7 +140,7 @@ meaning-circuit text (Err refusal) is = tt
 
 -- ---- ends after a file was read
 
--- where no file could be started, none was, or none of its bytes were taken
+-- if no file could be started, none was, or none of its bytes were taken
 pub takes_none : (old new : Taken) (most : ℕ) → TakesFiles old new 0 → TakesFiles old new most
 takes_none old new most (fresh, few, is) = (fresh, at_most-more fresh few, is) where
   at_most-more : (counts : List ℕ) → AreAtMost 0 counts → AreAtMost most counts

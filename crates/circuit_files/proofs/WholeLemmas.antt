@@ -12,7 +12,7 @@ pub whole_file : (known : Option (List ℕ → List ℕ)) (name text : List ℕ)
 whole_file None name text old new front taken = tt
 whole_file (Some holds) name text old new front taken = taken ∙ ap (λ (bytes : List ℕ). with_files old (length bytes ∷ [])) front
 
--- where no file is needed none is read
+-- if no file is needed none is read
 pub whole_none : (taken : Taken) → taken ≡ with_files taken []
 whole_none None = refl
 whole_none (Some counts) = refl

@@ -3,7 +3,7 @@ use Rattle.std.specs.Prelude.{◌≡◌, ℕ, ◌⊎◌, List, Option, Result, O
 use Rattle.port_edge.specs.Ports.{with_name}
 use Rattle.run_ends.specs.declared.stop.Stop.{Stop}
 
--- the started names, where they are told
+-- the started names, if they are told
 abbrev pub Started : Type 0
 Started = Option (List (List ℕ))
 

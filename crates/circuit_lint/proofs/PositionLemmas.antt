@@ -7,7 +7,7 @@ use Rattle.std.proofs.lemmas.List.Folds.{prefix_len-append, position_or_len_push
 use Rattle.std.proofs.lemmas.List.Sums.{prefix_len-le-length}
 
 module _ {X : Type 0} (p : X → Bool) where
-  -- what passes in a front of a list is found there in the whole list too
+  -- what passes in a prefix of a list is found there in the whole list too
   position-front : (xs ys : List X) → position_or_len p xs < length xs → position p (xs ++ ys) ≡ position p xs
   position-front xs ys low =
       let first = position_or_len p xs in
@@ -17,7 +17,7 @@ module _ {X : Type 0} (p : X → Bool) where
       ∙ cond-true (ltb first (length (xs ++ ys))) (Some first) None (lt-ltb first (length (xs ++ ys)) (omega (arith, length-append xs ys)))
       ∙ sym (cond-true (ltb first (length xs)) (Some first) None (lt-ltb first (length xs) low))
 
-  -- if none passes in it, the item behind it is found where it passes
+  -- if none passes in it, the item behind it is found if it passes
   position-behind : (xs : List X) (x : X) (passes : Bool) → p x ≡ passes → length xs ≤ position_or_len p xs →
       position p (xs ++ x ∷ []) ≡ (if passes then Some (unwrap_or (position p xs) (length xs)) else position p xs)
   position-behind xs x passes is past = by passes is

@@ -297,7 +297,7 @@ module _ (g : GraphData) (count : ℕ) (distance more : List (Option ℕ)) (orde
             (one.0, one.1, now.close node one.0 far within (ap (λ i. distance_at more (get_or longer i 0)) (sym here) ∙ at) one.1)
       ]
 
--- where the search has reached all, the distances are least
+-- if the search has reached all, the distances are least
 module _ (g : GraphData) (count : ℕ) (distance : List (Option ℕ)) (order : List ℕ) (all : count ≡ length order)
     (so_far : IsSearched g count distance order) (spread : HasSpread g count distance order) where
   least : (node : ℕ) (places : List ℕ) → LeadsDown g places node → (far : ℕ) × (distance_at distance node ≡ Some far) × (far ≤ length places)

@@ -81,7 +81,7 @@ module _ (g : GraphData) (distance : List (Option ℕ)) (places : List ℕ) (i :
     pub is : (start : Start) → other ≡ Some start → IsStartAt g distance (get_or places i 0) start.distance
     pub all : (far : ℕ) → IsStartAt g distance (get_or places i 0) far → other ≡ Some (record { distance = far; place = get_or places i 0 })
 
-  -- where it is the first there
+  -- if it is the first there
   alone : (start : Start) → IsFoundHere (Some start) → (far : ℕ) → IsStartAt g distance (get_or places i 0) far → GoesFirst start (get_or places i 0) far
   alone start here far there =
       let is : start ≡ record { distance = far; place = get_or places i 0 } = some_same (here.all far there) in

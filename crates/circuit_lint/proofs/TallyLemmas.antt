@@ -12,7 +12,7 @@ use Rattle.circuit_lint.specs.declared.counted.Counted.{Counted}
 use Rattle.circuit_lint.specs.Dead.{is_dead, likeness, same_switch, is_dead_like, is_first_dead, alike_count, dead_at}
 use Rattle.circuit_lint.specs.Tallies.{Tally, count_at, some_number, number_of, AreTallied, AreLeft, taken_of, LeavesOthers, counted_at}
 
--- a number is raised from 0 where there is none
+-- a number is raised from 0 if there is none
 some_number-raised : (n : ℕ) → Some (unwrap_or (some_number n) 0 + 1) ≡ some_number (n + 1)
 some_number-raised n =
     sym (cond-false (nat_eq (n + 1) 0) None (Some (n + 1)) (ne_eqb (n + 1) 0 (λ e. omega (arith, e))) ∙ ap (λ m. Some (m + 1)) (sym (number n)))

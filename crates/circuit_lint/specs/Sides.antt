@@ -42,7 +42,7 @@ sides_of g group = record {
 }
 
 -- a group of two nodes and more is undriven with no input node at the ends of its switches; it is never one with Gnd alone there, and never
--- zero with Vdd alone; it is wide where it is too large for a text
+-- zero with Vdd alone; it is wide if it is too large for a text
 abbrev pub shows : SideFault → Sides → Bool
 shows Undriven sides = nat_lt 1 sides.nodes && not (sides.gnd || (sides.vdd || sides.other))
 shows NeverOne sides = sides.gnd && not (sides.vdd || sides.other)

@@ -19,7 +19,7 @@ count_at tally alike = get same_switch tally alike
 abbrev pub some_number : ℕ → Option ℕ
 some_number count = if count == 0 then None else Some count
 
--- how many dead switches of a likeness stand at these places, where there are some
+-- how many dead switches of a likeness stand at these places, if there are some
 abbrev pub number_of : List (Option Switch) → Switch → Option ℕ
 number_of places alike = some_number (count_by (is_dead_like alike) places)
 
@@ -41,7 +41,7 @@ taken_of (Some switch) tally = if is_dead switch then count_at tally (likeness s
 abbrev pub LeavesOthers : Option Switch → Tally → Tally → Type 0
 LeavesOthers place old new = (alike : Switch) → count_at new alike ≡ (if is_dead_like alike place then None else count_at old alike)
 
--- a place, with a number where there is one
+-- a place, with a number if there is one
 abbrev pub counted_at : ℕ → Option ℕ → Option Counted
 counted_at place None = None
 counted_at place (Some count) = Some (record { number = place; count = count })

@@ -33,7 +33,7 @@ pub(crate) fn dead_switches(
     Ok(found)
 }
 
-// A place, with a number where there is one.
+// A place, with a number if there is one.
 fn counted_at(place: usize, count: Option<usize>) -> Option<Counted>
     ensures { result ≡ tallies.counted_at place count }
 {
@@ -76,7 +76,7 @@ fn note_place(graph: &Graph, place: usize, tally: &mut Tally) -> Result<(), Allo
     Ok(())
 }
 
-// The number of the dead switch at a place with those that are alike, which are taken out. Where they were
+// The number of the dead switch at a place with those that are alike, which are taken out. If they were
 // taken out, or no dead switch stands there, there is none.
 fn taken(switch: Option<Switch>, tally: &mut Tally) -> Option<usize>
     ensures value { result ≡ tallies.taken_of switch tally.old }

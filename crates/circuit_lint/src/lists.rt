@@ -1,4 +1,4 @@
-//! Lists that grow where there is something to tell.
+//! Lists that grow if there is something to tell.
 
 ghost use Rattle.std.specs.Prelude.{◌≡◌, ◌++◌, replicate, None, IfOk, OnOk};
 ghost use Rattle.std.specs.Option.{option_to_list};

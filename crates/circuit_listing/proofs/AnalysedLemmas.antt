@@ -1,4 +1,4 @@
--- Which texts an analyst was given where it was asked for the new ones and nothing was kept: the distinct texts, or a front of them.
+-- Which texts an analyst was given if it was asked for the new ones and nothing was kept: the distinct texts, or a prefix of them.
 use Rattle.std.proofs.Common.{◌≡◌, ℕ, List, [], ◌++◌, map, None, Result, Ok, Err, OnErr, refl, sym, ap, ◌∙◌, append_assoc, append-nil}
 use Rattle.path_meaning.specs.Graphs.{GraphData}
 use Rattle.group_meaning.specs.Groups.{Group, AreGroups}
@@ -27,7 +27,7 @@ all_analysed old new before after texts count none keeps =
     let kept : texts_of old ≡ [] = ap texts_of none in
     keeps.analysed ∙ ap (λ more. before ++ more) (rw kept (new_texts-none_kept texts))
 
--- and so a front of them was
+-- and so a prefix of them was
 pub front_of_all : (before after texts : List GroupTextData) → after ≡ before ++ texts → AnalysesFront before after texts
 front_of_all before after texts analysed = record { front = texts; rest = []; texts_are = sym (append-nil texts); analysed = analysed }
 
@@ -35,7 +35,7 @@ front_of_all before after texts analysed = record { front = texts; rest = []; te
 pub front_none : (before after texts : List GroupTextData) → after ≡ before → AnalysesFront before after texts
 front_none before after texts same = record { front = []; rest = texts; texts_are = refl; analysed = same ∙ sym (append-nil before) }
 
--- where not all could be kept, a front of them was analysed
+-- where not all could be kept, a prefix of them was analysed
 pub front_some : {held_before held_after : TextSet} (old new : KeptData) (before after texts : List GroupTextData) →
     old ≡ nothing_kept → KeepsSome old new before after held_before held_after texts → AnalysesFront before after (first_texts texts)
 front_some old new before after texts none keeps =
@@ -55,7 +55,7 @@ module _ (g : GraphData) (groups : List Group) (are : AreGroups g groups) (texts
   distinct : first_texts texts ≡ first_texts (map (text_of_group g) groups)
   distinct = ap first_texts texts_are ∙ first_texts-first (map (text_of_group g) groups)
 
-  -- a front of the distinct texts of the groups that were found is one of those of all groups of the graph
+  -- a prefix of the distinct texts of the groups that were found is one of those of all groups of the graph
   pub front_of_groups : AnalysesFront before after (first_texts texts) → (others : List Group) → AreGroups g others →
       AnalysesFront before after (first_texts (map (text_of_group g) others))
   front_of_groups front others others_are =

@@ -2,7 +2,7 @@
 use Rattle.std.specs.Prelude.{◌≡◌, List, ◌++◌}
 use Rattle.group_text.specs.Texts.{GroupTextData}
 
--- a front of these texts was analysed, in order, and no other text
+-- a prefix of these texts was analysed, in order, and no other text
 pub record AnalysesFront (before after texts : List GroupTextData) : Type 0 where
   pub front : List GroupTextData
   pub rest : List GroupTextData

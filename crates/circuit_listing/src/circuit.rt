@@ -1,13 +1,6 @@
 ghost use Rattle.std.specs.Prelude.{◌≡◌, ◌⊎◌, ◌++◌, List, map, IfOk, IfErr, OnOk, OnErr};
 ghost use Rattle.std.specs.List.{range_with_len};
-ghost use Rattle.path_meaning.specs.Graphs.{nodes};
-ghost use Rattle.group_meaning.specs.Groups.{Group, AreGroups};
-ghost use Rattle.group_text.specs.Texts.{text_of_group};
-ghost use Rattle.group_text.specs.FirstTexts.{first_texts};
-ghost use Rattle.circuit_texts.specs.Sizes.{AllFit, TellsTooLarge};
-ghost use Rattle.circuit_listing.specs.Analysed.{AnalysesFront};
-ghost use Rattle.circuit_listing.specs.Faithful.{IsFaithful};
-ghost use Rattle.netlist.specs.Circuits.{HasVisibleNames, called};
+ghost use Rattle.circuit_listing.specs.Words.{called, first_texts, nodes, text_of_group, AllFit, AnalysesFront, AreGroups, Group, HasVisibleNames, IsFaithful, TellsTooLarge};
 
 use analysis_cache::Kept;
 use channel_groups::Groups;
@@ -23,8 +16,8 @@ use ternary::NoMemory;
 /// The listing of a circuit: the code of each group, made by the analyst, over the circuit's nodes.
 ///
 /// Groups with equal texts share their code: each distinct text is analysed once, in the order of its
-/// first group, whose least node is the least. Where some group is too large, the first such group is
-/// told and nothing is analysed; at want of memory a front of the distinct texts was analysed. The
+/// first group, whose least node is the least. If some group is too large, the first such group is
+/// told and nothing is analysed; out of memory a prefix of the distinct texts was analysed. The
 /// keys start the hashes of the table of texts.
 pub fn list_circuit<A: Analyst>(
     alloc: Global,

@@ -22,14 +22,14 @@ use Rattle.circuit_reports.specs.Answers.{IsOver, IsOverDeck, IsGroups, IsLinted
 pub alike : (answer other : Answer) → answer ≡ other → AreAlike answer other
 alike answer other same = record { status = ap (λ (one : Answer). one.status) same; texts = ap (λ (one : Answer). one.texts) same }
 
--- over a netlist there is one answer where there is one in its circuit
+-- over a netlist there is one answer if there is one in its circuit
 pub over_unique : (IsRight : CircuitData → Answer → Type 0) →
     ((circuit : CircuitData) (answer other : Answer) → IsRight circuit answer → IsRight circuit other → answer ≡ other) →
     (meaning : Result CircuitData NetRefusal) (answer other : Answer) → IsOver IsRight meaning answer → IsOver IsRight meaning other → answer ≡ other
 over_unique IsRight right (Ok circuit) answer other one two = right circuit answer other one two
 over_unique IsRight right (Err refusal) answer other one two = one ∙ sym two
 
--- and answers are alike where they are in its circuit
+-- and answers are alike if they are in its circuit
 pub over_alike : (IsRight : CircuitData → Answer → Type 0) →
     ((circuit : CircuitData) (answer other : Answer) → IsRight circuit answer → IsRight circuit other → AreAlike answer other) →
     (meaning : Result CircuitData NetRefusal) (answer other : Answer) → IsOver IsRight meaning answer → IsOver IsRight meaning other → AreAlike answer other

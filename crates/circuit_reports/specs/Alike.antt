@@ -1,4 +1,4 @@
--- Answers that are alike: where several texts are right, as of listings and of reasons, all else is the same.
+-- Answers that are alike: if several texts are right, as of listings and of reasons, all else is the same.
 use Rattle.std.specs.Prelude.{◌≡◌}
 use Rattle.run_ends.specs.Answers.{Answer}
 

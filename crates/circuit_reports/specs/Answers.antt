@@ -30,11 +30,11 @@ use Rattle.run_ends.specs.Answers.{Answer, plain_answer, IsRefusal, IsTooLarge}
 abbrev pub IsUsage : Answer → Type 0
 IsUsage answer = answer ≡ plain_answer status.Usage (codes "bad command line\n")
 
--- the answer where the netlist is refused: the line of its refusal
+-- the answer if the netlist is refused: the line of its refusal
 abbrev pub IsNetRefusal : NetRefusal → Answer → Type 0
 IsNetRefusal refusal answer = IsRefusal (Net refusal.line) (net_code refusal.what) status.NetRefused answer
 
--- the answer where the deck is refused at this line: the line of its refusal
+-- the answer if the deck is refused at this line: the line of its refusal
 abbrev pub IsDeckRefusal : ℕ → DeckWhat → Answer → Type 0
 IsDeckRefusal line what answer = answer ≡ plain_answer status.NetRefused (deck_line_of line what)
 
@@ -43,7 +43,7 @@ abbrev pub IsOver : (CircuitData → Answer → Type 0) → Result CircuitData N
 IsOver IsRight (Ok circuit) answer = IsRight circuit answer
 IsOver IsRight (Err refusal) answer = IsNetRefusal refusal answer
 
--- the answer over a deck: that in its circuit, or its refusal; want of memory is no meaning of a deck
+-- the answer over a deck: that in its circuit, or its refusal; lack of memory is no meaning of a deck
 abbrev pub IsOverDeck : (CircuitData → Answer → Type 0) → Result CircuitData DeckFault → Answer → Type 0
 IsOverDeck IsRight (Ok circuit) answer = IsRight circuit answer
 IsOverDeck IsRight (Err (deck_fault.At line what)) answer = IsDeckRefusal line what answer

@@ -8,7 +8,7 @@ use Rattle.linear_code.specs.TextPlaces.{IsPlace, text_from}
 use Rattle.run_ends.specs.declared.status.Status.TheVariants.{Done}
 use Rattle.run_ends.specs.Answers.{Answer}
 
--- the text between two places was sent; where none of it is left the answer is false, and else some was sent
+-- the text between two places was sent; if none of it is left the answer is false, and else some was sent
 pub record SendsSome (listing : ListingData) (old new : TextPlace) (before after : Option (List ℕ)) (more : Bool) : Type 0 where
   pub place : IsPlace listing new
   pub sent : List ℕ

@@ -53,38 +53,14 @@ pub fn refuse_deck<S: Sink>(
     ensures write { S.faults out.new ≡ faults_written (S.faults out.old) result }
     ensures refused { IsRefusedOnce (S.refusals out.old) (S.refusals out.new) result }
 {
-    match write_deck_refusal(alloc, line, what, out) {
-        Ok(end) => {
-            let word = card_word(what, card);
-            note_cure(
-                alloc,
-                NotedFile::Circuit,
-                Some(line),
-                cause_text(what),
-                word,
-                out,
-            );
-            Ok(end)
-        }
-        Err(stop) => Err(stop),
-    }
-}
-
-// Writes the line of a deck's refusal.
-fn write_deck_refusal<S: Sink>(
-    alloc: Global,
-    line: u64,
-    what: DeckWhat,
-    out: &mut S,
-) -> Result<End, Stop>
-    ensures told { IsTold (IsDeckRefusal line what) (S.written out.old) (S.written out.new) result }
-    ensures no_read { IfErr result (λ stop. stop ≢ Stop.Read) }
-    ensures write { S.faults out.new ≡ faults_written (S.faults out.old) result }
-    ensures refused { IsRefusedOnce (S.refusals out.old) (S.refusals out.new) result }
-{
     let text = deck_line(alloc, line, what)?;
     match send(out, &text) {
-        Ok(()) => Ok(End::NetRefused),
+        Ok(()) => {
+            let word = card_word(what, card);
+            let cause = cause_text(what);
+            note_cure(alloc, NotedFile::Circuit, Some(line), cause, word, out);
+            Ok(End::NetRefused)
+        }
         Err(fault) => Err(Stop::of_write(fault)),
     }
 }

@@ -37,7 +37,7 @@ pub map_chosen : {X Z : Type 0} (f : X → Z) (h : Group → Z) (front all : Lis
 map_chosen f h front all xs x group grown so_far here =
     map-append f xs (x ∷ []) ∙ mapped_chosen h front all (map f xs) (f x) group grown so_far here
 
--- all chosen groups, where one is chosen at a place
+-- all chosen groups, if one is chosen at a place
 pub chosen-split : (groups : List Group) (ids : List GroupId) (i : ℕ) (d : GroupId) (group : Group) → i < length ids →
     group_with groups (get_or ids i d).node ≡ Some group →
     chosen groups ids ≡ (chosen groups (take i ids) ++ group ∷ []) ++ chosen groups (drop (i + 1) ids)
@@ -58,7 +58,7 @@ seam_inside : (front rest : List Group) (group : Group) → length front < lengt
 seam_inside [] rest group = omega arith
 seam_inside (first ∷ front) rest group = omega (arith, seam_inside front rest group)
 
--- a group that no text was made of, where all groups before it fit, is the first that is too large, or there was want of memory
+-- a group that no text was made of, where all groups before it fit, is the first that is too large, or there was lack of memory
 pub split_refused : (all front rest : List Group) (group : Group) (fault : BuildFault) → all ≡ (front ++ group ∷ []) ++ rest →
     All (λ one. fault_in one ≡ None) front → (fault ≡ NoMemory) ⊎ IsTooLarge group fault → (fault ≡ NoMemory) ⊎ IsFirstTooLarge all fault
 split_refused all front rest group fault all_are fits told =

@@ -28,7 +28,7 @@ Contains-flat_map f (z ∷ xs) x y (suc k, inside, is) piece =
     Contains-append_right (f z) (flat_map f xs) y (Contains-flat_map f xs x y (k, omega (arith, inside), is) piece)
 
 module _ (g : GraphData) where
-  -- of an end the node itself is read, where it is an input node
+  -- of an end the node itself is read, if it is an input node
   input_read : (end node : ℕ) → Contains (inputs_of g end) node → (end ≡ node) × (level_of g node ≡ INPUT_LEVEL)
   input_read end node = by (level_of g end == INPUT_LEVEL) refl
     where

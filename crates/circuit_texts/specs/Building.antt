@@ -39,7 +39,7 @@ pub record Fills (g : GraphData) (old new before after : List GroupTextData) (co
   pub analysed : after ≡ before ++ fresh
   pub number : count ≡ length fresh
 
--- a build was cut off: a front of what is new was analysed and is kept behind what was kept, and at most the next one was analysed beside
+-- a build was cut off: a prefix of what is new was analysed and is kept behind what was kept, and at most the next one was analysed beside
 pub record BuildsSome (g : GraphData) (old new before after : List GroupTextData) : Type 0 where
   pub fresh : List GroupTextData
   pub more : List GroupTextData
@@ -51,6 +51,6 @@ pub record BuildsSome (g : GraphData) (old new before after : List GroupTextData
   pub analysed : after ≡ before ++ (more ++ further)
   pub one : (further ≡ []) ⊎ (length further ≡ 1)
 
--- a build found want of memory: nothing was analysed, or a front of what is new
+-- a build ran out of memory: nothing was analysed, or a prefix of what is new
 abbrev pub IsCutOff : GraphData → List GroupTextData → List GroupTextData → List GroupTextData → List GroupTextData → Type 0
 IsCutOff g old new before after = ((new ≡ old) × (after ≡ before)) ⊎ BuildsSome g old new before after

@@ -4,3 +4,4 @@ pub mod Parts
 pub mod Building
 pub mod Reading
 pub mod Choosing
+pub mod Words

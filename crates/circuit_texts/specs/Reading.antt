@@ -12,7 +12,7 @@ pub record AreReads (g : GraphData) (group : Group) (nodes : List ℕ) : Type 0 
   pub each : (node : ℕ) → Contains nodes node ↔ Reads g group node
   pub once : IsDistinct nat_eq nodes
 
--- the node, where it is an input node
+-- the node, if it is an input node
 abbrev pub inputs_of : GraphData → ℕ → List ℕ
 inputs_of g node = if level_of g node == INPUT_LEVEL then node ∷ [] else []
 

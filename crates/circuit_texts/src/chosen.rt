@@ -4,9 +4,7 @@ ghost use Rattle.std.specs.List.{AllZip};
 ghost use Rattle.group_meaning.specs.Groups.{AreGroups};
 ghost use Rattle.channel_groups.specs.Grouping.{IsId};
 ghost use Rattle.group_text.specs.Texts.{local_nodes, text_of_group};
-ghost use Rattle.circuit_texts.specs.Sizes.{IsFirstTooLarge, fault_in};
-ghost use Rattle.circuit_texts.specs.Reading.{AreReads};
-ghost use Rattle.circuit_texts.specs.Choosing.{chosen};
+ghost use Rattle.circuit_texts.specs.Words.{IsFirstTooLarge, fault_in, AreReads, chosen};
 
 use crate::reads::sorted_reads;
 use crate::texts::{BuildFault, GroupTexts, text_or_fault};

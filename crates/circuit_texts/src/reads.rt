@@ -71,7 +71,7 @@ fn push_reads(
     Ok(())
 }
 
-// Adds a node where it is an input node.
+// Adds a node if it is an input node.
 fn push_input(graph: &Graph, node: usize, reads: &mut Vec<usize>) -> Result<(), AllocError>
     requires { node < nodes graph.now }
     ensures { OnOk result (reads.new.items ≡ reads.old.items ++ inputs_of graph.now node) }

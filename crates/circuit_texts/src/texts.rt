@@ -1,8 +1,7 @@
 ghost use Rattle.std.specs.Prelude.{◌≡◌, ◌⊎◌, None, map, All, IfOk, IfErr, OnOk};
 ghost use Rattle.group_meaning.specs.Groups.{AreGroups, IsGroup};
 ghost use Rattle.group_text.specs.Texts.{local_nodes, text_of_group};
-ghost use Rattle.circuit_texts.specs.Sizes.{IsFirstTooLarge, IsTooLarge, IsRefused, fault_in, refused_in, at_node};
-ghost use Rattle.circuit_texts.specs.Told.{told_text, told_nodes};
+ghost use Rattle.circuit_texts.specs.Words.{IsFirstTooLarge, IsTooLarge, IsRefused, fault_in, refused_in, at_node, told_text, told_nodes};
 
 use crate::chosen::texts_at;
 use channel_groups::{Group, Groups};
@@ -20,7 +19,7 @@ pub enum BuildFault {
     /// The group with this least node is the first that is too large, and has too many switches: so
     /// many.
     GroupSwitches { node: usize, count: u64 },
-    /// There was want of memory.
+    /// Memory ran out.
     NoMemory,
 }
 
@@ -53,7 +52,7 @@ pub struct GroupTexts {
 
 /// The texts of the groups of a graph, in the groups' order.
 ///
-/// Where some group is too large, the first such group is told.
+/// If some group is too large, the first such group is told.
 pub fn texts_of(alloc: Global, graph: &Graph, groups: &Groups) -> Result<GroupTexts, BuildFault>
     requires { AreGroups graph.now groups.now.groups }
     ensures texts { IfOk result (λ made. made.texts.items ≡ map (text_of_group graph.now) groups.now.groups) }
@@ -67,7 +66,7 @@ pub fn texts_of(alloc: Global, graph: &Graph, groups: &Groups) -> Result<GroupTe
 
 /// The text of a group, and the nodes that the text's local nodes stand for.
 ///
-/// Where the group is too large, that is told of it.
+/// If the group is too large, that is told of it.
 pub fn text_or_fault(
     alloc: Global,
     graph: &Graph,

@@ -41,7 +41,7 @@ pub data Request : Type 0 where
   Show : List ℕ → Request
   Unclear : Request
 
--- a text, where there is one
+-- a text, if there is one
 abbrev pub shown : Option (List ℕ) → Request
 shown (Some text) = Show text
 shown None = Unclear
@@ -59,7 +59,7 @@ question_of command =
     else (if bytes_eq command (codes "groups") then Some Groups
     else (if bytes_eq command (codes "compile") then Some Compile else None))
 
--- a question about a netlist, where there is one
+-- a question about a netlist, if there is one
 abbrev pub about : List ℕ → Option Question → Request
 about net (Some question) = About net question
 about net None = Unclear

@@ -7,7 +7,7 @@ ghost use Rattle.command_line.specs.Columns as spec;
 use crate::lanes::Lanes;
 use line_words::decimal;
 
-/// The number of columns that a word writes, from 1 to 64; none where it writes no such number.
+/// The number of columns that a word writes, from 1 to 64; none if it writes no such number.
 pub fn lanes_of(word: &str) -> Option<Lanes>
     ensures { option_map spec.lanes_seen result ≡ spec.lanes_of word.now }
 {

@@ -199,7 +199,7 @@ fn judgement<'a>(net: &'a str, script: &'a str, list: &'a str) -> Request<'a>
     Request::About { net, question }
 }
 
-// The run of a script in columns, where it is told how many.
+// The run of a script in columns, if it is told how many.
 fn in_columns<'a>(net: &'a str, lanes: Option<Lanes>, script: &'a str) -> Request<'a>
     ensures { spec.request_seen result ≡ spec.in_columns net.now (option_map columns.lanes_seen lanes) script.now }
 {
@@ -219,7 +219,7 @@ fn sum_up<'a>(sample: Option<Sample>) -> Request<'a>
     }
 }
 
-// A text, where there is one.
+// A text, if there is one.
 fn shown<'a>(text: Option<&'a str>) -> Request<'a>
     ensures { spec.request_seen result ≡ spec.shown (option_map (λ text. text.now) text.entry) }
 {
@@ -229,7 +229,7 @@ fn shown<'a>(text: Option<&'a str>) -> Request<'a>
     }
 }
 
-// A question about a netlist, where there is one.
+// A question about a netlist, if there is one.
 fn about<'a>(net: &'a str, question: Option<Question<'a>>) -> Request<'a>
     ensures { spec.request_seen result ≡ spec.about net.now (option_map spec.question_seen question.entry) }
 {

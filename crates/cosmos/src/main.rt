@@ -18,8 +18,8 @@
 //! The exit status is that of `cosmos_app::run`, whose contract says what is written: 0 where all went
 //! well, 1 where an expectation wasn't met or there is a finding, 2 for words that are no command line and for
 //! a NODE that isn't in use, 3 and 4 for a refused line of the netlist or the deck, or of the script or the
-//! list, 5 and 6 where reading or writing failed, and 7 for want of memory. For 2 standard error has the forms
-//! of all requests, or a line where it is NODE that isn't in use; for 3 and 4 a line with the file's name, the
+//! list, 5 and 6 where reading or writing failed, and 7 for lack of memory. For 2 standard error has the forms
+//! of all requests, or a line if it is NODE that isn't in use; for 3 and 4 a line with the file's name, the
 //! number of the refused line, its code and the cure, as `help_texts` has it; for 5, 6 and 7 a line that says
 //! more. No clause speaks of standard error.
 //!

@@ -4,14 +4,14 @@ use cosmos_app::Status;
 use help_texts::usage;
 use std::io;
 
-/// Tells that the program could not start for want of this.
+/// Tells that the program could not start because this is missing.
 pub(crate) fn tell_start(rt: &HostRuntime, what: &str, error: io::Error) {
     let _ = eprintln!(rt; "cosmos: no {what}: {error}");
 }
 
 /// Tells why a run with these words stopped: for words that are no command line, for a node that isn't in
-/// use, for a fault of the file with this name or of the output, with the system's reason where there is
-/// one, and for want of memory.
+/// use, for a fault of the file with this name or of the output, with the system's reason if there is
+/// one, and for lack of memory.
 pub(crate) fn tell_stop(
     rt: &HostRuntime,
     words: &[String],

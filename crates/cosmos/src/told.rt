@@ -19,7 +19,7 @@ pub(crate) struct Told<'r, 'w, W: Outlet> {
     progress: Progress,
 }
 
-// How many lines were written, where that is told.
+// How many lines were written, if that is told.
 #[derive(Drop)]
 struct Progress {
     is_told: bool,
@@ -41,7 +41,7 @@ impl<'r, 'w, W: Outlet> Told<'r, 'w, W> {
         }
     }
 
-    /// Ends the line on standard error, where one was begun.
+    /// Ends the line on standard error, if one was begun.
     pub(crate) fn finish(&self) {
         if self.progress.is_told && self.progress.lines >= STRIDE {
             let _ = eprintln!(self.rt; "");

@@ -1,7 +1,6 @@
 -- What is told of the text that was read of a deck is told of the file.
 use Rattle.std.proofs.Common.{◌≡◌, ℕ, List, Option, None, Some, IfSome, Result, Err, sym, ap, subst}
 use Rattle.netlist.specs.Circuits.{CircuitData}
-use Rattle.spice_cards.specs.declared.fault.DeckFault.{DeckFault}
 use Rattle.spice_cards.specs.declared.fault.DeckFault.TheVariants.{At}
 use Rattle.spice_cards.specs.declared.fault.DeckWhat.{DeckWhat}
 use Rattle.spice_read.specs.Making.{circuit_of}
@@ -22,17 +21,6 @@ pub deck_means_as : (known : Option (List ℕ → List ℕ)) (deck : List ℕ) (
     IfSome known (λ holds. circuit_of (holds deck) ≡ deck_meant meaning) → IfSome known (λ holds. circuit_of (holds deck) ≡ deck_meant what)
 deck_means_as known deck meaning what is means =
     subst (λ (found : Result CircuitData DeckRefusal). IfSome known (λ holds. circuit_of (holds deck) ≡ deck_meant found)) is means
-
--- what was told of the meaning of a deck is told of the deck
-pub told_over_deck : (known later : Option (List ℕ → List ℕ)) (question : Question) (deck : List ℕ) (meaning : Result CircuitData DeckFault) (old new : Option (List ℕ)) (before after : List GroupTextData) (result : Result end.End Stop) →
-    IfSome known (λ holds. circuit_of (holds deck) ≡ meaning) → later ≡ known →
-    IfSome later (λ holds. IsToldBy (IsOverDeck (IsAnswerIn question holds) meaning) old new before after result) →
-    IfSome known (λ holds. IsToldBy (IsOverDeck (IsAnswerIn question holds) (circuit_of (holds deck))) old new before after result)
-told_over_deck None later question deck meaning old new before after result means kept told = tt
-told_over_deck (Some holds) later question deck meaning old new before after result means kept told =
-    let here : IsToldBy (IsOverDeck (IsAnswerIn question holds) meaning) old new before after result =
-    subst (λ known. IfSome known (λ holds. IsToldBy (IsOverDeck (IsAnswerIn question holds) meaning) old new before after result)) kept told in
-    subst (λ what. IsToldBy (IsOverDeck (IsAnswerIn question holds) what) old new before after result) (sym means) here
 
 -- what was told of the refusal of a deck is told of it
 pub told_deck_refusal : (known : Option (List ℕ → List ℕ)) (question : Question) (deck : List ℕ) (line : ℕ) (why : DeckWhat) (old new : Option (List ℕ)) (analysed : List GroupTextData) (result : Result end.End Stop) →

@@ -19,16 +19,16 @@ pub means_as : (known : Option (List ℕ → List ℕ)) (net : List ℕ) (meanin
 means_as known net meaning what is means =
     subst (λ (found : Result CircuitData NetRefusal). IfSome known (λ holds. netlist_of (holds net) ≡ found)) is means
 
--- what was told of the meaning of a netlist is told of the netlist
-pub told_over : (known later : Option (List ℕ → List ℕ)) (question : Question) (net : List ℕ) (meaning : Result CircuitData NetRefusal) (old new : Option (List ℕ)) (before after : List GroupTextData) (result : Result end.End Stop) →
-    IfSome known (λ holds. netlist_of (holds net) ≡ meaning) → later ≡ known →
-    IfSome later (λ holds. IsToldBy (IsOver (IsAnswerIn question holds) meaning) old new before after result) →
-    IfSome known (λ holds. IsToldBy (IsOver (IsAnswerIn question holds) (netlist_of (holds net))) old new before after result)
-told_over None later question net meaning old new before after result means kept told = tt
-told_over (Some holds) later question net meaning old new before after result means kept told =
-    let here : IsToldBy (IsOver (IsAnswerIn question holds) meaning) old new before after result =
-    subst (λ known. IfSome known (λ holds. IsToldBy (IsOver (IsAnswerIn question holds) meaning) old new before after result)) kept told in
-    subst (λ what. IsToldBy (IsOver (IsAnswerIn question holds) what) old new before after result) (sym means) here
+-- what was told of a meaning that a file has is told of the file
+pub told_of_meaning : {M : Type 0} (IsOverMeaning : (List ℕ → List ℕ) → M → Answer → Type 0) (meaning_of : List ℕ → M) (known later : Option (List ℕ → List ℕ)) (file : List ℕ) (meaning : M) (old new : Option (List ℕ)) (before after : List GroupTextData) (result : Result end.End Stop) →
+    IfSome known (λ holds. meaning_of (holds file) ≡ meaning) → later ≡ known →
+    IfSome later (λ holds. IsToldBy (IsOverMeaning holds meaning) old new before after result) →
+    IfSome known (λ holds. IsToldBy (IsOverMeaning holds (meaning_of (holds file))) old new before after result)
+told_of_meaning IsOverMeaning meaning_of None later file meaning old new before after result means kept told = tt
+told_of_meaning IsOverMeaning meaning_of (Some holds) later file meaning old new before after result means kept told =
+    let here : IsToldBy (IsOverMeaning holds meaning) old new before after result =
+    subst (λ known. IfSome known (λ holds. IsToldBy (IsOverMeaning holds meaning) old new before after result)) kept told in
+    subst (λ what. IsToldBy (IsOverMeaning holds what) old new before after result) (sym means) here
 
 -- what was told of the refusal of a netlist is told of it
 pub told_refusal : (known : Option (List ℕ → List ℕ)) (question : Question) (net : List ℕ) (refusal : NetRefusal) (old new : Option (List ℕ)) (analysed : List GroupTextData) (result : Result end.End Stop) →

@@ -53,7 +53,7 @@ whole_ended holds request old new (Err Read) read = tt
 whole_ended holds request old new (Err Write) read = tt
 whole_ended holds request old new (Err Memory) read = tt
 
--- where it is told what the names hold
+-- if it is told what the names hold
 told_ended : {T : Type 0} (holds : List ℕ → List ℕ) (P : (List ℕ → List ℕ) → Type 0) (result : Result T Stop) →
     IfOk result (λ _. IfSome (Some holds) P) → IfOk result (λ _. P holds)
 told_ended holds P (Ok value) known = known

@@ -46,7 +46,7 @@ abbrev pub IsAnswer : List (List ℕ) → (List ℕ → List ℕ) → Answer →
 IsAnswer words holds answer = IsAnswerTo (request_of words) holds answer
 
 -- a right answer of the words was written whole and its texts were analysed; after a fault of reading nothing was written, and after one of
--- writing or want of memory nothing or a part of a right answer
+-- writing or lack of memory nothing or a part of a right answer
 abbrev pub IsAnswered : List (List ℕ) → (List ℕ → List ℕ) → Option (List ℕ) → Option (List ℕ) → List GroupTextData → List GroupTextData → Status → Type 0
 IsAnswered words holds old new before after status.ReadFault = new ≡ old
 IsAnswered words holds old new before after status.WriteFault = IsStopped (IsAnswer words holds) old new

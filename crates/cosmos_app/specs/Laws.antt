@@ -1,4 +1,4 @@
--- Laws of the answer of the words: where it is one.
+-- Laws of the answer of the words: if it is one.
 use Rattle.std.specs.Prelude.{◌≡◌, ℕ, Bool, true, false, List}
 use Rattle.command_line.specs.Requests.{Question, Compile, Explain, Request, About, OverDeck, request_of}
 use Rattle.run_ends.specs.Answers.{Answer}

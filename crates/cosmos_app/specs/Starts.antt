@@ -26,7 +26,7 @@ IsAccepted (Ok circuit) = ⊤
 IsAccepted (Err fault) = ⊥
 
 -- what a question starts, by what the text of the netlist or the deck means: nothing, or that file; and then what it starts beside it, only
--- where that has no refusal
+-- if that has no refusal
 abbrev pub QuestionStarts : {E : Type 0} → (List ℕ → Result CircuitData E) → List ℕ → Question → Option (List ℕ → List ℕ) → Started → Started → Type 0
 QuestionStarts meaning_of net question known old new =
     StartsAtMost old new net

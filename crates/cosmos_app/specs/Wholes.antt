@@ -17,7 +17,7 @@ scripts_of (Explain script node) = script ∷ []
 scripts_of (Judge script list) = list ∷ script ∷ []
 scripts_of _ = []
 
--- the files that a question about a netlist or a deck of this meaning needs, the last one first: a script only where that has no refusal
+-- the files that a question about a netlist or a deck of this meaning needs, the last one first: a script only if that has no refusal
 abbrev pub needed : {E : Type 0} → Question → List ℕ → Result CircuitData E → List (List ℕ)
 needed question net (Ok circuit) = scripts_of question ++ net ∷ []
 needed question net (Err refusal) = net ∷ []
@@ -31,7 +31,7 @@ files_of (OverDeck deck question) holds = needed question deck (circuit_of (hold
 files_of (Show text) holds = []
 files_of Unclear holds = []
 
--- where the run isn't stopped by a fault or want of memory, each file that its request needs was read whole
+-- if the run isn't stopped by a fault or lack of memory, each file that its request needs was read whole
 abbrev pub ReadsAll : Taken → Taken → (List ℕ → List ℕ) → Request → Status → Type 0
 ReadsAll old new holds request ReadFault = Unit {0}
 ReadsAll old new holds request WriteFault = Unit {0}

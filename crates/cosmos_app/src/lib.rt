@@ -6,7 +6,7 @@
 //! words, that is, the text of the netlist or the deck has its meaning as a circuit or a first refused line, the
 //! script's lines have their effects in order from the start, every `step` is the unit step by
 //! unblocked paths in the circuit and the state at that point, and every phase settles by such
-//! steps. After a fault or want of memory the bytes are a front of such an answer. By the law
+//! steps. After a fault or lack of memory the bytes are a prefix of such an answer. By the law
 //! `answers_are_unique` there is one answer, unless the words ask for a listing or for reasons.
 //!
 //! ```text

@@ -68,7 +68,7 @@ use told_lines::Printer;
 /// A netlist, a deck or a script with a refused line ends the run with the line of that refusal. A file is
 /// read to its end, or to the first byte too many, before any refusal of it is answered. After a call
 /// of a port that fails none follows: after a fault of reading nothing was written, and after a fault
-/// of writing, or want of memory, what was written is a front of the text that the words have.
+/// of writing, or lack of memory, what was written is a prefix of the text that the words have.
 ///
 /// What is noted of a refusal besides, for a human, is no part of what is written, and no clause says what it is.
 ///
@@ -86,14 +86,14 @@ pub fn run<F: Files, S: Sink + Drop, A: Analyst>(
     ensures answer { IfSome (F.holds files.old) (λ holds. IsAnswered (names_of words.now) holds
         out.old.page.written out.new.page.written (A.analysed analyst.old) (A.analysed analyst.new) result) }
 
-    // The files are started in the order of the words, the script only where the netlist or the deck has
+    // The files are started in the order of the words, the script only if the netlist or the deck has
     // no refusal.
     ensures started { RequestStarts
         (spec.request_of (names_of words.now))
         (F.holds files.old) (F.started files.old) (F.started files.new) }
 
     // Of each started file at most the first byte too many is read, and each file that the request needs is
-    // read to its end, or to that byte, before any other answer than a fault or want of memory.
+    // read to its end, or to that byte, before any other answer than a fault or lack of memory.
     ensures taken { TakesFiles (F.taken files.old) (F.taken files.new) (MOST_FILE_BYTES + 1) }
     ensures whole { IfSome (F.holds files.old) (λ holds. ReadsAll (F.taken files.old) (F.taken files.new)
         holds (spec.request_of (names_of words.now)) result) }

@@ -1,4 +1,4 @@
--- Where a listing is asked for and memory suffices, the text of a faithful listing is written.
+-- If a listing is asked for and memory suffices, the text of a faithful listing is written.
 use Rattle.std.proofs.Common.{◌≡◌, ◌≢◌, ℕ, List, [], length, None, Some, Option, Result, Ok, Err, IfOk, MatchOption, inl, inr, refl, sym, ap, ◌∙◌}
 use Rattle.std.proofs.lemmas.List.{length-map}
 use Rattle.std.specs.Prelude.{nat_lt}
@@ -78,7 +78,7 @@ text_written circuit text writes =
     let told : Some text ≡ Some (listing_text writes.listing) = writes.told in
     cc
 
--- a step of a faithful listing, where one is told, is the circuit's
+-- a step of a faithful listing, if one is told, is the circuit's
 pub step_told : {V E : Type 0} (items : V → List Tern) (circuit : CircuitData) (listing : ListingData) (state : List Tern) → IsFaithful circuit listing →
     length state ≡ nodes circuit.graph → IsSound state → (told : Result (Option V) E) →
     IfOk told (λ found. MatchOption found ⊥ (λ next. IsListingStep listing state (items next))) →

@@ -1,7 +1,7 @@
 //! Runs of the program over ports in memory.
 //!
 //! `run_in_memory` is the top call over a table of texts and a printer to a sink in memory: no fault can be answered
-//! there, so its answer is that of the words, or want of memory. The tests show what no clause says: that with ample
+//! there, so its answer is that of the words, or lack of memory. The tests show what no clause says: that with ample
 //! memory each request and each command has the answer that is expected, and that each read and each write
 //! that fails is the last.
 //!
@@ -28,7 +28,7 @@ use told_lines::Printer;
 /// Answers the words of a command line over files in memory and a printer to a sink in memory, and gives the sink
 /// back.
 ///
-/// What was written is the answer's text, or a front of it under want of memory.
+/// What was written is the answer's text, or a prefix of it out of memory.
 pub fn run_in_memory<A: Analyst>(
     alloc: Global,
     words: &[String],
@@ -40,7 +40,7 @@ pub fn run_in_memory<A: Analyst>(
         (A.analysed analyst.old) (A.analysed analyst.new) result.0 }
 
     // Each file that the words need was read to its end, or to the first byte too many, before any answer
-    // but want of memory.
+    // but lack of memory.
     ensures whole { ReadsAll (Some files.old.taken) (Some files.new.taken)
         (held files.old.table) (request_of (names_of words.now)) result.0 }
 

@@ -21,7 +21,7 @@ use told_lines::Printer;
 /// The states after a unit step of a netlist's circuit, by the text alone that the program writes for the
 /// words `compile NET`.
 ///
-/// None only where the words ask for something else, the netlist is refused, a group is too large, or
+/// None only if the words ask for something else, the netlist is refused, a group is too large, or
 /// there isn't one state for each node.
 pub fn step_by_program<A: Analyst>(
     alloc: Global,
@@ -42,7 +42,7 @@ pub fn step_by_program<A: Analyst>(
     step_of_text(alloc, sink.written(), state)
 }
 
-// The states after a step of the listing that a text is; none only where it is no listing, or there isn't
+// The states after a step of the listing that a text is; none only if it is no listing, or there isn't
 // one state for each node.
 fn step_of_text(alloc: Global, text: &[u8], state: &[Tern]) -> Result<Option<Vec<Tern>>, NoMemory>
     ensures { (listing : ListingData) → IsListing listing → listing_text listing ≡ text.now → length state.now ≡ length listing.entries

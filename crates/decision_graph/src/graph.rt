@@ -25,7 +25,7 @@ pub enum GraphFault {
     #[error("the graph is full")]
     Full,
     /// Memory ran out.
-    #[error("want of memory")]
+    #[error("out of memory")]
     NoMemory,
 }
 

@@ -22,7 +22,7 @@ pub record AreRailsOf (gates : List Gate) (vars : ℕ → Bool) (rails : Rails) 
   pub one : value_at gates vars rails.hi.place ≡ may_one state
   pub zero : value_at gates vars rails.lo.place ≡ may_zero state
 
--- wherever the gate's rails are those of a state, the formula is true exactly where the switch's
+-- wherever the gate's rails are those of a state, the formula is true exactly if the switch's
 -- state passes the test; it reaches nothing but its own gate, which is no variable, and what the
 -- rails reached
 pub record Tells (test : SwitchState → Bool) (old new : List Gate) (kind : SwitchKind) (gate : Rails) (r : ℕ) : Type 0 where

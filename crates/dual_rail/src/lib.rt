@@ -2,7 +2,7 @@
 //!
 //! The main type is `Rails` of `bool_pool`: "may be 1" and "may be 0". Local node j has the
 //! variables 2j and 2j+1. The layers above use that `closed` and `may_conduct` are true exactly
-//! where the switch is closed, and where it isn't open, wherever the rails are those of a state,
+//! if the switch is closed, and where it isn't open, wherever the rails are those of a state,
 //! and that each call takes at most two steps.
 //!
 //! ```text

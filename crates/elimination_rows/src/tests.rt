@@ -2,8 +2,8 @@ ghost use Rattle.std.specs.Prelude.{◌≡◌, ◌≢◌};
 ghost use Rattle.group_analysis.specs.Meaning.{MeansText};
 
 use drawn_nets::{
-    BLOCKED_IN_THE_MIDDLE, DrawnNet, RATIOED_INVERTER, RING_AND_TWO_INVERTERS, SHARED_CHARGE,
-    count_states, numbered_state, texts_of,
+    BLOCKED_IN_THE_MIDDLE, RATIOED_INVERTER, RING_AND_TWO_INVERTERS, SHARED_CHARGE, count_states,
+    numbered_state, texts_of,
 };
 use group_analysis::Analyst;
 use group_text::GroupText;
@@ -18,25 +18,25 @@ use straight_code::Code;
 use table_keys::TableKeys;
 use ternary::{NoMemory, Steps, Tern};
 
-// A net, and how many states the local nodes of all its groups have, the rails at their constants.
-const ROWS: [(DrawnNet, u64); 4] = [
-    (RATIOED_INVERTER, 12),
-    (SHARED_CHARGE, 27),
-    (BLOCKED_IN_THE_MIDDLE, 27),
-    (RING_AND_TWO_INVERTERS, 21),
+// What a net shows, the net, and how many states the local nodes of all its groups have, the rails at their constants.
+const ROWS: [(&str, &[u8], u64); 4] = [
+    ("a ratioed inverter", RATIOED_INVERTER, 12),
+    ("shared charge", SHARED_CHARGE, 27),
+    ("a blocked path", BLOCKED_IN_THE_MIDDLE, 27),
+    ("a ring", RING_AND_TWO_INVERTERS, 21),
 ];
 
 #[test]
 fn code_gives_the_plain_step(rt: HostRuntime) -> Result<(), Fail> {
-    for (net, states) in &ROWS {
-        let circuit = read_netlist(rt.alloc(), TableKeys::fixed(), net.text)?;
+    for (name, net, states) in &ROWS {
+        let circuit = read_netlist(rt.alloc(), TableKeys::fixed(), net)?;
         let mut tried: u64 = 0;
         for (text, _nodes) in &texts_of(rt.alloc(), circuit.graph())? {
             let wrong = compare::<Brand>(rt.alloc(), text, Blank::new(1))?;
-            assert!(rt; wrong == 0, "{}", net.name);
+            assert!(rt; wrong == 0, "{}", *name);
             tried = tried.saturating_add(count_states(text.constants()));
         }
-        assert!(rt; tried == *states, "{}", net.name);
+        assert!(rt; tried == *states, "{}", *name);
     }
     Ok(())
 }

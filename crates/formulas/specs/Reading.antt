@@ -24,7 +24,7 @@ pub record ReaderData : Type 0 where
 abbrev pub start : ReaderData
 start = record { next = next.Operand; name = []; waiting = []; parts = [] }
 
--- what came last, where something waits
+-- what came last, if something waits
 abbrev pub first_waiting : List Waiting → Option Waiting
 first_waiting [] = None
 first_waiting (last ∷ waiting) = Some last
@@ -34,7 +34,7 @@ abbrev pub but_first : List Waiting → List Waiting
 but_first [] = []
 but_first (last ∷ waiting) = waiting
 
--- the part of what waits, where it binds at least so tightly; a bracket doesn't bind, and a negation always does
+-- the part of what waits, if it binds at least so tightly; a bracket doesn't bind, and a negation always does
 abbrev pub part_of : ℕ → Waiting → Option Part
 part_of bound Bracket = None
 part_of bound Not = Some part.Not
@@ -54,7 +54,7 @@ release bound (last ∷ waiting) parts =
 abbrev pub released : ℕ → ReaderData → ReaderData
 released bound r = record r { waiting = (release bound r.waiting r.parts).0; parts = (release bound r.waiting r.parts).1 }
 
--- the part of what came last, where it binds at least so tightly, and what waits then
+-- the part of what came last, if it binds at least so tightly, and what waits then
 abbrev pub first_part : ℕ → List Waiting → Option Part
 first_part bound [] = None
 first_part bound (last ∷ waiting) = part_of bound last

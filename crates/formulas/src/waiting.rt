@@ -52,7 +52,7 @@ impl Stack {
         Ok(())
     }
 
-    /// Takes what came last, where something waits.
+    /// Takes what came last, if something waits.
     pub(crate) fn pop(&mut self) -> Option<Waiting>
         ensures first { result ≡ spec.first_waiting self.old }
         ensures others { self.new ≡ spec.but_first self.old }
@@ -60,7 +60,7 @@ impl Stack {
         self.items.pop()
     }
 
-    /// Takes what came last, where it binds at least so tightly, and gives its part.
+    /// Takes what came last, if it binds at least so tightly, and gives its part.
     pub(crate) fn release(&mut self, bound: u32) -> Option<Part>
         ensures first { result ≡ spec.first_part bound self.old }
         ensures others { self.new ≡ spec.without_first bound self.old }
@@ -70,7 +70,7 @@ impl Stack {
         Some(part)
     }
 
-    // What came last, where something waits.
+    // What came last, if something waits.
     fn last(&self) -> Option<Waiting>
         ensures { result ≡ spec.first_waiting self.now }
     {
@@ -78,7 +78,7 @@ impl Stack {
     }
 }
 
-// The part of what waits, where it binds at least so tightly.
+// The part of what waits, if it binds at least so tightly.
 fn part_of(bound: u32, waiting: Waiting) -> Option<Part>
     ensures { result ≡ spec.part_of bound waiting }
 {

@@ -1,3 +1,4 @@
 pub mod Meaning
 pub mod Held
 pub mod Using
+pub mod Words

@@ -8,7 +8,7 @@ use Rattle.path_meaning.specs.Step.{IsResponse}
 use Rattle.group_text.specs.Texts.{GroupTextData}
 use Rattle.straight_code.specs.Code.{CodeData, code_value}
 
--- the constant of a node, where it has one
+-- the constant of a node, if it has one
 abbrev pub constant_at : List (Option Tern) → ℕ → Option Tern
 constant_at constants node = slice_index_or constants node None
 

@@ -1,4 +1,4 @@
--- The order in which texts are kept, the most recently used first, and which of them stay where there is a bound on their number.
+-- The order in which texts are kept, the most recently used first, and which of them stay if there is a bound on their number.
 use Rattle.std.specs.Prelude.{ℕ, max, not, List, [], ◌∷◌, ◌++◌, length, take, drop, filter, Option, None, Some}
 use Rattle.group_text.specs.Texts.{GroupTextData}
 use Rattle.group_text.specs.Compared.{same_text}
@@ -8,7 +8,7 @@ use Rattle.group_text.specs.FirstTexts.{is_among, first_texts}
 abbrev pub used_texts : List GroupTextData → List GroupTextData → List GroupTextData
 used_texts present kept = first_texts present ++ filter (λ text. not (is_among present text)) kept
 
--- for how many texts there is room: so many as the bound, or as there are distinct present texts where these are more
+-- for how many texts there is room: so many as the bound, or as there are distinct present texts if these are more
 abbrev pub room_for : ℕ → List GroupTextData → ℕ
 room_for bound present = max bound (length (first_texts present))
 

@@ -20,7 +20,7 @@ pub trait Analyst {
 
     /// Code that means the text.
     ///
-    /// On `Ok` the list of analysed texts grew by this one, which is held; want of memory, the only error,
+    /// On `Ok` the list of analysed texts grew by this one, which is held; lack of memory, the only error,
     /// leaves both.
     fn analyse(&mut self, alloc: Global, text: &GroupText) -> Result<Code, NoMemory>
         ensures means { IfOk result (λ code. MeansText text.now code) }
@@ -36,7 +36,7 @@ pub trait Analyst {
         ensures holds { held self.new ≡ without_text (held self.old) text.now };
 
     /// Gives back what serves no text that is held. The texts that were analysed and those that are held
-    /// stay, also at want of memory, the only error.
+    /// stay, also out of memory, the only error.
     fn compact(&mut self) -> Result<(), NoMemory>
         ensures analysed { analysed self.new ≡ analysed self.old }
         ensures holds { held self.new ≡ held self.old };

@@ -82,7 +82,7 @@ module _ (g : GraphData) where
   pub one_label-from_linked : (labels : ℕ → ℕ) → IsClosed labels → (m n : ℕ) → AreLinked g m n → labels m ≡ labels n
   one_label-from_linked labels closed m n linked = one_label-along labels closed linked.places m n linked.links
 
-  -- where labels are sound and closed, storage nodes have one label exactly where they are linked
+  -- where labels are sound and closed, storage nodes have one label exactly if they are linked
   pub one_label-iff_linked : (labels : ℕ → ℕ) → IsSound labels → IsClosed labels → (m n : ℕ) → IsStorage g m → IsStorage g n →
       (labels m ≡ labels n) ↔ AreLinked g m n
   one_label-iff_linked labels sound closed m n storage other =
@@ -99,7 +99,7 @@ module _ (g : GraphData) where
     pub relabelled-keeps : (m n : ℕ) → labels m ≡ labels n → relabelled labels from to m ≡ relabelled labels from to n
     relabelled-keeps m n same = ap (λ label. cond (eqb label from) to label) same
 
-    -- a node's label is changed where it was the one, and otherwise as it was
+    -- a node's label is changed if it was the one, and otherwise as it was
     pub relabelled-cases : (node : ℕ) → ((labels node ≡ from) × (relabelled labels from to node ≡ to)) ⊎
         (relabelled labels from to node ≡ labels node)
     relabelled-cases node =

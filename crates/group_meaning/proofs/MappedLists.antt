@@ -25,7 +25,7 @@ contains-from_map f xs n within = from_map_at f xs n within.0 within.1 within.2
 pub at_place : {X : Type 0} (P : X → Type 0) (xs : List X) (k : ℕ) (x : X) → All P xs → k < length xs → get_or xs k x ≡ x → P x
 at_place P xs k x each inside here = subst P here (each k x inside)
 
--- mapped there and back a list is as before, where each of its numbers is
+-- mapped there and back a list is as before, if each of its numbers is
 pub map-back : {X : Type 0} (back : X → ℕ) (there : ℕ → X) (xs : List ℕ) → ((n : ℕ) → Contains xs n → back (there n) ≡ n) →
     map back (map there xs) ≡ xs
 map-back back there xs same =

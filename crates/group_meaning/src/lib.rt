@@ -25,7 +25,7 @@ ghost use Rattle.group_meaning.specs.Laws.{UnblockedPathsRunOverStorage, Unblock
 /// An unblocked path stays in one group.
 ///
 /// `storage`: every node after its root is a storage node. `group`: all storage nodes on it, its
-/// root too where it is one, are in one group. So what is outside a group acts on it by the states
+/// root too if it is one, are in one group. So what is outside a group acts on it by the states
 /// of input nodes at its ends and of the gates of its switches alone.
 ///
 /// After Bryant, Beatty, Brace, Cho and Sheffler, "COSMOS: A Compiled Simulator for MOS Circuits",

@@ -45,7 +45,7 @@ noted_number-is g noted group text first fits is known =
     ∙ ap (number_at noted) (sym is) ∙ known)
 
 module _ {X : Type 0} (p : X → Bool) where
-  -- what passes in a front of a list is found there in the whole list too
+  -- what passes in a prefix of a list is found there in the whole list too
   position-front : (xs ys : List X) → position_or_len p xs < length xs → position p (xs ++ ys) ≡ position p xs
   position-front xs ys low =
       let first = position_or_len p xs in
@@ -55,7 +55,7 @@ module _ {X : Type 0} (p : X → Bool) where
       ∙ cond-true (ltb first (length (xs ++ ys))) (Some first) None (lt-ltb first (length (xs ++ ys)) (omega (arith, length-append xs ys)))
       ∙ sym (cond-true (ltb first (length xs)) (Some first) None (lt-ltb first (length xs) low))
 
-  -- where none passes in it, it is found exactly where it passes itself behind it
+  -- if none passes in it, it is found exactly if it passes itself behind it
   position-behind : (xs : List X) (x : X) (passes : Bool) → p x ≡ passes → length xs ≤ position_or_len p xs →
       position p (xs ++ x ∷ []) ≡ (if passes then Some (unwrap_or (position p xs) (length xs)) else position p xs)
   position-behind xs x passes is past = by passes is
@@ -80,7 +80,7 @@ module _ {X : Type 0} (p : X → Bool) where
           let gone : position_or_len p (xs ++ x ∷ []) ≡ length xs + 1 = last ∙ ap (λ b. length xs + cond b 0 1) is in
           at (length xs + 1) gone ∙ cond-false (ltb (length xs + 1) (length xs + 1)) _ _ (le-ltb (length xs + 1) (length xs + 1) (omega arith)) ∙ sym none
 
-  -- of one item more: what passes before it is found, else the item where it passes
+  -- of one item more: what passes before it is found, else the item if it passes
   position-push : (xs : List X) (x : X) →
       position p (xs ++ x ∷ []) ≡ (if p x then Some (unwrap_or (position p xs) (length xs)) else position p xs)
   position-push xs x =

@@ -26,12 +26,12 @@ NotesText text number old new =
     (other : GroupTextData) → number_at new other
     ≡ (if same_text text other then Some (unwrap_or (number_at old other) number) else number_at old other)
 
--- the text of the group, where it has one, has the number that it had or else this one, and the other texts are noted as before
+-- the text of the group, if it has one, has the number that it had or else this one, and the other texts are noted as before
 abbrev pub NotesGroup : GraphData → Group → ℕ → Noted → Noted → Type 0
 NotesGroup g group number old new =
     (other : GroupTextData) → number_at new other
     ≡ (if is_of_text g other group then Some (unwrap_or (number_at old other) number) else number_at old other)
 
--- the number under which the text of a group is noted, where it has one
+-- the number under which the text of a group is noted, if it has one
 abbrev pub noted_number : GraphData → Noted → Group → Option ℕ
 noted_number g noted group = if has_text group then number_at noted (text_of_group g group) else None

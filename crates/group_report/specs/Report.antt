@@ -24,7 +24,7 @@ is_of_text g text group = has_text group && same_text (text_of_group g group) te
 abbrev pub number_of_text : GraphData → List Group → GroupTextData → Option ℕ
 number_of_text g groups text = option_map (λ k. k + 1) (position (is_of_text g text) groups)
 
--- the number, from 1, of the first of these groups with the text of this one, where that has a text
+-- the number, from 1, of the first of these groups with the text of this one, if that has a text
 abbrev pub text_number : GraphData → List Group → Group → Option ℕ
 text_number g groups group = if has_text group then number_of_text g groups (text_of_group g group) else None
 

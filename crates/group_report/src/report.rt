@@ -26,7 +26,7 @@ use wave_print::{GROUP_START_ROOM, LineBuf, group_name, group_start, line_end};
 ///
 /// A line says how many members and switches the group has, the number of the first group that has
 /// the same text, and the members' names. A group that is too large to have a text has `-` there.
-/// After a fault, and after want of memory, a front of the report was written, and nothing after the call
+/// After a fault, and after memory ran out, a prefix of the report was written, and nothing after the call
 /// that failed. Texts are kept in a table that is hashed with these keys.
 pub fn report_groups<S: Sink>(
     alloc: Global,
@@ -85,14 +85,14 @@ fn write_lines<S: Sink>(
     Ok(())
 }
 
-// Want of memory, as the answer of a call that writes.
+// Lack of memory, as the answer of a call that writes.
 fn memory_fault(_want: NoMemory) -> PortFault
     ensures { result ≡ PortFault.NoMemory }
 {
     PortFault::NoMemory
 }
 
-// Makes the line of a group with this number. Its text, where it is new, is noted with the number.
+// Makes the line of a group with this number. Its text, if it is new, is noted with the number.
 fn make_line(
     alloc: Global,
     circuit: &Circuit,
@@ -111,7 +111,7 @@ fn make_line(
     Ok(())
 }
 
-// The number of the text of a group with this number, None where the group is too large to have a
+// The number of the text of a group with this number, None if the group is too large to have a
 // text. A text that isn't noted is noted with the group's number.
 fn number_text(
     alloc: Global,

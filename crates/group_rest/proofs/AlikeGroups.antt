@@ -66,7 +66,7 @@ module _ (g h : GraphData) (group : Group) (alike : IsAlike g h group) where
 
   module _ (state : List Tern) (wired : IsWired g) (wired_too : IsWired h) where
     -- a member's response in the one graph is its response in the other
-    response_alike : (local : ℕ) (answer : Tern) → local < length group.members → IsResponse h state (slice_index group.members local) answer →
+    pub response_alike : (local : ℕ) (answer : Tern) → local < length group.members → IsResponse h state (slice_index group.members local) answer →
         IsResponse g state (slice_index group.members local) answer
     response_alike local answer first whole =
         let within = (responses h group state local answer wired_too alike.there first).1 whole in
@@ -83,7 +83,7 @@ module _ (g h : GraphData) (group : Group) (alike : IsAlike g h group) where
         (subst (λ m. IsResponse h state m (state_at state node)) (sym here) (rests node (local, first, is))))
 
   -- an end of a switch of the group that is an input node in the one graph is one in the other
-  end_alike : IsWired g → IsWired h → (place m n : ℕ) (switch : Switch) → Contains group.switches place → place_at g.places place ≡ Some switch →
+  pub end_alike : IsWired g → IsWired h → (place m n : ℕ) (switch : Switch) → Contains group.switches place → place_at g.places place ≡ Some switch →
       ((switch.a ≡ m) × (switch.b ≡ n)) ⊎ ((switch.b ≡ m) × (switch.a ≡ n)) → level_of h m ≡ INPUT_LEVEL → level_of g m ≡ INPUT_LEVEL
   end_alike wired wired_too place m n switch inside stands joins input =
       elim (member_or_input g group alike.here wired place m n switch stands joins inside) [

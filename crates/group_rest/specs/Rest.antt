@@ -13,7 +13,7 @@ use Rattle.group_meaning.specs.Groups.{Group, IsGroup}
 abbrev pub SwitchReads : GraphData → Switch → ℕ → Type 0
 SwitchReads g switch node = (switch.gate ≡ node) ⊎ (((switch.a ≡ node) ⊎ (switch.b ≡ node)) × (level_of g node ≡ INPUT_LEVEL))
 
--- a group reads a node where one of its switches does
+-- a group reads a node if one of its switches does
 pub record Reads (g : GraphData) (group : Group) (node : ℕ) : Type 0 where
   pub place : ℕ
   pub inside : Contains group.switches place

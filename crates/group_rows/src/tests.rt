@@ -1,4 +1,4 @@
-use drawn_nets::{DrawnNet, GATED_BY_A_MEMBER, GATED_BY_A_RAIL, INVERTER, texts_of};
+use drawn_nets::{GATED_BY_A_MEMBER, GATED_BY_A_RAIL, INVERTER, texts_of};
 use path_meaning::Switch;
 use path_meaning::SwitchKind::{self, NChan, PChan};
 use sim_read::read_netlist;
@@ -7,7 +7,7 @@ use table_keys::TableKeys;
 use ternary::Tern;
 
 struct Row {
-    net: DrawnNet,
+    net: &'static [u8],
     // of the one group: the node that each local node stands for, how many are members, their levels
     // and those of the other local nodes, and the rails between the local nodes
     nodes: &'static [usize],
@@ -48,7 +48,7 @@ const ROWS: [Row; 3] = [
 #[test]
 fn a_group_has_the_text_that_is_drawn(rt: HostRuntime) -> Result<(), Fail> {
     for row in &ROWS {
-        let circuit = read_netlist(rt.alloc(), TableKeys::fixed(), row.net.text)?;
+        let circuit = read_netlist(rt.alloc(), TableKeys::fixed(), row.net)?;
         let texts = texts_of(rt.alloc(), circuit.graph())?;
         assert!(rt; texts.len() == 1);
         for (text, nodes) in &texts {
@@ -58,13 +58,13 @@ fn a_group_has_the_text_that_is_drawn(rt: HostRuntime) -> Result<(), Fail> {
             for (node, level) in row.levels.iter().enumerate() {
                 assert!(rt; node < graph.nodes() && graph.level(node) == *level);
             }
-            for (place, (kind, level, gate, a, b)) in row.switches.iter().enumerate() {
+            for (place, &(kind, level, gate, a, b)) in row.switches.iter().enumerate() {
                 let switch = Switch {
-                    kind: *kind,
-                    level: *level,
-                    gate: *gate,
-                    a: *a,
-                    b: *b,
+                    kind,
+                    level,
+                    gate,
+                    a,
+                    b,
                 };
                 assert!(rt; place < graph.places() && graph.switch_at(place) == Some(switch));
             }

@@ -12,7 +12,7 @@ use Rattle.group_text.specs.Texts.{firsts}
 abbrev others : ℕ → List ℕ → List ℕ
 others y xs = filter (λ z. not (z == y)) xs
 
--- another item is among the others exactly where it was among all
+-- another item is among the others exactly if it was among all
 others-any : (y x : ℕ) (keys : List ℕ) → (x == y) ≡ false → list_any (nat_eq x) (others y keys) ≡ list_any (nat_eq x) keys
 others-any y x keys apart =
     any-filter_same (nat_eq x) (λ z. not (z == y)) true

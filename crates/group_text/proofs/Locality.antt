@@ -1,4 +1,4 @@
--- Responses are local: a root reaches a member over the local graph exactly where the node that it stands for
+-- Responses are local: a root reaches a member over the local graph exactly if the node that it stands for
 -- reaches it in the whole graph.
 -- Blocking compares strengths with those of definite paths, which are the same in both graphs. An unblocked
 -- path of the whole graph that ends at a member stands at members from its first hop on, so it runs over
@@ -44,7 +44,7 @@ pub record IsReached (g : GraphData) (group : Group) (state : List Tern) (root k
   pub reaches : Reaches (local_graph g group) (local_state (local_nodes g group) state) local k
   pub strong : reaches.there.strength ≡ strength
 
--- a fact that holds exactly where a second one does, which holds exactly where a third one does
+-- a fact that holds exactly if a second one does, which holds exactly if a third one does
 iff_trans : {P Q R : Type 0} → P ↔ Q → Q ↔ R → P ↔ R
 iff_trans one two = (λ p. two.0 (one.0 p), λ r. one.1 (two.1 r))
 

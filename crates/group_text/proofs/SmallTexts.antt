@@ -32,7 +32,7 @@ terminals-all terminals each [] = omega arith
 terminals-all terminals each (place ∷ places) =
     omega (arith, length-append (terminals place) (flat_map terminals places), each place, terminals-all terminals each places)
 
--- where there is no fault neither number is too large
+-- if there is no fault neither number is too large
 no_fault : (over more : Bool) (members switches : ℕ) →
     (if over then Some (GroupNodes members) else (if more then Some (GroupSwitches switches) else None)) ≡ None → (over ≡ false) × (more ≡ false)
 no_fault true more members switches none = absurd cc

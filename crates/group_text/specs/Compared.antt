@@ -32,7 +32,7 @@ abbrev pub same_text : GroupTextData → GroupTextData → Bool
 same_text a b =
     same_graph a.graph b.graph && (a.members == b.members && pointwise (option_eq same_state) a.constants b.constants)
 
--- and that is so exactly where they are one text
+-- and that is so exactly if they are one text
 pub same_text_decides : (a b : GroupTextData) → Decides (same_text a b) (a ≡ b)
 same_text_decides a b =
     let constants = pointwise_decides (options_decide same_state states_decide) a.constants b.constants in

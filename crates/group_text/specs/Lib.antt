@@ -3,3 +3,4 @@ pub mod Laws
 pub mod Local
 pub mod Compared
 pub mod FirstTexts
+pub mod Words

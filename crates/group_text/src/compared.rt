@@ -1,4 +1,4 @@
-//! Texts as keys: two are equal exactly where their graphs, their members and their constants are,
+//! Texts as keys: two are equal exactly if their graphs, their members and their constants are,
 //! and equal texts have equal hashes.
 
 ghost use Rattle.std.specs.Cmp;

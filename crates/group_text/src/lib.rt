@@ -1,7 +1,7 @@
 //! The text of a group: all that its analysis depends on, with its nodes and switches numbered anew.
 //!
 //! The main type is `GroupText`: the local graph of a group, how many of its nodes are members, and
-//! which of them are rails. Texts are equal exactly where all three are, so they serve as the keys
+//! which of them are rails. Texts are equal exactly if all three are, so they serve as the keys
 //! of what is kept. The layers above use that `text_of` gives the text and the node that each local
 //! node stands for, and the law that responses are local: the steady state of a member in the local
 //! graph is its steady state in the whole graph.

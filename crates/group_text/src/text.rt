@@ -2,6 +2,7 @@ ghost use Rattle.std.specs.Prelude.{◌≡◌, ◌<◌, ◌≤◌, ◌⊎◌, le
 ghost use Rattle.path_meaning.specs.Graphs.{nodes};
 ghost use Rattle.group_meaning.specs.Groups.{IsGroup};
 ghost use Rattle.group_text.specs.Texts.{IsText, constant_of, local_nodes, size_fault, text_of_group};
+ghost use Rattle.group_text.specs.declared.text.TextFault.TheVariants.{NoMemory};
 
 use crate::local::{collect_nodes, local_graph};
 use path_meaning::{GND, Graph, VDD, graphs_are_wired};
@@ -23,13 +24,11 @@ pub enum TextFault {
     /// The group has at most [`MOST_MEMBERS`] members, and more than [`MOST_SWITCHES`] switches: so
     /// many.
     GroupSwitches { count: u64 },
-    /// There was want of memory.
+    /// Memory ran out.
     NoMemory,
 }
 
 impl From<NoMemory> for TextFault {
-    ghost use Rattle.group_text.specs.declared.text.TextFault.TheVariants.{NoMemory};
-
     ghost from_gives = { λ _ fault. fault ≡ NoMemory };
 
     fn from(_want: NoMemory) -> TextFault {
@@ -39,7 +38,7 @@ impl From<NoMemory> for TextFault {
 
 /// The text of a group: its local graph, how many of its nodes are members, and which are a rail.
 ///
-/// Two texts are equal exactly where all three are, and equal texts have equal hashes. So an
+/// Two texts are equal exactly if all three are, and equal texts have equal hashes. So an
 /// analysis that is kept under a text serves each group that has it.
 #[derive(Drop)]
 pub struct GroupText {
@@ -75,7 +74,7 @@ impl GroupText {
     }
 
     /// The constant state of a local node that stands for a rail: 0 for Gnd, 1 for Vdd. `None` exactly
-    /// where it is no rail.
+    /// if it is no rail.
     pub fn constant(&self, local: usize) -> Option<Tern>
         requires { local < nodes self.now.graph }
         ensures { result ≡ slice_index_or self.now.constants local None }

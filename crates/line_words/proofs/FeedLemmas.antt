@@ -13,7 +13,7 @@ use Rattle.line_words.proofs.LineLemmas.{cut_feed, lines_of-ended, lines_of-last
 abbrev feeds : ℕ → ℕ
 feeds byte = cond (is_line_feed byte) 1 0
 
--- no LF is counted where there is none
+-- no LF is counted if there is none
 count_by-none : (line : List ℕ) → HasNoFeed line → count_by is_line_feed line ≡ 0
 count_by-none [] none = refl
 count_by-none (byte ∷ line) none =

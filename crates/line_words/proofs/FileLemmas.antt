@@ -1,4 +1,4 @@
--- What is read of the front of a file is what is read of the file.
+-- What is read of the prefix of a file is what is read of the file.
 use Rattle.std.proofs.Common.{◌≡◌, ℕ, ◌+◌, ◌≤◌, List, [], ◌∷◌, length, take, nat_le, Some, None, if◌then◌else◌, sym, zero-add, ◌∙◌, ap, inl, inr, arith}
 use Rattle.std.specs.List.{enumerate_from}
 use Rattle.std.proofs.lemmas.Bool.{cases_lt, le-leb, lt-leb}
@@ -14,7 +14,7 @@ front_of-front_of text = take-take (MOST_FILE_BYTES + 1) (MOST_FILE_BYTES + 1) t
 pub lines_in-front_of : (text : List ℕ) → lines_in (front_of text) ≡ lines_in text
 lines_in-front_of text = ap (λ front. enumerate_from 1 (lines_of front)) (front_of-front_of text)
 
--- a text is too long exactly where its front is
+-- a text is too long exactly if its front is
 is_short-front : (most : ℕ) (text : List ℕ) → nat_le (length (take (most + 1) text)) most ≡ nat_le (length text) most
 is_short-front most text =
     elim (cases_lt most (length text)) [
@@ -31,7 +31,7 @@ cut_line-front_of text =
     ap (λ short. if short then None else Some (length (lines_of (front_of (front_of text))))) (is_short-front MOST_FILE_BYTES text)
     ∙ ap (λ front. if nat_le (length text) MOST_FILE_BYTES then None else Some (length (lines_of front))) (front_of-front_of text)
 
--- the number of the last line, or this one where no line is left
+-- the number of the last line, or this one if no line is left
 abbrev pub last_number : ℕ → List (ℕ × List ℕ) → ℕ
 last_number last [] = last
 last_number last (line ∷ lines) = last_number line.0 lines
@@ -45,6 +45,6 @@ last_number-enumerated last (line ∷ lines) = last_number-enumerated (last + 1)
 pub last_number-from_one : (lines : List (List ℕ)) → last_number 0 (enumerate_from 1 lines) ≡ length lines
 last_number-from_one lines = last_number-enumerated 0 lines ∙ zero-add (length lines)
 
--- the front of a text that isn't longer is the text
+-- the prefix of a text that isn't longer is the text
 pub front_of-whole : (text : List ℕ) → length text ≤ MOST_FILE_BYTES + 1 → front_of text ≡ text
 front_of-whole text whole = take_all (MOST_FILE_BYTES + 1) text whole

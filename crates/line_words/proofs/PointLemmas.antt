@@ -1,4 +1,4 @@
--- Numbers with a point: the number that one more digit writes, where a word is cut, and that what is read of a word is what the grammar
+-- Numbers with a point: the number that one more digit writes, if a word is cut, and that what is read of a word is what the grammar
 -- gives it.
 use Rattle.std.proofs.Common.{◌≡◌, ◌↔◌, ℕ, suc, ◌+◌, ◌-◌, ◌*◌, ◌^◌, ◌<◌, ◌==◌, ◌&&◌, Bool, true, false, not, All, List, [], ◌∷◌, ◌++◌, length, take, drop, get_or, min, Option, Some, None, inl, inr, refl, sym, ap, ap₂, subst, ◌∙◌, arith, length-append, eqb-true}
 use Rattle.std.specs.Prelude.{if◌then◌else◌}
@@ -31,7 +31,7 @@ value_of-push (first ∷ digits) digit =
     let rest = value_of-push digits digit in
     omega arith
 
--- where the number is past the most, it stays so
+-- if the number is past the most, it stays so
 capped_more : (value digit : ℕ) → min (min value MOST_THOUSANDTHS * 10 + digit) MOST_THOUSANDTHS ≡ min (value * 10 + digit) MOST_THOUSANDTHS
 capped_more value digit = omega arith
 
@@ -46,7 +46,7 @@ capped_step digits place value digit next inside so_far read is =
     is ∙ ap₂ (λ v d. min (v * 10 + d) MOST_THOUSANDTHS) so_far read ∙ capped_more (value_of (take place digits)) (last - 48)
     ∙ ap (λ v. min v MOST_THOUSANDTHS) (sym more)
 
--- ---- where a word is cut
+-- ---- if a word is cut
 
 -- the first point stands behind the bytes before it
 point_at : (before after : List ℕ) (stop : ℕ) → All (λ byte. is_point byte ≡ false) before → is_point stop ≡ true

@@ -13,7 +13,7 @@ front_of text = take (MOST_FILE_BYTES + 1) text
 abbrev pub lines_in : List ℕ → List (ℕ × List ℕ)
 lines_in text = enumerate_from 1 (lines_of (front_of text))
 
--- the number of the line that holds the first byte too many, where there is one; a line's CR and LF belong to it
+-- the number of the line that holds the first byte too many, if there is one; a line's CR and LF belong to it
 abbrev pub cut_line : List ℕ → Option ℕ
 cut_line text =
     if nat_le (length text) MOST_FILE_BYTES then None else Some (length (lines_of (front_of text)))

@@ -13,7 +13,7 @@ point = 46
 abbrev pub is_point : ℕ → Bool
 is_point byte = byte == point
 
--- the decimal at a place, 0 where there is none
+-- the decimal at a place, 0 if there is none
 abbrev pub digit_at : List ℕ → ℕ → ℕ
 digit_at decimals place = slice_index_or decimals place 48 - 48
 
@@ -40,7 +40,7 @@ thousandths_of word = thousandths_by (before_first is_point word) (after_first i
 abbrev pub AreDigits : List ℕ → Type 0
 AreDigits digits = All (λ byte. is_ascii_digit byte ≡ true) digits
 
--- the same as a grammar: a word writes so many thousandths where it is digits, or digits, a point and digits, one digit at least
+-- the same as a grammar: a word writes so many thousandths if it is digits, or digits, a point and digits, one digit at least
 pub data WritesThousandths : List ℕ → ℕ → Type 0 where
   plain : (digits : List ℕ) → 0 < length digits → AreDigits digits → WritesThousandths digits (thousandths_in digits [])
   pointed : (digits decimals : List ℕ) → 0 < length digits + length decimals → AreDigits digits → AreDigits decimals →

@@ -7,7 +7,7 @@ ghost use Rattle.line_words.specs.Decimals.{decimal_of};
 
 /// The number that a word writes in decimal.
 ///
-/// `None` exactly where the word is empty, has a byte that isn't an ASCII digit, or writes a
+/// `None` exactly if the word is empty, has a byte that isn't an ASCII digit, or writes a
 /// number past `u64::MAX`. Leading zeros are accepted, a sign isn't.
 pub fn decimal(word: &[u8]) -> Option<u64>
     ensures value { result ≡ decimal_of word.now }

@@ -20,7 +20,7 @@ pub fn front(text: &[u8]) -> &[u8]
     }
 }
 
-/// The number of the line that holds the first byte too many, where the text has one.
+/// The number of the line that holds the first byte too many, if the text has one.
 ///
 /// A line's CR and LF belong to it.
 pub fn cut_line(text: &[u8]) -> Option<u64>

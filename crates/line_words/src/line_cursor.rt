@@ -83,7 +83,7 @@ impl<'a> Iterator for Lines<'a> {
     }
 }
 
-// The bytes before the first LF, and those after it; all of them and none where there is no LF.
+// The bytes before the first LF, and those after it; all of them and none if there is no LF.
 fn cut_line(text: &[u8]) -> (&[u8], &[u8])
     requires { 0 < length text.now }
     ensures cut { spec.lines_of text.now

@@ -7,7 +7,7 @@ ghost use Rattle.line_words.specs.Pieces.{EndsLine};
 
 /// The place of the first LF of a piece, at which its first line ends.
 ///
-/// `None` exactly where the piece has no LF.
+/// `None` exactly if the piece has no LF.
 pub fn line_end(piece: &[u8]) -> Option<usize>
     ensures first { result ≡ position is_line_feed piece.now }
     ensures none { IsNone result ↔ HasNoFeed piece.now }

@@ -11,7 +11,7 @@ pub const MOST_THOUSANDTHS: u64 = 1_000_000_000_000;
 
 /// A thousand times the number that a word writes with at most one point, as `60.25` writes 60,250.
 ///
-/// `None` exactly where the word isn't digits with at most one `.` among them, before or behind
+/// `None` exactly if the word isn't digits with at most one `.` among them, before or behind
 /// them, or has no digit. Digits past the third decimal are dropped, and a value past
 /// [`MOST_THOUSANDTHS`] is taken as that.
 pub fn thousandths(word: &[u8]) -> Option<u64>
@@ -73,7 +73,7 @@ fn first_decimals(decimals: &[u8]) -> u64
     digit_at(decimals, 0) * 100 + digit_at(decimals, 1) * 10 + digit_at(decimals, 2)
 }
 
-// The decimal at this place, 0 where there is none.
+// The decimal at this place, 0 if there is none.
 fn digit_at(decimals: &[u8], place: usize) -> u64
     ensures value { result ≡ spec.digit_at decimals.now place }
     ensures small { result ≤ 207 }

@@ -71,7 +71,7 @@ fn first_solid(line: &[u8]) -> Option<usize>
     line.iter().position(|&byte| !is_blank(byte))
 }
 
-// The bytes before the first blank, and those after it; all of them and none where there is none.
+// The bytes before the first blank, and those after it; all of them and none if there is none.
 fn cut_word(line: &[u8]) -> (&[u8], &[u8])
     requires some { 0 < length line.now }
     requires solid { IfSome (slice_get line.now 0) (λ byte. spec.is_blank byte ≡ false) }

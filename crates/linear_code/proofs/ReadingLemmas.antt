@@ -136,7 +136,7 @@ AreGood-fewer text count (suc more) good =
       front = less.front;
     })
 
--- one line more is not good where no line that may follow stands in the rest
+-- one line more is not good if no line that may follow stands in the rest
 pub not_good : (text rest : List ℕ) (listing : ListingData) → length text < 2 ^ 64 → IsRead text listing rest → HasNoLine listing rest
     → ¬ AreGood text (line_count listing + 1)
 not_good text rest listing small read none good =
@@ -150,7 +150,7 @@ not_good text rest listing small read none good =
     let cut = append_cancel_left (partial_text listing) rest (whole_line listing made.added ++ good.rest) (sym read.front ∙ behind) in
     none made.added good.rest fits (cut ∙ append_assoc (bare_line listing made.added) (10 ∷ []) good.rest)
 
--- where a text is that of a listing, and begins with a partial listing of as many lines or more, both are the same and nothing is left
+-- if a text is that of a listing, and begins with a partial listing of as many lines or more, both are the same and nothing is left
 pub whole-same : (more count : ℕ) (text rest : List ℕ) (part whole : ListingData) → length text < 2 ^ 64 → IsRead text part rest → IsRead text whole []
     → line_count part ≡ count + more → line_count whole ≡ count → (part ≡ whole) × (rest ≡ [])
 whole-same zero count text rest part whole small read told lines others =
@@ -193,7 +193,7 @@ one_listing text a b small first second told other =
       | inr more ↦ (whole-same (line_count a - line_count b) (line_count b) text [] a b small one two (omega arith) refl).0
     ]
 
--- a text whose next line is bad is no listing, where the rest is not empty or next states are missing
+-- a text whose next line is bad is no listing, if the rest is not empty or next states are missing
 not_whole : (text rest : List ℕ) (listing : ListingData) (line : ℕ) → length text < 2 ^ 64 → IsRead text listing rest
     → line ≡ line_count listing + 1 → ¬ AreGood text line
     → (rest ≡ [] → length listing.nexts < count_by (λ entry. entry.is_storage) listing.entries) → ¬ IsListingText text
@@ -216,7 +216,7 @@ not_whole text rest listing line small read next bad missing whole =
           omega (arith, few, whole.is.each_next)
     ]
 
--- the line after those that were read is the first bad one, where no line stands in the rest that may follow, and the rest is not empty or
+-- the line after those that were read is the first bad one, if no line stands in the rest that may follow, and the rest is not empty or
 -- next states are missing
 pub IsFirstBad-here : (text rest : List ℕ) (listing : ListingData) (line : ℕ) → length text < 2 ^ 64 → IsRead text listing rest
     → line ≡ line_count listing + 1 → HasNoLine listing rest

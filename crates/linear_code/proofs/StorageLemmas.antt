@@ -200,7 +200,7 @@ no_entry = record { is_storage = false; name = [] }
 is_storage_at-behind : (entries : List Entry) (seen k : ℕ) → (get_or (drop seen entries) k no_entry).is_storage ≡ is_storage_at entries (seen + k)
 is_storage_at-behind entries seen k = ap (λ entry. entry.is_storage) (get_or-drop seen entries k no_entry)
 
--- where none is found, all are input nodes
+-- if none is found, all are input nodes
 none_passes : (entries : List Entry) → position (λ entry. entry.is_storage) entries ≡ None
     → (k : ℕ) → k < length entries → (get_or entries k no_entry).is_storage ≡ false
 none_passes entries absent k inside =

@@ -113,7 +113,7 @@ module _ (listing : ListingData) (place : TextPlace) where
           (next_lines-none listing nodes place.passed are past);
     }
 
--- where there was nothing left to pass, nothing is left
+-- if there was nothing left to pass, nothing is left
 pub nothing_left : (listing : ListingData) (old new : TextPlace) (before after : List ℕ) (more : Bool) → Passes listing old new before after more →
     more ≡ false → text_from listing new ≡ []
 nothing_left listing old new before after false passes is = passes.less

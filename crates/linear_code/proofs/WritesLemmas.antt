@@ -18,7 +18,7 @@ IsLeft-more {old} {now} {new} {text} {left} {rest} piece before splits put = rec
   appended = rw (put, before.appended) (append_assoc old before.front piece);
 }
 
--- where nothing is left, the whole text stands there
+-- if nothing is left, the whole text stands there
 pub IsLeft-none : {old now text left : List ℕ} → IsLeft old now text left → left ≡ [] → now ≡ old ++ text
 IsLeft-none {old} {now} {text} {left} before none = rw (before.splits, none, append-nil before.front) before.appended
 

@@ -64,7 +64,7 @@ listing_text listing =
     ++ (instruction_lines 0 listing.instructions
     ++ flat_map (λ node. next_line node (next_at listing node)) (storage_nodes listing.entries))
 
--- the text was appended to what there was, or, at want of memory, a part of it from its start
+-- the text was appended to what there was, or, out of memory, a part of it from its start
 pub record WritesFront (old new text : List ℕ) : Type 0 where
   pub front : List ℕ
   pub rest : List ℕ

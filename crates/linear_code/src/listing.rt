@@ -26,7 +26,7 @@ pub(crate) struct ListedNode {
 /// nodes.
 ///
 /// Its meaning is a step: all nodes move at once, each storage node to what the code gives from the
-/// states of all nodes, X where neither rail is set; an input node keeps its state.
+/// states of all nodes, X if neither rail is set; an input node keeps its state.
 #[derive(Drop)]
 pub struct Listing {
     nodes: Vec<ListedNode>,

@@ -38,7 +38,7 @@ impl Listing {
     /// Appends the text of the listing: a line for each node, for each instruction, and for the next
     /// state of each storage node.
     ///
-    /// No other listing has this text. At want of memory a part of the text, from its start, was
+    /// No other listing has this text. Out of memory a part of the text, from its start, was
     /// appended.
     pub fn write(&self, out: &mut Vec<u8>) -> Result<(), NoMemory>
         ensures listing { IsListing self.now }
@@ -72,7 +72,7 @@ impl Listing {
     /// Appends lines of the text from the place on, and moves the place behind them: until at least so
     /// many bytes stand in `out`, or the text ends. The answer is false where it ended.
     ///
-    /// So a text is sent in pieces, and need not be held whole. At want of memory a part of the text
+    /// So a text is sent in pieces, and need not be held whole. Out of memory a part of the text
     /// that is left, from its start, was appended.
     pub fn write_some(
         &self,

@@ -20,7 +20,7 @@ pub enum ListingFault {
     /// This line is the first that no listing with the lines before it can have. Where all lines are
     /// good but next states are missing, it is the number after the last line.
     BadListing { line: u64 },
-    /// There was want of memory.
+    /// Memory ran out.
     NoMemory,
 }
 

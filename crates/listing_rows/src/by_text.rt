@@ -16,7 +16,7 @@ use ternary::{NoMemory, Tern};
 
 /// Writes a listing and reads its text: what is read back is the same listing, so it means the same.
 ///
-/// The reader refuses no text that was written: want of memory is the only error.
+/// The reader refuses no text that was written: lack of memory is the only error.
 pub fn read_back(alloc: Global, listing: &Listing) -> Result<Listing, NoMemory>
     ensures { IfOk result (λ read. read ≡ listing.now) }
 {

@@ -83,7 +83,7 @@ fn whoever_has_the_text_makes_the_steps(rt: HostRuntime) -> Result<(), Fail> {
     Ok(())
 }
 
-// A listing of one node for which neither rail may be, where the node is 0: X comes of it.
+// A listing of one node for which neither rail may be, if the node is 0: X comes of it.
 #[test]
 fn neither_rail_gives_x(rt: HostRuntime) -> Result<(), Fail> {
     let text = b"node 0 s a\nt0 = ! 1\nnext 0 h0 t0\n";

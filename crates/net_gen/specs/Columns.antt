@@ -35,7 +35,7 @@ cell c j =
 unfoldable pub column : ℕ → List ℕ
 column c = bit_lines c ++ each 0 4 (cell c)
 
--- the value of word line i where line j is chosen: 1 where they are the same, else 0
+-- the value of word line i where line j is chosen: 1 if they are the same, else 0
 unfoldable pub chosen : ℕ → ℕ → ℕ
 chosen j i = if i == j then 1 else 0
 

@@ -13,7 +13,7 @@ pass r j =
 unfoldable pub pass_row : ℕ → List ℕ
 pass_row r = codes "n en d r" ++ decimal r ++ codes "_0\n" ++ each 1 8 (pass r)
 
--- the letter that a draw stands for: `0`, `1` or `X` where it is 0, 1 or 2 modulo 3
+-- the letter that a draw stands for: `0`, `1` or `X` if it is 0, 1 or 2 modulo 3
 unfoldable pub letter_of : ℕ → List ℕ
 letter_of number =
     if number % 3 == 0 then codes "0" else (if number % 3 == 1 then codes "1" else codes "X")

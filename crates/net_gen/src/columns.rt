@@ -104,8 +104,7 @@ pub fn put_start(text: &mut Vec<u8>, n: u64) -> Result<(), NoMemory>
 /// Appends a turn of the script: a random word line is chosen, and its cells are written or read.
 pub fn put_turn(text: &mut Vec<u8>, draws: &mut Draws) -> Result<(), NoMemory>
     requires { draws.old.drawn < 2 ^ 16 }
-    ensures text { OnOk result
-        (text.new.items ≡ text.old.items ++ columns_turn draws.old.seed draws.old.drawn) }
+    ensures text { OnOk result (text.new.items ≡ text.old.items ++ columns_turn draws.old.seed draws.old.drawn) }
     ensures seed { draws.new.seed ≡ draws.old.seed }
     ensures drawn { OnOk result (draws.new.drawn ≡ draws.old.drawn + 3) }
 {

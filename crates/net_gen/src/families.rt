@@ -49,7 +49,7 @@ pub enum GenPart {
 /// A netlist is of the `.sim` form, MIT's, and goes with the script of its family and n; it takes
 /// no draws, so it is the same at each seed. In a script the draws are those of
 /// x := (x * 1103515245 + 12345) modulo 2^31 from the seed modulo 2^31, each divided by 65536; so
-/// a seed counts modulo 2^31. Only want of memory refuses a text.
+/// a seed counts modulo 2^31. Only lack of memory refuses a text.
 pub fn generate(
     alloc: Global,
     kind: GenKind,

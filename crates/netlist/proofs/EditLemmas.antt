@@ -118,7 +118,7 @@ places-with_wires c number gate source drain =
 
 -- ---- well formed
 
--- where a transistor has this number, its switch fits the circuit
+-- if a transistor has this number, its switch fits the circuit
 pub switch_numbered-fits : (c : CircuitData) (number : ℕ) → IsCircuit c → IfSome (switch_numbered c number) (Fits (nodes c.graph))
 switch_numbered-fits c number is = by (nat_lt 0 number) (place_at c.graph.places (number - 1)) (fits (cases_lt (number - 1) (length c.graph.places)))
   where
@@ -166,7 +166,7 @@ IsCircuit-with_kind c number kind is =
       b = fits.b;
     })
 
--- a circuit with a transistor of another strength, where it isn't refused
+-- a circuit with a transistor of another strength, if it isn't refused
 pub IsCircuit-with_strength : (c : CircuitData) (number strength : ℕ) → strength_fault c number strength ≡ None → IsCircuit c →
     IsCircuit (with_strength c number strength)
 IsCircuit-with_strength c number strength none is =
@@ -206,7 +206,7 @@ IsCircuit-with_wires c number gate source drain is =
 
 -- ---- visible names
 
--- a node is called the same where more names come after
+-- a node is called the same if more names come after
 name_at-append : (entries more : List (List ℕ × ℕ)) (node : ℕ) → is_some (name_at entries node) ≡ true →
     name_at (entries ++ more) node ≡ name_at entries node
 name_at-append entries more node named = by (node == GND) (node == VDD) (first_name entries node) (first_name-append entries more node) named

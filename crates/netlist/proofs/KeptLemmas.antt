@@ -72,7 +72,7 @@ switch_level profile strength accepted = by (nat_le 1 strength) (nat_le strength
 
 -- ---- names
 
--- a node that has a name has one where more names come after
+-- a node that has a name has one if more names come after
 named-append : (entries more : List (List ℕ × ℕ)) (node : ℕ) → is_some (name_at entries node) ≡ true → is_some (name_at (entries ++ more) node) ≡ true
 named-append entries more node named = by (node == GND) (node == VDD) (first_name entries node) (first_name-append entries more node) named
   where
@@ -235,7 +235,7 @@ accepted_strength : (accepted : Bool) (limits : Option MakingFault) → (if acce
 accepted_strength true limits none = refl
 accepted_strength false limits none = absurd (cc)
 
--- a circuit with one more transistor, where it isn't refused
+-- a circuit with one more transistor, if it isn't refused
 pub IsCircuit-with_transistor : (c : CircuitData) (kind : SwitchKind) (strength : ℕ) (gate source drain : List ℕ) → IsCircuit c →
     add_fault c strength gate source drain ≡ None → IsCircuit (with_transistor c kind strength gate source drain)
 IsCircuit-with_transistor c kind strength gate source drain is none =
@@ -251,7 +251,7 @@ IsCircuit-with_transistor c kind strength gate source drain is none =
       b = node_named-within named drain whole;
     })
 
--- a circuit with a name in use, as one more name of a node where it is new
+-- a circuit with a name in use, as one more name of a node if it is new
 IsCircuit-with_name_of : (c : CircuitData) (name : List ℕ) (node : ℕ) → IsCircuit c → node < nodes c.graph → IsCircuit (with_name_of c name node)
 IsCircuit-with_name_of c name node is low = by (node_of c.names name) refl
   where
@@ -302,7 +302,7 @@ IsCircuit-with_level c node level no_rail is_level is =
       names = λ other inside. is.names other (omega (arith, count, inside));
     }
 
--- an input node, where it isn't refused
+-- an input node, if it isn't refused
 pub IsCircuit-with_input : (c : CircuitData) (node : ℕ) → rail_fault node ≡ None → IsCircuit c → IsCircuit (with_input c node)
 IsCircuit-with_input c node none is = by (nat_lt node RAILS) refl none
   where
@@ -312,7 +312,7 @@ IsCircuit-with_input c node none is = by (nat_lt node RAILS) refl none
         let no_rail : RAILS ≤ node = grind (arith, nat_tests) in
         IsCircuit-with_level c node INPUT_LEVEL no_rail IsLevel-input is
 
--- a storage node of a size, where it isn't refused
+-- a storage node of a size, if it isn't refused
 pub IsCircuit-with_store : (c : CircuitData) (profile : Profile) (node size : ℕ) → store_fault profile node size ≡ None → IsCircuit c →
     IsCircuit (with_store c node size)
 IsCircuit-with_store c profile node size none is = by (nat_lt node RAILS) (is_size profile size) refl refl none

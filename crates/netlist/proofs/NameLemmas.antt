@@ -31,7 +31,7 @@ held-within (entry ∷ entries) name count within =
     by true rest here later = here
     by false rest here later = later
 
--- a name that is held keeps its node where more names come after
+-- a name that is held keeps its node if more names come after
 pub held-append : (entries more : List (List ℕ × ℕ)) (name : List ℕ) (node : ℕ) → held entries name ≡ Some node →
     held (entries ++ more) name ≡ Some node
 held-append [] more name node found = absurd (cc)
@@ -71,7 +71,7 @@ held-unused names name absent = by (rail_of name) (held names name) absent
     by (Some r) named absent = absurd (cc)
     by None named absent = absent
 
--- a name in use keeps its node where more names come after
+-- a name in use keeps its node if more names come after
 pub node_of-append : (names more : List (List ℕ × ℕ)) (name : List ℕ) (node : ℕ) → node_of names name ≡ Some node →
     node_of (names ++ more) name ≡ Some node
 node_of-append names more name node found =
@@ -89,7 +89,7 @@ node_of-added names name node absent =
     ap (λ rail. rail_or_held rail (held (names ++ (name, node) ∷ []) name)) (rail_of-unused names name absent)
     ∙ held-added names name node (held-unused names name absent)
 
--- a node keeps its first name where more names come after
+-- a node keeps its first name if more names come after
 pub first_name-append : (entries more : List (List ℕ × ℕ)) (node : ℕ) (name : List ℕ) → first_name entries node ≡ Some name →
     first_name (entries ++ more) node ≡ Some name
 first_name-append [] more node name found = absurd (cc)

@@ -182,7 +182,7 @@ Extends-with_names naming [] = Extends-same naming
 Extends-with_names naming (name ∷ names) =
     Extends-on (Extends-with_name naming name) (Extends-with_names (with_name naming name) names)
 
--- so does one that became the first name of a new node, or didn't at want of memory
+-- so does one that became the first name of a new node, or didn't out of memory
 pub Extends-added_first : {T E : Type 0} (result : Result T E) (old new : NamesData) (name : List ℕ) →
     OnOk result (new ≡ with_first old name) → OnErr result (new ≡ old) → Extends old new
 Extends-added_first (Ok u) old new name made same =
@@ -244,7 +244,7 @@ pub node_of-first : (old new : NamesData) (name : List ℕ) (node : ℕ) → nod
 node_of-first old new name node unused made number =
     ap (λ (naming : NamesData). node_of naming.entries name) made ∙ node_of-added old.entries name (node_count old) unused ∙ ap Some (sym number)
 
--- so the name is in use for it, where one was made
+-- so the name is in use for it, if one was made
 pub HasNode-added_first : {E : Type 0} (result : Result ℕ E) (old new : NamesData) (name : List ℕ) → node_of old.entries name ≡ None →
     OnOk result (new ≡ with_first old name) → IfOk result (λ node. node ≡ node_count old) → IfOk result (λ node. HasNode new name node)
 HasNode-added_first (Err e) old new name unused made number = tt

@@ -1,4 +1,4 @@
--- A circuit is a graph with names: it is well formed where both are, and its edits are those of the graph and of the names.
+-- A circuit is a graph with names: it is well formed if both are, and its edits are those of the graph and of the names.
 -- The circuit's names come into use one after the other, each with its node; the names do so by themselves, and the graph gets all
 -- new nodes at once. `with_nodes-circuit_of` says that both come to the same.
 use Rattle.std.proofs.Common.{◌≡◌, ℕ, ◌+◌, ◌-◌, ◌<◌, List, [], ◌∷◌, ◌++◌, length, replicate, option_map, Option, Some, is_some, true, false, Bool, nat_le, unwrap_or, if◌then◌else◌, ap, ◌∙◌, arith, subst, sym, All, append_assoc, length-append}
@@ -23,7 +23,7 @@ use Rattle.netlist.proofs.NamingLemmas.{is_some-name_at, node_count-Extends, Ext
 abbrev pub circuit_of : GraphData → NamesData → Profile → CircuitData
 circuit_of g naming profile = record { graph = g; names = naming.entries; profile = profile }
 
--- it is well formed where both are
+-- it is well formed if both are
 pub IsCircuit-circuit_of : (g : GraphData) (naming : NamesData) (profile : Profile) → IsWired g → IsNaming naming → IsNamedBy g naming →
     IsCircuit (circuit_of g naming profile)
 IsCircuit-circuit_of g naming profile wired is by = record {

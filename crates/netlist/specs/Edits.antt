@@ -97,7 +97,7 @@ abbrev pub with_name_of : CircuitData → List ℕ → ℕ → CircuitData
 with_name_of c name node =
     if is_some (node_of c.names name) then c else record c { names = c.names ++ (name, node) ∷ [] }
 
--- the circuit after an alias, by the nodes of both names: a name that isn't in use becomes one of the other's node; where neither
+-- the circuit after an alias, by the nodes of both names: a name that isn't in use becomes one of the other's node; if neither
 -- is, the first gets a new node, and the second is one more name of it
 abbrev pub with_alias_by : CircuitData → List ℕ → List ℕ → Option ℕ → Option ℕ → CircuitData
 with_alias_by c first second None None =
@@ -141,7 +141,7 @@ abbrev pub store_fault : Profile → ℕ → ℕ → Option EditFault
 store_fault profile node size =
     if nat_lt node RAILS then Some fault.Rail else (if is_size profile size then None else Some fault.BadSize)
 
--- the switch of the transistor with this number, where there is one: numbers begin at 1
+-- the switch of the transistor with this number, if there is one: numbers begin at 1
 abbrev pub switch_numbered : CircuitData → ℕ → Option Switch
 switch_numbered c number = if nat_lt 0 number then place_at c.graph.places (number - 1) else None
 
@@ -198,7 +198,7 @@ wire_fault c number gate source drain =
     then count_fault (nodes (with_nodes c (gate ∷ source ∷ drain ∷ [])).graph)
     else Some fault.NoSuchSwitch
 
--- what an edit that takes no memory answers: its fault where it has one
+-- what an edit that takes no memory answers: its fault if it has one
 abbrev pub answer_of : Option EditFault → Result (Unit {0}) EditFault
 answer_of None = Ok tt
 answer_of (Some fault) = Err fault

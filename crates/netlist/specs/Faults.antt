@@ -10,7 +10,7 @@ pub data MakingFault : Type 0 where
   TooManyNodes : MakingFault
   TooManySwitches : MakingFault
 
--- such an edit answers this fault: that of its refusal, where it is refused, or want of memory; and no other
+-- such an edit answers this fault: that of its refusal, if it is refused, or lack of memory; and no other
 abbrev pub IsAnswered : Option MakingFault → EditFault → Type 0
 IsAnswered refusal fault.BadStrength = refusal ≡ Some MakingFault.BadStrength
 IsAnswered refusal fault.AliasTaken = refusal ≡ Some MakingFault.AliasTaken

@@ -4,3 +4,4 @@ pub mod Circuits
 pub mod Faults
 pub mod Edits
 pub mod Laws
+pub mod Words

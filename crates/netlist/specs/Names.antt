@@ -23,7 +23,7 @@ abbrev pub rail_or_held : Option ℕ → Option ℕ → Option ℕ
 rail_or_held (Some rail) named = Some rail
 rail_or_held None named = named
 
--- the node of a name, where the name is in use
+-- the node of a name, if the name is in use
 abbrev pub node_of : List (List ℕ × ℕ) → List ℕ → Option ℕ
 node_of names name = rail_or_held (rail_of name) (held names name)
 
@@ -32,7 +32,7 @@ abbrev pub StandOnce : List (List ℕ × ℕ) → Type 0
 StandOnce names =
     (i j : ℕ) (name : List ℕ) (one other : ℕ) → slice_get names i ≡ Some (name, one) → slice_get names j ≡ Some (name, other) → i ≡ j
 
--- the first name that a node got, where it has one
+-- the first name that a node got, if it has one
 abbrev pub first_name : List (List ℕ × ℕ) → ℕ → Option (List ℕ)
 first_name [] node = None
 first_name (entry ∷ entries) node = if entry.1 == node then Some entry.0 else first_name entries node

@@ -108,7 +108,7 @@ impl Circuit {
         self.names.len()
     }
 
-    /// The node of a name, or None exactly where the name isn't in use.
+    /// The node of a name, or None exactly if the name isn't in use.
     ///
     /// `Vdd`, `Vdd!`, `Gnd` and `Gnd!` in any ASCII case are the rails; other names are compared
     /// byte by byte.
@@ -137,9 +137,9 @@ impl Circuit {
         self.names.entry_at(place)
     }
 
-    /// The node of a name, which becomes that of a new storage node of size 1 where it isn't in use.
+    /// The node of a name, which becomes that of a new storage node of size 1 if it isn't in use.
     ///
-    /// `TooManyNodes` exactly where the name is new and there are `MOST_NODES` nodes. A refusal
+    /// `TooManyNodes` exactly if the name is new and there are `MOST_NODES` nodes. A refusal
     /// changes nothing.
     pub fn node_or_new(&mut self, name: &[u8]) -> Result<usize, EditFault>
         ensures ok { OnOk result (self.new ≡ with_node self.old name.now) }
@@ -173,9 +173,9 @@ impl Circuit {
     /// Adds a transistor, and answers its number. Its names that are new become storage nodes of
     /// size 1, in the order gate, source, drain.
     ///
-    /// In this order: `BadStrength` exactly where the profile doesn't accept the strength;
-    /// `TooManyNodes` exactly where the new names would make more than `MOST_NODES` nodes;
-    /// `TooManySwitches` exactly where there are `MOST_SWITCHES` transistors. A refusal changes
+    /// In this order: `BadStrength` exactly if the profile doesn't accept the strength;
+    /// `TooManyNodes` exactly if the new names would make more than `MOST_NODES` nodes;
+    /// `TooManySwitches` exactly if there are `MOST_SWITCHES` transistors. A refusal changes
     /// nothing.
     pub fn add_switch(
         &mut self,
@@ -218,7 +218,7 @@ impl Circuit {
     /// Removes the transistor with this number, which no transistor gets again; all others keep
     /// theirs.
     ///
-    /// `NoSuchSwitch` exactly where no transistor has the number.
+    /// `NoSuchSwitch` exactly if no transistor has the number.
     pub fn del(&mut self, number: u64) -> Result<(), EditFault>
         ensures answer { result ≡ answer_of (number_fault self.old number) }
         ensures ok { OnOk result (self.new ≡ without_switch self.old number) }
@@ -233,7 +233,7 @@ impl Circuit {
 
     /// Sets the strength of the transistor with this number; its kind and terminals stay.
     ///
-    /// `NoSuchSwitch` exactly where no transistor has the number; else `BadStrength` exactly where
+    /// `NoSuchSwitch` exactly if no transistor has the number; else `BadStrength` exactly if
     /// the profile doesn't accept the strength.
     pub fn set_strength(&mut self, number: u64, strength: u64) -> Result<(), EditFault>
         ensures answer { result ≡ answer_of (strength_fault self.old number strength) }
@@ -256,7 +256,7 @@ impl Circuit {
 
     /// Sets the kind of the transistor with this number; its strength and terminals stay.
     ///
-    /// `NoSuchSwitch` exactly where no transistor has the number.
+    /// `NoSuchSwitch` exactly if no transistor has the number.
     pub fn set_kind(&mut self, number: u64, kind: SwitchKind) -> Result<(), EditFault>
         ensures answer { result ≡ answer_of (number_fault self.old number) }
         ensures ok { OnOk result (self.new ≡ with_kind self.old number kind) }
@@ -274,7 +274,7 @@ impl Circuit {
     /// Sets the gate, source and drain of the transistor with this number; its kind and strength
     /// stay. Names that are new become storage nodes of size 1, in the order gate, source, drain.
     ///
-    /// `NoSuchSwitch` exactly where no transistor has the number; else `TooManyNodes` exactly where
+    /// `NoSuchSwitch` exactly if no transistor has the number; else `TooManyNodes` exactly if
     /// the new names would make more than `MOST_NODES` nodes. A refusal changes nothing.
     pub fn rewire(
         &mut self,
@@ -316,7 +316,7 @@ impl Circuit {
         }
     }
 
-    // The switch of the transistor with this number, where there is one.
+    // The switch of the transistor with this number, if there is one.
     fn numbered(&self, number: u64) -> Option<Switch>
         ensures value { result ≡ switch_numbered self.now number }
         ensures first { IfSome result (λ _. 1 ≤ number) }
@@ -333,7 +333,7 @@ impl Circuit {
     ///
     /// If only one is in use, the other becomes a name of its node. If neither is, the first gets
     /// a new storage node of size 1, and the second becomes a name of it. `AliasTaken` exactly
-    /// where both are in use for different nodes; `TooManyNodes` exactly where neither is in use
+    /// if both are in use for different nodes; `TooManyNodes` exactly if neither is in use
     /// and there are `MOST_NODES` nodes. A refusal changes nothing.
     pub fn alias(&mut self, first: &[u8], second: &[u8]) -> Result<(), EditFault>
         ensures ok { OnOk result (self.new ≡ with_alias self.old first.now second.now) }
@@ -376,7 +376,7 @@ impl Circuit {
         }
     }
 
-    /// Makes a node an input node. `Rail` exactly where it is Gnd or Vdd.
+    /// Makes a node an input node. `Rail` exactly if it is Gnd or Vdd.
     pub fn make_input(&mut self, node: usize) -> Result<(), EditFault>
         requires { node < nodes self.old.graph }
         ensures answer { result ≡ answer_of (rail_fault node) }
@@ -390,8 +390,8 @@ impl Circuit {
         Ok(())
     }
 
-    /// Makes a node a storage node of this size. `Rail` exactly where it is Gnd or Vdd; else
-    /// `BadSize` exactly where the profile doesn't accept the size.
+    /// Makes a node a storage node of this size. `Rail` exactly if it is Gnd or Vdd; else
+    /// `BadSize` exactly if the profile doesn't accept the size.
     pub fn make_store(&mut self, node: usize, size: u64) -> Result<(), EditFault>
         requires { node < nodes self.old.graph }
         ensures answer { result ≡ answer_of (store_fault self.old.profile node size) }
@@ -457,7 +457,7 @@ fn put_wired(graph: &mut Graph, count: usize, place: usize, switch: Switch) -> R
 }
 
 // Gives a new storage node of size 1 a name that isn't in use and, unless it is the same, another.
-// At want of memory the graph is as before, but some names may have been added.
+// Out of memory the graph is as before, but some names may have been added.
 fn name_pair(
     graph: &mut Graph,
     names: &mut Names,

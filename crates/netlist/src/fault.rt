@@ -1,3 +1,6 @@
+ghost use Rattle.std.specs.Prelude.{◌≡◌};
+ghost use Rattle.netlist.specs.declared.fault.EditFault.TheVariants.{NoMemory};
+
 use ternary::NoMemory;
 use thiserror::Error;
 
@@ -25,15 +28,12 @@ pub enum EditFault {
     /// There are `MOST_SWITCHES` transistors already.
     #[error("too many transistors")]
     TooManySwitches,
-    /// There was want of memory.
-    #[error("want of memory")]
+    /// Memory ran out.
+    #[error("out of memory")]
     NoMemory,
 }
 
 impl From<NoMemory> for EditFault {
-    ghost use Rattle.std.specs.Prelude.{◌≡◌};
-    ghost use Rattle.netlist.specs.declared.fault.EditFault.TheVariants.{NoMemory};
-
     ghost from_gives = { λ _ fault. fault ≡ NoMemory };
 
     fn from(_want: NoMemory) -> EditFault {

@@ -92,7 +92,7 @@ impl Names {
         self.table.len()
     }
 
-    /// The node of a name, or None where the name isn't in use.
+    /// The node of a name, or None if the name isn't in use.
     pub(crate) fn find(&self, name: &[u8]) -> Option<usize>
         ensures value { result ≡ node_of self.now.entries name.now }
         ensures within { IfSome result (λ node. node < node_count self.now) }
@@ -133,7 +133,7 @@ impl Names {
         }
     }
 
-    /// The node of a name, which becomes the first name of a new node where it isn't in use.
+    /// The node of a name, which becomes the first name of a new node if it isn't in use.
     pub(crate) fn node_or_new(&mut self, name: &[u8]) -> Result<usize, NoMemory>
         ensures ok { OnOk result (self.new ≡ with_name self.old name.now) }
         ensures node { IfOk result (λ node. HasNode self.new name.now node) }
@@ -232,7 +232,7 @@ impl Names {
         self.firsts.truncate(mark.nodes);
     }
 
-    // As `terminals`, but at want of memory some names may have been added.
+    // As `terminals`, but out of memory some names may have been added.
     fn try_terminals(
         &mut self,
         gate: &[u8],

@@ -271,7 +271,7 @@ module _ (g : GraphData) (wired : IsWired g) (members : ℕ) (pool : List Gate) 
     };
   }
 
--- where nothing has a level, the formulas of the level above serve
+-- if nothing has a level, the formulas of the level above serve
 ShowsRail-unused : (rail : Tern → Bool) (g : GraphData) (members : ℕ) (pool : List Gate) (ids : List Id) (s : ℕ)
     (state : List Tern) (vars : ℕ → Bool) → IsUnused g s → ShowsRail rail g members pool ids (s + 1) state vars →
     ShowsRail rail g members pool ids s state vars
@@ -299,7 +299,7 @@ ShowsLevel-unused g members pool levels s state vars unused shown = record {
   drives = ShowsDriven-unused g members pool levels.drives s state vars unused shown.drives;
 }
 
--- where nothing has a lower level, U of a level is U of the least one
+-- if nothing has a lower level, U of a level is U of the least one
 pub ShowsDriven-least : (g : GraphData) (members : ℕ) (pool : List Gate) (drives : Drives) (count s : ℕ) (state : List Tern)
     (vars : ℕ → Bool) → s ≡ count + 1 → ((t : ℕ) → 1 ≤ t → t < s → IsUnused g t) →
     ShowsDriven g members pool drives s state vars → ShowsDriven g members pool drives 1 state vars

@@ -1,4 +1,4 @@
--- Formulas that are held under texts: they stay what they are where the pool grows, where a text is added or released, and where the pool
+-- Formulas that are held under texts: they stay what they are where the pool grows, if a text is added or released, and where the pool
 -- is compacted to the gates that they reach.
 use Rattle.std.proofs.Common.{◌≡◌, ℕ, suc, ◌+◌, ◌<◌, ◌⊎◌, Bool, true, false, not, cond, ◌||◌, ◌&&◌, List, [], ◌∷◌, ◌++◌, length, map, get_or, All, Contains, Option, None, Some, is_some, Result, Ok, Err, is_ok, OnOk, OnErr, refl, sym, ap, subst, ◌∙◌, inl, inr, true≢false, length-append, arith}
 use Rattle.std.specs.Prelude.{slice_get, option_map}
@@ -37,7 +37,7 @@ pub answered : {T E P : Type 0} (result : Result T E) → true ≡ is_ok result 
 answered (Ok value) ok holds = holds
 answered (Err fault) ok holds = absurd (true≢false ok)
 
--- and what holds on refusal where it was refused
+-- and what holds on refusal if it was refused
 pub refused : {T E P : Type 0} (result : Result T E) → false ≡ is_ok result → OnErr result P → P
 refused (Ok value) refusal holds = absurd (true≢false (sym refusal))
 refused (Err fault) refusal holds = holds
@@ -132,7 +132,7 @@ pub keys-shown : (rows : List (GroupTextData × Vec Id)) → keys_of (shown rows
 keys-shown [] = refl
 keys-shown (row ∷ rows) = ap (λ keys. row.0 ∷ keys) (keys-shown rows)
 
--- a text is held where it is found
+-- a text is held if it is found
 among-found : (table : Table) (text : GroupTextData) → is_among (keys_of (shown table.entries)) text ≡ is_some (get same_text table text)
 among-found table text =
     ap (λ keys. is_among keys text) (keys-shown table.entries) ∙ sym (is_some-lookup (same_text text) table.entries)

@@ -288,14 +288,14 @@ module _ (g : GraphData) (wired : IsWired g) (constants : List (Option Tern)) (a
       record {
         falsehood = falsehood;
         truth = truth;
+        formulas = All-append P inputs.hi.items
+            (inputs.lo.items ++ (inputs.closed.items ++ (inputs.live.items ++ inputs.sure.items)))
+            (AreFormulas-extends a c inputs.hi.items to_end hi_formulas) lo_on;
         each_hi = hi.each_one;
         each_lo = lo.each_one;
         each_closed = closed.each_one;
         each_live = live.each_one;
         each_sure = sure;
-        formulas = All-append P inputs.hi.items
-            (inputs.lo.items ++ (inputs.closed.items ++ (inputs.live.items ++ inputs.sure.items)))
-            (AreFormulas-extends a c inputs.hi.items to_end hi_formulas) lo_on;
       }
 
   -- under the variables of a state the rails of each node are those of its state

@@ -239,11 +239,11 @@ module _ (g : GraphData) (wired : IsWired g) (state : List Tern) where
           })),
     )
 
--- D(s, n) holds exactly where a definite path of strength at least s leads to n
+-- D(s, n) holds exactly if a definite path of strength at least s leads to n
 pub reached_by_paths : ReachedByPaths
 reached_by_paths g wired state s n low = (path-from_Reached g wired state s n low, reached-from_path g wired state s n)
 
--- U(s, n) for a rail holds exactly where an unblocked path of strength at least s leads to n from a root that has the rail
+-- U(s, n) for a rail holds exactly if an unblocked path of strength at least s leads to n from a root that has the rail
 pub driven_by_paths : DrivenByPaths
 driven_by_paths rail g wired state s n low =
     (path-from_Driven g wired state rail s n low, driven-from_path g wired state rail s n)
@@ -259,7 +259,7 @@ pub driven_down : (rail : Tern → Bool) (g : GraphData) (state : List Tern) (t 
     Driven rail g state t n
 driven_down rail g state t n driven = above driven
 
--- where nothing has a level, D and U are those of the level above
+-- if nothing has a level, D and U are those of the level above
 module _ (g : GraphData) (state : List Tern) (s : ℕ) (unused : IsUnused g s) where
   pub reached_up : (n : ℕ) → Reached g state s n → Reached g state (s + 1) n
   reached_up n (own strong) = let other : level_of g n ≢ s = unused.nodes n in own (omega arith)

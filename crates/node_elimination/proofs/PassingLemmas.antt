@@ -86,7 +86,7 @@ module _ (before : List Gate) (old : SystemData) (after : List Gate) (whole : Is
         ∙ right-extends before after old extends whole vars m inside;
   }
 
-  -- nothing comes from j where it isn't left or no edge leads to it
+  -- nothing comes from j if it isn't left or no edge leads to it
   pub PutsRight-skip : (k j : ℕ) → ((vars : ℕ → Bool) → (is_left old j && edge before old vars k j) ≡ false) →
       PutsRight k (λ vars. with_next before old vars k j) before old before old
   PutsRight-skip k j none = record {

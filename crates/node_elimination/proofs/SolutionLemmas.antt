@@ -20,7 +20,7 @@ pub or_either : (a b : Bool) → (a || b) ≡ true → (a ≡ true) ⊎ (b ≡ t
 or_either true b either = inl refl
 or_either false b either = inr either
 
--- a conjunction is true where both parts are
+-- a conjunction is true if both parts are
 pub and_both : (a b : Bool) → a ≡ true → b ≡ true → (a && b) ≡ true
 and_both true b first second = second
 and_both false b first second = absurd cc

@@ -15,7 +15,7 @@ use Rattle.node_elimination.proofs.EquationsLemmas.{IsWhole-put_left}
 use Rattle.node_elimination.proofs.GrowthLemmas.{Extends-trans, Grows-trans}
 use Rattle.node_elimination.proofs.PassingLemmas.{left-other, left-inside}
 
--- where nothing is left, the right sides are the solution
+-- if nothing is left, the right sides are the solution
 pub Solves-none : (gates : List Gate) (system : SystemData) → ((i : ℕ) → is_left system i ≡ false) →
     Solves gates system gates system
 Solves-none gates system none = record {

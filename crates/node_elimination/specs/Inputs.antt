@@ -15,7 +15,7 @@ use Rattle.node_elimination.specs.Growth.{place_of, AreFormulas, AreWithin, Grow
 use Rattle.node_elimination.specs.LevelSystem.{value_of, IsConstant}
 use Rattle.group_analysis.specs.Meaning.{constant_at}
 
--- the formula is this rail of a node's state, where the state is the node's constant if it has one, and the variable has the
+-- the formula is this rail of a node's state, if the state is the node's constant if it has one, and the variable has the
 -- rail
 pub record IsRail (rail : Tern → Bool) (constant : Option Tern) (variable : ℕ) (gates : List Gate) (p : ℕ) : Type 0 where
   pub inside : p < length gates

@@ -29,13 +29,13 @@ pub record HasUnblockedPath (rail : Tern → Bool) (g : GraphData) (state : List
   pub strong : s ≤ there.strength
   pub set : rail (state_at state root) ≡ true
 
--- D(s, n) holds exactly where a definite path of strength at least s leads to n
+-- D(s, n) holds exactly if a definite path of strength at least s leads to n
 abbrev pub ReachedByPaths : Type 0
 ReachedByPaths =
     (g : GraphData) → IsWired g → (state : List Tern) (s n : ℕ) → 1 ≤ s →
     Reached g state s n ↔ HasDefinitePath g state s n
 
--- U(s, n) for a rail holds exactly where an unblocked path of strength at least s leads to n from a root that has the rail
+-- U(s, n) for a rail holds exactly if an unblocked path of strength at least s leads to n from a root that has the rail
 abbrev pub DrivenByPaths : Type 0
 DrivenByPaths =
     (rail : Tern → Bool) (g : GraphData) → IsWired g → (state : List Tern) (s n : ℕ) → 1 ≤ s →

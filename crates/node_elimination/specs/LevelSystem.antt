@@ -96,7 +96,7 @@ abbrev pub IsPlace : GraphData → ℕ → Type 0
 IsPlace g place = place < length g.places
 
 -- the system of a level: an edge leads from a gated member to each member that is linked to it, and its right side is true
--- where its base is, or where it is fed
+-- if its base is, or where it is fed
 pub record IsLevelSystem (g : GraphData) (members : ℕ) (pass base gate source : ℕ → Bool) (s : ℕ) (left : ℕ → Bool)
     (edge : ℕ → ℕ → Bool) (right : ℕ → Bool) : Type 0 where
   pub all_left : (i : ℕ) → (left i ≡ true) ↔ (i < members)

@@ -10,3 +10,4 @@ pub mod Inputs
 pub mod Descent
 pub mod Holding
 pub mod HeldTable
+pub mod Words

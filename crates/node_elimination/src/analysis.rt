@@ -2,13 +2,11 @@
 
 ghost use Rattle.std.specs.Prelude.{◌≡◌, ℕ, ◌+◌, ◌*◌, ◌≤◌, All, length, IfOk};
 ghost use Rattle.path_meaning.specs.Graphs.{nodes};
-ghost use Rattle.bool_pool.specs.Gate.{Extends};
-ghost use Rattle.bool_pool.specs.Pairs.{ReachAtMost, HasVariablesBelow};
-ghost use Rattle.dual_rail.specs.Conduct.{AreInside};
-ghost use Rattle.group_analysis.specs.Meaning.{bound_of};
 ghost use Rattle.group_text.specs.Texts.{IsText};
-ghost use Rattle.node_elimination.specs.Analysis.{AreResponses};
-ghost use Rattle.node_elimination.specs.Descent.{ArePairs};
+ghost use Rattle.dual_rail.specs.Conduct.{AreInside};
+ghost use Rattle.bool_pool.specs.Words.{Extends, ReachAtMost, HasVariablesBelow};
+ghost use Rattle.group_analysis.specs.Meaning.{bound_of};
+ghost use Rattle.node_elimination.specs.Words.{AreResponses, ArePairs};
 
 use crate::descent::go_down;
 use crate::inputs::make_inputs;
@@ -27,7 +25,7 @@ use ternary::{NoMemory, Steps, Tern};
 /// values of the rails of the member's steady state in the local graph.
 ///
 /// It takes at most as many steps as the gate bound of the text, and all formulas together reach
-/// at most so many gates. Want of memory is the only error, after which the pool has a few gates
+/// at most so many gates. Lack of memory is the only error, after which the pool has a few gates
 /// more; a text of 2,147,483,648 local nodes or more, which `text_of` never makes, has it too.
 ///
 /// After Bryant, "Boolean Analysis of MOS Circuits", 1987.

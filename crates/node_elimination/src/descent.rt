@@ -1,17 +1,12 @@
 //! The levels of a graph, from the strongest one down.
 
 ghost use Rattle.std.specs.Prelude.{◌≡◌, ◌≢◌, ℕ, ◌+◌, ◌-◌, ◌*◌, ◌<◌, ◌≤◌, false, ◌++◌, length, Some, IfOk, OnOk};
+ghost use Rattle.path_meaning.specs.Words.{level_of, place_at};
 ghost use Rattle.path_meaning.specs.declared.switching.Switch.{Switch};
-ghost use Rattle.path_meaning.specs.Graphs.{level_of, place_at};
 ghost use Rattle.bool_pool.specs.Gate.{Extends};
 ghost use Rattle.strength_order.specs.Levels.{IsLevel};
-ghost use Rattle.node_elimination.specs.Growth.{AreFormulas, Grows};
-ghost use Rattle.node_elimination.specs.Levels.{IsUnused};
-ghost use Rattle.node_elimination.specs.LevelSystem.{AllLeft, system_cost};
+ghost use Rattle.node_elimination.specs.Words.{AreFormulas, Grows, IsUnused, AllLeft, system_cost, HasMembers, input_formulas, HaveInputs, driven_formulas, level_formulas, HaveDriven, HaveLevels, ReachAt, DriveAt, DriveDown, StepDown, AreNegations, drives_cost, level_cost};
 ghost use Rattle.group_analysis.specs.Meaning.{switch_count};
-ghost use Rattle.node_elimination.specs.Analysis.{HasMembers};
-ghost use Rattle.node_elimination.specs.Inputs.{input_formulas, HaveInputs};
-ghost use Rattle.node_elimination.specs.Descent.{driven_formulas, level_formulas, HaveDriven, HaveLevels, ReachAt, DriveAt, DriveDown, StepDown, AreNegations, drives_cost, level_cost};
 
 use crate::inputs::{Inputs, add_to};
 use crate::level::{Links, drive, reach};
@@ -157,7 +152,7 @@ fn is_at_level(place: &Option<Switch>, level: u8) -> bool
     }
 }
 
-// The formulas of this level: those of the level above, where no node and no switch has the level.
+// The formulas of this level: those of the level above, if no node and no switch has the level.
 fn step_down<L: Ledger>(
     alloc: Global,
     pool: &mut Pool,

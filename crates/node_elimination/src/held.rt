@@ -2,8 +2,7 @@
 ghost use Rattle.std.specs.Prelude.{◌≡◌, ℕ, ◌<◌, List, [], length, map, slice_index_or, IfOk};
 ghost use Rattle.std.specs.Map.{keys_of};
 ghost use Rattle.bool_pool.specs.declared.gate.Id.{Id};
-ghost use Rattle.node_elimination.specs.Holding.{ids_of, joined};
-ghost use Rattle.node_elimination.specs.HeldTable.{lists_of, shown};
+ghost use Rattle.node_elimination.specs.Words.{ids_of, joined, lists_of, shown};
 
 use bool_pool::{Id, Rails};
 use group_text::GroupText;

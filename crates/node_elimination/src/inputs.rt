@@ -4,11 +4,8 @@ ghost use Rattle.std.specs.Prelude.{◌≡◌, ℕ, ◌+◌, ◌-◌, ◌*◌, �
 ghost use Rattle.ternary.specs.Tern.{may_one, may_zero};
 ghost use Rattle.path_meaning.specs.Graphs.{nodes, place_at};
 ghost use Rattle.bool_pool.specs.Gate.{Extends};
-ghost use Rattle.node_elimination.specs.Growth.{AreFormulas, AreGrown};
-ghost use Rattle.node_elimination.specs.LevelSystem.{IsConstant};
+ghost use Rattle.node_elimination.specs.Words.{AreFormulas, AreGrown, IsConstant, IsAssignment, IsRail, AreRails, IsPass, ArePasses, input_formulas, HaveInputs, ShowsState};
 ghost use Rattle.group_analysis.specs.Meaning.{switch_count};
-ghost use Rattle.node_elimination.specs.Analysis.{IsAssignment};
-ghost use Rattle.node_elimination.specs.Inputs.{IsRail, AreRails, IsPass, ArePasses, input_formulas, HaveInputs, ShowsState};
 
 use bool_pool::{Id, Pool, Rails};
 use dual_rail::{TOO_MANY_NODES, closed, const_rails, may_conduct, var_rails};

@@ -8,13 +8,13 @@ ghost use Rattle.dual_rail.specs.declared.rails.TheConstants.{TOO_MANY_NODES};
 ghost use Rattle.straight_code.specs.Code.{CodeData};
 ghost use Rattle.group_text.specs.Texts.{GroupTextData, IsSmall};
 ghost use Rattle.group_analysis.specs.Meaning.{MeansText, bound_of};
+ghost use Rattle.node_elimination.specs.Words.{ReachedByPaths, DrivenByPaths, EliminationKeepsTheSolution};
 ghost use Rattle.node_elimination.specs.declared.system.TheConstants.{TOO_MANY_UNKNOWNS};
-ghost use Rattle.node_elimination.specs.Laws.{ReachedByPaths, DrivenByPaths, EliminationKeepsTheSolution};
 
 /// The equations are the paths.
 ///
-/// `definite`: a node is reached at a level exactly where a definite path of at least this strength leads to it.
-/// `unblocked`: it is driven to a rail at a level exactly where an unblocked path of at least this strength leads
+/// `definite`: a node is reached at a level exactly if a definite path of at least this strength leads to it.
+/// `unblocked`: it is driven to a rail at a level exactly if an unblocked path of at least this strength leads
 /// to it from a root that has the rail.
 ///
 /// After Bryant, "Boolean Analysis of MOS Circuits", 1987.
@@ -35,7 +35,7 @@ pub fn elimination_keeps_the_solution()
     ensures { EliminationKeepsTheSolution }
 {}
 
-/// The text of a group that isn't too large reaches no bound past which an analysis answers want of memory.
+/// The text of a group that isn't too large reaches no bound past which an analysis answers lack of memory.
 ///
 /// `nodes`, `unknowns`: it has fewer local nodes and members than have numbers. `gates`: the bound on the gates of
 /// its formulas, which is that on its code's instructions, is at most 2^30. `code`: so code that means it has at most

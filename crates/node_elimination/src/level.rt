@@ -2,13 +2,8 @@
 
 ghost use Rattle.std.specs.Prelude.{◌≡◌, ℕ, ◌+◌, ◌-◌, ◌*◌, ◌<◌, ◌≤◌, Bool, true, false, nat_le, ◌&&◌, ◌||◌, List, [], ◌∷◌, ◌++◌, length, IfOk, OnOk, is_some, if◌then◌else◌};
 ghost use Rattle.path_meaning.specs.Graphs.{nodes, level_of, place_at};
-ghost use Rattle.bool_pool.specs.Gate.{Extends};
-ghost use Rattle.bool_pool.specs.Value.{value_at};
-ghost use Rattle.bool_pool.specs.Made.{IsFormed};
-ghost use Rattle.node_elimination.specs.Growth.{AreFormulas, Grows};
-ghost use Rattle.node_elimination.specs.Equations.{IsSquare, IsWhole, formulas_of, right_at, right};
-ghost use Rattle.node_elimination.specs.Elimination.{Moves, PutsRight, PutsRights};
-ghost use Rattle.node_elimination.specs.LevelSystem.{IsConstant, reached_base, value_of, AddsLink, AddsLinks, AllLeft, IsFresh, IsPlace, link_formulas, AreLinks, root_base, SolvesLinks, system_cost};
+ghost use Rattle.bool_pool.specs.Words.{Extends, value_at, IsFormed};
+ghost use Rattle.node_elimination.specs.Words.{AreFormulas, Grows, IsSquare, IsWhole, formulas_of, right_at, right, Moves, PutsRight, PutsRights, IsConstant, reached_base, value_of, AddsLink, AddsLinks, AllLeft, IsFresh, IsPlace, link_formulas, AreLinks, root_base, SolvesLinks, system_cost};
 ghost use Rattle.group_analysis.specs.Meaning.{switch_count};
 
 use crate::solve::{or_and, solve};

@@ -1,12 +1,8 @@
 //! The least solution of a system by eliminating one unknown after the other.
 
 ghost use Rattle.std.specs.Prelude.{◌≡◌, ◌≢◌, ℕ, ◌+◌, ◌-◌, ◌*◌, ◌<◌, ◌≤◌, Bool, true, false, ◌&&◌, ◌||◌, [], ◌∷◌, length, IfOk, OnOk};
-ghost use Rattle.bool_pool.specs.Gate.{Extends};
-ghost use Rattle.bool_pool.specs.Value.{value_at};
-ghost use Rattle.bool_pool.specs.Made.{IsFormed};
-ghost use Rattle.node_elimination.specs.Solution.{right_past};
-ghost use Rattle.node_elimination.specs.Equations.{IsWhole, is_left, left_count, edge, right};
-ghost use Rattle.node_elimination.specs.Elimination.{Moves, PassesEdge, PassesEdges, PassesRow, PassesRows, PutsRight, with_next, Gathers, Solves};
+ghost use Rattle.bool_pool.specs.Words.{Extends, value_at, IsFormed};
+ghost use Rattle.node_elimination.specs.Words.{right_past, IsWhole, is_left, left_count, edge, right, Moves, PassesEdge, PassesEdges, PassesRow, PassesRows, PutsRight, with_next, Gathers, Solves};
 
 use crate::system::{System, is_false};
 use bool_pool::{Id, Pool};

@@ -1,6 +1,6 @@
 ghost use Rattle.std.specs.Prelude.{◌≡◌, ◌≢◌, ◌↔◌, ℕ, ◌+◌, ◌*◌, ◌<◌, ◌≤◌, Bool, true, false, List, length, replicate, IfOk, IfSome, IsNone, IsTrue};
+ghost use Rattle.bool_pool.specs.Words.{value_at};
 ghost use Rattle.bool_pool.specs.declared.gate.Gate.{Gate};
-ghost use Rattle.bool_pool.specs.Value.{value_at};
 ghost use Rattle.node_elimination.specs.Equations.{IsSquare, IsWhole, edge_at, right_at, is_left, put_edge, put_right, put_left, all_reset};
 
 use bool_pool::{Gate, Id, Pool};
@@ -145,7 +145,7 @@ impl System {
     }
 
     /// An unknown that is left and has the fewest neighbours, the lowest such one, or None exactly
-    /// where none is left.
+    /// if none is left.
     pub(crate) fn pick(&self) -> Option<usize>
         ensures found { IfSome result (λ k. (k < self.now.size) × (is_left self.now k ≡ true)) }
         ensures none { IsNone result → (i : ℕ) → is_left self.now i ≡ false }

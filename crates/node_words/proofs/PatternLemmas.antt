@@ -107,12 +107,12 @@ behind_some-begun piece pattern name plain begun =
     (λ passes. behind_some-here (matches (piece ++ star ∷ pattern)) name (matches-begun piece (star ∷ pattern) name plain begun ∙ passes))
     (λ passes. behind_pieces piece pattern name plain passes)
 
--- where the pattern doesn't match the name, it is to match behind the name's first byte
+-- if the pattern doesn't match the name, it is to match behind the name's first byte
 pub behind_some-without : (pattern : List ℕ) (byte : ℕ) (name : List ℕ) → matches pattern (byte ∷ name) ≡ false →
     behind_some (matches pattern) name ≡ behind_some (matches pattern) (byte ∷ name)
 behind_some-without pattern byte name other = ap (λ test. test || behind_some (matches pattern) name) (sym other)
 
--- and not at all where there is none
+-- and not at all if there is none
 pub behind_some-empty : (pattern : List ℕ) → matches pattern [] ≡ false → behind_some (matches pattern) [] ≡ bytes_eq pattern []
 behind_some-empty [] other = refl
 behind_some-empty (own ∷ pattern) other = other
@@ -208,7 +208,7 @@ behind_some-cut_begun pattern name rest at found begun is =
 pub matches-whole : (pattern name : List ℕ) → position is_star pattern ≡ None → matches pattern name ≡ bytes_eq pattern name
 matches-whole pattern name none = matches-plain pattern name (none_passes is_star pattern none)
 
--- behind a `*` too, where it is the name
+-- behind a `*` too, if it is the name
 pub behind_some-whole : (pattern name : List ℕ) → position is_star pattern ≡ None → bytes_eq pattern name ≡ true →
     behind_some (matches pattern) name ≡ bytes_eq pattern name
 behind_some-whole pattern name none same =

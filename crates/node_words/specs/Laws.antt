@@ -25,7 +25,7 @@ pub record IsNodes (part : Part) : Type 0 where
   pub list : List ℕ
   pub same : part ≡ Nodes list
 
--- parts have no fault exactly where each is nodes, and a list has room for all of them
+-- parts have no fault exactly if each is nodes, and a list has room for all of them
 abbrev pub AcceptedAreNodes : Type 0
 AcceptedAreNodes = (all : List Part) → (fault_in 0 all ≡ None) ↔ (All IsNodes all × (length (nodes_in all) ≤ MOST_ENTRIES))
 

@@ -1,5 +1,6 @@
 -- Patterns of names: a `*` matches any bytes, none too, and every other byte itself.
-use Rattle.std.specs.Prelude.{◌≡◌, ℕ, Bool, true, false, ◌==◌, ◌&&◌, ◌||◌, List, [], ◌∷◌, ◌++◌, if◌then◌else◌}
+use Rattle.std.specs.Prelude.{◌≡◌, ℕ, ◌+◌, ◌<◌, Bool, true, false, ◌==◌, ◌&&◌, ◌||◌, List, [], ◌∷◌, ◌++◌, length, Option, MatchOption, IfSome, bytes_eq, if◌then◌else◌}
+use Rattle.std.specs.Borrow.{Bor}
 
 -- the byte `*`
 abbrev pub star : ℕ
@@ -32,3 +33,14 @@ pub data Matches : List ℕ → List ℕ → Type 0 where
   ended : Matches [] []
   itself : (byte : ℕ) (pattern name : List ℕ) → is_star byte ≡ false → Matches pattern name → Matches (byte ∷ pattern) (byte ∷ name)
   any : (bytes pattern name : List ℕ) → Matches pattern name → Matches (star ∷ pattern) (bytes ++ name)
+
+-- of a pattern behind a `*` and a name this pattern and this name are left to compare, which match exactly if those do; or none, where
+-- those match exactly if they are equal
+abbrev pub LeavesAlike : List ℕ → List ℕ → Option (Bor (List ℕ) × Bor (List ℕ)) → Type 0
+LeavesAlike pattern name left =
+    MatchOption left (behind_some (matches pattern) name ≡ bytes_eq pattern name)
+    (λ rest. behind_some (matches rest.0.now) rest.1.now ≡ behind_some (matches pattern) name)
+
+-- and they are shorter together
+abbrev pub LeavesLess : List ℕ → List ℕ → Option (Bor (List ℕ) × Bor (List ℕ)) → Type 0
+LeavesLess pattern name left = IfSome left (λ rest. length rest.0.now + length rest.1.now < length pattern + length name)

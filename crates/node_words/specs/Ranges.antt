@@ -27,7 +27,7 @@ digits_of text = before_first is_no_digit text
 abbrev pub past_digits : List ℕ → List ℕ
 past_digits text = drop (position_or_len is_no_digit text) text
 
--- the number, where a range may have it
+-- the number, if a range may have it
 abbrev pub within_range : ℕ → Option ℕ
 within_range number = if nat_le number MOST_NUMBER then Some number else None
 

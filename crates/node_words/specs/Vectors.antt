@@ -27,7 +27,7 @@ IsNamed c vectors name (Node node) = node_of c.names name ≡ Some node
 IsNamed c vectors name (Vector nodes) = (node_of c.names name ≡ None) × (list_of vectors name ≡ Some nodes.now)
 IsNamed c vectors name Nothing = (node_of c.names name ≡ None) × (list_of vectors name ≡ None)
 
--- how many entries a name's vector has, 0 where there is none
+-- how many entries a name's vector has, 0 if there is none
 abbrev pub length_at : List (List ℕ × List ℕ) → List ℕ → ℕ
 length_at vectors name = option_map_or length (list_of vectors name) 0
 

@@ -16,7 +16,7 @@ abbrev pub list_of : List (List ℕ × List ℕ) → List ℕ → Option (List �
 list_of [] name = None
 list_of (entry ∷ vectors) name = if bytes_eq name entry.0 then Some entry.1 else list_of vectors name
 
--- the node alone, where there is one, else the vector's nodes, where there is one
+-- the node alone, if there is one, else the vector's nodes, if there is one
 abbrev pub node_or_list : Option ℕ → Option (List ℕ) → Option (List ℕ)
 node_or_list (Some node) list = Some (node ∷ [])
 node_or_list None list = list
@@ -44,16 +44,16 @@ pub data Part : Type 0 where
   Unknown : Part
   TooDeep : Part
 
--- these nodes, where there are any
+-- these nodes, if there are any
 abbrev pub some_nodes : List ℕ → Part
 some_nodes [] = Unknown
 some_nodes (node ∷ list) = Nodes (node ∷ list)
 
--- the nodes of a pattern, where the word has a `*`
+-- the nodes of a pattern, if the word has a `*`
 abbrev pub by_pattern : CircuitData → List ℕ → Part
 by_pattern c word = if list_any is_star word then some_nodes (matched c word) else Unknown
 
--- the nodes of a name, where there are any, or else what the pattern comes to
+-- the nodes of a name, if there are any, or else what the pattern comes to
 abbrev pub name_or_pattern : Option (List ℕ) → Part → Part
 name_or_pattern (Some list) pattern = Nodes list
 name_or_pattern None pattern = pattern
@@ -71,7 +71,7 @@ unless_named None range = range
 abbrev pub range_of : CircuitData → List (List ℕ × List ℕ) → List ℕ → Option RangeData
 range_of c vectors word = unless_named (named c vectors word) (first_range word)
 
--- what comes of the words of the range, where there is one, else this alone
+-- what comes of the words of the range, if there is one, else this alone
 abbrev pub by_range : Part → (RangeData → List Part) → Option RangeData → List Part
 by_range alone within None = alone ∷ []
 by_range alone within (Some range) = within range

@@ -14,8 +14,8 @@ pub enum VectorFault {
     /// one in another than `MOST_DEPTH`.
     #[error("too many nodes")]
     TooMany,
-    /// There was want of memory.
-    #[error("want of memory")]
+    /// Memory ran out.
+    #[error("out of memory")]
     NoMemory,
 }
 

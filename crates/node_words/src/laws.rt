@@ -4,13 +4,13 @@ ghost use Rattle.node_words.specs.Laws.{AcceptedAreNodes, FaultsAreFirst, Ranges
 ghost use Rattle.node_words.specs.declared.TheConstants.{MOST_DEPTH, MOST_ENTRIES, MOST_IN_ALL, MOST_NUMBER};
 
 /// A law: a list of words is refused for the first word that has a fault, behind the nodes of those before it;
-/// and it isn't exactly where each word stands for nodes and a list has room for all of them.
+/// and it isn't exactly if each word stands for nodes and a list has room for all of them.
 pub fn the_first_fault_refuses()
     ensures first { FaultsAreFirst }
     ensures none { AcceptedAreNodes }
 {}
 
-/// A law: a text begins with a range exactly where it begins with `{`, a number, `:`, a number and `}`,
+/// A law: a text begins with a range exactly if it begins with `{`, a number, `:`, a number and `}`,
 /// and the range of a word is the first that begins in it.
 pub fn ranges_stand_in_braces()
     ensures braces { RangesStandInBraces }

@@ -21,7 +21,7 @@
 //! a node at least, where each vector has one, as it has if it was given a word; so no more than one
 //! past `MOST_ENTRIES` of a word's words without a range are read.
 //!
-//! That the refusal is that of the first word with a fault, and that there is none exactly where each
+//! That the refusal is that of the first word with a fault, and that there is none exactly if each
 //! word stands for nodes and there is room for them, are laws: `the_first_fault_refuses`.
 #![tactic(auto)]
 

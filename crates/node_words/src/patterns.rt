@@ -1,5 +1,5 @@
 //! Patterns of names.
-ghost use Rattle.std.specs.Prelude.{◌≡◌, ◌↔◌, ◌+◌, ◌<◌, false, length, position, bytes_eq, IfSome, MatchOption, IsTrue};
+ghost use Rattle.std.specs.Prelude.{◌≡◌, ◌↔◌, false, position, IsTrue};
 ghost use Rattle.std.specs.List.{list_any};
 ghost use Rattle.node_words.specs.Patterns as spec;
 
@@ -57,12 +57,8 @@ fn matches_behind(pattern: &[u8], name: &[u8]) -> bool
 // Behind a `*` the pattern and the name that are left to compare, of which one is shorter; or None
 // where the pattern matches exactly the name that is equal to it.
 fn onward<'a>(pattern: &'a [u8], name: &'a [u8]) -> Option<(&'a [u8], &'a [u8])>
-    ensures cases { MatchOption result
-        (spec.behind_some (spec.matches pattern.now) name.now ≡ bytes_eq pattern.now name.now)
-        (λ left. spec.behind_some (spec.matches left.0.now) left.1.now
-        ≡ spec.behind_some (spec.matches pattern.now) name.now) }
-    ensures shorter { IfSome result (λ left.
-        length left.0.now + length left.1.now < length pattern.now + length name.now) }
+    ensures cases { spec.LeavesAlike pattern.now name.now result }
+    ensures shorter { spec.LeavesLess pattern.now name.now result }
 {
     match first_star(pattern) {
         Some(at) => match name.strip_prefix(&pattern[..at]) {
@@ -79,16 +75,12 @@ fn onward<'a>(pattern: &'a [u8], name: &'a [u8]) -> Option<(&'a [u8], &'a [u8])>
     }
 }
 
-// The same where the pattern doesn't match the name from its first byte on: the name without that
+// The same if the pattern doesn't match the name from its first byte on: the name without that
 // byte is left.
 fn without_first<'a>(pattern: &'a [u8], name: &'a [u8]) -> Option<(&'a [u8], &'a [u8])>
     requires { spec.matches pattern.now name.now ≡ false }
-    ensures cases { MatchOption result
-        (spec.behind_some (spec.matches pattern.now) name.now ≡ bytes_eq pattern.now name.now)
-        (λ left. spec.behind_some (spec.matches left.0.now) left.1.now
-        ≡ spec.behind_some (spec.matches pattern.now) name.now) }
-    ensures shorter { IfSome result (λ left.
-        length left.0.now + length left.1.now < length pattern.now + length name.now) }
+    ensures cases { spec.LeavesAlike pattern.now name.now result }
+    ensures shorter { spec.LeavesLess pattern.now name.now result }
 {
     match name {
         [] => None,

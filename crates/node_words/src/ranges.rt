@@ -115,7 +115,7 @@ fn number_before(stop: u8, text: &[u8]) -> Option<(u64, &[u8])>
     Some((number, after))
 }
 
-// The number that digits write, where a range may have it.
+// The number that digits write, if a range may have it.
 fn number(digits: &[u8]) -> Option<u64>
     ensures value { result ≡ option_and_then spec.within_range (decimal_of digits.now) }
     ensures small { IfSome result (λ number. number ≤ MOST_NUMBER) }

@@ -55,7 +55,7 @@ impl Vectors {
         }
     }
 
-    /// The nodes of a vector's name, or None exactly where it is none.
+    /// The nodes of a vector's name, or None exactly if it is none.
     pub fn nodes(&self, name: &[u8]) -> Option<&[usize]>
         ensures { option_map (λ nodes. nodes.now) result ≡ list_of self.now name.now }
     {
@@ -79,9 +79,9 @@ impl Vectors {
     /// Gives a name to the nodes that these words stand for, in place of the list that the name had,
     /// which the words may still mean.
     ///
-    /// In this order: `NameTaken` exactly where the name is that of a node in use; `UnknownNode` or
+    /// In this order: `NameTaken` exactly if the name is that of a node in use; `UnknownNode` or
     /// `TooMany` by the first word, from left to right, that stands for nothing, brings the list past
-    /// `MOST_ENTRIES` entries, or has a range in more than `MOST_DEPTH` others; `TooMany` exactly where
+    /// `MOST_ENTRIES` entries, or has a range in more than `MOST_DEPTH` others; `TooMany` exactly if
     /// all vectors would have more than `MOST_IN_ALL` entries. A refusal changes nothing.
     pub fn define(
         &mut self,
@@ -122,7 +122,7 @@ impl Vectors {
         Ok(list)
     }
 
-    // How many entries the name's vector has, 0 where there is none.
+    // How many entries the name's vector has, 0 if there is none.
     fn length_of(&self, name: &[u8]) -> usize
         ensures { result ≡ spec.length_at self.now name.now }
     {

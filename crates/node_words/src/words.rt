@@ -17,7 +17,7 @@ use ternary::NoMemory;
 /// Puts the nodes that a word stands for behind those of a list. The word's ranges may lie this many
 /// times one in another.
 ///
-/// At a refusal or want of memory some of the nodes may stand in the list.
+/// At a refusal or lack of memory some of the nodes may stand in the list.
 pub(crate) fn read_word(
     alloc: Global,
     circuit: &Circuit,
@@ -77,7 +77,7 @@ fn read_plain(
     read_pattern(alloc, circuit, word, list)
 }
 
-// Puts the nodes of a pattern, where the word has a `*`, behind those of a list.
+// Puts the nodes of a pattern, if the word has a `*`, behind those of a list.
 fn read_pattern(
     alloc: Global,
     circuit: &Circuit,
@@ -99,7 +99,7 @@ fn read_pattern(
     put(list, &nodes)
 }
 
-// Puts nodes behind those of a list, where it has room for them.
+// Puts nodes behind those of a list, if it has room for them.
 fn put(list: &mut Vec<usize>, nodes: &[usize]) -> Result<(), VectorFault>
     ensures ok { OnOk result
         (spec.with_part list.old.items (Part.Nodes nodes.now) ≡ Ok list.new.items) }

@@ -60,7 +60,7 @@ settled-rails Unk = refl
 pub state-settled : (lane hi lo : ℕ) (s : Tern) → HasState lane hi lo s → settled (is_in_lane lane hi) (is_in_lane lane lo) ≡ s
 state-settled lane hi lo s has = ap₂ settled has.one has.other ∙ settled-rails s
 
--- whether two states differ, by their rails, where the first has a rail
+-- whether two states differ, by their rails, if the first has a rail
 abbrev pub differ : Tern → Tern → Bool
 differ s t = (turn (may_one s) (may_one t) || turn (may_zero s) (may_zero t)) && (may_one s || may_zero s)
 
@@ -105,6 +105,6 @@ module _ (lane a b c d : ℕ) (s t : Tern) (first : HasState lane a b s) (second
   pub lane-differs : is_in_lane lane (differing a b c d) ≡ true → t ≢ s
   lane-differs set = differ-true s t (sym lane-differing ∙ set)
 
-  -- where it isn't, they are one
+  -- if it isn't, they are one
   pub lane-agrees : is_in_lane lane (differing a b c d) ≡ false → t ≡ s
   lane-agrees unset = differ-false s t (sym lane-differing ∙ unset)

@@ -21,7 +21,7 @@ use Rattle.part_words.proofs.GatherLemmas.{map_at-at, length-map_at}
 -- ---- part by part
 
 module _ (IsSo : ℕ → Change → Type 0) where
-  -- where nothing changes, nothing is noted
+  -- if nothing changes, nothing is noted
   pub NotesEach-none : (starts : List ℕ) (old : List Change) → ((at : ℕ) (change : Change) → Contains starts at → ¬ IsSo at change) →
       NotesEach starts IsSo old old
   NotesEach-none starts old none = record {

@@ -81,7 +81,7 @@ fn note_member(
     }
 }
 
-// The state whose rails are a lane's bits, X where neither is set.
+// The state whose rails are a lane's bits, X if neither is set.
 fn tern_in(rails: (u64, u64), lane: usize) -> Tern
     requires { lane < 64 }
     ensures { result ≡ settled (is_in_lane lane rails.0) (is_in_lane lane rails.1) }

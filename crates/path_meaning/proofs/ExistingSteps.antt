@@ -1,6 +1,6 @@
 -- Every state of a graph has a step.
 -- For each rail there is the closed table of going on over live switches to where no stronger definite path
--- leads, from the roots that set the rail: an entry is positive exactly where an unblocked path from such a
+-- leads, from the roots that set the rail: an entry is positive exactly if an unblocked path from such a
 -- root leads to its node. So it is decided which rails each node responds with; one of them is set, since every
 -- node is reached by some root and that root has a state.
 use Rattle.std.proofs.Common.{◌≡◌, ℕ, zero, suc, ◌<◌, ◌≤◌, min, Bool, true, false, ◌⊎◌, inl, inr, List, [], ◌∷◌, ◌++◌, length, Some, refl, sym, ap, subst, ◌∙◌, arith}
@@ -25,7 +25,7 @@ use Rattle.path_meaning.proofs.ReachedNodes.{reached}
 abbrev Decided : Type 0 → Type 0
 Decided P = P ⊎ (¬ P)
 
--- a root's first strength, where it sets the rail
+-- a root's first strength, if it sets the rail
 abbrev rooted : Bool → ℕ → ℕ
 rooted true strength = strength
 rooted false strength = 0
@@ -37,7 +37,7 @@ module _ (rail : Tern → Bool) (g : GraphData) (wired : IsWired g) (state : Lis
     way : Arrives g state node strength
     set : rail (state_at state way.root) ≡ true
 
-  -- a node starts with its level where it sets the rail and no definite path is stronger
+  -- a node starts with its level if it sets the rail and no definite path is stronger
   abbrev start : ℕ → ℕ
   start node = rooted (rail (state_at state node)) (pick (cases_lt (level_of g node) (best node)) 0 (level_of g node))
 
@@ -147,7 +147,7 @@ response_of g wired state node in_range (inr no_one) (inr no_zero) =
       | inr zero_too ↦ no_zero (way.0, way.1, zero_too)
     ])
 
--- where each of the first nodes has a state with a property, there is a list of such states
+-- if each of the first nodes has a state with a property, there is a list of such states
 collected : (P : ℕ → Tern → Type 0) (count : ℕ) → ((node : ℕ) → node < count → (answer : Tern) × P node answer) →
     (states : List Tern) × (length states ≡ count) × ((node : ℕ) → node < count → P node (state_at states node))
 collected P zero each = ([], refl, λ node inside. absurd (omega arith))

@@ -1,7 +1,7 @@
 -- The step of a join is the join of the steps, while the switches stay as they are.
 -- Under the join every switch has the state that it has under both, so the same paths are unblocked under all
--- three. A root sets a rail under the join where it sets it under one of the two, so a rail of the steady state
--- is set where one of the two steps sets it.
+-- three. A root sets a rail under the join if it sets it under one of the two, so a rail of the steady state
+-- is set if one of the two steps sets it.
 use Rattle.std.proofs.Common.{◌≡◌, ℕ, ◌<◌, ◌↔◌, Bool, true, ◌||◌, ◌⊎◌, inl, inr, List, length, refl, sym, ap, ◌∙◌, arith}
 use Rattle.std.proofs.lemmas.Bool.{or_cases, or_left, or_right}
 use Rattle.ternary.specs.declared.tern.Tern.{Tern}
@@ -45,11 +45,11 @@ join_same g wired a b joined count same is_join place switch stands =
     let other = state_at b switch.gate in
     rw (is_join.each switch.gate inside) (state_by-join switch.kind one other (same place switch stands))
 
--- two states, their join, and a rail that a join has where one of the two has it
+-- two states, their join, and a rail that a join has if one of the two has it
 module _ (g : GraphData) (a b joined : List Tern) (count : length joined ≡ nodes g) (is_join : IsJoin a b joined)
     (same_a : SameSwitches g a joined) (same_b : SameSwitches g b joined)
     (rail : Tern → Bool) (rail-join : (s t : Tern) → rail (join s t) ≡ (rail s || rail t)) where
-  -- a root sets the rail under the join where it does under one of the two
+  -- a root sets the rail under the join if it does under one of the two
   joined_sets : (root : ℕ) → root < nodes g → rail (state_at joined root) ≡ (rail (state_at a root) || rail (state_at b root))
   joined_sets root in_range =
       let inside : root < length joined = omega arith in

@@ -130,7 +130,7 @@ module _ (g : GraphData) (state : List Tern) where
       let rest = Leads-cut front back leads.0 there leads.2 in
       (rest.0, (leads.0, leads.1, rest.1), rest.2)
 
-  -- what is left of a path after a front of it leads on from where that front stands
+  -- what is left of a path after a prefix of it leads on from where that front stands
   pub Leads-split : (front back : List ℕ) (here mid there : Stand) →
       Leads g state here (front ++ back) there → Leads g state here front mid → Leads g state mid back there
   Leads-split [] back here mid there whole part = rw (← part) whole
@@ -305,7 +305,7 @@ module _ (g : GraphData) (state : List Tern) where
     strong = way.strong ∙ same;
   }
 
-  -- by its empty path, where nothing is stronger than its level
+  -- by its empty path, if nothing is stronger than its level
   abbrev pub Arrives-at_root : (node : ℕ) → node < nodes g → (¬ IsBeaten g state node (level_of g node)) →
       Arrives node (level_of g node)
   Arrives-at_root node in_range unbeaten = record {

@@ -1,8 +1,9 @@
 -- Paths depend on the states of the switches alone: under two states of the nodes that give each switch the
 -- same state, paths lead, beat,
 -- block and reach alike.
-use Rattle.std.proofs.Common.{ℕ, List, [], ◌∷◌, sym}
+use Rattle.std.proofs.Common.{◌≡◌, ℕ, List, [], ◌∷◌, sym}
 use Rattle.ternary.specs.declared.tern.Tern.{Tern}
+use Rattle.path_meaning.specs.Switching.{switch_state_at}
 use Rattle.path_meaning.specs.Graphs.{GraphData}
 use Rattle.path_meaning.specs.Path.{Stand, Hop, Leads, at_root, LivePath, IsBeaten, IsBlocked, Reaches}
 use Rattle.path_meaning.specs.Laws.{SameSwitches}
@@ -12,19 +13,22 @@ use Rattle.path_meaning.proofs.PathLemmas.{IsBeaten-path}
 pub SameSwitches-sym : (g : GraphData) (a b : List Tern) → SameSwitches g a b → SameSwitches g b a
 SameSwitches-sym g a b same place switch stands = sym (same place switch stands)
 
+-- a hop over a switch that has one state under both is a hop under the other
+pub Hop-carried : (g : GraphData) (a b : List Tern) (here there : Stand) (place : ℕ) (hop : Hop g a here place there) →
+    switch_state_at a hop.switch ≡ switch_state_at b hop.switch → Hop g b here place there
+Hop-carried g a b here there place hop same = record {
+  switch = hop.switch;
+  at_place = hop.at_place;
+  joins = hop.joins;
+  live = rw same at hop.live;
+  strength = hop.strength;
+  definite = rw same at hop.definite;
+}
+
 module _ (g : GraphData) (a b : List Tern) (same : SameSwitches g a b) where
   -- a hop under one state is a hop under the other
   Hop-same : (here there : Stand) (place : ℕ) → Hop g a here place there → Hop g b here place there
-  Hop-same here there place hop =
-      let e = same place hop.switch hop.at_place in
-      record {
-        switch = hop.switch;
-        at_place = hop.at_place;
-        joins = hop.joins;
-        live = rw e at hop.live;
-        strength = hop.strength;
-        definite = rw e at hop.definite;
-      }
+  Hop-same here there place hop = Hop-carried g a b here there place hop (same place hop.switch hop.at_place)
 
   -- so hops lead alike
   Leads-same : (hops : List ℕ) (here there : Stand) → Leads g a here hops there → Leads g b here hops there

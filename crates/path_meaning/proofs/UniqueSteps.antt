@@ -1,5 +1,5 @@
 -- A state of a graph has at most one step.
--- Two steps have, at each node, states with the same rails, for each rail is set exactly where some root sets
+-- Two steps have, at each node, states with the same rails, for each rail is set exactly if some root sets
 -- it; and states with the same rails are equal.
 use Rattle.std.proofs.Common.{◌≡◌, ℕ, ◌<◌, ◌↔◌, Bool, true, false, List, refl, sym, ◌∙◌}
 use Rattle.std.proofs.lemmas.List.{ext_get_or}

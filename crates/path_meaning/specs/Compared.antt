@@ -22,7 +22,7 @@ equivalence_of E decides = record {
   congr = λ x y z same. ap (λ w. E w z) ((decides x y).0 same);
 }
 
--- options are equal where both are empty or hold equal items
+-- options are equal if both are empty or hold equal items
 pub options_decide : {K : Type 0} (E : K → K → Bool) → ((x y : K) → Decides (E x y) (x ≡ y)) →
     (x y : Option K) → Decides (option_eq E x y) (x ≡ y)
 options_decide E decides None None = (λ _. refl, λ _. refl)
@@ -55,7 +55,7 @@ same_place = option_eq switch.eq-value.it
 abbrev pub same_graph : GraphData → GraphData → Bool
 same_graph a b = pointwise ◌==◌ a.levels b.levels && pointwise same_place a.places b.places
 
--- and that is so exactly where they are one graph
+-- and that is so exactly if they are one graph
 pub same_graph_decides : (a b : GraphData) → Decides (same_graph a b) (a ≡ b)
 same_graph_decides a b =
     Decides-like (same_graph a b)

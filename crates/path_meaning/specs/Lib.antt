@@ -8,3 +8,4 @@ pub mod Plain
 pub mod Walks
 pub mod Compared
 pub mod Rails
+pub mod Words

@@ -12,7 +12,7 @@ abbrev pub Responds : (Tern → Bool) → GraphData → List Tern → ℕ → Ty
 Responds rail g state node =
     (root : ℕ) × Reaches g state root node × (rail (state_at state root) ≡ true)
 
--- the steady state of a node: it may be 1 exactly where the root of some unblocked path to it may be 1, and likewise for 0
+-- the steady state of a node: it may be 1 exactly if the root of some unblocked path to it may be 1, and likewise for 0
 pub record IsResponse (g : GraphData) (state : List Tern) (node : ℕ) (answer : Tern) : Type 0 where
   pub one : (may_one answer ≡ true) ↔ Responds may_one g state node
   pub zero : (may_zero answer ≡ true) ↔ Responds may_zero g state node

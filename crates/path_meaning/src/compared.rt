@@ -1,4 +1,4 @@
-//! Graphs as keys: two are equal exactly where their levels and their places are, the empty places
+//! Graphs as keys: two are equal exactly if their levels and their places are, the empty places
 //! included, and equal graphs have equal hashes.
 
 ghost use Rattle.std.specs.Prelude.{◌≡◌, ◌↔◌, IsTrue};

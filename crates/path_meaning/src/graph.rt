@@ -99,7 +99,7 @@ impl Graph {
         self.levels[node] = level;
     }
 
-    /// The switch at a place, or None exactly where the place is empty.
+    /// The switch at a place, or None exactly if the place is empty.
     pub fn switch_at(&self, place: usize) -> Option<Switch>
         requires { place < length self.now.places }
         ensures value { result ≡ place_at self.now.places place }
@@ -147,7 +147,7 @@ impl Graph {
 
     /// Adds so many nodes of this level, from 1 to 16, and then a place with this switch, whose
     /// gate and ends may be new nodes, and answers the place, which is the old count of places. At
-    /// want of memory it adds nothing.
+    /// lack of memory it adds nothing.
     pub fn add_wired(&mut self, count: usize, level: u8, switch: Switch) -> Result<usize, NoMemory>
         requires level { IsLevel level }
         requires fits { Fits (nodes self.old + count) switch }
@@ -165,7 +165,7 @@ impl Graph {
         Ok(place)
     }
 
-    /// Adds so many nodes of this level, from 1 to 16. At want of memory it adds nothing.
+    /// Adds so many nodes of this level, from 1 to 16. Out of memory it adds nothing.
     pub fn add_nodes(&mut self, count: usize, level: u8) -> Result<(), NoMemory>
         requires { IsLevel level }
         ensures ok { OnOk result

@@ -15,7 +15,8 @@
 //! For the proofs of crates above: `PathLemmas`, paths as walks that are cut, joined and raised;
 //! `StrongestPaths`, the strengths of the strongest definite paths; `TableMeaning`, what a table of
 //! them says; `ReachedNodes`, `ExistingSteps`, `UniqueSteps` and `InputNodes`, the laws of `laws`
-//! that other proofs start from. They cite `RestingSteps` too, whose head says what it is of.
+//! that other proofs start from. They cite `RestingSteps` and `SameSwitchesLemmas` too, whose heads
+//! say what they are of.
 //!
 //! After Bryant, "A Switch-Level Model and Simulator for MOS Digital Systems", 1984, and "Boolean
 //! Analysis of MOS Circuits", 1987.
@@ -35,7 +36,7 @@ pub use laws::{
     rails_are_numbered, reaches_on, roots_reach_themselves, step_exists, step_is_unique,
     steps_join, steps_rest,
 };
-pub use plain::{PlainRoom, plain_step, plain_step_into, strongest};
+pub use plain::{PlainRoom, plain_step, plain_step_into, response, strongest};
 pub use switching::{Switch, SwitchKind, SwitchState, switch_state};
 pub use walks::{Walk, WalkFacts};
 

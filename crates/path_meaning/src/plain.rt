@@ -184,8 +184,8 @@ fn put_responses(one: &[u8], zero: &[u8], out: &mut [Tern])
     }
 }
 
-// The state with these rails, one of which is set.
-fn response(one: bool, zero: bool) -> Tern
+/// The state with these rails, one of which is set.
+pub fn response(one: bool, zero: bool) -> Tern
     requires { (one || zero) ≡ true }
     ensures one { may_one result ≡ one }
     ensures zero { may_zero result ≡ zero }

@@ -14,7 +14,7 @@ ghost use Rattle.path_meaning.specs.Spread.{width, AreWidths, AllCome, Grows, Is
 use crate::switching::{Switch, SwitchState, switch_state};
 use ternary::Tern;
 
-/// Writes the most that each place lets through: its switch's level where the switch is closed or,
+/// Writes the most that each place lets through: its switch's level if the switch is closed or,
 /// unless `sure`, may be closed, and 0 elsewhere.
 pub(crate) fn put_widths(sure: bool, state: &[Tern], places: &[Option<Switch>], widths: &mut [u8])
     requires fits { All (FitsPlace (length state.now)) places.now }

@@ -7,9 +7,9 @@ use ternary::Tern;
 /// The kind of a transistor.
 #[derive(Clone, Copy, Debug, PartialEq, Eq, Hash)]
 pub enum SwitchKind {
-    /// An n-channel transistor: closed where its gate is 1.
+    /// An n-channel transistor: closed if its gate is 1.
     NChan,
-    /// A p-channel transistor: closed where its gate is 0.
+    /// A p-channel transistor: closed if its gate is 0.
     PChan,
     /// A depletion transistor: closed whatever its gate is.
     Always,

@@ -32,7 +32,7 @@ pub struct WalkFacts {
 impl Graph {
     /// The facts of a walk that is a live path under this state, which has one entry for each node.
     ///
-    /// `None` exactly where it is none: its root is no node, a hop is no place that holds a switch,
+    /// `None` exactly if it is none: its root is no node, a hop is no place that holds a switch,
     /// a hop's switch has no end where the walk stands, or a hop's switch is open.
     ///
     /// Bryant, "Boolean Analysis of MOS Circuits", 1987.
@@ -56,7 +56,7 @@ impl Graph {
 
     /// The facts of a path after one hop more, under this state, which has one entry for each node.
     ///
-    /// `None` exactly where no hop leads on: the place is none that holds a switch, its switch has no
+    /// `None` exactly if no hop leads on: the place is none that holds a switch, its switch has no
     /// end where the path stands, or it is open.
     ///
     /// Bryant, "Boolean Analysis of MOS Circuits", 1987.

@@ -11,7 +11,7 @@ pub at_ok : {T E P : Type 0} (result : Result T E) → P → OnOk result P
 at_ok (Ok value) fact = fact
 at_ok (Err fault) fact = tt
 
--- what holds of each known value holds where one is known
+-- what holds of each known value holds if one is known
 pub at_known : {X : Type 0} (known : Option X) (P : X → Type 0) → ((value : X) → P value) → IfSome known P
 at_known None P each = tt
 at_known (Some value) P each = each value

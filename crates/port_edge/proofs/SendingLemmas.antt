@@ -16,7 +16,7 @@ pub append_known-append : (known : Option (List ℕ)) (first second : List ℕ) 
 append_known-append None first second = refl
 append_known-append (Some bytes) first second = ap Some (append_assoc bytes first second)
 
--- where nothing was written, the whole text is left
+-- if nothing was written, the whole text is left
 pub sends_none : (known : Option (List ℕ)) (text : List ℕ) → Sends known known text text
 sends_none known text = record { sent = []; whole = refl; grew = sym (append_known-nil known) }
 
@@ -37,7 +37,7 @@ sends_part old now new text piece left sends (unsent, part) = (
       part.grew,
 )
 
--- where nothing is left, the whole text was written
+-- if nothing is left, the whole text was written
 pub last_sent : (old new : Option (List ℕ)) (text : List ℕ) → Sends old new text [] → new ≡ append_known old text
 last_sent old new text sends = sends.grew ∙ ap (append_known old) (sym (sends.whole ∙ append-nil sends.sent))
 
@@ -67,7 +67,7 @@ part_front old new count text grew =
 take_rest : (text : List ℕ) (at : ℕ) → take (length text - at) (drop at text) ≡ drop at text
 take_rest text at = grind (arith, common_steps, length-drop {A = ℕ})
 
--- the next bytes after those that are sent: they continue the front of the text
+-- the next bytes after those that are sent: they continue the prefix of the text
 pub front_more : (known now new : Option (List ℕ)) (text : List ℕ) (at count : ℕ) → now ≡ append_known known (take at text) → new ≡ append_known now (take count (take (length text - at) (drop at text))) → new ≡ append_known known (take (at + count) text)
 front_more known now new text at count so_far step =
     step ∙ ap (λ bytes. append_known bytes (take count (take (length text - at) (drop at text)))) so_far

@@ -23,16 +23,16 @@ pub record HonestSinkData : Type 0 where
 abbrev pub has_name : List ℕ → (String Global × Vec ℕ Global) → Bool
 has_name name entry = bytes_eq (string_bytes entry.0) name
 
--- the bytes of an entry, and none where there is no entry
+-- the bytes of an entry, and none if there is no entry
 abbrev pub bytes_of : Option (String Global × Vec ℕ Global) → List ℕ
 bytes_of None = []
 bytes_of (Some entry) = entry.1.items
 
--- what a name holds: the bytes of the first entry of that name, and none where there is no such entry
+-- what a name holds: the bytes of the first entry of that name, and none if there is no such entry
 abbrev pub held : Table → List ℕ → List ℕ
 held table name = bytes_of (find (has_name name) table)
 
--- the bytes of the entry at a place, and none where there is no place
+-- the bytes of the entry at a place, and none if there is no place
 abbrev pub bytes_at : Table → Option ℕ → List ℕ
 bytes_at table None = []
 bytes_at table (Some place) = bytes_of (slice_get table place)

@@ -39,7 +39,7 @@ abbrev pub files_unopened : {O : Type 0} → FilesOverData O → List ℕ → Po
 files_unopened files name Failed = record files { started = files.started ++ name ∷ []; faults = faults_at files.faults Failed }
 files_unopened files name NoMemory = files
 
--- what a started file has left, and nothing where none is started
+-- what a started file has left, and nothing if none is started
 abbrev pub rest_of : {F : Type 0} → (F → Option (List ℕ)) → Option F → Option (List ℕ)
 rest_of left None = Some []
 rest_of left (Some file) = left file

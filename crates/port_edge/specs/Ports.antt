@@ -43,7 +43,7 @@ started_after started name (Ok _) = with_name started name
 started_after started name (Err Failed) = with_name started name
 started_after started name (Err NoMemory) = started
 
--- what is left is all that the name holds, where that is told
+-- what is left is all that the name holds, if that is told
 abbrev pub Opens : Option (List ℕ → List ℕ) → List ℕ → Option (List ℕ) → Type 0
 Opens told name rest = IfSome told (λ holds. rest ≡ Some (holds name))
 

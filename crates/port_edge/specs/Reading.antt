@@ -1,4 +1,4 @@
--- What reading the front of a file gives, and which names it started.
+-- What reading the prefix of a file gives, and which names it started.
 use Rattle.std.specs.Prelude.{◌≡◌, ◌<◌, ◌≤◌, ℕ, Bool, true, false, List, ◌++◌, length, take, drop, Option, Some, IfSome, Result, Ok, Err, ◌⊎◌}
 use Rattle.std.specs.Io.KnownBytes.{prepend_known, IsAtEnd}
 use Rattle.port_edge.specs.Ports.{with_name}
@@ -10,7 +10,7 @@ pub record IsFront (holding : List ℕ) (most : ℕ) (bytes : List ℕ) (rest : 
   pub front : bytes ≡ take most holding
   pub left : rest ≡ Some (drop most holding)
 
--- the bytes and what is left are such parts, where it is told what names hold
+-- the bytes and what is left are such parts, if it is told what names hold
 abbrev pub ReadsFront : Option (List ℕ → List ℕ) → List ℕ → ℕ → List ℕ → Option (List ℕ) → Type 0
 ReadsFront told name most bytes rest = IfSome told (λ holds. IsFront (holds name) most bytes rest)
 

@@ -1,4 +1,4 @@
--- How many bytes were taken of each started file, the last one first, where that is told.
+-- How many bytes were taken of each started file, the last one first, if that is told.
 use Rattle.std.specs.Prelude.{◌≡◌, ℕ, ◌+◌, ◌≤◌, List, [], ◌∷◌, ◌++◌, Option, option_map, Result, Ok, Err}
 use Rattle.port_edge.specs.declared.ports.PortFault.{PortFault}
 use Rattle.port_edge.specs.declared.ports.PortFault.TheVariants.{Failed, NoMemory}

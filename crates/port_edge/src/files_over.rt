@@ -62,7 +62,7 @@ impl<O: Open + Drop> FilesOver<O> {
         }
     }
 
-    /// The name that was started last, where one was.
+    /// The name that was started last, if one was.
     pub fn name(&self) -> Option<&str>
         ensures { option_copied result ≡ slice_get self.now.started (length self.now.started - 1) }
     {
@@ -72,7 +72,7 @@ impl<O: Open + Drop> FilesOver<O> {
         }
     }
 
-    /// The reason for the last fault, where there was one.
+    /// The reason for the last fault, if there was one.
     pub fn reason(&self) -> Option<io::Error> {
         self.reason
     }

@@ -75,7 +75,7 @@ impl HonestFiles {
         Ok(())
     }
 
-    // Starts the first entry of this name, or none where there is none. Nothing was taken since the name
+    // Starts the first entry of this name, or none if there is none. Nothing was taken since the name
     // was noted.
     pub(crate) fn open(&mut self, name: &str)
         requires { slice_index self.old.taken 0 ≡ 0 }
@@ -157,7 +157,7 @@ pub(crate) fn place_of(table: &[(String, Vec<u8>)], name: &str) -> Option<usize>
     table.iter().position(|entry| entry.0.as_str() == name)
 }
 
-// The bytes of the entry at this place, and none where there is no place.
+// The bytes of the entry at this place, and none if there is no place.
 pub(crate) fn entry_bytes(table: &[(String, Vec<u8>)], place: Option<usize>) -> &[u8]
     ensures { result.now ≡ bytes_at table.now place }
 {

@@ -17,7 +17,7 @@
 //! opener.
 //!
 //! The layers above use two calls. `send` writes a whole text: on `Ok` the sink grew by it, and after a
-//! fault by a front of it. `read_front` gives the first `most` bytes of what a name holds.
+//! fault by a prefix of it. `read_front` gives the first `most` bytes of what a name holds.
 //!
 //! ```text
 //! let mut files = HonestFiles::new(alloc, table);

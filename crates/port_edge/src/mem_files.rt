@@ -106,7 +106,7 @@ impl Files for MemFiles {
         ensures taken { Some self.new.files.taken ≡ taken_after (Some self.old.files.taken) result }
         ensures cause { self.new.calls.faults ≡ faults_after self.old.calls.faults result }
 
-        // A read takes no memory. It fails exactly where its number says so, and each is counted.
+        // A read takes no memory. It fails exactly if its number says so, and each is counted.
         ensures memory { result ≢ Err PortFault.NoMemory }
         ensures fails { 0 < length buf.old
             → ((result ≡ Err PortFault.Failed) ↔ IsTrue (fails_next self.old.calls)) }

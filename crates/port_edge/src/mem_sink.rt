@@ -65,7 +65,7 @@ impl Sink for MemSink {
         ensures cause { self.new.calls.faults ≡ faults_after self.old.calls.faults result }
         ensures memory { self.new.sink.refusals ≡ refusals_after self.old.sink.refusals result }
 
-        // A write fails exactly where its number says so, and each is counted.
+        // A write fails exactly if its number says so, and each is counted.
         ensures fails { 0 < length piece.now
             → ((result ≡ Err PortFault.Failed) ↔ IsTrue (fails_next self.old.calls)) }
         ensures counted { 0 < length piece.now

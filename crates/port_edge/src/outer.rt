@@ -13,7 +13,7 @@ use std::io;
 pub trait Outlet {
     ghost contents: { Self → Option (List ℕ) };
 
-    /// Takes a front of the bytes, and answers of how many. After an error none was taken.
+    /// Takes a prefix of the bytes, and answers of how many. After an error none was taken.
     fn write(&mut self, bytes: &[u8]) -> io::Result<usize>
         ensures bound { IfOk result (λ n. n ≤ length bytes.now) }
         ensures bytes { Writes (contents self.old) (contents self.new) result bytes.now };

@@ -104,7 +104,7 @@ pub trait Sink {
 
     ghost refusals: { Self → ℕ };
 
-    /// Writes a front of the piece, and answers of how many bytes.
+    /// Writes a prefix of the piece, and answers of how many bytes.
     ///
     /// An empty piece changes nothing. Of any other piece at least one byte is taken. After a fault nothing
     /// was written.

@@ -13,7 +13,7 @@ const PIECE: usize = 65_536;
 /// Starts the file of this name and reads it to its end, or to its first `most` bytes.
 ///
 /// On `Ok` the bytes are the front of what the name holds, of at most `most` bytes, and all after them is
-/// left, where that is told. What the names hold stays. The name was started once; where memory was lacking,
+/// left, if that is told. What the names hold stays. The name was started once; where memory was lacking,
 /// once or not at all. Of the file at most `most` bytes are taken, and none but the answered ones where there
 /// is an answer. `NoMemory` may come at any point, and how much of the file is left after a fault is open: the
 /// next start begins anew. After a call that failed none follows: the count of faults rose by one.

@@ -22,7 +22,7 @@ pub type RealFiles<'a> = FilesOver<HostFiles<'a>>;
 
 /// A writer of the standard library as an outlet.
 ///
-/// It tells nothing, since such a writer may begin to tell what it holds at any call. Where the writer does
+/// It tells nothing, since such a writer may begin to tell what it holds at any call. If the writer does
 /// tell, it grew by the bytes that are answered, and by none at an error.
 #[derive(Drop)]
 pub struct Writer<W: Write> {
@@ -52,7 +52,7 @@ impl<W: Write> Outlet for Writer<W> {
 
 /// A reader of the standard library as an inlet.
 ///
-/// It tells nothing, for the same reason. Where the reader does tell what it has left, the bytes come from
+/// It tells nothing, for the same reason. If the reader does tell what it has left, the bytes come from
 /// there, none only at its end, and none at an error.
 #[derive(Drop)]
 pub struct Reader<R: Read> {

@@ -8,7 +8,7 @@ use crate::ports::{PortFault, Sink};
 
 /// Writes the whole text, piece by piece.
 ///
-/// On `Ok` the sink grew by the text, where it is told. After a fault it grew by a front of the text, and
+/// On `Ok` the sink grew by the text, if it is told. After a fault it grew by a prefix of the text, and
 /// nothing more was written: the one call that failed, or lacked memory, was the last.
 pub fn send<S: Sink>(out: &mut S, text: &[u8]) -> Result<(), PortFault>
     ensures ok { OnOk result (S.written out.new ≡ append_known (S.written out.old) text.now) }

@@ -54,7 +54,7 @@ impl<W: Outlet> SinkOver<W> {
         &self.outlet
     }
 
-    /// The outlet's reason for the last fault, where there was one.
+    /// The outlet's reason for the last fault, if there was one.
     pub fn reason(&self) -> Option<io::Error> {
         self.reason
     }

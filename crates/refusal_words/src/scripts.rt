@@ -20,7 +20,7 @@ pub fn script_word<'a>(
     let line = told_line(code, text, number);
     match code {
         FaultCode::E1UnknownNode => name_of_sort(line, circuit, NodeSort::Unknown),
-        FaultCode::E2NoSuchSwitch => word_behind(line, 1),
+        FaultCode::E2NoSuchSwitch | FaultCode::S16NoSave => word_behind(line, 1),
         FaultCode::E3Rail => name_of_sort(line, circuit, NodeSort::Rail),
         FaultCode::E4BadStrength | FaultCode::E5BadSize => last_word(line),
         FaultCode::S4BadValue => bad_value(line, columns),

@@ -57,7 +57,7 @@ told_by_as IsRight IsMeant old new before after (Ok end) means told = record {
 }
 told_by_as IsRight IsMeant old new before after (Err stop) means told = told_as IsRight IsMeant old new (Err stop) means told
 
--- where the sink is untouched, what was written is as it was
+-- if the sink is untouched, what was written is as it was
 pub untouched_seen : {X Y : Type 0} (seen : X → Y) (old new : X) (result : Result end.End Stop) → IsUntouched old new result → IsUntouched (seen old) (seen new) result
 untouched_seen seen old new (Ok end) untouched = tt
 untouched_seen seen old new (Err stop) untouched = λ is. ap seen (untouched is)

@@ -35,7 +35,7 @@ not_both g fault texts told has =
     (has.fit first.k first.group (slice_get_within has.groups first.k first.group here)) in
     let none : None ≡ Some first.cause = sym fit ∙ first.too_large in absurd (cc)
 
--- the size of a group is never want of memory
+-- the size of a group is never lack of memory
 sizes_named : (first second : Bool) (members switches : ℕ) →
     (if first then Some (text.GroupNodes members) else (if second then Some (text.GroupSwitches switches) else None)) ≡ Some text.NoMemory → ⊥
 sizes_named true second members switches is = absurd (cc)
@@ -60,7 +60,7 @@ told_size c place ended fault cause old new result first named told =
     told_as (IsRefusalFor place cause ended) (IsTooLarge c place ended) old new result
     (λ answer right. record { fault = fault; first = first; cause = cause; named = named; told = right }) told
 
--- a fault that names a group isn't want of memory
+-- a fault that names a group isn't lack of memory
 is_too_large : (g : GraphData) (fault : BuildFault) (node count : ℕ) → (fault ≡ NoMemory) ⊎ TellsTooLarge g fault →
     (fault ≡ GroupNodes node count) ⊎ (fault ≡ GroupSwitches node count) → TellsTooLarge g fault
 is_too_large g fault node count (inl want) (inl is) = absurd (cc)

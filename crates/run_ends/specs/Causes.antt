@@ -18,7 +18,7 @@ pub record Cause : Type 0 where
 abbrev pub plain_cause : FaultCode → Cause
 plain_cause what = record { code = what; name = []; count = 0 }
 
--- that of a group that is too large; want of memory is no cause
+-- that of a group that is too large; lack of memory is no cause
 abbrev pub size_cause : CircuitData → BuildFault → Option Cause
 size_cause circuit (build.GroupNodes node count) = Some (record { code = code.G1GroupNodes; name = called circuit node; count = count })
 size_cause circuit (build.GroupSwitches node count) = Some (record { code = code.G2GroupSwitches; name = called circuit node; count = count })

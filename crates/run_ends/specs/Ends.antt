@@ -9,7 +9,7 @@ use Rattle.run_ends.specs.declared.status.Status.{Status}
 use Rattle.run_ends.specs.declared.status.Status.TheVariants as status
 use Rattle.run_ends.specs.Answers.{Answer, IsWritten, IsStopped, IsAnalysed}
 
--- the status of a run that met no fault and no want of memory
+-- the status of a run that met no fault and no lack of memory
 abbrev pub status_of : end.End → Status
 status_of ended.Done = status.Done
 status_of ended.Mismatch = status.Mismatch

@@ -11,7 +11,7 @@ use ternary::NoMemory;
 // How many bytes of a word are shown.
 const MOST_SHOWN: usize = 80;
 
-/// Notes of a line of a file the code of its refusal, and the cure with the word that it is about; for want of
+/// Notes of a line of a file the code of its refusal, and the cure with the word that it is about; out of
 /// memory it notes nothing. Nothing is written by it.
 pub fn note_cure<S: Sink>(
     alloc: Global,

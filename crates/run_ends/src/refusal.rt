@@ -52,12 +52,14 @@ fn refuse_named<S: Sink>(
     ensures write { S.faults out.new ≡ faults_written (S.faults out.old) result }
     ensures refused { IsRefusedOnce (S.refusals out.old) (S.refusals out.new) result }
 {
-    match write_refusal(alloc, place, code, name, count, end, out) {
-        Ok(ended) => {
+    let mut line = LineBuf::new(alloc, FAULT_LINE_ROOM + name.len())?;
+    fault_line(&mut line, place, code, name, count);
+    match send(out, line.bytes()) {
+        Ok(()) => {
             note_at(alloc, place, code, word, out);
-            Ok(ended)
+            Ok(end)
         }
-        Err(stop) => Err(stop),
+        Err(fault) => Err(Stop::of_write(fault)),
     }
 }
 
@@ -77,33 +79,7 @@ fn note_at<S: Sink>(alloc: Global, place: FaultPlace, code: FaultCode, word: &[u
     note_cure(alloc, file, line, code.text(), word, out);
 }
 
-// Writes the line of a refusal that tells of a node by its name, and a count.
-fn write_refusal<S: Sink>(
-    alloc: Global,
-    place: FaultPlace,
-    code: FaultCode,
-    name: &[u8],
-    count: u64,
-    end: End,
-    out: &mut S,
-) -> Result<End, Stop>
-    ensures told { IsTold
-        (IsRefusalFor place (record { code = code; name = name.now; count = count }) (status_of end))
-        (S.written out.old) (S.written out.new) result }
-    ensures same { IfOk result (λ ended. ended ≡ end) }
-    ensures no_read { IfErr result (λ stop. stop ≢ Stop.Read) }
-    ensures write { S.faults out.new ≡ faults_written (S.faults out.old) result }
-    ensures refused { IsRefusedOnce (S.refusals out.old) (S.refusals out.new) result }
-{
-    let mut line = LineBuf::new(alloc, FAULT_LINE_ROOM + name.len())?;
-    fault_line(&mut line, place, code, name, count);
-    match send(out, line.bytes()) {
-        Ok(()) => Ok(end),
-        Err(fault) => Err(Stop::of_write(fault)),
-    }
-}
-
-/// Writes the line of the first group of a circuit that is too large, and ends the run so; want of memory
+/// Writes the line of the first group of a circuit that is too large, and ends the run so; lack of memory
 /// stops it. The cure is noted besides, with the name of the group.
 pub fn refuse_size<S: Sink>(
     alloc: Global,
@@ -123,6 +99,7 @@ pub fn refuse_size<S: Sink>(
     ensures refused { IsRefusedOnce (S.refusals out.old) (S.refusals out.new) result }
 {
     match fault {
+        BuildFault::NoMemory => Err(Stop::Memory),
         BuildFault::GroupNodes { node, count } => {
             let name = circuit.name_of(node);
             let code = FaultCode::G1GroupNodes;
@@ -133,6 +110,5 @@ pub fn refuse_size<S: Sink>(
             let code = FaultCode::G2GroupSwitches;
             refuse_named(alloc, place, code, name, count, name, end, out)
         }
-        BuildFault::NoMemory => Err(Stop::Memory),
     }
 }

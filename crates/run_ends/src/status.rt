@@ -18,7 +18,7 @@ pub enum Status {
     ReadFault,
     /// The output could not be written.
     WriteFault,
-    /// There was want of memory.
+    /// Memory ran out.
     NoMemory,
 }
 

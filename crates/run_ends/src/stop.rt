@@ -4,7 +4,7 @@ ghost use Rattle.run_ends.specs.Stops.{read_stop_of, write_stop_of};
 use port_edge::PortFault;
 use ternary::NoMemory;
 
-/// How a run ends that meets no fault and no want of memory.
+/// How a run ends that meets no fault and no lack of memory.
 #[derive(Clone, Copy, Debug, PartialEq, Eq)]
 pub enum End {
     /// The script was obeyed to its end, or all that was asked for was written.
@@ -26,7 +26,7 @@ pub enum Stop {
     Read,
     /// The output could not be written.
     Write,
-    /// There was want of memory.
+    /// Memory ran out.
     Memory,
 }
 

@@ -116,7 +116,7 @@ alias-named c first second is visible_first visible_second =
       visible = with_alias-visible c first second is.visible visible_first visible_second;
     })
 
--- the node of a name that is in use, or comes so, is no rail, where the name is no rail's
+-- the node of a name that is in use, or comes so, is no rail, if the name is no rail's
 node_named-no_rail : (c : CircuitData) (name : List ℕ) → IsCircuit c → is_rail c name ≡ false → RAILS ≤ node_named (with_node c name) name
 node_named-no_rail c name is other = by (node_of c.names name) refl other where
   by : (found : Option ℕ) → node_of c.names name ≡ found → option_map_or (λ node. nat_lt node RAILS) found false ≡ false
@@ -276,7 +276,7 @@ circuit_of-named : (meaning : Result DraftData NetRefusal) → Drafts meaning �
 circuit_of-named (Ok draft) is = sized-named draft is
 circuit_of-named (Err refusal) is = tt
 
--- what a text means is such a circuit, where it isn't refused
+-- what a text means is such a circuit, if it isn't refused
 netlist_of-named : (text : List ℕ) (circuit : CircuitData) → netlist_of text ≡ Ok circuit → IsNamed circuit
 netlist_of-named text circuit same =
     subst Gives same

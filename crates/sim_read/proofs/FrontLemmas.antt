@@ -59,7 +59,7 @@ not_cut cut n below = grind (arith, nat_tests)
 is_cut-here : (n : ℕ) → (n == n) ≡ true
 is_cut-here n = grind (arith, nat_tests)
 
--- a line before it means what it means where there is none
+-- a line before it means what it means if there is none
 lines_meaning-uncut : (cut n : ℕ) (lines : List (List ℕ)) (d : DraftData) → n + length lines ≤ cut
     → lines_meaning (Some cut) d (enumerate_from n lines) ≡ lines_meaning None d (enumerate_from n lines)
 lines_meaning-uncut cut n [] d within = refl
@@ -96,7 +96,7 @@ module _ (front more : List ℕ) (lines : List (List ℕ)) (are : AreEnded front
   pub lines_of-parts : lines_of (front_of (front ++ more)) ≡ lines ++ lines_of rest_read
   lines_of-parts = ap lines_of front_of-parts ∙ lines_of-AreEnded are rest_read
 
-  -- where the text is too long, the ended lines stand before the line that holds the first byte too many
+  -- if the text is too long, the ended lines stand before the line that holds the first byte too many
   uncut : lines_meaning (cut_line (front ++ more)) rails_draft (enumerate_from 1 lines) ≡ lines_meaning None rails_draft (enumerate_from 1 lines)
   uncut = elim (cases_lt MOST_FILE_BYTES (length (front ++ more))) [
     | inl long ↦

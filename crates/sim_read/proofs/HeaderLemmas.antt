@@ -17,7 +17,7 @@ after_first-at p line at found =
     position_or_len_is p line at 0 (omega (arith, place.0)) place.2 (λ _. place.1) in
     ap (λ n. drop (n + 1) line) first ∙ sym (rest_from line (at + 1))
 
--- nothing stands after it where no byte passes
+-- nothing stands after it if no byte passes
 pub after_first-none : (p : ℕ → Bool) (line : List ℕ) → position p line ≡ None → after_first p line ≡ []
 after_first-none p line absent =
     elim (cases_lt (position_or_len p line) (length line)) [

@@ -1,4 +1,4 @@
--- The meaning of a netlist: it goes by the front of the text alone, and it is what the lines give one by one from the rails alone in the
+-- The meaning of a netlist: it goes by the prefix of the text alone, and it is what the lines give one by one from the rails alone in the
 -- text's profile, since the header gives those once more.
 use Rattle.std.proofs.Common.{◌≡◌, ◌↔◌, ℕ, Bool, true, false, cond, Some, None, unwrap_or, List, [], ◌∷◌, ◌++◌, Option, Result, Ok, Err, refl, sym, ap, ap₂, subst, ◌∙◌}
 use Rattle.std.specs.Prelude.{if◌then◌else◌}
@@ -101,7 +101,7 @@ lines_meaning-Make more (no_line d) = refl
 lines_meaning-Make {cut} more (one_more old mid new line lines effect makes) =
     ap (onward cut line (lines ++ more)) effect ∙ lines_meaning-Make more makes
 
--- so they give a circuit exactly where they make it
+-- so they give a circuit exactly if they make it
 pub means-MakesAll : (text : List ℕ) (c : CircuitData) → (netlist_of text ≡ Ok c) ↔ MakesAll text c
 means-MakesAll text c = (
   λ gives. found (lines_meaning (cut_line text) rails_draft (lines_in text)) refl gives,
@@ -165,7 +165,7 @@ lines_meaning-IsFirstOf cut start lines refusal is =
     ∙ lines_meaning-Make ((refusal.line, is.line) ∷ is.after) is.made
     ∙ ap (onward cut (refusal.line, is.line) is.after) is.refused
 
--- so they give a refusal exactly where they have it
+-- so they give a refusal exactly if they have it
 pub means-IsFirstRefused : (text : List ℕ) (refusal : NetRefusal) → (netlist_of text ≡ Err refusal) ↔ IsFirstRefused text refusal
 means-IsFirstRefused text refusal = (
   λ gives. IsFirstOf-lines (cut_line text) (lines_in text) (rails_of text) refusal

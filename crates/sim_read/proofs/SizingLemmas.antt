@@ -140,7 +140,7 @@ sized_stored d place size c is stored inside by_caps =
       above = λ node past. get_or-set_other c.graph.levels place node size 0 (λ here. absurd (omega arith)) ∙ is.above node (omega arith);
     }
 
--- so with a node that gets its size where it is sized, one more has its level
+-- so with a node that gets its size if it is sized, one more has its level
 pub sized_more : (d : DraftData) (place cap : ℕ) (c new : CircuitData) → IsSizedUpTo d place c → place < nodes d.circuit.graph
     → cap ≡ capacitance d place
     → new ≡ (if is_storage_level (level_of c.graph place) && not (is_marked d.marks place) then with_store c place (size_by d.thresholds cap) else c)

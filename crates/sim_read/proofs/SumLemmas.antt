@@ -27,7 +27,7 @@ weight among sum = if among sum.0 then sum.1 else 0
 abbrev put : List (Vec ℕ Global × ℕ) → Vec ℕ Global → ℕ → List (Vec ℕ Global × ℕ)
 put table name value = insert_entry (λ one two. bytes_eq one.items two.items) table name value
 
--- the sum of a name, 0 where nothing was added to it
+-- the sum of a name, 0 if nothing was added to it
 abbrev sum_of : List (Vec ℕ Global × ℕ) → List ℕ → ℕ
 sum_of table name = unwrap_or (held (entries_of table) name) 0
 
@@ -168,7 +168,7 @@ sums-room names entries place found name sum stands are (Some node) count limit 
     sum_fits names entries place found.items name sum stands are node (omega arith) in
     omega arith
 
--- with the sum of one name more at the node that is found, where one is, one name more brings each node its sum
+-- with the sum of one name more at the node that is found, if one is, one name more brings each node its sum
 pub sums-found : (names entries : List (List ℕ × ℕ)) (place : ℕ) (old new : Vec ℕ Global) (name : List ℕ) (sum : ℕ)
     → slice_get entries place ≡ Some (name, sum) → AreSums names entries place old.items
     → (at : Option ℕ) (count : ℕ) → node_of names name ≡ at → length old.items ≡ count → IfSome at (λ node. node < count)

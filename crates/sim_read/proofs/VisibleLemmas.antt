@@ -38,7 +38,7 @@ with_nodes-visible (name ∷ names) c is visible =
     with_nodes-visible names (with_node c name) (with_node-visible c name is (All-head IsVisibleName name names visible))
     (All-tail IsVisibleName name names visible)
 
--- a circuit with a name in use, as one more name of a node where it is new
+-- a circuit with a name in use, as one more name of a node if it is new
 with_name_of-visible : (c : CircuitData) (name : List ℕ) (node : ℕ) → HasVisibleEntries c → IsVisibleName name → HasVisibleEntries (with_name_of c name node)
 with_name_of-visible c name node is visible = by (is_some (node_of c.names name)) where
   by : (used : Bool) → HasVisibleEntries (if used then c else record c { names = c.names ++ (name, node) ∷ [] })

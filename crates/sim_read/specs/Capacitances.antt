@@ -24,12 +24,12 @@ with_more [] name more = (name, more) ∷ []
 with_more (sum ∷ sums) name more =
     if bytes_eq name sum.0 then (sum.0, sum.1 + more) ∷ sums else sum ∷ with_more sums name more
 
--- so much more is added to two names, once where both are one
+-- so much more is added to two names, once if both are one
 abbrev pub with_both : NameSums → List ℕ → List ℕ → ℕ → NameSums
 with_both sums first second more =
     if bytes_eq first second then with_more sums first more else with_more (with_more sums first more) second more
 
--- the same, where a value is written
+-- the same, if a value is written
 abbrev pub with_value : NameSums → List ℕ → List ℕ → Option ℕ → NameSums
 with_value sums first second None = sums
 with_value sums first second (Some more) = with_both sums first second more

@@ -30,7 +30,7 @@ rails_draft = rails_draft_in One []
 abbrev pub is_marked : List Bool → ℕ → Bool
 is_marked marks node = slice_index_or marks node false
 
--- the marks with this node marked, where there is one
+-- the marks with this node marked, if there is one
 abbrev pub with_mark : List Bool → Option ℕ → List Bool
 with_mark marks None = marks
 with_mark marks (Some node) = slice_set (marks ++ replicate (node + 1 - length marks) false) node true

@@ -31,7 +31,7 @@ is_header line = option_map_or is_known_format (format_of (comment_words line)) 
 abbrev pub is_second : List (List ℕ) → Bool
 is_second words = list_any (λ word. bytes_eq word (codes "profile:2")) words
 
--- this, where it is there, else the other
+-- this, if it is there, else the other
 abbrev pub or_later : Option (List ℕ) → Option (List ℕ) → Option (List ℕ)
 or_later (Some found) later = Some found
 or_later None later = later
@@ -61,6 +61,6 @@ are_thresholds numbers = nat_le (length numbers) MOST_THRESHOLDS && is_rising nu
 abbrev pub thresholds_by : List (List ℕ) → Option (List ℕ)
 thresholds_by items = option_and_then (λ numbers. if are_thresholds numbers then Some numbers else None) (numbers_of items)
 
--- the thresholds of a header in profile 2: none where no word names any, else those of its items between commas
+-- the thresholds of a header in profile 2: none if no word names any, else those of its items between commas
 abbrev pub thresholds_of : List (List ℕ) → Option (List ℕ)
 thresholds_of words = option_map_or (λ text. thresholds_by (items_of text)) (caps_of words) (Some [])

@@ -38,11 +38,11 @@ gate_items words = flat_map items_of (filter_map (after_prefix (codes "g=")) wor
 abbrev pub strength_texts : List (List ℕ) → List (List ℕ)
 strength_texts items = filter_map (after_prefix (codes "strength:")) items
 
--- the number that is written, where it is a decimal that passes the test
+-- the number that is written, if it is a decimal that passes the test
 abbrev pub number_that : (ℕ → Bool) → List ℕ → Option ℕ
 number_that test text = option_and_then (λ number. if test number then Some number else None) (decimal_of text)
 
--- the strength after these settings: the last one, or this one where there is none; none where one of them isn't accepted
+-- the strength after these settings: the last one, or this one if there is none; none if one of them isn't accepted
 abbrev pub strength_after : Profile → ℕ → List (List ℕ) → Option ℕ
 strength_after profile strength [] = Some strength
 strength_after profile strength (text ∷ texts) =
@@ -52,11 +52,11 @@ strength_after profile strength (text ∷ texts) =
 abbrev pub strength_of : Profile → ℕ → List (List ℕ) → Option ℕ
 strength_of profile usual words = strength_after profile usual (strength_texts (gate_items words))
 
--- what the size of an item `size:K` sets, where it is accepted
+-- what the size of an item `size:K` sets, if it is accepted
 abbrev pub size_setting : Profile → List ℕ → Option Setting
 size_setting profile text = option_and_then (λ size. Some (Size size)) (number_that (is_size profile) text)
 
--- what an item sets that isn't `input`: a size, where it has one, or nothing new
+-- what an item sets that isn't `input`: a size, if it has one, or nothing new
 abbrev pub setting_by : Profile → Setting → Option (List ℕ) → Option Setting
 setting_by profile setting None = Some setting
 setting_by profile setting (Some text) = size_setting profile text
@@ -67,13 +67,13 @@ setting_after_item profile setting item =
     if bytes_eq item (codes "input") then Some Input
     else setting_by profile setting (after_prefix (codes "size:") item)
 
--- what is set after these items, from left to right, or none where a size isn't accepted
+-- what is set after these items, from left to right, or none if a size isn't accepted
 abbrev pub setting_after : Profile → Setting → List (List ℕ) → Option Setting
 setting_after profile setting [] = Some setting
 setting_after profile setting (item ∷ items) =
     option_and_then (λ next. setting_after profile next items) (setting_after_item profile setting item)
 
--- the profile accepts the size that is set, where one is
+-- the profile accepts the size that is set, if one is
 abbrev pub IsAccepted : Profile → Setting → Type 0
 IsAccepted profile Unset = ⊤
 IsAccepted profile Input = ⊤

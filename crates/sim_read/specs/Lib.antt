@@ -7,3 +7,4 @@ pub mod Reading
 pub mod FirstRefused
 pub mod Records
 pub mod Standing
+pub mod Words

@@ -42,7 +42,7 @@ abbrev pub edited : Option MakingFault → CircuitData → Result CircuitData Ne
 edited None made = Ok made
 edited (Some fault) made = Err (edit_cause fault)
 
--- a transistor between these names, of this strength where that is one
+-- a transistor between these names, of this strength if that is one
 abbrev pub transistor_meaning : CircuitData → SwitchKind → List ℕ → List ℕ → List ℕ → Option ℕ → Result CircuitData NetWhat
 transistor_meaning c kind gate source drain None = Err BadStrength
 transistor_meaning c kind gate source drain (Some strength) =
@@ -58,7 +58,7 @@ with_setting c node Unset = c
 with_setting c node Input = with_input c node
 with_setting c node (Size size) = with_store c node size
 
--- the node of a name, made where it is new, and what is set at it, where all sizes are accepted
+-- the node of a name, made if it is new, and what is set at it, where all sizes are accepted
 abbrev pub attributes_meaning : CircuitData → List ℕ → Option Setting → Result CircuitData NetWhat
 attributes_meaning c name None = Err BadSize
 attributes_meaning c name (Some setting) =
@@ -84,14 +84,14 @@ record_meaning c Attributes [] = Err FewWords
 record_meaning c Capacitance words = Ok c
 record_meaning c Passed words = Ok c
 
--- the node, where something is set at it
+-- the node, if something is set at it
 abbrev pub set_at : ℕ → Option Setting → Option ℕ
 set_at node None = None
 set_at node (Some Unset) = None
 set_at node (Some Input) = Some node
 set_at node (Some (Size size)) = Some node
 
--- the node at which a line of attributes sets something, by the words after its first one, where it sets something at one
+-- the node at which a line of attributes sets something, by the words after its first one, if it sets something at one
 abbrev pub node_set : CircuitData → List (List ℕ) → Option ℕ
 node_set c [] = None
 node_set c (name ∷ words) =
@@ -125,12 +125,12 @@ abbrev pub words_meaning : DraftData → List (List ℕ) → Result DraftData Ne
 words_meaning d [] = Ok d
 words_meaning d (word ∷ words) = known_meaning d (record_of word) words
 
--- the draft in profile 2 with these thresholds, where they are some: the rails alone, since no line comes before
+-- the draft in profile 2 with these thresholds, if they are some: the rails alone, since no line comes before
 abbrev pub second_meaning : DraftData → Option (List ℕ) → Result DraftData NetWhat
 second_meaning d None = Err BadCaps
 second_meaning d (Some thresholds) = Ok (record d { circuit = rails_alone Two; thresholds = thresholds })
 
--- the words of a header, whose format is known: where one is `profile:2`, it says the profile and the thresholds
+-- the words of a header, whose format is known: if one is `profile:2`, it says the profile and the thresholds
 abbrev pub header_meaning : DraftData → List (List ℕ) → Result DraftData NetWhat
 header_meaning d words = if is_second words then second_meaning d (thresholds_of words) else Ok d
 

@@ -43,7 +43,7 @@ pub record IsOpen (r : ReaderData) (text : List ℕ) : Type 0 where
 abbrev pub IsRefused : NetRefusal → List ℕ → Type 0
 IsRefused refusal text = (more : List ℕ) → netlist_of (text ++ more) ≡ Err refusal
 
--- what the reader holds is so of the text: it met no refusal, or it holds one; after want of memory it stands for no text
+-- what the reader holds is so of the text: it met no refusal, or it holds one; after memory ran out it stands for no text
 abbrev pub StandsBy : ReaderData → List ℕ → Option NetFault → Type 0
 StandsBy r text None = IsOpen r text
 StandsBy r text (Some (Refused refusal)) = IsRefused refusal text

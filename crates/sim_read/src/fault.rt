@@ -1,10 +1,8 @@
 //! What a netlist is refused for.
 
 ghost use Rattle.std.specs.Prelude.{Option};
-ghost use Rattle.netlist.specs.Circuits.{CircuitData};
-ghost use Rattle.netlist.specs.Faults.{IsAnswered, MakingFault};
-ghost use Rattle.sim_read.specs.Meaning.{edited};
-ghost use Rattle.sim_read.specs.Reading.{IsStop};
+ghost use Rattle.netlist.specs.Words.{CircuitData, IsAnswered, MakingFault};
+ghost use Rattle.sim_read.specs.Words.{edited, IsStop};
 
 use netlist::EditFault;
 use ternary::NoMemory;
@@ -16,8 +14,8 @@ pub enum NetFault {
     /// A line is refused.
     #[error("{0}")]
     Refused(NetRefusal),
-    /// There was want of memory.
-    #[error("want of memory")]
+    /// Memory ran out.
+    #[error("out of memory")]
     NoMemory,
 }
 
@@ -31,7 +29,7 @@ pub struct NetRefusal {
     pub what: NetWhat,
 }
 
-/// Why a line of a netlist is refused. Where several causes stand together, `TooLong` wins, then
+/// Why a line of a netlist is refused. If several causes stand together, `TooLong` wins, then
 /// the first one in the order here.
 #[derive(Clone, Copy, Debug, Drop, Error, PartialEq, Eq)]
 pub enum NetWhat {
@@ -89,7 +87,7 @@ impl From<NoMemory> for NetFault {
 pub(crate) enum LineStop {
     /// The line is refused for this cause.
     Refused(NetWhat),
-    /// There was want of memory.
+    /// Memory ran out.
     NoMemory,
 }
 

@@ -12,7 +12,7 @@ use line_words::{Words, thousandths, words};
 use std::alloc::{AllocError, Global};
 use ternary::NoMemory;
 
-/// The number of the line that is the header where it is a comment.
+/// The number of the line that is the header if it is a comment.
 pub(crate) const HEADER_LINE: u64 = 1;
 
 /// The most thresholds of sizes, one fewer than there are sizes.
@@ -113,7 +113,7 @@ fn is_profile(word: &[u8]) -> bool
     word == SECOND
 }
 
-/// The thresholds of a header in profile 2, none where no word names any; `None` where what a word
+/// The thresholds of a header in profile 2, none if no word names any; `None` where what a word
 /// names are none.
 pub(crate) fn thresholds_of(alloc: Global, line: &[u8]) -> Result<Option<Vec<u64>>, NoMemory>
     ensures value { IfOk result (λ found.

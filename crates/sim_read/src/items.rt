@@ -59,7 +59,7 @@ pub(crate) fn items_of(word: &[u8]) -> Items<'_>
     Items { rest: Some(word) }
 }
 
-// The bytes before the first comma, and those after it; all of them and none where there is none.
+// The bytes before the first comma, and those after it; all of them and none if there is none.
 fn cut_item(word: &[u8]) -> (&[u8], Option<&[u8]>)
     ensures { spec.items_of word.now ≡ result.0.now ∷ spec.items_left (option_copied result.1) }
 {
@@ -77,7 +77,7 @@ fn first_comma(word: &[u8]) -> Option<usize>
 }
 
 /// The strength of a transistor, by the words after its drain: the last one that an item
-/// `strength:K` of a word `g=..` sets, or the usual one; None where one of them isn't accepted.
+/// `strength:K` of a word `g=..` sets, or the usual one; None if one of them isn't accepted.
 pub(crate) fn strength_by_words(profile: Profile, usual: u64, words: Words<'_>) -> Option<u64>
     ensures { result ≡ spec.strength_of profile usual words.entry }
 {
@@ -103,7 +103,7 @@ fn strength_by_items(profile: Profile, usual: u64, items: Items<'_>) -> Option<u
     Some(strength)
 }
 
-/// What the words after a node's name set: the last item `input` or `size:K`; None where a size
+/// What the words after a node's name set: the last item `input` or `size:K`; None if a size
 /// isn't accepted.
 pub(crate) fn setting_by_words(profile: Profile, words: Words<'_>) -> Option<Setting>
     ensures value { result ≡ spec.setting_of profile words.entry }

@@ -2,12 +2,8 @@
 
 ghost use Rattle.std.specs.Prelude.{◌≡◌, ◌↔◌, [], ◌∷◌, ◌++◌, ℕ, List, Some, None, Ok, Err, IsSome};
 ghost use Rattle.line_words.specs.Files.{front_of};
-ghost use Rattle.netlist.specs.Edits.{is_strength};
-ghost use Rattle.netlist.specs.Circuits.{CircuitData, IsCircuit};
-ghost use Rattle.sim_read.specs.Capacitances.{AddInAnyOrder};
-ghost use Rattle.sim_read.specs.Items.{number_that, strength_after};
-ghost use Rattle.sim_read.specs.Meaning.{netlist_of};
-ghost use Rattle.sim_read.specs.FirstRefused.{IsFirstRefused, MakesAll};
+ghost use Rattle.netlist.specs.Words.{is_strength, CircuitData, IsCircuit};
+ghost use Rattle.sim_read.specs.Words.{AddInAnyOrder, number_that, strength_after, netlist_of, IsFirstRefused, MakesAll};
 ghost use Rattle.sim_read.specs.declared.fault.NetRefusal.{NetRefusal};
 ghost use Rattle.sim_read.specs.declared.header.TheConstants.{HEADER_LINE, MOST_THRESHOLDS};
 ghost use Rattle.sim_read.specs.declared.pieces.TheConstants.{MOST_HELD};
@@ -36,7 +32,7 @@ pub fn capacitances_add_in_any_order()
     ensures { AddInAnyOrder }
 {}
 
-/// A law: of a transistor's strengths the last one counts, where all are accepted.
+/// A law: of a transistor's strengths the last one counts, if all are accepted.
 pub fn the_last_strength_counts(profile: Profile)
     ensures last { (usual strength : ℕ) (texts : List (List ℕ)) (text : List ℕ)
         → number_that (is_strength profile) text ≡ Some strength → IsSome (strength_after profile usual texts)

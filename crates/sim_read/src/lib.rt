@@ -20,7 +20,7 @@
 //! profile: docs/FORMATS.md has it whole.
 //!
 //! For the proofs of crates above: `CircuitLemmas` says that a netlist that isn't refused is a circuit
-//! with visible names, `MeaningLemmas` that it goes by the front of the text alone, and
+//! with visible names, `MeaningLemmas` that it goes by the prefix of the text alone, and
 //! `StandingLemmas` how what readers stand for is joined, piece by piece.
 #![tactic(auto)]
 

@@ -4,11 +4,7 @@ ghost use Rattle.std.specs.Prelude.{◌≡◌, ◌≤◌, ◌<◌, ◌+◌, ◌*
 ghost use Rattle.line_words.specs.Bytes.{line_feed};
 ghost use Rattle.line_words.specs.Lines.{HasNoFeed, without_return};
 ghost use Rattle.netlist.specs.Circuits.{HasVisibleNames};
-ghost use Rattle.sim_read.specs.Capacitances.{all_added};
-ghost use Rattle.sim_read.specs.Drafts.{sized};
-ghost use Rattle.sim_read.specs.Meaning.{line_meaning, netlist_of};
-ghost use Rattle.sim_read.specs.Reading.{IsFault};
-ghost use Rattle.sim_read.specs.Standing.{counted, too_far, GoesOn, IsRead, LacksMemory, StandsFor};
+ghost use Rattle.sim_read.specs.Words.{all_added, sized, line_meaning, netlist_of, IsFault, counted, too_far, GoesOn, IsRead, LacksMemory, StandsFor};
 
 use crate::fault::{LineStop, NetFault, NetRefusal, NetWhat};
 use crate::reader::{Draft, read_line};
@@ -85,7 +81,7 @@ impl Reader {
     /// Reads one more piece: the reader stands for the text that it stood for, followed by the
     /// piece.
     ///
-    /// After want of memory it stands for no text, and each further call answers want of memory.
+    /// After lack of memory it stands for no text, and each further call answers lack of memory.
     pub fn feed(&mut self, piece: &[u8]) -> Result<(), NoMemory>
         ensures ok { OnOk result (GoesOn self.old self.new piece.now) }
         ensures err { OnErr result (LacksMemory self.new) }
@@ -138,7 +134,7 @@ impl Reader {
     }
 
     /// The line that is refused, if the text is refused as it stands: the first one that was refused,
-    /// or else the one that hasn't ended. For want of memory there are no bytes; no clause says what
+    /// or else the one that hasn't ended. For lack of memory there are no bytes; no clause says what
     /// line it is.
     pub fn refused_line(&self) -> &[u8] {
         match self.fault {
@@ -237,7 +233,7 @@ impl Reader {
     }
 }
 
-// Reads a line that was held, with this number, into the draft: its refusal, where it has one. A refused line is kept,
+// Reads a line that was held, with this number, into the draft: its refusal, if it has one. A refused line is kept,
 // as far as there is memory.
 fn read_held(
     draft: &mut Draft,

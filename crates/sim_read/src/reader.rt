@@ -2,14 +2,10 @@
 
 ghost use Rattle.std.specs.Prelude.{◌≡◌, ◌<◌, ◌≤◌, ◌+◌, ◌*◌, ◌^◌, false, length, Ok, Err, Some, None, IfOk, IfErr, IfSome, OnOk};
 ghost use Rattle.path_meaning.specs.Graphs.{nodes};
-ghost use Rattle.netlist.specs.Circuits.{rails_alone};
-ghost use Rattle.netlist.specs.Edits.{node_named, with_node};
-ghost use Rattle.sim_read.specs.Capacitances.{all_added, with_line};
-ghost use Rattle.sim_read.specs.Drafts.{rails_draft, sized, with_mark};
+ghost use Rattle.netlist.specs.Words.{rails_alone, node_named, with_node};
+ghost use Rattle.sim_read.specs.Words.{all_added, with_line, rails_draft, sized, with_mark, IsAccepted, IsStop};
 ghost use Rattle.sim_read.specs.Header as header;
-ghost use Rattle.sim_read.specs.Items.{IsAccepted};
 ghost use Rattle.sim_read.specs.Meaning as spec;
-ghost use Rattle.sim_read.specs.Reading.{IsStop};
 
 use crate::fault::{LineStop, NetWhat, edit_stop};
 use crate::header::{HEADER_LINE, MOST_THRESHOLDS, is_header, is_second, thresholds_of};
@@ -346,7 +342,7 @@ fn read_attributes(circuit: &mut Circuit, mut words: Words<'_>) -> Result<Option
 }
 
 // Sets this at the node of a name that is no rail's, and answers the node where this is something;
-// the node is made where the name is new.
+// the node is made if the name is new.
 fn add_attributes(
     circuit: &mut Circuit,
     name: &[u8],

@@ -4,10 +4,9 @@ ghost use Rattle.std.specs.Prelude.{◌≡◌, ◌≤◌, ◌<◌, ◌^◌, ◌&
 ghost use Rattle.strength_order.specs.declared.Profile.TheVariants.{Two};
 ghost use Rattle.path_meaning.specs.Graphs.{is_storage_level, level_of, nodes};
 ghost use Rattle.netlist.specs.Edits.{with_store};
-ghost use Rattle.sim_read.specs.Capacitances.{all_added};
+ghost use Rattle.sim_read.specs.Words.{all_added, sized_in};
 ghost use Rattle.sim_read.specs.Capacitances as spec;
 ghost use Rattle.sim_read.specs.Drafts as drafts;
-ghost use Rattle.sim_read.specs.Drafts.{sized_in};
 
 use crate::header::MOST_THRESHOLDS;
 use crate::sums::Sums;
@@ -44,7 +43,7 @@ pub(crate) fn size_nodes(
     Ok(())
 }
 
-// Gives a node its size by its capacitance, where it is a storage node that isn't marked.
+// Gives a node its size by its capacitance, if it is a storage node that isn't marked.
 fn size_node(
     circuit: &mut Circuit,
     thresholds: &[u64],

@@ -38,9 +38,9 @@ impl Sums {
         }
     }
 
-    /// Adds so much to two names, once where both are one.
+    /// Adds so much to two names, once if both are one.
     ///
-    /// At want of memory it was added to the first, or to none.
+    /// Out of memory it was added to the first, or to none.
     pub(crate) fn add_both(
         &mut self,
         first: &[u8],
@@ -92,7 +92,7 @@ impl Sums {
     }
 }
 
-// Adds so much at a place, where there is one.
+// Adds so much at a place, if there is one.
 fn add_at(found: &mut Vec<u64>, place: Option<usize>, more: u64)
     requires within { IfSome place (λ at. at < length found.old.items) }
     requires room { IfSome place (λ at. slice_index found.old.items at + more < 2 ^ 64) }

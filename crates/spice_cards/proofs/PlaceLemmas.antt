@@ -14,7 +14,7 @@ place p xs at found = by (ltb (position_or_len p xs) (length xs)) (position_or_l
   by true end some = cc
   by false end some = absurd (cc)
 
--- where none passes the search ends behind the list
+-- if none passes the search ends behind the list
 none : {X : Type 0} (p : X → Bool) (xs : List X) → position p xs ≡ None → length xs ≤ position_or_len p xs
 none p xs absent =
     elim (cases_lt (position_or_len p xs) (length xs)) [
@@ -26,7 +26,7 @@ none p xs absent =
 pub before_first-at : {X : Type 0} (p : X → Bool) (xs : List X) (at : ℕ) → position p xs ≡ Some at → before_first p xs ≡ take at xs
 before_first-at p xs at found = ap (λ n. take n xs) (place p xs at found)
 
--- all of them stand before it where none passes
+-- all of them stand before it if none passes
 pub before_first-none : {X : Type 0} (p : X → Bool) (xs : List X) → position p xs ≡ None → before_first p xs ≡ xs
 before_first-none p xs absent = take_all (position_or_len p xs) xs (none p xs absent)
 
@@ -35,7 +35,7 @@ pub after_first-at : (p : ℕ → Bool) (xs : List ℕ) (at : ℕ) → position 
     → after_first p xs ≡ take (length xs - (at + 1)) (drop (at + 1) xs)
 after_first-at p xs at found = ap (λ n. drop (n + 1) xs) (place p xs at found) ∙ sym (rest_from xs (at + 1))
 
--- nothing stands after it where none passes
+-- nothing stands after it if none passes
 pub after_first-none : (p : ℕ → Bool) (xs : List ℕ) → position p xs ≡ None → after_first p xs ≡ []
 after_first-none p xs absent = drop_all (position_or_len p xs + 1) xs (let past = none p xs absent in omega arith)
 

@@ -139,7 +139,7 @@ pool_of-cleared text words left kept outside inside before is cut seen =
     words-cleared (words_at text words) (words_at text left) kept outside inside before (kept_of text words kept outside inside is)
     (words_at-take text words left kept cut) seen
 
--- words stay where they are in a text that grows
+-- words stay if they are in a text that grows
 words_at-grown : (text more : List ℕ) (words : List Span) → All (IsSpan (length text)) words → words_at (text ++ more) words ≡ words_at text words
 words_at-grown text more [] are = refl
 words_at-grown text more (span ∷ words) are =

@@ -143,7 +143,7 @@ is_some-option_map : {T U : Type 0} (f : T → U) (found : Option T) → is_some
 is_some-option_map f None = refl
 is_some-option_map f (Some x) = refl
 
--- a name stands for a subcircuit exactly where it stands for a place
+-- a name stands for a subcircuit exactly if it stands for a place
 pub is_some-named : (inside : List PartCard) (places : List (List ℕ × SubcircuitPlace)) (name : List ℕ) →
     is_some (named (subcircuits_at inside places) name) ≡ is_some (named places name)
 is_some-named inside places name =
@@ -176,7 +176,7 @@ IsReading-ended count places start name place is within = record { subcircuits =
 pub between-last : (inside : List PartCard) (place : SubcircuitPlace) → place.end ≡ length inside → between inside place ≡ drop place.opening inside
 between-last inside place last = ap (λ n. take (n - place.opening) (drop place.opening inside)) last ∙ take_rest inside place.opening
 
--- what is read stays well formed where the pool got a part inside, or didn't at want of memory
+-- what is read stays well formed where the pool got a part inside, or didn't out of memory
 pub IsReading-inside : {T E : Type 0} (result : Result T E) (pool next : PoolData) (part : PartCard) (places : List (List ℕ × SubcircuitPlace)) (start : Option ℕ) →
     OnErr result (next ≡ pool) → OnOk result (next ≡ with_inside pool part) → IsReading (length pool.inside) places start →
     IsReading (length next.inside) places start

@@ -1,4 +1,4 @@
--- A refused deck is refused at a line: want of memory is no meaning of a text.
+-- A refused deck is refused at a line: lack of memory is no meaning of a text.
 use Rattle.std.specs.Prelude.{⊤}
 use Rattle.std.proofs.Common.{◌≡◌, ℕ, Bool, true, false, List, [], ◌∷◌, length, nat_lt, Option, None, Some, Result, Ok, Err, if◌then◌else◌}
 use Rattle.line_words.specs.declared.line_check.TheConstants.{LONGEST_LINE}
@@ -11,7 +11,7 @@ use Rattle.spice_cards.specs.CardLines.{is_end}
 use Rattle.spice_cards.specs.Decks.{DeckCards}
 use Rattle.spice_cards.specs.Reading.{ReadSoFar, cards_of, deck_lines, first_fault, going_on, line_meaning, lines_meaning, nothing_read, tail_fault, titled_meaning, unless, unread_fault}
 
--- a fault, where there is one, tells of a line
+-- a fault, if there is one, tells of a line
 abbrev pub IsAtLine : Option DeckFault → Type 0
 IsAtLine None = ⊤
 IsAtLine (Some (At line what)) = ⊤

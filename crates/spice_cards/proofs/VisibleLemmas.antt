@@ -120,7 +120,7 @@ record IsVisibleRead (r : ReadSoFar) : Type 0 where
   deck : IsVisibleDeck r.deck
   begun : IfSome r.begun (λ entry. All IsVisiblePart entry.1.parts)
 
--- what a card gives, where it isn't refused
+-- what a card gives, if it isn't refused
 abbrev Gives : Result ReadSoFar DeckWhat → Type 0
 Gives given = IfOk given IsVisibleRead
 
@@ -233,7 +233,7 @@ line-sound cut r next line later same = by (is_cut cut line.0) (line_fault line.
     by false (Some what) same = absurd (cc)
     by false None same = refl
 
--- what a line gives that isn't refused, where its card has visible words
+-- what a line gives that isn't refused, if its card has visible words
 line-visible : (cut : Option ℕ) (r next : ReadSoFar) (line : ℕ × List ℕ) (later : List (ℕ × List ℕ)) → IsVisibleRead r →
     ((ended : Bool) → line_sort line.1 ≡ Begins →
     Gives (card_meaning (record r { has_card = true }) line.0 (card_sort (first_word line.1)) (card_words line.1 later) ended)) →

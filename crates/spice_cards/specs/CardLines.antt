@@ -73,7 +73,7 @@ continued (line ∷ lines) = continued_by (line_sort line.1) line.1 (continued l
 abbrev pub card_words : List ℕ → List (ℕ × List ℕ) → List (List ℕ)
 card_words line later = kept_words line ++ continued later
 
--- the first of some words, where there is one
+-- the first of some words, if there is one
 abbrev pub head_of : List (List ℕ) → List ℕ
 head_of [] = []
 head_of (word ∷ words) = word

@@ -40,7 +40,7 @@ with_part_in r (Some begun) part = record r { begun = Some (begun.0, record begu
 abbrev pub with_part : ReadSoFar → ℕ → PartSort → List (List ℕ) → ReadSoFar
 with_part r line sort words = with_part_in r r.begun (record { line = line; sort = sort; words = words })
 
--- the word at a place, where there is one
+-- the word at a place, if there is one
 abbrev pub word_at : List (List ℕ) → ℕ → List ℕ
 word_at words place = head_of (drop place words)
 
@@ -122,7 +122,7 @@ unread_fault cut line =
     if is_cut cut line.0 then Some (At line.0 TooLong)
     else (if nat_lt LONGEST_LINE (length line.1) then Some (At line.0 LineTooLong) else None)
 
--- the first of these faults, where there are two
+-- the first of these faults, if there are two
 abbrev pub first_fault : Option DeckFault → Option DeckFault → Option DeckFault
 first_fault (Some fault) later = Some fault
 first_fault None later = later

@@ -56,7 +56,7 @@ impl Deck {
         self.reading.outside()
     }
 
-    /// The subcircuit of this name, where there is one.
+    /// The subcircuit of this name, if there is one.
     pub fn find(&self, name: &[u8]) -> Option<Subcircuit<'_>>
         ensures found { IfSome result (λ s. named self.now.subcircuits name.now
             ≡ Some (record { line = s.line; ports = s.ports; parts = s.parts })) }

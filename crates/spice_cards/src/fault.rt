@@ -14,12 +14,12 @@ pub enum DeckFault {
         /// Why it is refused.
         what: DeckWhat,
     },
-    /// There was want of memory.
-    #[error("want of memory")]
+    /// Memory ran out.
+    #[error("out of memory")]
     NoMemory,
 }
 
-/// Why a line of a deck is refused. Where several causes stand together at a line, the first one in
+/// Why a line of a deck is refused. If several causes stand together at a line, the first one in
 /// the order here wins; those up to `Redefined` come before all others, wherever these stand.
 #[derive(Clone, Copy, Debug, Drop, Error, PartialEq, Eq)]
 pub enum DeckWhat {
@@ -89,7 +89,7 @@ impl From<NoMemory> for DeckFault {
 pub(crate) enum CardStop {
     /// The card is refused for this cause.
     Refused(DeckWhat),
-    /// There was want of memory.
+    /// Memory ran out.
     NoMemory,
 }
 

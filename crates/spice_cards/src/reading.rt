@@ -140,7 +140,7 @@ impl Reading {
         self.begun = Some(opening);
         Ok(())
     }
-    /// Ends the subcircuit that has begun. Refused with `BadNesting` exactly where none has.
+    /// Ends the subcircuit that has begun. Refused with `BadNesting` exactly if none has.
     pub(crate) fn end(&mut self) -> Result<(), CardStop>
         ensures ok { OnOk result
             (closing_meaning self.old.so_far self.old.so_far.begun ≡ Ok self.new.so_far) }

@@ -130,7 +130,7 @@ fn first_solid_place(line: &[u8]) -> Option<usize>
     line.iter().position(|&byte| byte != b' ' && byte != b'\t')
 }
 
-/// The first word of a line, where it has one, else no bytes.
+/// The first word of a line, if it has one, else no bytes.
 pub(crate) fn first_word(line: &[u8]) -> &[u8]
     ensures { result.now ≡ spec.first_word line.now }
 {

@@ -47,7 +47,7 @@ impl<'d> Words<'d> {
         self.spans.len()
     }
 
-    /// The word at a place, where there is one, else no bytes.
+    /// The word at a place, if there is one, else no bytes.
     pub fn at(&self, place: usize) -> &'d [u8]
         ensures { result.now ≡ word_at self.now place }
     {
@@ -57,14 +57,14 @@ impl<'d> Words<'d> {
         }
     }
 
-    /// The first so many words; all, where there are no more.
+    /// The first so many words; all, if there are no more.
     pub fn front(&self, count: usize) -> Words<'d>
         ensures { result ≡ take count self.now }
     {
         Words::new(self.text, front(self.spans, count))
     }
 
-    /// The words behind the first so many; none, where there are no more.
+    /// The words behind the first so many; none, if there are no more.
     pub fn behind(&self, count: usize) -> Words<'d>
         ensures { result ≡ drop count self.now }
     {

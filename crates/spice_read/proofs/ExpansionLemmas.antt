@@ -61,7 +61,7 @@ after-placed (placed line kind strength gate source drain ∷ steps) made last s
         record { done = All-cons IsDone (placed line kind strength gate source drain) steps tt is.done; circuit = is.circuit }
 after-placed (refused line what ∷ steps) made last same = absurd (cc)
 
--- the cards and what is made of them, where a deck isn't refused
+-- the cards and what is made of them, if a deck isn't refused
 pub record IsRead (text : List ℕ) (c : CircuitData) : Type 0 where
   pub deck : DeckCards
   pub cards : cards_of text ≡ Ok deck

@@ -152,7 +152,7 @@ any-map : (line : ℕ) (calls : List OpenCall) →
 any-map line [] = refl
 any-map line (call ∷ calls) = ap (λ (later : Bool). (call.line == line) || later) (any-map line calls)
 
--- a subcircuit is being expanded, where one of the calls is of it
+-- a subcircuit is being expanded, if one of the calls is of it
 pub any-expanding : (deck : DeckCards) (calls : List OpenCall) (line : ℕ) →
     list_any (λ one. one == line) (scope_from deck outside calls).expanding ≡ list_any (λ (call : OpenCall). call.line == line) calls
 any-expanding deck calls line = ap (list_any (λ one. one == line)) (expanding-from deck calls outside) ∙ any-map line calls

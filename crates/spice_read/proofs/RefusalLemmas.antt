@@ -1,4 +1,4 @@
--- A deck that means no circuit is refused at a line: want of memory is no meaning of a text.
+-- A deck that means no circuit is refused at a line: lack of memory is no meaning of a text.
 use Rattle.std.proofs.Common.{◌≢◌, ◌+◌, ℕ, Bool, true, false, List, [], ◌∷◌, nat_le, Option, None, Some, Result, Ok, Err, if◌then◌else◌, subst}
 use Rattle.netlist.specs.Circuits.{CircuitData}
 use Rattle.netlist.specs.Edits.{add_fault, with_transistor}
@@ -52,6 +52,6 @@ circuit_of-tells : (text : List ℕ) → TellsLine (circuit_of text)
 unfolding circuit_of
 circuit_of-tells text = circuit_by-tells (cards_of text) (cards_of-tells text)
 
--- no text means want of memory
+-- no text means lack of memory
 pub circuit_of-no_memory : (text : List ℕ) → circuit_of text ≢ Err NoMemory
 circuit_of-no_memory text = λ is. subst (λ (meaning : Result CircuitData DeckFault). TellsLine meaning) is (circuit_of-tells text)

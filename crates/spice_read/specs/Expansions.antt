@@ -21,7 +21,7 @@ IsDone (opened line) = ⊤
 IsDone (placed line kind strength gate source drain) = ⊤
 IsDone (refused line what) = ⊥
 
--- what the last of these entries of a name has, where there is one, else this
+-- what the last of these entries of a name has, if there is one, else this
 abbrev pub last_named : Option (List ℕ) → List (List ℕ × List ℕ) → List ℕ → Option (List ℕ)
 last_named found [] name = found
 last_named found (entry ∷ entries) name = last_named (if bytes_eq name entry.0 then Some entry.1 else found) entries name

@@ -14,7 +14,7 @@ pub record PortsData : Type 0 where
 abbrev pub entries_of : List (Bor (List ℕ) × Bor (List ℕ)) → List (List ℕ × List ℕ)
 entries_of table = map (λ entry. (entry.0.now, entry.1.now)) table
 
--- there is a word for each port, and the table, where there is one, has of each name the word at its last place
+-- there is a word for each port, and the table, if there is one, has of each name the word at its last place
 pub record IsPorts (ports words : List (List ℕ)) (table : Option (IndexMap (Bor (List ℕ)) (Bor (List ℕ)) TableKeys)) : Type 0 where
   pub counted : length ports ≡ length words
   pub last : IfSome table (λ t. entries_of t.entries ≡ with_each [] (zip ports words))

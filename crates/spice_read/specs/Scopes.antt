@@ -42,7 +42,7 @@ abbrev pub below : Option (List ℕ) → List ℕ → List ℕ
 below None name = name
 below (Some path) name = path ++ dot ∷ name
 
--- the node of a name in a call, by the node that it has as a port: that one, else its own where it is fixed, else one of the call alone
+-- the node of a name in a call, by the node that it has as a port: that one, else its own if it is fixed, else one of the call alone
 abbrev pub node_by : DeckCards → List ℕ → List ℕ → Option (List ℕ) → List ℕ
 node_by deck path name (Some node) = node
 node_by deck path name None = if is_fixed deck name then fixed_node name else below (Some path) name

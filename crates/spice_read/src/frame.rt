@@ -18,7 +18,7 @@ use ternary::NoMemory;
 
 /// Where parts are expanded: outside every call of a deck, or in calls, whose ports stand for nodes.
 ///
-/// No node is written down for a call, nor its path: the node of a name is found where it is asked for,
+/// No node is written down for a call, nor its path: the node of a name is found when it is asked for,
 /// by the words on the cards of the calls from the innermost on.
 #[derive(Drop)]
 pub(crate) struct Frame<'d> {
@@ -55,7 +55,7 @@ impl<'d> Frame<'d> {
         self.lookups.deck()
     }
 
-    /// The subcircuit that the card on this line calls by this name, where there is one.
+    /// The subcircuit that the card on this line calls by this name, if there is one.
     pub(crate) fn find(&mut self, line: u64, name: &'d [u8]) -> Option<Subcircuit<'d>>
         ensures found { IfSome result (λ s. named self.old.deck.subcircuits name.now
             ≡ Some (record { line = s.line; ports = s.ports; parts = s.parts })) }

@@ -10,7 +10,7 @@ ghost use Rattle.spice_read.specs.Making.{circuit_of};
 ghost use Rattle.spice_read.specs.Scopes.{with_each};
 ghost use Rattle.spice_read.specs.declared.expansion.TheConstants.{MOST_CALLS, MOST_OPEN};
 
-/// A law: where a port is named twice, the node at its last place counts.
+/// A law: if a port is named twice, the node at its last place counts.
 pub fn the_last_place_of_a_port_counts()
     ensures { (ports : List (List ℕ × List ℕ)) (name : List ℕ) → named (with_each [] ports) name ≡ last_named None ports name }
 {}
@@ -27,7 +27,7 @@ pub fn decks_are_expanded()
     // What stands behind the first byte too many has no meaning.
     ensures front { (text : List ℕ) → circuit_of (front_of text) ≡ circuit_of text }
 
-    // What is refused is refused at a line: no text means want of memory.
+    // What is refused is refused at a line: no text means lack of memory.
     ensures memory { (text : List ℕ) → circuit_of text ≢ Err NoMemory }
 {}
 

@@ -54,7 +54,7 @@ impl<'d> Lookups<'d> {
         self.deck
     }
 
-    /// The subcircuit that the card on this line calls by this name, where there is one.
+    /// The subcircuit that the card on this line calls by this name, if there is one.
     pub(crate) fn find(&mut self, line: u64, name: &'d [u8]) -> Option<Subcircuit<'d>>
         ensures found { IfSome result (λ s. named self.old.subcircuits name.now
             ≡ Some (record { line = s.line; ports = s.ports; parts = s.parts })) }
@@ -73,7 +73,7 @@ impl<'d> Lookups<'d> {
     }
 }
 
-// What is kept for the card on this line, where it is of this name.
+// What is kept for the card on this line, if it is of this name.
 fn kept<'d>(
     cards: &IndexMap<u64, Found<'d>, TableKeys>,
     line: u64,
@@ -88,7 +88,7 @@ fn kept<'d>(
     }
 }
 
-// Keeps what was found for the card on this line. For want of memory it is looked up again another time.
+// Keeps what was found for the card on this line. For lack of memory it is looked up again another time.
 fn keep<'d>(
     cards: &mut IndexMap<u64, Found<'d>, TableKeys>,
     line: u64,

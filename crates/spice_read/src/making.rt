@@ -50,7 +50,7 @@ impl Made {
         self.circuit
     }
 
-    /// Opens a call, on this line. Refused with `TooManyCalls` exactly where there are `MOST_CALLS` already.
+    /// Opens a call, on this line. Refused with `TooManyCalls` exactly if there are `MOST_CALLS` already.
     pub(crate) fn open(&mut self, line: u64) -> Result<(), DeckFault>
         ensures ok { OnOk result (step_meaning self.old (Step.opened line) ≡ Ok self.new) }
         ensures refused { IfErr result (IsFault (step_meaning self.old (Step.opened line))) }

@@ -25,7 +25,7 @@ noted_is : (noted : Option Operand) → IsSome noted → noted ≡ Some (unwrap_
 noted_is None some = absurd (false≢true some)
 noted_is (Some operand) some = refl
 
--- a variable stands for the rail "may be 1" where its number is even, and else for "may be 0"
+-- a variable stands for the rail "may be 1" if its number is even, and else for "may be 0"
 rail_cases : (P : Operand → Type 0) (v : ℕ) → (v ≡ 2 * (v / 2) → P (High (v / 2))) → (v ≡ 2 * (v / 2) + 1 → P (Low (v / 2))) → P (rail_of v)
 rail_cases P v even odd =
     ⊎_elim

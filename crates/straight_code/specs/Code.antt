@@ -38,7 +38,7 @@ with_result input done instruction = done ++ instruction_value input done instru
 unfoldable pub results : List Tern → List Instruction → List Bool
 results input instructions = fold (with_result input) [] instructions
 
--- the state with these rails, X where neither is set
+-- the state with these rails, X if neither is set
 abbrev pub settled : Bool → Bool → Tern
 settled one zero = unwrap_or (of_rails one zero) Unk
 

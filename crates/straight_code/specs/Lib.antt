@@ -4,3 +4,4 @@ pub mod Places
 pub mod Lowering
 pub mod Parts
 pub mod Flat
+pub mod Words

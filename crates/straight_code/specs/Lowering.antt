@@ -44,7 +44,7 @@ with_gate noted instructions (Not a) = instructions ++ instruction.Not (operand_
 with_gate noted instructions (And a b) = instructions ++ instruction.And (operand_at noted a.place) (operand_at noted b.place) ∷ []
 with_gate noted instructions (Or a b) = instructions ++ instruction.Or (operand_at noted a.place) (operand_at noted b.place) ∷ []
 
--- the operand that then has the gate's value, where there were so many instructions before
+-- the operand that then has the gate's value, if there were so many instructions before
 abbrev pub gate_operand : ℕ → Gate → Operand
 gate_operand count False = Constant false
 gate_operand count True = Constant true

@@ -25,9 +25,9 @@ pub enum Operand {
 /// An instruction: its result is a truth value.
 #[derive(Clone, Copy, PartialEq, Eq)]
 pub enum Instruction {
-    /// True where the operand is false.
+    /// True if the operand is false.
     Not(Operand),
-    /// True where both operands are true.
+    /// True if both operands are true.
     And(Operand, Operand),
     /// True where at least one of both operands is true.
     Or(Operand, Operand),
@@ -68,7 +68,7 @@ impl Model for Code {
 
 impl Code {
     // The code with these instructions and outputs. Code with too many inputs or instructions for its
-    // dense form is refused as want of memory.
+    // dense form is refused as lack of memory.
     pub(crate) fn new(
         alloc: Global,
         inputs: usize,
@@ -131,7 +131,7 @@ impl Code {
         &self.flat
     }
 
-    /// Runs the code on the states of its inputs, and writes those of its outputs, X where neither
+    /// Runs the code on the states of its inputs, and writes those of its outputs, X if neither
     /// rail is set.
     ///
     /// It takes one step for each instruction, and no memory: the results stand in `scratch`, which

@@ -48,7 +48,7 @@ pub struct FlatCode {
 const MOST: usize = 1 << 30;
 
 impl FlatCode {
-    /// The dense form of code. Code with too many inputs or instructions is refused as want of memory.
+    /// The dense form of code. Code with too many inputs or instructions is refused as lack of memory.
     pub(crate) fn of(
         alloc: Global,
         inputs: usize,

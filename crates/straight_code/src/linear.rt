@@ -3,11 +3,9 @@
 ghost use Rattle.std.specs.Prelude.{◌≡◌, ℕ, ◌*◌, ◌<◌, ◌↔◌, List, [], ◌∷◌, ◌++◌, length, map, nat_eq, All, Contains, IsSome, IfOk, OnOk};
 ghost use Rattle.std.specs.List.Sorted.{IsStrictlyIncreasing};
 ghost use Rattle.indexmap.specs.IndexMap.{get};
-ghost use Rattle.bool_pool.specs.Gate.{gate_at, IsOperand, IsVariable};
-ghost use Rattle.bool_pool.specs.Pairs.{AreReaching, HasVariablesBelow, ReachExactly};
+ghost use Rattle.bool_pool.specs.Words.{gate_at, IsOperand, IsVariable, AreReaching, HasVariablesBelow, ReachExactly};
 ghost use Rattle.dual_rail.specs.Conduct.{AreInside};
-ghost use Rattle.straight_code.specs.Linear.{Means};
-ghost use Rattle.straight_code.specs.Lowering.{rail_of, operand_at, with_gate, gate_operand, output_of, AreNoted, AreLowered};
+ghost use Rattle.straight_code.specs.Words.{Means, rail_of, operand_at, with_gate, gate_operand, output_of, AreNoted, AreLowered};
 
 use crate::code::{Code, Instruction, Operand, Output};
 use bool_pool::{Gate, Id, Pool, Rails};
@@ -20,7 +18,7 @@ use ternary::NoMemory;
 ///
 /// Its input j has the variables 2j and 2j + 1, whether it may be 1 and whether it may be 0. It has one
 /// instruction for each And, Or and Not that the formulas reach, and no other. Code of more than 2^30
-/// inputs or instructions is refused as want of memory.
+/// inputs or instructions is refused as lack of memory.
 pub fn linearise(
     alloc: Global,
     pool: &Pool,

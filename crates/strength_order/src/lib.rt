@@ -66,7 +66,7 @@ impl Profile {
     }
 }
 
-/// The level of the size `k`: None exactly where the profile doesn't accept it. Profile 1 accepts
+/// The level of the size `k`: None exactly if the profile doesn't accept it. Profile 1 accepts
 /// 1 to 3, profile 2 accepts 1 to 8.
 pub fn size_level(p: Profile, k: u64) -> Option<u8>
     ensures value { SomeIff result (IsSize p k) (level_of_size k) }
@@ -78,7 +78,7 @@ pub fn size_level(p: Profile, k: u64) -> Option<u8>
     Some(k as u8)
 }
 
-/// The level of the strength `g`: None exactly where the profile doesn't accept it. Profile 1
+/// The level of the strength `g`: None exactly if the profile doesn't accept it. Profile 1
 /// accepts 1 to 4, profile 2 accepts 1 to 7.
 pub fn switch_level(p: Profile, g: u64) -> Option<u8>
     ensures value { SomeIff result (IsStrength p g) (level_of_strength g) }

@@ -38,7 +38,7 @@ same_or_other s t = decided (eq.eq-value.it s t) (tern_eq-Decides s t)
 pub all_same_or_other : (xs ys : List Tern) → (xs ≡ ys) ⊎ (xs ≢ ys)
 all_same_or_other xs ys = decided (pointwise eq.eq-value.it xs ys) (pointwise_decides tern_eq-Decides xs ys)
 
--- each rail of a join is set where one of the two states sets it
+-- each rail of a join is set if one of the two states sets it
 join_rails : (s t : Tern) →
     (may_one (join s t) ≡ (may_one s || may_one t)) × (may_zero (join s t) ≡ (may_zero s || may_zero t))
 join_rails Zero Zero = (refl, refl)
@@ -51,11 +51,11 @@ join_rails Unk Zero = (refl, refl)
 join_rails Unk One = (refl, refl)
 join_rails Unk Unk = (refl, refl)
 
--- a join may be 1 where one of the two may
+-- a join may be 1 if one of the two may
 pub may_one-join : (s t : Tern) → may_one (join s t) ≡ (may_one s || may_one t)
 may_one-join s t = (join_rails s t).0
 
--- and 0 where one of the two may
+-- and 0 if one of the two may
 pub may_zero-join : (s t : Tern) → may_zero (join s t) ≡ (may_zero s || may_zero t)
 may_zero-join s t = (join_rails s t).1
 

@@ -1,6 +1,6 @@
 use std::alloc::AllocError;
 
-/// Want of memory: an allocation was refused, and nothing else went wrong.
+/// Lack of memory: an allocation was refused, and nothing else went wrong.
 #[derive(Clone, Copy, Debug, PartialEq, Eq)]
 pub struct NoMemory;
 

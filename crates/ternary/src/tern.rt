@@ -36,7 +36,7 @@ impl Tern {
         self != Tern::One
     }
 
-    /// The state with these rails, or None where neither is set.
+    /// The state with these rails, or None if neither is set.
     pub fn from_rails(one: bool, zero: bool) -> Option<Tern>
         ensures value { result ≡ of_rails one zero }
         ensures rails { IfSome result (λ state. (may_one state ≡ one) × (may_zero state ≡ zero)) }
@@ -62,7 +62,7 @@ impl Tern {
         }
     }
 
-    /// The state that a letter stands for, or None where it is none of `0`, `1`, `X` and `x`.
+    /// The state that a letter stands for, or None if it is none of `0`, `1`, `X` and `x`.
     pub fn from_letter(letter: u8) -> Option<Tern>
         ensures { result ≡ of_letter letter }
     {

@@ -14,7 +14,7 @@ use Rattle.ternary.specs.declared.tern.Tern.TheVariants.{Zero, One, Unk}
 use Rattle.vector_values.specs.Values.{Letter, ValueData, after_prefix, bit_of, bits_of, decimal_or_letters, fitted, hex_bits, hex_digit, hex_or_other, is_zero, letters_of, number_value, plain_value}
 use Rattle.vector_values.specs.Laws.{BitsWriteTheNumber, FittedWriteTheSame, IsBit, NumbersAreBits, UnfittedAreTooLarge, number_of, one_of}
 
--- a bit is 1 where the number is odd
+-- a bit is 1 if the number is odd
 one_of-odd : (number : ℕ) → one_of (if number % 2 == 1 then Some One else Some Zero) ≡ number % 2
 one_of-odd number =
     elim (cases_eq (number % 2) 1) [

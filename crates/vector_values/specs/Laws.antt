@@ -28,7 +28,7 @@ FittedWriteTheSame =
 abbrev pub IsBit : Letter → Type 0
 IsBit letter = (letter ≡ Some Zero) ⊎ (letter ≡ Some One)
 
--- bits don't fit so many nodes exactly where their number has more bits
+-- bits don't fit so many nodes exactly if their number has more bits
 abbrev pub UnfittedAreTooLarge : Type 0
 UnfittedAreTooLarge = (count : ℕ) (bits : List Letter) → All IsBit bits → (fitted count bits ≡ None) ↔ (2 ^ count ≤ number_of bits)
 

@@ -16,11 +16,11 @@ Letter = Option Tern
 abbrev pub dash : ℕ
 dash = 45
 
--- the letter that a byte stands for: that of a state, or `-` where it may stand
+-- the letter that a byte stands for: that of a state, or `-` if it may stand
 abbrev pub letter_of : Bool → ℕ → Option Letter
 letter_of dashes byte = if dashes && byte == dash then Some None else option_map Some (of_letter byte)
 
--- the letters of bytes, or none where one stands for none
+-- the letters of bytes, or none if one stands for none
 abbrev pub letters_of : Bool → List ℕ → Option (List Letter)
 letters_of dashes [] = Some []
 letters_of dashes (byte ∷ bytes) =
@@ -42,7 +42,7 @@ hex_digit byte =
     else (if nat_le 97 byte && nat_le byte 102 then Some (byte - 87)
     else (if nat_le 65 byte && nat_le byte 70 then Some (byte - 55) else None))
 
--- the bits of hexadecimal digits, four for each, or none where a byte is no such digit
+-- the bits of hexadecimal digits, four for each, or none if a byte is no such digit
 abbrev pub hex_bits : List ℕ → Option (List Letter)
 hex_bits [] = Some []
 hex_bits (byte ∷ bytes) =
@@ -86,11 +86,11 @@ abbrev pub hex_or_other : Bool → List ℕ → Option (List ℕ) → Option Val
 hex_or_other dashes text (Some digits) = of_hex digits
 hex_or_other dashes text None = decimal_or_letters dashes text (after_prefix (codes "%d") text)
 
--- the value that a text writes, if any: `%h` and hexadecimal digits, `%d` and a decimal, or letters, with `-` where it may stand
+-- the value that a text writes, if any: `%h` and hexadecimal digits, `%d` and a decimal, or letters, with `-` if it may stand
 abbrev pub value_of : Bool → List ℕ → Option ValueData
 value_of dashes text = hex_or_other dashes text (after_prefix (codes "%h") text)
 
--- so many times the letter, where there is one alone
+-- so many times the letter, if there is one alone
 abbrev pub one_for_all : ℕ → List Letter → Option (List Letter)
 one_for_all count [] = None
 one_for_all count (letter ∷ []) = Some (replicate count letter)
@@ -114,7 +114,7 @@ fitted count bits =
     if nat_le (length bits) count then Some (replicate (count - length bits) (Some Zero) ++ bits)
     else (if list_all is_zero (take (length bits - count) bits) then Some (drop (length bits - count) bits) else None)
 
--- the letter for each of so many nodes, or none where the value doesn't fit them
+-- the letter for each of so many nodes, or none if the value doesn't fit them
 abbrev pub letters_for : ℕ → ValueData → Option (List Letter)
 letters_for count value = if value.number then fitted count value.letters else spread count value.letters
 
@@ -124,6 +124,6 @@ state_in [] = None
 state_in (letter ∷ []) = letter
 state_in (letter ∷ other ∷ letters) = None
 
--- the state that a value gives to a node that stands for itself, where it is one letter of a state
+-- the state that a value gives to a node that stands for itself, if it is one letter of a state
 abbrev pub state_of : ValueData → Option Tern
 state_of value = if value.number then None else state_in value.letters

@@ -8,7 +8,7 @@ use line_words::decimal;
 use std::alloc::{AllocError, Global};
 use ternary::{NoMemory, Tern};
 
-/// The value that a text writes, or None exactly where it writes none.
+/// The value that a text writes, or None exactly if it writes none.
 ///
 /// It is letters, one at least, of states and, where dashes may stand, `-`; or `%h` and hexadecimal
 /// digits, one at least, in any case; or `%d` and a decimal up to `u64::MAX`.
@@ -44,7 +44,7 @@ fn read_letters(alloc: Global, text: &[u8], dashes: bool) -> Result<Option<Vecto
     }
 }
 
-// The letters of bytes, or None where one stands for none.
+// The letters of bytes, or None if one stands for none.
 fn letters_of(alloc: Global, text: &[u8], dashes: bool) -> Result<Option<Vec<Letter>>, NoMemory>
     ensures { IfOk result (λ letters. option_map (λ list. list.items) letters ≡ spec.letters_of dashes text.now) }
 {
@@ -58,7 +58,7 @@ fn letters_of(alloc: Global, text: &[u8], dashes: bool) -> Result<Option<Vec<Let
     Ok(Some(letters))
 }
 
-// The letter that a byte stands for: that of a state, or `-` where it may stand.
+// The letter that a byte stands for: that of a state, or `-` if it may stand.
 fn letter_of(byte: u8, dashes: bool) -> Option<Letter>
     ensures { result ≡ spec.letter_of dashes byte }
 {
@@ -84,7 +84,7 @@ fn read_hex(alloc: Global, digits: &[u8]) -> Result<Option<VectorValue>, NoMemor
     }
 }
 
-// The bits of hexadecimal digits, or None where a byte is no such digit.
+// The bits of hexadecimal digits, or None if a byte is no such digit.
 fn hex_bits(alloc: Global, digits: &[u8]) -> Result<Option<Vec<Letter>>, NoMemory>
     ensures { IfOk result (λ bits. option_map (λ list. list.items) bits ≡ spec.hex_bits digits.now) }
 {

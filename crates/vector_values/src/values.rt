@@ -48,7 +48,7 @@ impl VectorValue {
         }
     }
 
-    /// The state that the value gives to a node that stands for itself, or None exactly where the value
+    /// The state that the value gives to a node that stands for itself, or None exactly if the value
     /// isn't one letter of a state.
     pub fn state(&self) -> Option<Tern>
         ensures { result ≡ spec.state_of self.now }
@@ -59,7 +59,7 @@ impl VectorValue {
         only_state(&self.letters)
     }
 
-    /// A letter for each of so many nodes, or None exactly where the number of letters is neither that of
+    /// A letter for each of so many nodes, or None exactly if the number of letters is neither that of
     /// the nodes nor one, or the number has more bits than there are nodes. A number's highest bit is
     /// the first node's.
     pub fn letters(&self, alloc: Global, count: usize) -> Result<Option<Vec<Letter>>, NoMemory>

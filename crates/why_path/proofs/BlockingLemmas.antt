@@ -9,7 +9,7 @@ use Rattle.path_meaning.specs.Plain.{AreStrongest}
 use Rattle.path_meaning.proofs.PathLemmas.{Hop-unique, Leads-more, Goes, Goes-leads, Goes-more}
 use Rattle.path_meaning.proofs.TableMeaning.{unbeaten, beaten_below}
 
--- where something is left of a walk, a hop leads on, and the rest leads on from there
+-- if something is left of a walk, a hop leads on, and the rest leads on from there
 pub led : (g : GraphData) (state : List Tern) (here there : Stand) (hops : List ℕ) (k : ℕ) → k < length hops →
     Leads g state here (drop k hops) there →
     (next : Stand) × Hop g state here (get_or hops k 0) next × Leads g state next (drop (k + 1) hops) there
@@ -25,7 +25,7 @@ led_on g state here next there hops k inside leads hop =
     rw same at rest.2
 
 module _ (g : GraphData) (state : List Tern) (best : List ℕ) (strongest : AreStrongest g state best) where
-  -- where the strongest definite path is stronger than a front of the walk, the walk is blocked
+  -- where the strongest definite path is stronger than a prefix of the walk, the walk is blocked
   pub blocks : (root : ℕ) → root < nodes g → (hops : List ℕ) (k : ℕ) (here : Stand) →
       Leads g state (at_root g root) (take k hops) here → here.node < nodes g →
       here.strength < slice_index best here.node → IsBlocked g state root hops

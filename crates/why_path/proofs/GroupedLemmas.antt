@@ -1,4 +1,4 @@
--- The group that is found for a node is near it; where none is found the node is an input node.
+-- The group that is found for a node is near it; if none is found the node is an input node.
 use Rattle.std.proofs.Common.{◌≡◌, ℕ, zero, suc, ◌<◌, Bool, true, ◌==◌, inl, inr, List, [], ◌∷◌, length, get_or, Option, None, Some, IfSome, refl, sym, ap, subst, ◌∙◌, arith}
 use Rattle.std.specs.Prelude.{Contains, find, is_some, option_map}
 use Rattle.std.proofs.lemmas.Bool.{cases_Bool, eqb-true}

@@ -113,7 +113,7 @@ module _ (rail : Tern → Bool) (g : GraphData) (wired : IsWired g) (group : Gro
         strong = copied.strong;
       }
 
-  -- a front of a local reason, and where it stands in both graphs
+  -- a prefix of a local reason, and where it stands in both graphs
   record IsFront (root : ℕ) (hops : List ℕ) (count : ℕ) (there : Stand) : Type 0 where
     mid : Stand
     path : LivePath (local_graph g group) local_states root (take count hops) mid

@@ -120,7 +120,7 @@ module _ (rail : Tern → Bool) (g : GraphData) (state : List Tern) (best : List
             IsIn-lower (IsIn-named named is_in) most
       ]
 
-  -- a node that is no root of this level is in, where it is asked
+  -- a node that is no root of this level is in, if it is asked
   pub rooted_not : {strength : ℕ} {found : List Found} {seen : List Bool} → IsSearch rail g state best strength found seen →
       (node : ℕ) → (¬ IsRootOf rail g state best strength node) → IsRootIn rail g state best strength found node
   rooted_not {strength} sound node none = λ root strong.
@@ -148,7 +148,7 @@ module _ (rail : Tern → Bool) (g : GraphData) (state : List Tern) (best : List
       elim hop.joins [ inl p ↦ rw (← p.0) both.0 | inr p ↦ rw (← p.0) both.1 ] in
       passed place near there hop strong unbeaten
 
-  -- where all is settled at a strength, the search goes on with the next one
+  -- if all is settled at a strength, the search goes on with the next one
   pub lowered : {strength : ℕ} {found : List Found} {seen : List Bool} → 0 < strength → IsSearch rail g state best strength found seen →
       ((k : ℕ) (entry : Found) → slice_get found k ≡ Some entry → IsSettled g state best strength found entry) →
       ((node : ℕ) → IsRootIn rail g state best strength found node) →

@@ -31,7 +31,7 @@ reason_line_of one strength definite root hops =
     rail_word one ++ codes " " ++ decimal strength ++ codes " " ++ sort_word definite ++ codes " " ++ root ++ hops_text hops
     ++ codes "\n"
 
--- the line where there is no reason: `<rail> none`
+-- the line if there is no reason: `<rail> none`
 abbrev pub no_reason_line_of : Bool → List ℕ
 no_reason_line_of one = rail_word one ++ codes " none\n"
 

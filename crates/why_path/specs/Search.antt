@@ -86,7 +86,7 @@ abbrev pub IsRootIn : (Tern → Bool) → GraphData → List Tern → List ℕ �
 IsRootIn rail g state best least found node =
     IsRoot rail g state best node → least ≤ level_of g node → IsIn found node (level_of g node)
 
--- a mark counts where it isn't set
+-- a mark counts if it isn't set
 abbrev pub not_seen : Bool → ℕ
 not_seen true = 0
 not_seen false = 1

@@ -1,10 +1,7 @@
 //! Whether a walk is blocked.
 
 ghost use Rattle.std.specs.Prelude.{◌≡◌, ◌↔◌, IsTrue, length, IfOk};
-ghost use Rattle.path_meaning.specs.Graphs.{nodes};
-ghost use Rattle.path_meaning.specs.Path.{IsBlocked};
-ghost use Rattle.path_meaning.specs.Plain.{AreStrongest};
-ghost use Rattle.why_path.specs.Reasons.{IsLive};
+ghost use Rattle.why_path.specs.Words.{nodes, AreStrongest, IsBlocked, IsLive};
 
 use path_meaning::{Graph, Walk, WalkFacts, graphs_are_wired, strongest};
 use std::alloc::Global;

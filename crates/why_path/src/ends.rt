@@ -1,9 +1,8 @@
 //! For each node the places of the switches that end at it.
 
 ghost use Rattle.std.specs.Prelude.{◌≡◌, ℕ, ◌<◌, length, Some, IfOk, OnOk, Contains};
+ghost use Rattle.why_path.specs.Words.{list_at, nodes, FitsPlace, HaveSwitches};
 ghost use Rattle.path_meaning.specs.declared.switching.Switch.{Switch};
-ghost use Rattle.path_meaning.specs.Graphs.{nodes, FitsPlace};
-ghost use Rattle.why_path.specs.Search.{HaveSwitches, list_at};
 
 use path_meaning::{Graph, Switch, graphs_are_wired};
 use std::alloc::{AllocError, Global};

@@ -1,10 +1,7 @@
 //! Reasons found in the group of a node.
 
 ghost use Rattle.std.specs.Prelude.{◌≡◌, ◌<◌, length, IfOk};
-ghost use Rattle.path_meaning.specs.Graphs.{nodes};
-ghost use Rattle.path_meaning.specs.Spread.{rail_of};
-ghost use Rattle.group_meaning.specs.Groups.{AreGroups};
-ghost use Rattle.why_path.specs.Reasons.{Explains};
+ghost use Rattle.why_path.specs.Words.{nodes, rail_of, AreGroups, Explains};
 
 use crate::near::near_reason;
 use channel_groups::Groups;
@@ -15,7 +12,7 @@ use ternary::{NoMemory, Tern};
 /// A reason for a rail of a node, as [`reason`](crate::reason) gives it, found in the node's group among
 /// these, which are the groups of the graph.
 ///
-/// Only where the group is too large to have a text is the whole graph searched.
+/// Only if the group is too large to have a text is the whole graph searched.
 pub fn group_reason(
     alloc: Global,
     graph: &Graph,

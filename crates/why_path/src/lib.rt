@@ -4,7 +4,7 @@
 //! whose root's state has that rail. `reason` searches the whole graph for one, `near_reason` and
 //! `group_reason` the node's group alone, and `unblocked` tells whether a walk is blocked anywhere on
 //! its way. The layer above uses that the answer explains the rail: Some is a reason that passes no
-//! node twice, and no other one is stronger; None comes exactly where there is no reason, so exactly
+//! node twice, and no other one is stronger; None comes exactly if there is no reason, so exactly
 //! where the node's steady state hasn't the rail. `reason_line` prints it.
 //!
 //! ```text

@@ -2,11 +2,7 @@
 
 ghost use Rattle.std.specs.Prelude.{◌≡◌, ℕ, ◌+◌, ◌<◌, ◌++◌, List, length, decimal, IfOk, IfSome, OnOk};
 ghost use Rattle.std.specs.Option.{MatchOption};
-ghost use Rattle.path_meaning.specs.Graphs.{nodes};
-ghost use Rattle.path_meaning.specs.Path.{Stand, at_root};
-ghost use Rattle.netlist.specs.Circuits.{called};
-ghost use Rattle.why_path.specs.Reasons.{IsLive};
-ghost use Rattle.why_path.specs.Lines.{rail_word, sort_word, hop_text, hops_text, no_reason_line_of, AreTold, IsReasonLine};
+ghost use Rattle.why_path.specs.Words.{at_root, called, hop_text, hops_text, no_reason_line_of, nodes, rail_word, sort_word, AreTold, IsLive, IsReasonLine, Stand};
 
 use itoa::Buffer;
 use netlist::Circuit;
@@ -15,7 +11,7 @@ use std::alloc::Global;
 use ternary::{NoMemory, Tern};
 
 /// The line of a reason, ended by LF: `one <level> <sort> <root>` and ` <number> <node>` for each hop,
-/// or `one none` where there is no walk; likewise `zero`.
+/// or `one none` if there is no walk; likewise `zero`.
 ///
 /// The level is the strength of the walk, the sort is `definite` or `possible`, nodes have their first
 /// names, and the numbers are those of the transistors. The walk is a live path under this state, which
@@ -38,7 +34,7 @@ pub fn reason_line(
     }
 }
 
-// The line where there is no reason.
+// The line if there is no reason.
 fn no_reason_line(alloc: Global, one: bool) -> Result<Vec<u8>, NoMemory>
     ensures { IfOk result (λ line. line.items ≡ no_reason_line_of one) }
 {

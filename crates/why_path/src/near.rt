@@ -1,12 +1,8 @@
 //! Reasons found near a node, in its group alone.
 
 ghost use Rattle.std.specs.Prelude.{◌≡◌, ◌<◌, length, map, All, Contains, IfOk, slice_index};
+ghost use Rattle.why_path.specs.Words.{level_of, nodes, rail_of, state_at, Explains, IsNear};
 ghost use Rattle.strength_order.specs.declared.TheConstants.{INPUT_LEVEL};
-ghost use Rattle.path_meaning.specs.Switching.{state_at};
-ghost use Rattle.path_meaning.specs.Graphs.{nodes, level_of};
-ghost use Rattle.path_meaning.specs.Spread.{rail_of};
-ghost use Rattle.why_path.specs.Reasons.{Explains};
-ghost use Rattle.why_path.specs.Near.{IsNear};
 
 use crate::reasons::reason;
 use crate::search::has_rail;
@@ -20,7 +16,7 @@ use ternary::{NoMemory, Tern};
 ///
 /// The caller hands in what is near: the members of the node's group and the places of the group's
 /// switches. For an input node both may be empty. So what is read and the memory that is taken don't
-/// grow with the graph. Only where the group is too large to have a text is the whole graph searched.
+/// grow with the graph. Only if the group is too large to have a text is the whole graph searched.
 ///
 /// After Bryant, Beatty, Brace, Cho and Sheffler, "COSMOS: A Compiled Simulator for MOS Circuits",
 /// 1987, where each group is analysed by itself.
@@ -55,7 +51,7 @@ pub fn near_reason(
     }
 }
 
-// The reason for a rail of an input node: its own empty path, where its state has the rail.
+// The reason for a rail of an input node: its own empty path, if its state has the rail.
 fn input_reason(
     alloc: Global,
     graph: &Graph,
@@ -78,7 +74,7 @@ fn input_reason(
     })
 }
 
-// The place of a node among these, where it is one of them.
+// The place of a node among these, if it is one of them.
 fn place_of(members: &[usize], node: usize) -> usize
     requires { Contains members.now node }
     ensures inside { result < length members.now }

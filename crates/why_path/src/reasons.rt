@@ -1,10 +1,7 @@
 //! Reasons for the rails of a node, found over a whole graph.
 
 ghost use Rattle.std.specs.Prelude.{◌≡◌, ◌<◌, length, IfOk};
-ghost use Rattle.path_meaning.specs.Graphs.{nodes};
-ghost use Rattle.path_meaning.specs.Spread.{rail_of};
-ghost use Rattle.why_path.specs.Reasons.{Explains};
-ghost use Rattle.why_path.specs.Search.{IsTrail, LeadBack, IsEntryOf};
+ghost use Rattle.why_path.specs.Words.{nodes, rail_of, Explains, IsEntryOf, IsTrail, LeadBack};
 
 use crate::search::{Found, search};
 use path_meaning::{Graph, Walk, graphs_are_wired, strongest};
@@ -14,8 +11,8 @@ use ternary::{NoMemory, Tern};
 /// A reason for a rail of a node, "may be 1" where `one` is true and else "may be 0": a live path to
 /// the node that is unblocked and whose root's state has that rail.
 ///
-/// The reason passes no node twice, and no other one is stronger. `None` exactly where there is no
-/// reason, so exactly where the node's steady state hasn't that rail. `state` has one state for each
+/// The reason passes no node twice, and no other one is stronger. `None` exactly if there is no
+/// reason, so exactly if the node's steady state hasn't that rail. `state` has one state for each
 /// node of the graph.
 ///
 /// Bryant, "Boolean Analysis of MOS Circuits", 1987.

@@ -5,10 +5,8 @@
 //! passes no node twice, and no other path is stronger.
 
 ghost use Rattle.std.specs.Prelude.{◌≡◌, ℕ, ◌<◌, ◌↔◌, ◌++◌, ◌∷◌, [], true, IsTrue, length, IfOk, OnOk, slice_get, slice_set, Contains};
-ghost use Rattle.path_meaning.specs.Graphs.{nodes, level_of};
-ghost use Rattle.path_meaning.specs.Spread.{rail_of};
+ghost use Rattle.why_path.specs.Words.{nodes, rail_of, HaveSwitches, IsPassed, IsRootIn, IsRootOf, IsSearch, IsSettled, Keeps, Lands};
 ghost use Rattle.why_path.specs.declared.search.Found.{Found};
-ghost use Rattle.why_path.specs.Search.{HaveSwitches, IsSearch, IsRootOf, IsRootIn, IsSettled, IsPassed, Keeps, Lands, IsNew, list_at};
 
 use crate::ends::ends_of;
 use path_meaning::{Graph, WalkFacts, graphs_are_wired};
@@ -93,7 +91,7 @@ fn add_roots(
     Ok(())
 }
 
-// Adds a node where it is a root of this level that isn't found yet.
+// Adds a node if it is a root of this level that isn't found yet.
 fn add_root(
     graph: &Graph,
     state: &[Tern],
@@ -206,7 +204,7 @@ fn try_hops(
     Ok(())
 }
 
-// Adds what a hop over this place leads to from an entry, where that isn't found yet.
+// Adds what a hop over this place leads to from an entry, if that isn't found yet.
 fn try_hop(
     graph: &Graph,
     state: &[Tern],

@@ -1,5 +1,5 @@
 -- The parts are those of the circuit's groups, and so what is built of them is faithful. The analyst was given the distinct texts of
--- the groups, or a front of them.
+-- the groups, or a prefix of them.
 use Rattle.std.proofs.Common.{◌≡◌, List, ◌++◌, length, map, refl, sym, ap, ◌∙◌}
 use Rattle.std.specs.Prelude.{slice_get}
 use Rattle.std.specs.List.{AllZip}
@@ -33,7 +33,7 @@ all_given g c =
     (all_analysed c.with_keys-kept.result c.ensure.new.self _ _ c.in_ok-uses.field-0.uses.known _ c.with_keys-kept.ensures
     (rw c.known.ensures at c.in_ok-ensure.ensures.ok))
 
--- a front of them, too
+-- a prefix of them, too
 front_given : (g : given.Over) (c : In_ok-ensure g) (groups : List Group) → AreGroups c.args.circuit.now.graph groups
     → AnalysesFront (g.A.Analyst.analysed c.args.analyst.now) (g.A.Analyst.analysed c.ensure.new.analyst)
     (first_texts (map (text_of_group c.args.circuit.now.graph) groups))

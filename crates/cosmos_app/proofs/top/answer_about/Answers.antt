@@ -7,15 +7,17 @@ use Rattle.run_ends.proofs.EndLemmas.{read_none, untouched_none}
 use Rattle.sim_read.specs.Meaning.{netlist_of}
 use Rattle.command_line.specs.Requests.{question_seen}
 use Rattle.circuit_files.proofs.FeedingLemmas.{at_each}
-use Rattle.cosmos_app.proofs.NetLemmas.{means_as, told_over, told_refusal}
+use Rattle.circuit_reports.specs.Answers.{IsOver}
+use Rattle.cosmos_app.specs.Answers.{IsAnswerIn}
+use Rattle.cosmos_app.proofs.NetLemmas.{means_as, told_of_meaning, told_refusal}
 use Rattle.cosmos_app.proofs.StartLemmas.{starts_beside}
 use Rattle.cosmos_app.proofs.WholeLemmas.{whole_beside, whole_refused}
 use Rattle.cosmos_app.proofs.top.answer_about.Goals as goal
 
 pub returns-in-Ok-clause-told : goal.returns-in-Ok-clause-told
 returns-in-Ok-clause-told g c =
-    told_over (g.F.Files.holds c.args.files.now) (g.F.Files.holds c.read_circuit.new.files) (question_seen c.args.question) c.args.net.now
-    (Ok c.in-Ok.circuit)
+    told_of_meaning (λ holds. IsOver (IsAnswerIn (question_seen c.args.question) holds)) netlist_of (g.F.Files.holds c.args.files.now)
+    (g.F.Files.holds c.read_circuit.new.files) c.args.net.now (Ok c.in-Ok.circuit)
     c.args.out.now.page.written c.answer_in.new.out.page.written (g.A.Analyst.analysed c.args.analyst.now)
     (g.A.Analyst.analysed c.answer_in.new.analyst)
     c.answer_in.result

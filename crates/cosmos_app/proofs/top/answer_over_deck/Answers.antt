@@ -7,15 +7,18 @@ use Rattle.spice_read.specs.Making.{circuit_of}
 use Rattle.run_ends.specs.Stops.{faults_read}
 use Rattle.command_line.specs.Requests.{question_seen}
 use Rattle.circuit_files.proofs.FeedingLemmas.{at_each}
-use Rattle.cosmos_app.proofs.DeckLemmas.{deck_means_as, told_over_deck, told_deck_refusal}
+use Rattle.circuit_reports.specs.Answers.{IsOverDeck}
+use Rattle.cosmos_app.specs.Answers.{IsAnswerIn}
+use Rattle.cosmos_app.proofs.DeckLemmas.{deck_means_as, told_deck_refusal}
+use Rattle.cosmos_app.proofs.NetLemmas.{told_of_meaning}
 use Rattle.cosmos_app.proofs.StartLemmas.{starts_beside}
 use Rattle.cosmos_app.proofs.WholeLemmas.{whole_beside, whole_refused}
 use Rattle.cosmos_app.proofs.top.answer_over_deck.Goals as goal
 
 pub returns-in-Ok-clause-told : goal.returns-in-Ok-clause-told
 returns-in-Ok-clause-told g c =
-    told_over_deck (g.F.Files.holds c.args.files.now) (g.F.Files.holds c.read_deck_file.new.files) (question_seen c.args.question) c.args.deck.now
-    (Ok c.in-Ok.circuit)
+    told_of_meaning (λ holds. IsOverDeck (IsAnswerIn (question_seen c.args.question) holds)) circuit_of (g.F.Files.holds c.args.files.now)
+    (g.F.Files.holds c.read_deck_file.new.files) c.args.deck.now (Ok c.in-Ok.circuit)
     c.args.out.now.page.written c.answer_in.new.out.page.written (g.A.Analyst.analysed c.args.analyst.now)
     (g.A.Analyst.analysed c.answer_in.new.analyst) c.answer_in.result
     (deck_means_as (g.F.Files.holds c.args.files.now) c.args.deck.now _ (Ok c.in-Ok.circuit) c.in-Ok.is c.in_ok-circuit.ensures.means)

@@ -11,7 +11,7 @@ use Rattle.group_report.proofs.report.write_lines.Given.{Over}
 use Rattle.group_report.proofs.report.write_lines.Goals.{After-bytes}
 use Rattle.group_report.proofs.report.write_lines.Goals as goal
 
--- what holds on an answer holds where there is one
+-- what holds on an answer holds if there is one
 answered : {T E P : Type 0} (result : Result T E) → true ≡ is_ok result → OnOk result P → P
 answered (Ok value) is fact = fact
 answered (Err fault) is fact = absurd (true≢false is)

@@ -7,9 +7,7 @@ pub loop-j-init : goal.loop-j-init
 loop-j-init c = each-zero _ 1 (pass c.args.r)
 
 pub loop-j-preserved : goal.loop-j-preserved
-loop-j-preserved c =
-    each-more (pass c.args.r) 1 (c.loop-j.j - 1) _ _ _ _ _ c.loop-j.invariant c.in_ok-put_pass.ensures (omega arith)
-    (omega arith)
+loop-j-preserved c = each-more (pass c.args.r) 1 (c.loop-j.j - 1) _ _ _ _ _ c.loop-j.invariant c.in_ok-put_pass.ensures (omega arith) (omega arith)
 
 pub returns : goal.returns
 unfolding pass_row

@@ -1,4 +1,4 @@
--- Where nothing has the level, the formulas of the level above serve.
+-- If nothing has the level, the formulas of the level above serve.
 use Rattle.node_elimination.specs.Inputs.{input_formulas}
 use Rattle.node_elimination.proofs.DescentLemmas.{ShowsLevel-unused, Grows-unused}
 use Rattle.node_elimination.proofs.descent.step_down.Goals as goal

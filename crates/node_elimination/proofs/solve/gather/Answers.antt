@@ -5,14 +5,11 @@ use Rattle.node_elimination.proofs.PassingLemmas.{Gathers-more}
 use Rattle.node_elimination.proofs.solve.gather.Goals as goal
 
 pub loop-j-preserved : goal.loop-j-preserved
-loop-j-preserved g c =
-    let so_far = c.loop-j.invariant in
-    let next = c.in_ok-gather_one.ensures in
-    record {
-      moves = Moves-trans [] _ _ _ _ _ _ _ _ _ so_far.moves next.moves (omega (arith, so_far.rises, next.rises));
-      gathers = Gathers-more c.args.k c.loop-j.j _ _ _ _ _ _ c.requires.in_range (omega arith) c.requires.gone
-          so_far.moves.size so_far.moves.left
-          so_far.gathers next.gathers;
-      rises = omega (arith, so_far.rises, next.rises);
-      few = omega (arith, so_far.few, next.few);
-    }
+loop-j-preserved g c = record {
+  moves = Moves-trans [] _ _ _ _ _ _ _ _ _ c.loop-j.invariant.moves c.in_ok-gather_one.ensures.moves
+      (omega (arith, c.loop-j.invariant.rises, c.in_ok-gather_one.ensures.rises));
+  gathers = Gathers-more c.args.k c.loop-j.j _ _ _ _ _ _ c.requires.in_range (omega arith) c.requires.gone
+      c.loop-j.invariant.moves.size c.loop-j.invariant.moves.left c.loop-j.invariant.gathers c.in_ok-gather_one.ensures.gathers;
+  rises = omega (arith, c.loop-j.invariant.rises, c.in_ok-gather_one.ensures.rises);
+  few = omega (arith, c.loop-j.invariant.few, c.in_ok-gather_one.ensures.few);
+}

@@ -16,17 +16,16 @@ pub loop-place-preserved : goal.loop-place-preserved
 loop-place-preserved c =
     let places = c.args.places.now in
     let widths = c.args.widths.now in
-    let floor = c.args.floor.now in
+    let so_far = c.loop-place.invariant in
     let start = c.args.table.now in
     let old = c.loop-place.table in
     let new = c.spread_at-rose.new.table in
-    let so_far = c.loop-place.invariant in
     let now = c.spread_at-rose.ensures in
     record {
-      come = AllCome-trans places widths floor start old new so_far.come (now.come places widths c.loop-place.place refl refl);
+      come = AllCome-trans places widths c.args.floor.now start old new so_far.come (now.come places widths c.loop-place.place refl refl);
       grows = Grows-trans start old new so_far.grows now.grows;
       room = room-next c.loop-place.rose c.spread_at-rose.result start old new so_far.room so_far.same now.room now.same;
       same = same-next c.loop-place.rose c.spread_at-rose.result start old new so_far.same now.same;
-      below = spread-next places widths floor c.loop-place.rose c.spread_at-rose.result old new c.loop-place.place
+      below = spread-next places widths c.args.floor.now c.loop-place.rose c.spread_at-rose.result old new c.loop-place.place
           so_far.below now.same now.spread;
     }

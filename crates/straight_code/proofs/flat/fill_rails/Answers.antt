@@ -10,11 +10,11 @@ loop-j-preserved c =
     let state = c.args.state.now in
     let nodes = c.args.nodes.now in
     let j = c.loop-j.j in
+    let room : 4 + 2 * j ≤ length c.loop-j.values =
+    omega (arith, length-set (set c.args.values.now 0 false) 1 true, length-set c.args.values.now 0 false) in
     let node = get_or nodes j 0 in
     let more : map (state_at state) (take (j + 1) nodes) ≡ map (state_at state) (take j nodes) ++ state_at state node ∷ [] =
     map_more (state_at state) nodes j 0 (omega arith) in
-    let room : 4 + 2 * j ≤ length c.loop-j.values =
-    omega (arith, length-set (set c.args.values.now 0 false) 1 true, length-set c.args.values.now 0 false) in
     rw (c.may_one.ensures, c.may_zero.ensures, more)
     (rails_written (map (state_at state) (take j nodes)) (state_at state node) c.loop-j.values j room c.loop-j.invariant)
 

@@ -1,4 +1,4 @@
--- A root that wasn't seen is taken; any other node is in, where it is asked.
+-- A root that wasn't seen is taken; any other node is in, if it is asked.
 use Rattle.std.proofs.Common.{◌≡◌, ◌∙◌, ap, refl, false, Some, None, length, arith}
 use Rattle.std.specs.Prelude.{slice_get}
 use Rattle.std.proofs.lemmas.Option.{slice_get_read}

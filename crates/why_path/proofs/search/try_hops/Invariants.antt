@@ -1,4 +1,4 @@
--- The places so far are passed.
+-- Of the entry whose hops are tried, the places so far are passed.
 use Rattle.std.proofs.Common.{◌≡◌, ℕ, Some, take}
 use Rattle.std.specs.Prelude.{slice_get, Contains}
 use Rattle.path_meaning.specs.Spread.{rail_of}

@@ -89,12 +89,6 @@ pub returns-in_err-add-clause-nearly : goal.returns-in_err-add-clause-nearly
 returns-in_err-add-clause-nearly g c =
     let old = c.args.self.now in
     let now = c.loop-text.self in
-    let before = g.A.Analyst.analysed c.args.analyst.now in
-    let so_far = g.A.Analyst.analysed c.loop-text.analyst in
-    let held_before = g.A.Analyst.held c.args.analyst.now in
-    let held_now = g.A.Analyst.held c.loop-text.analyst in
     at_err c.from_residual.result (λ holds.
-    HoldsNearlyKept-lacks now c.add.new.self so_far (g.A.Analyst.analysed c.add.new.analyst) held_now (g.A.Analyst.held c.add.new.analyst)
-    c.text-item.result c.in_err-add.ensures.err
-    (HoldsKept-filled old now before so_far held_before held_now (take c.loop-text.text-index c.args.texts.now) (length now.entries - length old.entries)
-    c.loop-text.invariant holds))
+    HoldsNearlyKept-lacks now c.add.new.self _ _ _ _ c.text-item.result c.in_err-add.ensures.err
+    (HoldsKept-filled old now _ _ _ _ (take c.loop-text.text-index c.args.texts.now) (length now.entries - length old.entries) c.loop-text.invariant holds))

@@ -1,4 +1,4 @@
--- What stands after a text was used is what was kept.
+-- What stands after one text was used is what was kept before it.
 use Rattle.std.proofs.Common.{◌≡◌, Contains, ap, subst, ◌∙◌}
 use Rattle.group_analysis.specs.Held.{set_of}
 use Rattle.group_analysis.specs.Using.{to_front}
@@ -12,8 +12,6 @@ returns-clause-same c =
 
 pub returns-clause-set : goal.returns-clause-set
 returns-clause-set c =
-    let text = c.args.text.now in
-    let kept = texts_of c.args.self.now in
-    let texts : entry_texts c.use_text.new.self ≡ to_front text kept =
-    c.use_text.ensures.texts ∙ ap (λ one. to_front text (texts_of one)) c.self.view_is in
-    ap (λ list. set_of list) texts ∙ set-front text kept c.requires
+    let texts : entry_texts c.use_text.new.self ≡ to_front c.args.text.now (texts_of c.args.self.now) =
+    c.use_text.ensures.texts ∙ ap (λ one. to_front c.args.text.now (texts_of one)) c.self.view_is in
+    ap (λ list. set_of list) texts ∙ set-front c.args.text.now (texts_of c.args.self.now) c.requires

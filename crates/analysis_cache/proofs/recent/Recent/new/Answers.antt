@@ -1,4 +1,4 @@
--- No text is kept twice where there is none.
+-- No text is kept twice if there is none.
 use Rattle.analysis_cache.proofs.TableLemmas.{IsKept-none}
 use Rattle.analysis_cache.proofs.recent.Recent.new.Goals as goal
 

@@ -1,4 +1,4 @@
--- All groups are found, and put in where there were none.
+-- All groups are found, and put in if there were none.
 use Rattle.std.proofs.Common.{length, get_or, arith}
 use Rattle.std.proofs.lemmas.List.Elements.{Contains-get_or}
 use Rattle.group_meaning.specs.Groups.{AreGroups}

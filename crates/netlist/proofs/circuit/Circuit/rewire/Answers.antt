@@ -2,7 +2,7 @@ use Rattle.std.proofs.Common.{◌∙◌}
 use Rattle.netlist.proofs.NetlistLemmas.{HasTerminals, with_wires-wired, wire_fault-HasTerminals}
 use Rattle.netlist.proofs.circuit.Circuit.rewire.Goals as goal
 
--- the names are in use where the switch is wired
+-- the names are in use if the switch is wired
 wired : (c : goal.In-Ok) → HasTerminals c.args.self.now c.self.inside.graph c.self.inside.names c.terminals.new.self c.self.inside.profile
     c.args.gate.now c.args.source.now c.args.drain.now c.in_ok-nodes.nodes
 wired c = record { whole = c.self.view_is; counted = c.self.invariant.counted; made = c.in_ok-nodes.ensures.ok; nodes = c.in_ok-nodes.ensures.nodes }

@@ -1,4 +1,4 @@
--- The name at a place brings its sum to its node, where it is in use.
+-- The name at a place brings its sum to its node, if it is in use.
 use Rattle.std.proofs.Common.{◌≡◌, ℕ, ◌<◌, List, Some, IfSome, slice_get, sym, ap, subst, ◌∙◌}
 use Rattle.netlist.specs.Names.{node_of}
 use Rattle.netlist.proofs.NamingLemmas.{stands-entries_of}

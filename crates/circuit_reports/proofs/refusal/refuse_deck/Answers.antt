@@ -4,7 +4,7 @@ use Rattle.port_edge.specs.Sending.{WritesPart}
 use Rattle.spice_cards.specs.Reports.{deck_line_of}
 use Rattle.run_ends.specs.declared.status.Status.TheVariants as status
 use Rattle.run_ends.specs.Answers.{plain_answer}
-use Rattle.circuit_reports.proofs.refusal.write_deck_refusal.Goals as goal
+use Rattle.circuit_reports.proofs.refusal.refuse_deck.Goals as goal
 
 pub returns-clause-told : goal.returns-clause-told
 returns-clause-told g c = inr (record {
