@@ -1,5 +1,5 @@
 -- Vectors: names of lists of nodes.
-use Rattle.std.specs.Prelude.{◌≡◌, ℕ, ◌≤◌, ◌+◌, List, [], ◌∷◌, map, length, nat_le, bytes_eq, Vec, Option, Some, None, is_some, if◌then◌else◌}
+use Rattle.std.specs.Prelude.{◌≡◌, ℕ, ◌<◌, ◌≤◌, ◌+◌, List, [], ◌∷◌, map, length, All, nat_le, bytes_eq, Vec, Option, Some, None, is_some, if◌then◌else◌}
 use Rattle.std.specs.List.{flat_map}
 use Rattle.std.specs.Option.{option_map_or}
 use Rattle.std.specs.declared.alloc.Global.{Global}
@@ -26,6 +26,10 @@ abbrev pub IsNamed : CircuitData → List (List ℕ × List ℕ) → List ℕ �
 IsNamed c vectors name (Node node) = node_of c.names name ≡ Some node
 IsNamed c vectors name (Vector nodes) = (node_of c.names name ≡ None) × (list_of vectors name ≡ Some nodes.now)
 IsNamed c vectors name Nothing = (node_of c.names name ≡ None) × (list_of vectors name ≡ None)
+
+-- the vectors' nodes are among so many
+abbrev pub AreWithin : ℕ → List (List ℕ × List ℕ) → Type 0
+AreWithin count vectors = All (λ entry. All (λ node. node < count) entry.1) vectors
 
 -- how many entries a name's vector has, 0 if there is none
 abbrev pub length_at : List (List ℕ × List ℕ) → List ℕ → ℕ

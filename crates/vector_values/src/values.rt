@@ -12,7 +12,7 @@ use ternary::{NoMemory, Tern};
 pub type Letter = Option<Tern>;
 
 /// A value that is given to a vector: letters, or a number.
-#[derive(Drop)]
+#[derive(Debug, Drop)]
 pub struct VectorValue {
     // the letters, or the bits of the number, the highest first
     letters: Vec<Letter>,
@@ -29,7 +29,7 @@ impl Model for VectorValue {
 
 impl VectorValue {
     /// These letters.
-    pub(crate) fn of_letters(letters: Vec<Letter>) -> VectorValue
+    pub fn of_letters(letters: Vec<Letter>) -> VectorValue
         ensures { result ≡ spec.plain_value letters.items }
     {
         VectorValue {
@@ -46,6 +46,16 @@ impl VectorValue {
             letters,
             number: true,
         }
+    }
+
+    /// The same value once more.
+    pub fn copied(&self, alloc: Global) -> Result<VectorValue, NoMemory>
+        ensures { IfOk result (λ value. value ≡ self.now) }
+    {
+        Ok(VectorValue {
+            letters: Vec::from_slice(alloc, &self.letters)?,
+            number: self.number,
+        })
     }
 
     /// The state that the value gives to a node that stands for itself, or None exactly if the value
