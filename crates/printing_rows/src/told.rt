@@ -1,8 +1,9 @@
+use path_meaning::{SwitchKind, SwitchState};
 use port_edge::HonestSink;
 use std::test::Fail;
 use ternary::Tern;
 use told_lines::{Line, Lines, Met, Printer};
-use wave_print::{FaultCode, FaultPlace};
+use wave_print::{FaultCode, FaultPlace, NodeSort, SwitchTold};
 
 #[test]
 fn each_kind_of_line_is_printed_with_its_column(rt: HostRuntime) -> Result<(), Fail> {
@@ -26,8 +27,8 @@ fn each_kind_of_line_is_printed_with_its_column(rt: HostRuntime) -> Result<(), F
         9,
         Line::Unmet {
             name: b"q",
-            want: Tern::One,
-            got: Tern::Zero,
+            want: &[Some(Tern::One), None],
+            got: &[Tern::Zero, Tern::Unk],
             n: 7,
         },
     )?;
@@ -36,6 +37,40 @@ fn each_kind_of_line_is_printed_with_its_column(rt: HostRuntime) -> Result<(), F
         Line::Shown {
             name: b"bus",
             values: &[Tern::Unk, Tern::Zero],
+        },
+    )?;
+    out.tell(
+        0,
+        Line::Looked {
+            name: b"out",
+            state: Tern::Zero,
+            sort: NodeSort::Size(1),
+        },
+    )?;
+    let switch = SwitchTold {
+        number: 2,
+        kind: SwitchKind::NChan,
+        strength: 2,
+        state: SwitchState::Closed,
+    };
+    out.tell(
+        0,
+        Line::AtEnd {
+            switch,
+            gate: b"a",
+            gate_state: Tern::One,
+            end: b"Gnd",
+            end_state: Tern::Zero,
+        },
+    )?;
+    out.tell(
+        0,
+        Line::AtGate {
+            switch,
+            source: b"Gnd",
+            source_state: Tern::Zero,
+            drain: b"out",
+            drain_state: Tern::Zero,
         },
     )?;
     out.tell(
@@ -58,7 +93,7 @@ fn each_kind_of_line_is_printed_with_its_column(rt: HostRuntime) -> Result<(), F
     assert!(rt; out.missed);
     let sink = out.inner.into_sink();
     let text =
-        "1 7 2* 1X\n10 expect q=1 got 0 after 7\n11 show bus X0\n64 groups 3 texts 2 new 1\nscript line 4: G1 GroupNodes s1 201\n";
+        "1 7 2* 1X\n10 expect q=1- got 0X after 7\n11 show bus X0\n1 look out 0 size:1\n1 at 2 n 2 closed gate a 1 end Gnd 0\n1 gate 2 n 2 closed ends Gnd 0 out 0\n64 groups 3 texts 2 new 1\nscript line 4: G1 GroupNodes s1 201\n";
     assert_eq!(rt; sink.written(), text.as_bytes());
     Ok(())
 }

@@ -70,3 +70,22 @@ pub row_from-next : (lines : ℕ → List Line) (column count : ℕ) → column 
 row_from-next lines column count inside =
     let more : count - column ≡ suc (count - (column + 1)) = omega (arith, inside) in
     ap (row_from lines column) more
+
+-- a column's lines were heard, and then others, or a part of them
+pub lines-then : {H E : Type 0} (hear : H → Told → H) (part : H → Told → H → Type 0) (column : ℕ) (before mid after : H) (front rest : List Line)
+    (result : Result (Unit {0}) E) → mid ≡ hear_all hear before (of_column column front) → Hears hear part mid after (of_column column rest) result →
+    Hears hear part before after (of_column column (front ++ rest)) result
+lines-then hear part column before mid after front rest (Ok _) heard sent =
+    sent ∙ ap (λ h. hear_all hear h (of_column column rest)) heard ∙ sym (hear_all-append hear before (of_column column front) (of_column column rest))
+    ∙ ap (hear_all hear before) (sym (of_column-append column front rest))
+lines-then hear part column before mid after front rest (Err fault) heard sent =
+    so_far-stopped hear part before mid after (of_column column (front ++ rest)) (of_column column rest) (of_column column rest) []
+    (sym (append-nil (of_column column rest)))
+    (record { done = of_column column front; split = of_column-append column front rest; heard = heard }) sent
+
+-- of a column's lines a part was heard, so of these and others
+pub lines-part : {H : Type 0} (hear : H → Told → H) (part : H → Told → H → Type 0) (column : ℕ) (before after : H) (front rest : List Line) →
+    HearsPart hear part before after (of_column column front) → HearsPart hear part before after (of_column column (front ++ rest))
+lines-part hear part column before after front rest stopped =
+    so_far-stopped hear part before before after (of_column column (front ++ rest)) (of_column column (front ++ rest)) (of_column column front)
+    (of_column column rest) (of_column-append column front rest) (so_far-start hear before (of_column column (front ++ rest))) stopped

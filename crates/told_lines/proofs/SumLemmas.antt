@@ -5,7 +5,7 @@ use Rattle.ternary.specs.Counts.{raised}
 use Rattle.ternary.specs.declared.tern.Tern.TheVariants.{Zero, One, Unk}
 use Rattle.ternary.proofs.CountsLemmas.{raised-more, raised-none}
 use Rattle.wave_print.specs.declared.lines.Summary.{Summary}
-use Rattle.told_lines.specs.Lines.{Line, Wave, Unmet, Shown, Reported, Refused}
+use Rattle.told_lines.specs.Lines.{Line, Wave, Unmet, Shown, Looked, AtEnd, AtGate, Reported, Refused}
 use Rattle.told_lines.specs.Hearing.{hear_all, of_column}
 use Rattle.told_lines.specs.Sums.{counted, with_line, waves_of, steps_of, marks_of, values_of, total, summary_of}
 use Rattle.told_lines.specs.Laws.{SumsAreTotals}
@@ -55,6 +55,11 @@ one-counted nodes switches before (Wave n k mark values) =
     (total-one (values_of Zero) before line) (total-one (values_of One) before line) (total-one (values_of Unk) before line)
 one-counted nodes switches before (Unmet name want got n) = other-counted nodes switches before (Unmet name want got n) refl refl refl refl refl refl
 one-counted nodes switches before (Shown name values) = other-counted nodes switches before (Shown name values) refl refl refl refl refl refl
+one-counted nodes switches before (Looked name state sort) = other-counted nodes switches before (Looked name state sort) refl refl refl refl refl refl
+one-counted nodes switches before (AtEnd switch gate gate_state end end_state) =
+    other-counted nodes switches before (AtEnd switch gate gate_state end end_state) refl refl refl refl refl refl
+one-counted nodes switches before (AtGate switch source source_state drain drain_state) =
+    other-counted nodes switches before (AtGate switch source source_state drain drain_state) refl refl refl refl refl refl
 one-counted nodes switches before (Reported groups texts fresh) =
     other-counted nodes switches before (Reported groups texts fresh) refl refl refl refl refl refl
 one-counted nodes switches before (Refused place code name count) =

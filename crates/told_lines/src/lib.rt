@@ -4,7 +4,8 @@
 //! hearer, `hear`, which is what a line more does to what was heard: so what all lines come to is a fold, `hear_all`.
 //! Who tells lines knows no text of them. `Printer` writes each to a sink, `Notes` keeps the rows of waveform
 //! lines, `Sums` counts what these tell, and `Silence` drops all; `Met` goes round another hearer and remembers
-//! whether an expectation was not met.
+//! whether an expectation was not met. A hearer that never fails, as `Sums` and `Silence`, says by `Unfailing` no more
+//! than what a line does to it.
 //!
 //! ```text
 //! let mut out = Printer::new(alloc, sink, true)?;
@@ -25,11 +26,14 @@ mod printer;
 mod putting;
 mod silence;
 mod sums;
+mod unfailing;
 
 pub use laws::{lines_are_printed, rows_are_noted, sums_are_totals};
 pub use lines::{Line, Lines};
 pub use met::Met;
 pub use notes::{Notes, WaveRow};
 pub use printer::Printer;
+pub use putting::put_told;
 pub use silence::Silence;
 pub use sums::Sums;
+pub use unfailing::Unfailing;

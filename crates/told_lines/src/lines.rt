@@ -5,7 +5,7 @@ ghost use Rattle.port_edge.specs.Ports.{faults_after, refusals_after};
 
 use port_edge::{NotedFile, PortFault};
 use ternary::{NoMemory, Tern};
-use wave_print::{FaultCode, FaultPlace};
+use wave_print::{FaultCode, FaultPlace, NodeSort, SwitchTold};
 
 /// A line that is told.
 #[derive(Clone, Copy)]
@@ -18,18 +18,41 @@ pub enum Line<'a> {
         mark: bool,
         values: &'a [Tern],
     },
-    /// An expectation that isn't met: the name, the wanted state, the present one, and the number of waveform
-    /// lines so far.
+    /// An expectation that isn't met: the name, for each of its nodes the wanted state, None for any, and the
+    /// present one, and the number of waveform lines so far.
     Unmet {
         name: &'a [u8],
-        want: Tern,
-        got: Tern,
+        want: &'a [Option<Tern>],
+        got: &'a [Tern],
         n: u64,
     },
     /// What is shown of a name: the name, and the states of its nodes.
     Shown {
         name: &'a [u8],
         values: &'a [Tern],
+    },
+    /// What there is at a node: its name, its state, and what it is.
+    Looked {
+        name: &'a [u8],
+        state: Tern,
+        sort: NodeSort,
+    },
+    /// A transistor with an end at a node that is looked at: the name and the state of its gate, and those of its
+    /// other end.
+    AtEnd {
+        switch: SwitchTold,
+        gate: &'a [u8],
+        gate_state: Tern,
+        end: &'a [u8],
+        end_state: Tern,
+    },
+    /// A transistor that the node is the gate of: the name and the state of its source, and those of its drain.
+    AtGate {
+        switch: SwitchTold,
+        source: &'a [u8],
+        source_state: Tern,
+        drain: &'a [u8],
+        drain_state: Tern,
     },
     /// A report: how many groups and distinct texts there are, and how many texts were analysed since the last
     /// report.

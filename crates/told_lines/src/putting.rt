@@ -7,11 +7,12 @@ ghost use Rattle.told_lines.specs.Printing.{printed, start_of};
 
 use crate::lines::Line;
 use wave_print::{
-    COLUMN_ROOM, LineBuf, column_start, expect_line, fault_line, report_line, show_line, wave_line,
+    COLUMN_ROOM, LineBuf, column_start, end_line, expect_line, fault_line, gate_line, look_line,
+    report_line, show_line, wave_line,
 };
 
 /// Puts the line of a column, with the column's number before it or without.
-pub(crate) fn put_told(out: &mut LineBuf, numbered: bool, column: u32, line: Line)
+pub fn put_told(out: &mut LineBuf, numbered: bool, column: u32, line: Line)
     requires room { room_of (line_seen line) ≤ out.old.spare }
     requires short { IsShort (line_seen line) }
     ensures bytes { out.new.bytes ≡ out.old.bytes ++ printed numbered (record { column = column; line = line_seen line.entry }) }
@@ -34,6 +35,9 @@ fn put_start(out: &mut LineBuf, column: u32, line: Line)
         Line::Wave { .. } | Line::Unmet { .. } | Line::Shown { .. } | Line::Reported { .. } => {
             column_start(out, u64::from(column) + 1)
         }
+        Line::Looked { .. } | Line::AtEnd { .. } | Line::AtGate { .. } => {
+            column_start(out, u64::from(column) + 1)
+        }
         Line::Refused { .. } => {}
     }
 }
@@ -49,6 +53,21 @@ fn put_line(out: &mut LineBuf, line: Line)
         Line::Wave { n, k, mark, values } => wave_line(out, n, k, mark, values),
         Line::Unmet { name, want, got, n } => expect_line(out, name, want, got, n),
         Line::Shown { name, values } => show_line(out, name, values),
+        Line::Looked { name, state, sort } => look_line(out, name, state, sort),
+        Line::AtEnd {
+            switch,
+            gate,
+            gate_state,
+            end,
+            end_state,
+        } => end_line(out, switch, gate, gate_state, end, end_state),
+        Line::AtGate {
+            switch,
+            source,
+            source_state,
+            drain,
+            drain_state,
+        } => gate_line(out, switch, source, source_state, drain, drain_state),
         Line::Reported {
             groups,
             texts,

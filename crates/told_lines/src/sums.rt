@@ -1,11 +1,11 @@
 //! A hearer that counts what waveform lines tell.
-ghost use Rattle.std.specs.Prelude.{◌≡◌, ◌^◌, count_by};
+ghost use Rattle.std.specs.Prelude.{◌≡◌, count_by};
 ghost use Rattle.wave_print.specs.declared.lines.Summary.{Summary};
 ghost use Rattle.told_lines.specs.Sums as spec;
 
-use crate::lines::{Line, Lines};
-use port_edge::PortFault;
-use ternary::{NoMemory, Tern};
+use crate::lines::Line;
+use crate::unfailing::Unfailing;
+use ternary::Tern;
 use wave_print::Summary;
 
 /// The counts of the waveform lines that were heard. It never fails, and takes no memory.
@@ -14,28 +14,16 @@ pub struct Sums {
     pub summary: Summary,
 }
 
-impl Lines for Sums {
+impl Unfailing for Sums {
     ghost use Rattle.told_lines.specs.Sums.{counted};
 
-    ghost Heard = { Summary };
+    ghost Notion = { Summary };
 
-    ghost heard = { λ sums. sums.summary };
+    ghost known = { λ sums. sums.summary };
 
-    ghost hear = { counted };
+    ghost learn = { counted };
 
-    ghost part = { λ _ _ _. ⊥ };
-
-    ghost room = { λ _. 2 ^ 64 };
-
-    ghost faults = { λ _. 0 };
-
-    ghost refusals = { λ _. 0 };
-
-    fn reserve(&mut self, _bytes: usize) -> Result<(), NoMemory> {
-        Ok(())
-    }
-
-    fn tell(&mut self, _column: u32, line: Line) -> Result<(), PortFault> {
+    fn hear_line(&mut self, _column: u32, line: Line) {
         if let Line::Wave {
             k,
             mark,
@@ -45,7 +33,6 @@ impl Lines for Sums {
         {
             count_wave(&mut self.summary, k, mark, values);
         }
-        Ok(())
     }
 }
 

@@ -2,21 +2,22 @@
 -- also which group it is and how large. Each line ends with LF.
 use Rattle.std.specs.Prelude.{ℕ, List, [], ◌++◌, codes, decimal}
 use Rattle.wave_print.specs.declared.faults.FaultPlace.{FaultPlace}
-use Rattle.wave_print.specs.declared.faults.FaultPlace.TheVariants.{Net, NetWhole, Script, List as OfList, Node}
+use Rattle.wave_print.specs.declared.faults.FaultPlace.TheVariants.{Net, NetWhole, Script, List as OfList, Node, Heard}
 use Rattle.wave_print.specs.declared.faults.FaultCode.{FaultCode}
-use Rattle.wave_print.specs.declared.faults.FaultCode.TheVariants.{L1LineTooLong, L2BadByte, N1BadRecord, N2FewWords, N3Format, N4TooLong, N5BadCaps, G1GroupNodes, G2GroupSwitches, E1UnknownNode, E2NoSuchSwitch, E3Rail, E4BadStrength, E5BadSize, E6AliasTaken, E7TooManyNodes, E8TooManySwitches, S1BadCommand, S2FewWords, S3ManyWords, S4BadValue, S5BadNumber, S6NotInput, S7NotStore, S8ClockLength, S9NoClock, S10TooManyWatched, S11TooLong, S15TooManySaves, S16NoSave, F1BadFault, F2TooLong}
+use Rattle.wave_print.specs.declared.faults.FaultCode.TheVariants.{L1LineTooLong, L2BadByte, N1BadRecord, N2FewWords, N3Format, N4TooLong, N5BadCaps, G1GroupNodes, G2GroupSwitches, E1UnknownNode, E2NoSuchSwitch, E3Rail, E4BadStrength, E5BadSize, E6AliasTaken, E7TooManyNodes, E8TooManySwitches, S1BadCommand, S2FewWords, S3ManyWords, S4BadValue, S5BadNumber, S6NotInput, S7NotStore, S8ClockLength, S9NoClock, S10TooManyWatched, S11TooLong, S12NameTaken, S13TooMany, S14VectorValue, S15TooManySaves, S16NoSave, F1BadFault, F2TooLong}
 
 -- words with the number of a line: `<words><line>: `
 abbrev pub numbered_of : List ℕ → ℕ → List ℕ
 numbered_of words line = words ++ decimal line ++ codes ": "
 
--- the place of a fault: `net line <l>`, `net`, `script line <l>`, `list line <l>` or `node`, and `: ` after it
+-- the place of a fault: `net line <l>`, `net`, `script line <l>`, `list line <l>`, `node` or `line <l>`, and `: ` after it
 abbrev pub place_of : FaultPlace → List ℕ
 place_of (Net line) = numbered_of (codes "net line ") line
 place_of NetWhole = codes "net: "
 place_of (Script line) = numbered_of (codes "script line ") line
 place_of (OfList line) = numbered_of (codes "list line ") line
 place_of Node = codes "node: "
+place_of (Heard line) = numbered_of (codes "line ") line
 
 -- the text of a fault: its code and its word
 abbrev pub text_of : FaultCode → List ℕ
@@ -48,6 +49,9 @@ text_of S8ClockLength = codes "S8 ClockLength"
 text_of S9NoClock = codes "S9 NoClock"
 text_of S10TooManyWatched = codes "S10 TooManyWatched"
 text_of S11TooLong = codes "S11 TooLong"
+text_of S12NameTaken = codes "S12 NameTaken"
+text_of S13TooMany = codes "S13 TooMany"
+text_of S14VectorValue = codes "S14 VectorValue"
 text_of S15TooManySaves = codes "S15 TooManySaves"
 text_of S16NoSave = codes "S16 NoSave"
 text_of F1BadFault = codes "F1 BadFault"

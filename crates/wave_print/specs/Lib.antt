@@ -1,4 +1,5 @@
 pub mod Faults
 pub mod LineBuf
 pub mod Lines
+pub mod Looks
 pub mod Verdicts

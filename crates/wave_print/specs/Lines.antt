@@ -25,10 +25,15 @@ report_line_of groups texts new =
     codes "groups " ++ decimal groups ++ codes " texts " ++ decimal texts ++ codes " new "
     ++ decimal new ++ codes "\n"
 
--- the expect line: `expect <name>=<wanted letter> got <present letter> after <n>`
-abbrev pub expect_line_of : List ℕ → Tern → Tern → ℕ → List ℕ
+-- the letter of a wanted state; `-` if any state will do
+abbrev pub wanted_letter : Option Tern → ℕ
+wanted_letter None = 45
+wanted_letter (Some state) = letter state
+
+-- the expect line: `expect <name>=<wanted letters> got <present letters> after <n>`
+abbrev pub expect_line_of : List ℕ → List (Option Tern) → List Tern → ℕ → List ℕ
 expect_line_of name want got n =
-    codes "expect " ++ name ++ codes "=" ++ (letter want ∷ []) ++ codes " got " ++ (letter got ∷ [])
+    codes "expect " ++ name ++ codes "=" ++ map wanted_letter want ++ codes " got " ++ map letter got
     ++ codes " after " ++ decimal n ++ codes "\n"
 
 -- the show line: `show <name> <values>`

@@ -26,6 +26,8 @@ pub enum FaultPlace {
     List(u64),
     /// The node that a reason is asked for.
     Node,
+    /// A line that was heard in a talk, counted from 1.
+    Heard(u64),
 }
 
 /// A refusal, by its code and its word, in the order lines, netlist, groups, edits, script, list.
@@ -87,6 +89,13 @@ pub enum FaultCode {
     S10TooManyWatched,
     /// A script goes past 67,108,864 bytes.
     S11TooLong,
+    /// A vector's name is that of a node in use.
+    S12NameTaken,
+    /// A vector would have more than 65,536 entries, or all vectors more than 4,194,304, or more than 16 ranges lie
+    /// one in another.
+    S13TooMany,
+    /// A value doesn't fit its vector.
+    S14VectorValue,
     /// 64 other names keep states.
     S15TooManySaves,
     /// Nothing is kept under the name.
@@ -132,6 +141,9 @@ impl FaultCode {
             FaultCode::S9NoClock => b"S9 NoClock",
             FaultCode::S10TooManyWatched => b"S10 TooManyWatched",
             FaultCode::S11TooLong => b"S11 TooLong",
+            FaultCode::S12NameTaken => b"S12 NameTaken",
+            FaultCode::S13TooMany => b"S13 TooMany",
+            FaultCode::S14VectorValue => b"S14 VectorValue",
             FaultCode::S15TooManySaves => b"S15 TooManySaves",
             FaultCode::S16NoSave => b"S16 NoSave",
             FaultCode::F1BadFault => b"F1 BadFault",
@@ -169,6 +181,7 @@ fn append_place(out: &mut LineBuf, place: FaultPlace)
         FaultPlace::Script(line) => append_line_number(out, b"script line ", line),
         FaultPlace::List(line) => append_line_number(out, b"list line ", line),
         FaultPlace::Node => out.append(b"node: "),
+        FaultPlace::Heard(line) => append_line_number(out, b"line ", line),
     }
 }
 

@@ -17,6 +17,7 @@ mod faults;
 mod laws;
 mod line_buf;
 mod lines;
+mod looks;
 mod verdicts;
 
 pub use faults::{FAULT_LINE_ROOM, FaultCode, FaultPlace, fault_line};
@@ -28,6 +29,7 @@ pub use lines::{
     column_start, expect_line, group_name, group_start, line_end, report_line, show_line,
     summary_line, wave_line,
 };
+pub use looks::{LOOK_LINE_ROOM, NodeSort, SwitchTold, end_line, gate_line, look_line};
 pub use verdicts::{
     FAULTS_LINE_ROOM, VERDICT_LINE_ROOM, detected_line, faults_line, possible_line, refused_line,
     undetected_line,

@@ -1,6 +1,6 @@
 ghost use Rattle.std.specs.Prelude.{◌≡◌, ◌+◌, ◌≤◌, ◌++◌, length, map, codes, decimal};
 ghost use Rattle.ternary.specs.Tern.{letter};
-ghost use Rattle.wave_print.specs.Lines.{mark_of, values_of, wave_line_of, report_line_of, expect_line_of, show_line_of, column_start_of, check_line_of, text_number_of, group_start_of, circuit_of, waves_of, states_of, summary_line_of};
+ghost use Rattle.wave_print.specs.Lines.{mark_of, values_of, wave_line_of, report_line_of, expect_line_of, show_line_of, column_start_of, check_line_of, text_number_of, group_start_of, circuit_of, waves_of, states_of, summary_line_of, wanted_letter};
 
 use crate::line_buf::LineBuf;
 use itoa::Buffer;
@@ -37,7 +37,7 @@ pub const WAVE_LINE_ROOM: usize = 300;
 /// Room for any report line.
 pub const REPORT_LINE_ROOM: usize = 300;
 
-/// Room for any expect line, beyond that for its name.
+/// Room for any expect line, beyond that for its name and its states.
 pub const EXPECT_LINE_ROOM: usize = 60;
 
 /// Room for any show line, beyond that for its name and its states.
@@ -96,19 +96,21 @@ pub fn wave_line(out: &mut LineBuf, n: u64, k: u64, mark: bool, values: &[Tern])
 /// Appends the line of an `expect` that wasn't met, `expect <name>=<want> got <got> after <n>` and
 /// LF.
 ///
-/// `want` is the wanted state and `got` the present one; `n` is the number of waveform lines so far.
-pub fn expect_line(out: &mut LineBuf, name: &[u8], want: Tern, got: Tern, n: u64)
-    requires room { EXPECT_LINE_ROOM + length name.now ≤ out.old.spare }
-    ensures bytes { out.new.bytes ≡ out.old.bytes ++ expect_line_of name.now want got n }
-    ensures spare { out.new.spare + length (expect_line_of name.now want got n) ≡ out.old.spare }
-    ensures short { length (expect_line_of name.now want got n) ≤ EXPECT_LINE_ROOM + length name.now }
+/// `want` is the wanted states, None for any state, and `got` the present ones; `n` is the number of
+/// waveform lines so far.
+pub fn expect_line(out: &mut LineBuf, name: &[u8], want: &[Option<Tern>], got: &[Tern], n: u64)
+    requires room { EXPECT_LINE_ROOM + (length name.now + (length want.now + length got.now)) ≤ out.old.spare }
+    ensures bytes { out.new.bytes ≡ out.old.bytes ++ expect_line_of name.now want.now got.now n }
+    ensures spare { out.new.spare + length (expect_line_of name.now want.now got.now n) ≡ out.old.spare }
+    ensures short { length (expect_line_of name.now want.now got.now n)
+        ≤ EXPECT_LINE_ROOM + (length name.now + (length want.now + length got.now)) }
 {
     out.append(b"expect ");
     out.append(name);
     out.append(b"=");
-    out.push(want.letter());
+    append_wanted(out, want);
     out.append(b" got ");
-    out.push(got.letter());
+    append_letters(out, got);
     append_count(out, b" after ", n);
     out.append(b"\n");
 }
@@ -295,6 +297,27 @@ fn append_values(out: &mut LineBuf, values: &[Tern])
         out.append(b"-");
     } else {
         append_letters(out, values);
+    }
+}
+
+// Appends one letter for each wanted state.
+fn append_wanted(out: &mut LineBuf, want: &[Option<Tern>])
+    requires room { length want.now ≤ out.old.spare }
+    ensures bytes { out.new.bytes ≡ out.old.bytes ++ map wanted_letter want.now }
+    ensures spare { out.new.spare + length want.now ≡ out.old.spare }
+{
+    for value in want {
+        out.push(letter_wanted(*value));
+    }
+}
+
+// The letter of a wanted state, `-` for any state.
+fn letter_wanted(state: Option<Tern>) -> u8
+    ensures { result ≡ wanted_letter state }
+{
+    match state {
+        Some(state) => state.letter(),
+        None => b'-',
     }
 }
 
