@@ -3,16 +3,15 @@
 ghost use Rattle.std.specs.Prelude.{◌≡◌, ◌<◌, ◌≤◌, All, OnOk, OnErr};
 ghost use Rattle.path_meaning.specs.Graphs.{nodes};
 ghost use Rattle.path_meaning.specs.declared.TheConstants.{RAILS};
-ghost use Rattle.netlist.specs.Names.{node_of};
-ghost use Rattle.netlist.specs.Edits.{answer_of, node_named, with_input, with_place};
+ghost use Rattle.netlist.specs.Edits.{answer_of, with_input, with_place};
 ghost use Rattle.script_lang.specs.declared.command.Command.TheVariants as family;
 ghost use Rattle.script_lang.specs.declared.command.Edit.TheVariants as asked;
-ghost use Rattle.session_meaning.specs.Refusals as refusal;
 ghost use Rattle.session_meaning.specs.Effects as effect;
 ghost use Rattle.session_meaning.specs.Machines.{EditsMachine};
 ghost use Rattle.session_meaning.specs.Outcomes.{Quietly};
 ghost use Rattle.session_meaning.specs.Switches.{place_after, edit_fault, edit_of};
 
+use crate::naming::all_nodes;
 use crate::refusals;
 use crate::regrouping::{change_at, change_of, change_of_level};
 use crate::session::Session;
@@ -56,31 +55,34 @@ impl Session {
         ensures quiet { Quietly self.old (family.Edit (asked.Input names.now)) self.new result }
         ensures machine { OnOk result (EditsMachine self.old self.new) }
     {
-        if let Some(refusal) = refusals::input_refusal(&self.circuit, names.items()) {
+        let (circuit, vectors) = (&self.circuit, &self.vectors);
+        if let Some(refusal) = refusals::input_refusal(circuit, vectors, names.items()) {
             return Err(ApplyFault::Refused(refusal));
         }
-        self.make_inputs(names.items());
+        let nodes = all_nodes(self.alloc, circuit, vectors, names.items())?;
+        self.make_inputs(&nodes);
         Ok(())
     }
 
-    // Makes these named nodes, which are in use and no rails, input nodes.
-    fn make_inputs(&mut self, names: &[Name])
-        requires { All (λ name. refusal.rail_refusal (node_of self.old.core.circuit.names name) ≡ None) names.now }
-        ensures made { self.new.core ≡ record self.old.core { circuit = effect.with_inputs self.old.core.circuit names.now } }
+    // Makes these nodes, none of which is a rail, input nodes.
+    fn make_inputs(&mut self, list: &[usize])
+        requires within { All (λ node. node < nodes self.old.core.circuit.graph) list.now }
+        requires past { All (λ node. RAILS ≤ node) list.now }
+        ensures made { self.new.core ≡ record self.old.core { circuit = effect.with_inputs self.old.core.circuit list.now } }
         ensures machine { EditsMachine self.old self.new }
     {
-        for name in names {
-            self.make_input(name.items());
+        for &node in list {
+            self.make_input(node);
         }
     }
 
-    // Makes a named node, which is in use and no rail, an input node.
-    fn make_input(&mut self, name: &[u8])
-        requires { refusal.rail_refusal (node_of self.old.core.circuit.names name.now) ≡ None }
-        ensures made { self.new.core ≡ record self.old.core { circuit = with_input self.old.core.circuit (node_named self.old.core.circuit name.now) } }
+    // Makes a node, which is no rail, an input node.
+    fn make_input(&mut self, node: usize)
+        requires within { node < nodes self.old.core.circuit.graph }
+        requires past { RAILS ≤ node }
+        ensures made { self.new.core ≡ record self.old.core { circuit = with_input self.old.core.circuit node } }
         ensures machine { EditsMachine self.old self.new }
     {
-        let node = found_past_rails(&self.circuit, name);
         let change = change_of_level(self.circuit.graph(), node);
         put_input(&mut self.circuit, node);
         self.stage
@@ -173,16 +175,6 @@ impl Session {
             Err(fault) => Err(ApplyFault::of_edit(fault)),
         }
     }
-}
-
-// The node of a name, which is in use and no rail's.
-fn found_past_rails(circuit: &Circuit, name: &[u8]) -> usize
-    requires { refusal.rail_refusal (node_of circuit.now.names name.now) ≡ None }
-    ensures node { result ≡ node_named circuit.now name.now }
-    ensures past { RAILS ≤ result }
-    ensures within { result < nodes circuit.now.graph }
-{
-    circuit.find(name).unwrap()
 }
 
 // Makes a node, which is no rail, an input node.

@@ -1,23 +1,23 @@
 //! The commands that give nodes states.
 
-ghost use Rattle.std.specs.Prelude.{◌≡◌, ◌≤◌, is_some, true, map, length, slice_set, All, IfSome, OnOk};
+ghost use Rattle.std.specs.Prelude.{◌≡◌, ◌<◌, ◌≤◌, None, map, length, All, IfErr, IfOk, IfSome, OnOk};
 ghost use Rattle.path_meaning.specs.Graphs.{nodes, level_of};
 ghost use Rattle.path_meaning.specs.declared.TheConstants.{RAILS};
-ghost use Rattle.netlist.specs.Names.{node_of};
-ghost use Rattle.netlist.specs.Circuits.{IsCircuit};
-ghost use Rattle.netlist.specs.Edits.{node_named};
 ghost use Rattle.script_lang.specs.declared.command.Command.TheVariants as family;
 ghost use Rattle.script_lang.specs.declared.command.Give.TheVariants as asked;
 ghost use Rattle.session_meaning.specs.Effects as effect;
 ghost use Rattle.session_meaning.specs.Machines.{GivesMachine, PlacesIn, placed_of};
-ghost use Rattle.session_meaning.specs.Stages.{PutsIn, AssignsIn};
+ghost use Rattle.session_meaning.specs.Stages.{AssignsIn};
+ghost use Rattle.session_meaning.specs.Refusals.{values_refusal};
 ghost use Rattle.session_meaning.specs.Outcomes.{Quietly};
+ghost use Rattle.session_meaning.specs.Preparing.{IsFaultFor};
+ghost use Rattle.cosmos_session.specs.Targets.{target_at};
 
-use crate::refusals;
 use crate::session::Session;
 use crate::stage::Stage;
+use crate::values::{Target, all_states, place_refusal};
 use netlist::{Circuit, RAILS};
-use script_lang::{AssignList, Give, Name};
+use script_lang::{Give, ValueList};
 use session_meaning::ApplyFault;
 use strength_order::INPUT_LEVEL;
 use ternary::Tern;
@@ -36,67 +36,66 @@ impl Session {
     }
 
     // `set`: gives the named input nodes their states, from left to right.
-    #[tactic(auto, using(session_meaning::proofs::RefusalLemmas::set_known, session_meaning::proofs::StateLemmas::set_past))]
-    fn set(&mut self, list: &AssignList) -> Result<(), ApplyFault>
+    #[tactic(auto, using(session_meaning::proofs::OutcomeLemmas::fault_quiet))]
+    fn set(&mut self, list: &ValueList) -> Result<(), ApplyFault>
         ensures quiet { Quietly self.old (family.Give (asked.Set list.now)) self.new result }
         ensures machine { OnOk result (GivesMachine self.old (asked.Set list.now) self.new) }
     {
-        if let Some(refusal) = refusals::set_refusal(&self.circuit, list.items()) {
-            return Err(ApplyFault::Refused(refusal));
-        }
-        self.put_assigned(list.items());
+        let states = self.states_for(list, Target::Inputs)?;
+        self.put_assigned(&states);
         Ok(())
     }
 
     // `charge`: gives the named storage nodes their states, from left to right.
-    fn charge(&mut self, list: &AssignList) -> Result<(), ApplyFault>
+    #[tactic(auto, using(session_meaning::proofs::OutcomeLemmas::fault_quiet))]
+    fn charge(&mut self, list: &ValueList) -> Result<(), ApplyFault>
         ensures quiet { Quietly self.old (family.Give (asked.Charge list.now)) self.new result }
         ensures machine { OnOk result (GivesMachine self.old (asked.Charge list.now) self.new) }
     {
-        if let Some(refusal) = refusals::charge_refusal(&self.circuit, list.items()) {
-            return Err(ApplyFault::Refused(refusal));
-        }
-        self.put_assigned(list.items());
+        let states = self.states_for(list, Target::Stores)?;
+        self.put_assigned(&states);
         Ok(())
     }
 
-    // Gives these named nodes, which are in use and no rails, their states, from left to right.
-    fn put_assigned(&mut self, list: &[(Name, Tern)])
-        requires known { All (λ item. is_some (node_of self.old.core.circuit.names item.0) ≡ true) list.now }
-        requires past { All (λ item. RAILS ≤ node_named self.old.core.circuit item.0) list.now }
-        ensures state { self.new.core ≡ record self.old.core { state = effect.assigned self.old.core.circuit self.old.core.state list.now } }
-        ensures machine { PlacesIn self.old.core.circuit (map (λ item. item.0) list.now) self.old.machine self.new.machine }
-        ensures unplaced { All (λ name. level_of self.old.core.circuit.graph (node_named self.old.core.circuit name) ≡ INPUT_LEVEL) (map (λ item. item.0) list.now)
+    // The states that these assignments give nodes, from left to right.
+    fn states_for(&self, list: &ValueList, target: Target) -> Result<Vec<(usize, Tern)>, ApplyFault>
+        ensures allowed { OnOk result (values_refusal (target_at target self.now.core.circuit) self.now.core.circuit self.now.core.vectors list.now ≡ None) }
+        ensures states { IfOk result (λ states. states.items ≡ effect.states_by self.now.core.circuit self.now.core.vectors list.now) }
+        ensures within { IfOk result (λ states. All (λ pair. pair.0 < nodes self.now.core.circuit.graph) states.items) }
+        ensures refused { IfErr result (IsFaultFor
+            (values_refusal (target_at target self.now.core.circuit) self.now.core.circuit self.now.core.vectors list.now)) }
+    {
+        let (circuit, vectors) = (&self.circuit, &self.vectors);
+        if let Some(refusal) = place_refusal(circuit, vectors, list.items()) {
+            return Err(ApplyFault::Refused(refusal));
+        }
+        all_states(self.alloc, circuit, vectors, list.items(), target)
+    }
+
+    // Gives these nodes, none of which is a rail, their states, from left to right.
+    fn put_assigned(&mut self, states: &[(usize, Tern)])
+        requires within { All (λ pair. pair.0 < nodes self.old.core.circuit.graph) states.now }
+        requires past { All (λ pair. RAILS ≤ pair.0) states.now }
+        ensures state { self.new.core ≡ record self.old.core { state = effect.assigned self.old.core.state states.now } }
+        ensures machine { PlacesIn (map (λ pair. pair.0) states.now) self.old.machine self.new.machine }
+        ensures unplaced { All (λ node. level_of self.old.core.circuit.graph node ≡ INPUT_LEVEL) (map (λ pair. pair.0) states.now)
             → placed_of self.new.machine ≡ placed_of self.old.machine }
     {
-        assign(&self.circuit, list, &mut self.stage);
+        assign(&self.circuit, states, &mut self.stage);
     }
 }
 
-// Gives these named nodes, which are in use and no rails, their states, from left to right.
-fn assign(circuit: &Circuit, list: &[(Name, Tern)], stage: &mut Stage)
+// Gives these nodes, none of which is a rail, their states, from left to right.
+fn assign(circuit: &Circuit, states: &[(usize, Tern)], stage: &mut Stage)
     requires states { length stage.old.state ≡ nodes circuit.now.graph }
-    requires known { All (λ item. is_some (node_of circuit.now.names item.0) ≡ true) list.now }
-    requires past { All (λ item. RAILS ≤ node_named circuit.now item.0) list.now }
-    ensures state { stage.new.state ≡ effect.assigned circuit.now stage.old.state list.now }
-    ensures machine { AssignsIn circuit.now (map (λ item. item.0) list.now) stage.old.machine stage.new.machine }
+    requires within { All (λ pair. pair.0 < nodes circuit.now.graph) states.now }
+    requires past { All (λ pair. RAILS ≤ pair.0) states.now }
+    ensures state { stage.new.state ≡ effect.assigned stage.old.state states.now }
+    ensures machine { AssignsIn circuit.now.graph (map (λ pair. pair.0) states.now) stage.old.machine stage.new.machine }
     ensures same { IfSome stage.new.machine (λ machine. machine.state ≡ stage.new.state) }
 {
-    for (name, value) in list {
-        assign_one(circuit, name.items(), *value, stage);
+    for (node, value) in states {
+        stage.set_node(circuit.graph(), *node, *value);
     }
     stage.is_the_machines();
-}
-
-// Gives a named node, which is in use and no rail, a state.
-fn assign_one(circuit: &Circuit, name: &[u8], value: Tern, stage: &mut Stage)
-    requires states { length stage.old.state ≡ nodes circuit.now.graph }
-    requires known { is_some (node_of circuit.now.names name.now) ≡ true }
-    requires past { RAILS ≤ node_named circuit.now name.now }
-    ensures state { stage.new.state ≡ slice_set stage.old.state (node_named circuit.now name.now) value }
-    ensures machine { PutsIn circuit.now.graph (node_named circuit.now name.now) value stage.old.machine stage.new.machine }
-    ensures netlist { IsCircuit circuit.now }
-{
-    let node = circuit.find(name).unwrap();
-    stage.set_node(circuit.graph(), node, value);
 }

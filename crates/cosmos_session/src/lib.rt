@@ -23,7 +23,9 @@
 
 mod edits;
 mod giving;
+mod looking;
 mod moving;
+mod naming;
 mod preparing;
 mod refusals;
 mod regrouping;
@@ -34,6 +36,7 @@ mod setting;
 mod stage;
 mod stepping;
 mod telling;
+mod values;
 mod waves;
 
 pub use refusals::cycle_refusal;

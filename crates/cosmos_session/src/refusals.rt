@@ -3,45 +3,22 @@
 ghost use Rattle.std.specs.Prelude.{◌≡◌, ◌<◌, ◌==◌, length, All, if◌then◌else◌};
 ghost use Rattle.path_meaning.specs.Graphs.{nodes};
 ghost use Rattle.netlist.specs.Names.{node_of};
+ghost use Rattle.node_words.specs.Words.{named};
 ghost use Rattle.session_meaning.specs.Refusals as spec;
 ghost use Rattle.session_meaning.specs.declared.fault.Refusal.TheVariants.{ClockLength};
 
 use netlist::{Circuit, RAILS};
-use script_lang::{Name, StateList, Tell};
+use node_words::{Named, Vectors};
+use script_lang::{Name, StateList};
 use session_meaning::{Clock, Refusal};
 use strength_order::INPUT_LEVEL;
-use ternary::Tern;
 
 /// The first refusal of making these named nodes input nodes.
-pub(crate) fn input_refusal(circuit: &Circuit, names: &[Name]) -> Option<Refusal>
-    ensures { result ≡ spec.first_refusal (λ name. spec.rail_refusal (node_of circuit.now.names name)) names.now }
+pub(crate) fn input_refusal(circuit: &Circuit, vectors: &Vectors, names: &[Name]) -> Option<Refusal>
+    ensures { result ≡ spec.first_refusal (λ name. spec.named_refusal spec.rail_at (named circuit.now vectors.now name)) names.now }
 {
     for name in names {
-        if let Some(refusal) = rail_refusal(circuit, name.items()) {
-            return Some(refusal);
-        }
-    }
-    None
-}
-
-/// The first refusal of setting these named nodes as input nodes.
-pub(crate) fn set_refusal(circuit: &Circuit, list: &[(Name, Tern)]) -> Option<Refusal>
-    ensures { result ≡ spec.first_refusal (λ item. spec.set_refusal circuit.now (node_of circuit.now.names item.0)) list.now }
-{
-    for (name, _) in list {
-        if let Some(refusal) = input_node_refusal(circuit, name.items()) {
-            return Some(refusal);
-        }
-    }
-    None
-}
-
-/// The first refusal of setting these named nodes as storage nodes.
-pub(crate) fn charge_refusal(circuit: &Circuit, list: &[(Name, Tern)]) -> Option<Refusal>
-    ensures { result ≡ spec.first_refusal (λ item. spec.charge_refusal circuit.now (node_of circuit.now.names item.0)) list.now }
-{
-    for (name, _) in list {
-        if let Some(refusal) = storage_node_refusal(circuit, name.items()) {
+        if let Some(refusal) = rail_refusal(circuit, vectors, name.items()) {
             return Some(refusal);
         }
     }
@@ -49,37 +26,25 @@ pub(crate) fn charge_refusal(circuit: &Circuit, list: &[(Name, Tern)]) -> Option
 }
 
 /// The first refusal of these names as names in use.
-pub(crate) fn known_refusal(circuit: &Circuit, names: &[Name]) -> Option<Refusal>
-    ensures { result ≡ spec.first_refusal (λ name. spec.known_refusal (node_of circuit.now.names name)) names.now }
+pub(crate) fn known_refusal(circuit: &Circuit, vectors: &Vectors, names: &[Name]) -> Option<Refusal>
+    ensures { result ≡ spec.first_refusal (λ name. spec.known_refusal (named circuit.now vectors.now name)) names.now }
 {
     for name in names {
-        if circuit.find(name.items()).is_none() {
-            return Some(Refusal::UnknownNode);
+        if let Some(refusal) = name_refusal(circuit, vectors, name.items()) {
+            return Some(refusal);
         }
     }
     None
 }
 
-/// The refusal of a command that tells.
-pub(crate) fn tell_refusal(circuit: &Circuit, tell: &Tell) -> Option<Refusal>
-    ensures { result ≡ spec.refusal_of_tell circuit.now tell.now }
+// The refusal of a name as one in use, for a node or a vector.
+fn name_refusal(circuit: &Circuit, vectors: &Vectors, name: &[u8]) -> Option<Refusal>
+    ensures { result ≡ spec.known_refusal (named circuit.now vectors.now name.now) }
 {
-    match tell {
-        Tell::Expect(list) => expect_refusal(circuit, list.items()),
-        Tell::Show(names) => known_refusal(circuit, names.items()),
+    match vectors.named(circuit, name) {
+        Named::Node(_) | Named::Vector(_) => None,
+        Named::Nothing => Some(Refusal::UnknownNode),
     }
-}
-
-// The first refusal of these assignments' names as names in use.
-fn expect_refusal(circuit: &Circuit, list: &[(Name, Tern)]) -> Option<Refusal>
-    ensures { result ≡ spec.expect_refusal circuit.now list.now }
-{
-    for (name, _) in list {
-        if circuit.find(name.items()).is_none() {
-            return Some(Refusal::UnknownNode);
-        }
-    }
-    None
 }
 
 /// The first refusal of these names and letters as clocks: their lengths first, then their nodes.
@@ -144,15 +109,27 @@ pub fn cycle_refusal(circuit: &Circuit, clocks: &[Clock]) -> Option<Refusal>
     None
 }
 
-// The refusal of editing a named node: it is none, or it is a rail.
-fn rail_refusal(circuit: &Circuit, name: &[u8]) -> Option<Refusal>
-    ensures { result ≡ spec.rail_refusal (node_of circuit.now.names name.now) }
+// The refusal of editing the nodes of a name: it isn't in use, or one of them is a rail.
+fn rail_refusal(circuit: &Circuit, vectors: &Vectors, name: &[u8]) -> Option<Refusal>
+    ensures { result ≡ spec.named_refusal spec.rail_at (named circuit.now vectors.now name.now) }
 {
-    match circuit.find(name) {
-        Some(node) if node < RAILS => Some(Refusal::Rail),
-        Some(_) => None,
-        None => Some(Refusal::UnknownNode),
+    match vectors.named(circuit, name) {
+        Named::Node(node) => rail_among(&[node]),
+        Named::Vector(nodes) => rail_among(nodes),
+        Named::Nothing => Some(Refusal::UnknownNode),
     }
+}
+
+// The refusal of editing these nodes: one of them is a rail.
+fn rail_among(list: &[usize]) -> Option<Refusal>
+    ensures { result ≡ spec.first_refusal spec.rail_at list.now }
+{
+    for &node in list {
+        if node < RAILS {
+            return Some(Refusal::Rail);
+        }
+    }
+    None
 }
 
 // The refusal of a named node as an input node that can be set.
@@ -163,18 +140,6 @@ fn input_node_refusal(circuit: &Circuit, name: &[u8]) -> Option<Refusal>
         Some(node) if node < RAILS => Some(Refusal::Rail),
         Some(node) if circuit.graph().level(node) == INPUT_LEVEL => None,
         Some(_) => Some(Refusal::NotInput),
-        None => Some(Refusal::UnknownNode),
-    }
-}
-
-// The refusal of a named node as a storage node that can be charged.
-fn storage_node_refusal(circuit: &Circuit, name: &[u8]) -> Option<Refusal>
-    ensures { result ≡ spec.charge_refusal circuit.now (node_of circuit.now.names name.now) }
-{
-    match circuit.find(name) {
-        Some(node) if node < RAILS => Some(Refusal::Rail),
-        Some(node) if circuit.graph().level(node) == INPUT_LEVEL => Some(Refusal::NotStore),
-        Some(_) => None,
         None => Some(Refusal::UnknownNode),
     }
 }

@@ -7,9 +7,9 @@ ghost use Rattle.wave_print.specs.declared.lines.TheConstants.{COLUMN_ROOM, REPO
 ghost use Rattle.script_lang.specs.declared.command.Command.TheVariants as family;
 ghost use Rattle.script_lang.specs.declared.command.Run.TheVariants as asked;
 ghost use Rattle.session_meaning.specs.Machines.{BuildsMachine, IsBuilt};
-ghost use Rattle.session_meaning.specs.Stages.{IsReportSent};
+ghost use Rattle.session_meaning.specs.Effects.{IsReported};
 ghost use Rattle.session_meaning.specs.Sinks.{IsSinkFault, faults_applied, refusals_sent};
-ghost use Rattle.session_meaning.specs.Outcomes.{Obeys};
+ghost use Rattle.session_meaning.specs.Outcomes.{IsDoneAndSent, Obeys};
 
 use crate::session::Session;
 use crate::waves::tell_line;
@@ -42,7 +42,7 @@ impl Session {
         requires built { IsBuilt self.old }
         requires texts { (texts : List GroupTextData) × HasTexts self.old.core.circuit.graph texts }
         requires line { COLUMN_ROOM + REPORT_LINE_ROOM ≤ L.room out.old }
-        ensures report { IsReportSent L.hear L.part self.old.core self.new.core (L.heard out.old) (L.heard out.new) result }
+        ensures report { IsDoneAndSent IsReported L.hear L.part self.old.core self.new.core (L.heard out.old) (L.heard out.new) result }
         ensures machine { self.new.machine ≡ self.old.machine }
         ensures cause { IfErr result IsSinkFault }
         ensures faults { L.faults out.new ≡ faults_applied (L.faults out.old) result }

@@ -11,6 +11,7 @@ ghost use Rattle.session_meaning.specs.Outcomes.{Obeys};
 use crate::stage::Stage;
 use analysis_cache::{Analyst, Kept};
 use netlist::Circuit;
+use node_words::Vectors;
 use script_lang::{Command, Name, StateList};
 use session_meaning::{ApplyFault, Clock, FIRST_LIMIT};
 use std::alloc::Global;
@@ -20,9 +21,9 @@ use told_lines::Lines;
 use unit_step::Machine;
 
 /// A simulation session: a circuit, the state of its nodes, the nodes that are watched, the clocks,
-/// the limit of a phase, how many waveform lines there were, whether some expectation was not met, the names
-/// under which states are kept, the texts whose analyses are kept, the most recently used first, perhaps a
-/// bound on their number, and how many were analysed since the last report.
+/// the limit of a phase, how many waveform lines there were, whether some expectation was not met, the vectors
+/// that names stand for, the names under which states are kept, the texts whose analyses are kept, the most
+/// recently used first, perhaps a bound on their number, and how many were analysed since the last report.
 ///
 /// Beside these data contracts see the machine that moves the state, if there is one: it is built
 /// at the first command that wants it, and lives through edits of the circuit.
@@ -36,6 +37,7 @@ pub struct Session {
     pub(crate) limit: u64,
     pub(crate) count: u64,
     pub(crate) missed: bool,
+    pub(crate) vectors: Vectors,
     pub(crate) saves: Vec<(Name, StateList)>,
     pub(crate) kept: Kept,
     pub(crate) fresh: u64,
@@ -48,9 +50,9 @@ impl Model for Session {
 
     ghost Value = { HeldSession };
 
-    ghost view = { λ session. record { core = record { circuit = session.circuit; state = session.stage.state; watched = session.watched.items; clocks = session.clocks.items; limit = session.limit; count = session.count; missed = session.missed; saves = session.saves.items; bound = session.kept.bound; kept = kept_in session.stage.machine (texts_of session.kept); fresh = session.fresh }; machine = session.stage.machine } };
+    ghost view = { λ session. record { core = record { circuit = session.circuit; state = session.stage.state; watched = session.watched.items; clocks = session.clocks.items; limit = session.limit; count = session.count; missed = session.missed; vectors = session.vectors; saves = session.saves.items; bound = session.kept.bound; kept = kept_in session.stage.machine (texts_of session.kept); fresh = session.fresh }; machine = session.stage.machine } };
 
-    ghost invariant = { λ session. IsHeldSession (record { core = record { circuit = session.circuit; state = session.stage.state; watched = session.watched.items; clocks = session.clocks.items; limit = session.limit; count = session.count; missed = session.missed; saves = session.saves.items; bound = session.kept.bound; kept = kept_in session.stage.machine (texts_of session.kept); fresh = session.fresh }; machine = session.stage.machine })
+    ghost invariant = { λ session. IsHeldSession (record { core = record { circuit = session.circuit; state = session.stage.state; watched = session.watched.items; clocks = session.clocks.items; limit = session.limit; count = session.count; missed = session.missed; vectors = session.vectors; saves = session.saves.items; bound = session.kept.bound; kept = kept_in session.stage.machine (texts_of session.kept); fresh = session.fresh }; machine = session.stage.machine })
         × AreAmong (last_in session.stage.machine) (texts_of session.kept) };
 }
 
@@ -65,6 +67,7 @@ impl Session {
         state[0] = Tern::Zero;
         state[1] = Tern::One;
         let kept = Kept::with_keys(alloc, circuit.keys());
+        let vectors = Vectors::new(alloc, circuit.keys());
         Ok(Session {
             alloc,
             circuit,
@@ -74,6 +77,7 @@ impl Session {
             limit: FIRST_LIMIT,
             count: 0,
             missed: false,
+            vectors,
             saves: Vec::new(alloc),
             kept,
             fresh: 0,
@@ -119,6 +123,20 @@ impl Session {
         ensures { result.now ≡ self.now.core.watched }
     {
         &self.watched
+    }
+
+    /// The clocks, in the order of the line that set them.
+    pub fn clocks(&self) -> &[Clock]
+        ensures { result.now ≡ self.now.core.clocks }
+    {
+        &self.clocks
+    }
+
+    /// The vectors that names stand for.
+    pub fn vectors(&self) -> &Vectors
+        ensures { result.now ≡ self.now.core.vectors }
+    {
+        &self.vectors
     }
 
     /// Whether each expectation so far was met.

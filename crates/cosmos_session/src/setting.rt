@@ -1,15 +1,15 @@
 //! The commands that set what later ones go by.
 
-ghost use Rattle.std.specs.Prelude.{◌≡◌, ◌<◌, ◌≤◌, ◌++◌, ◌+◌, is_some, true, map, length, vec_len, vec_capacity, All, IfOk};
+ghost use Rattle.std.specs.Prelude.{◌≡◌, ◌<◌, ◌≤◌, is_some, true, map, All, IfOk};
 ghost use Rattle.path_meaning.specs.Graphs.{nodes};
 ghost use Rattle.netlist.specs.Names.{node_of};
-ghost use Rattle.netlist.specs.Edits.{node_named};
 ghost use Rattle.script_lang.specs.declared.command.Command.TheVariants as family;
 ghost use Rattle.script_lang.specs.declared.command.Setup.TheVariants as asked;
 ghost use Rattle.script_lang.specs.Forms.{AreBeats, IsFormedSetup, IsTimes};
 ghost use Rattle.session_meaning.specs.Effects as effect;
 ghost use Rattle.session_meaning.specs.Outcomes.{Quietly};
 
+use crate::naming::few_nodes;
 use crate::refusals;
 use crate::session::Session;
 use netlist::Circuit;
@@ -31,6 +31,7 @@ impl Session {
             Setup::Clock(list) => self.set_clocks(list),
             Setup::Keep(number) => self.set_bound(*number),
             Setup::Save(name) => self.save(name),
+            Setup::Vector(name, words) => self.set_vector(name, words),
         }
     }
 
@@ -39,15 +40,29 @@ impl Session {
         ensures quiet { Quietly self.old (family.Setup (asked.Watch names.now)) self.new result }
         ensures machine { self.new.machine ≡ self.old.machine }
     {
-        if let Some(refusal) = refusals::known_refusal(&self.circuit, names.items()) {
+        let (circuit, vectors) = (&self.circuit, &self.vectors);
+        if let Some(refusal) = refusals::known_refusal(circuit, vectors, names.items()) {
             return Err(ApplyFault::Refused(refusal));
         }
-        if names.items().len() > MOST_WATCHED - self.watched.len() {
+        let left = MOST_WATCHED - self.watched.len();
+        let found = few_nodes(self.alloc, circuit, vectors, names.items(), left)?;
+        let Some(nodes) = found else {
             return Err(ApplyFault::Refused(Refusal::TooManyWatched));
-        }
-        self.watched.reserve(names.items().len())?;
-        append_nodes(&self.circuit, names.items(), &mut self.watched);
+        };
+        self.watched.extend_from_slice(&nodes)?;
         Ok(())
+    }
+
+    // `vector`: gives a name to the nodes that these words stand for.
+    fn set_vector(&mut self, name: &Name, words: &NameList) -> Result<(), ApplyFault>
+        ensures quiet { Quietly self.old (family.Setup (asked.Vector name.now words.now)) self.new result }
+        ensures machine { self.new.machine ≡ self.old.machine }
+    {
+        let vectors = &mut self.vectors;
+        match vectors.define(self.alloc, &self.circuit, name.items(), words.items()) {
+            Ok(()) => Ok(()),
+            Err(fault) => Err(ApplyFault::of_vector(fault)),
+        }
     }
 
     // `limit`: sets the limit of a phase.
@@ -80,19 +95,6 @@ impl Session {
         }
         self.clocks = named_clocks(self.alloc, &self.circuit, list.items())?;
         Ok(())
-    }
-}
-
-// Appends the nodes of these names, which are in use, in room that is there.
-fn append_nodes(circuit: &Circuit, names: &[Name], watched: &mut Vec<usize>)
-    requires known { All (λ name. is_some (node_of circuit.now.names name) ≡ true) names.now }
-    requires room { vec_len watched.old + length names.now ≤ vec_capacity watched.old }
-    requires within { All (λ node. node < nodes circuit.now.graph) watched.old.items }
-    ensures items { watched.new.items ≡ watched.old.items ++ map (node_named circuit.now) names.now }
-    ensures within { All (λ node. node < nodes circuit.now.graph) watched.new.items }
-{
-    for name in names {
-        watched.push_reserved(circuit.find(name.items()).unwrap());
     }
 }
 

@@ -11,10 +11,11 @@ ghost use Rattle.script_lang.specs.declared.command.Run.TheVariants as asked;
 ghost use Rattle.script_lang.specs.Forms.{IsFormedRun, IsTimes};
 ghost use Rattle.session_meaning.specs.Sessions.{places_of, IsReady};
 ghost use Rattle.session_meaning.specs.Effects as effect;
+ghost use Rattle.session_meaning.specs.Effects.{IsPhase};
 ghost use Rattle.session_meaning.specs.Machines.{IsBuilt, RunsMachine, StepsMachine, SettlesMachine};
-ghost use Rattle.session_meaning.specs.Stages.{IsStepSent, IsUnitStepDone, IsSettled, PhaseMoves, BeatsMove, BeatsMoveOn, PutsIn, TicksIn, StaysPut, SameSetup};
+ghost use Rattle.session_meaning.specs.Stages.{IsUnitStepDone, IsSettled, PhaseMoves, BeatsMove, BeatsMoveOn, PutsIn, TicksIn, StaysPut, SameSetup};
 ghost use Rattle.session_meaning.specs.Sinks.{IsSinkFault, faults_applied, refusals_sent};
-ghost use Rattle.session_meaning.specs.Outcomes.{Obeys, TakesBeats, IsPhaseSent, Sent};
+ghost use Rattle.session_meaning.specs.Outcomes.{Obeys, TakesBeats, IsDoneAndSent, Sent};
 
 use crate::refusals;
 use crate::session::Session;
@@ -61,7 +62,8 @@ impl Session {
         let mut room = WaveRoom::new(self.alloc, self.watched.len())?;
         out.reserve(COLUMN_ROOM + WAVE_LINE_ROOM)?;
         self.prepare(analyst)?;
-        self.step_and_tell(&mut room, out)
+        self.take_step();
+        self.tell_wave(1, false, &mut room, out)
     }
 
     // `phase`: unit steps until nothing changes, past the limit joining ones, and a waveform line.
@@ -167,25 +169,6 @@ impl Session {
         put_states(&self.clocks, place, self.circuit.graph(), &mut self.stage);
     }
 
-    // Takes a unit step, and tells its waveform line. The machine fits.
-    fn step_and_tell<L: Lines>(
-        &mut self,
-        room: &mut WaveRoom,
-        out: &mut L,
-    ) -> Result<(), ApplyFault>
-        requires built { IsBuilt self.old }
-        requires room { length self.old.core.watched ≤ room.old }
-        requires line { COLUMN_ROOM + WAVE_LINE_ROOM ≤ L.room out.old }
-        ensures step { IsStepSent L.hear L.part self.old.core self.new.core (L.heard out.old) (L.heard out.new) result }
-        ensures machine { StepsMachine self.old self.new }
-        ensures cause { IfErr result IsSinkFault }
-        ensures faults { L.faults out.new ≡ faults_applied (L.faults out.old) result }
-        ensures refusals { L.refusals out.new ≡ refusals_sent (L.refusals out.old) result }
-    {
-        self.take_step();
-        self.tell_wave(1, false, room, out)
-    }
-
     // Takes a unit step, and counts its waveform line. The machine fits.
     fn take_step(&mut self)
         requires { IsBuilt self.old }
@@ -205,7 +188,7 @@ impl Session {
         requires built { IsBuilt self.old }
         requires room { length self.old.core.watched ≤ room.old }
         requires line { COLUMN_ROOM + WAVE_LINE_ROOM ≤ L.room out.old }
-        ensures phase { IsPhaseSent L.hear L.part self.old.core self.new.core (L.heard out.old) (L.heard out.new) result }
+        ensures phase { IsDoneAndSent IsPhase L.hear L.part self.old.core self.new.core (L.heard out.old) (L.heard out.new) result }
         ensures moves { PhaseMoves self.old self.new }
         ensures built { IsBuilt self.new }
         ensures setup { SameSetup self.old.core self.new.core }

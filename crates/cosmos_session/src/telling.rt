@@ -1,25 +1,56 @@
 //! The commands that tell of what is there: the lines of expectations that aren't met, and of names that are shown.
 
-ghost use Rattle.std.specs.Prelude.{◌≡◌, ◌≤◌, ◌<◌, ◌^◌, List, [], ◌∷◌, is_some, true, None, length, map, All, IfErr};
-ghost use Rattle.std.specs.List.{list_any};
+ghost use Rattle.std.specs.Prelude.{◌≡◌, ◌≤◌, ◌<◌, ◌^◌, ℕ, List, [], ◌∷◌, ◌++◌, None, map, length, All, IfErr, IfOk, OnOk};
+ghost use Rattle.std.specs.List.{cons_option, list_all};
 ghost use Rattle.group_text.specs.Texts.{GroupTextData};
-ghost use Rattle.netlist.specs.Names.{node_of};
-ghost use Rattle.told_lines.specs.Lines.{AreInRoom, is_unmet, room_of};
+ghost use Rattle.path_meaning.specs.Graphs.{nodes};
+ghost use Rattle.path_meaning.specs.Switching.{state_at};
+ghost use Rattle.told_lines.specs.Lines.{AreInRoom, room_of};
 ghost use Rattle.script_lang.specs.declared.command.Command.TheVariants as family;
 ghost use Rattle.script_lang.specs.declared.command.Tell.TheVariants as asked;
 ghost use Rattle.session_meaning.specs.Effects as effect;
-ghost use Rattle.session_meaning.specs.Refusals.{refusal_of_tell};
+ghost use Rattle.session_meaning.specs.Refusals.{given_refusal, nodes_named, none_at, values_refusal};
 ghost use Rattle.session_meaning.specs.Sinks.{IsSinkFault, faults_applied, refusals_sent};
+ghost use Rattle.session_meaning.specs.Stages.{AreShortLists};
 ghost use Rattle.session_meaning.specs.Outcomes.{Obeys, Sent};
+ghost use Rattle.node_values.specs.Givings.{letters_given};
+ghost use Rattle.session_meaning.specs.Preparing.{IsFaultFor};
 
+use crate::naming::count_of;
 use crate::refusals;
 use crate::session::Session;
-use crate::waves::tell_line;
-use script_lang::{Name, Tell};
+use crate::values::{pairs_given, place_refusal};
+use crate::waves::{WaveRoom, tell_line};
+use netlist::Circuit;
+use node_words::{Named, Vectors};
+use script_lang::{Name, NameList, Tell, Value, ValueList};
 use session_meaning::ApplyFault;
-use ternary::Tern;
+use std::alloc::{AllocError, Global};
+use std::marker::Model;
+use ternary::{NoMemory, Tern};
 use told_lines::{Line, Lines};
+use vector_values::Letter;
 use wave_print::{COLUMN_ROOM, EXPECT_LINE_ROOM, SHOW_LINE_ROOM};
+
+/// The line of an expectation that isn't met.
+#[derive(Drop)]
+pub(crate) struct UnmetLine {
+    name: Name,
+    want: Vec<Letter>,
+    got: Vec<Tern>,
+    n: u64,
+}
+
+impl Model for UnmetLine {
+    ghost use Rattle.std.specs.Prelude.{◌<◌, ◌^◌, length};
+    ghost use Rattle.told_lines.specs.Lines.{Line, Unmet};
+
+    ghost Value = { Line };
+
+    ghost view = { λ line. Unmet line.name line.want.items line.got.items line.n };
+
+    ghost invariant = { λ line. (length line.want.items < 2 ^ 60) × (length line.got.items < 2 ^ 60) };
+}
 
 impl Session {
     /// Tells of what is there. Nothing is analysed for it, whatever was before.
@@ -29,118 +60,103 @@ impl Session {
         ensures faults { L.faults out.new ≡ faults_applied (L.faults out.old) result }
         ensures machine { self.new.machine ≡ self.old.machine }
     {
-        if let Some(refusal) = refusals::tell_refusal(&self.circuit, tell) {
-            return Err(ApplyFault::Refused(refusal));
+        match tell {
+            Tell::Expect(list) => self.expect(list, out),
+            Tell::Show(names) => self.show(names, out),
+            Tell::Look(names) => self.look(names, out),
         }
-        out.reserve(self.room_to_tell(tell))?;
-        let told = self.tell_lines(tell, out);
-        let missed = self.misses(tell);
-        self.missed |= missed;
+    }
+
+    // `expect`: tells the line of each assignment that isn't met.
+    fn expect<L: Lines>(&mut self, list: &ValueList, out: &mut L) -> Result<(), ApplyFault>
+        ensures obeys { (texts : List GroupTextData) → Obeys L.hear L.part self.old (family.Tell (asked.Expect list.now)) self.new
+            (L.heard out.old) (L.heard out.new) texts texts (L.refusals out.old) (L.refusals out.new) result }
+        ensures faults { L.faults out.new ≡ faults_applied (L.faults out.old) result }
+        ensures machine { self.new.machine ≡ self.old.machine }
+    {
+        let lines = self.unmet_lines(list.items())?;
+        out.reserve(room_for(&lines))?;
+        let told = tell_unmet(&lines, out);
+        self.missed |= !lines.is_empty();
         told
     }
 
-    // Room for each line of what is told.
-    fn room_to_tell(&self, tell: &Tell) -> usize
-        ensures { AreInRoom result (effect.told_by self.now.core tell.now) }
+    // The line of each assignment that isn't met, from left to right.
+    fn unmet_lines(&self, list: &[(Name, Value)]) -> Result<Vec<UnmetLine>, ApplyFault>
+        ensures allowed { OnOk result (values_refusal none_at self.now.core.circuit self.now.core.vectors list.now ≡ None) }
+        ensures lines { IfOk result (λ lines. lines.items ≡ effect.unmet_lines self.now.core list.now) }
+        ensures refused { IfErr result (IsFaultFor (values_refusal none_at self.now.core.circuit self.now.core.vectors list.now)) }
     {
-        match tell {
-            Tell::Expect(list) => COLUMN_ROOM + (EXPECT_LINE_ROOM + longest_name(list.items())),
-            Tell::Show(names) => COLUMN_ROOM
-                + (SHOW_LINE_ROOM + (longest_shown(names.items()) + 1)),
+        if let Some(refusal) = place_refusal(&self.circuit, &self.vectors, list) {
+            return Err(ApplyFault::Refused(refusal));
         }
+        let mut lines = Vec::new(self.alloc);
+        for (name, value) in list {
+            self.add_unmet(name.items(), value, &mut lines)?;
+        }
+        Ok(lines)
     }
 
-    // Tells the lines of what is told, which isn't refused.
-    fn tell_lines<L: Lines>(&self, tell: &Tell, out: &mut L) -> Result<(), ApplyFault>
-        requires allowed { refusal_of_tell self.now.core.circuit tell.now ≡ None }
-        requires room { AreInRoom (L.room out.old) (effect.told_by self.now.core tell.now) }
-        ensures sent { Sent L.hear L.part (L.heard out.old) (L.heard out.new) (effect.told_by self.now.core tell.now) result }
-        ensures cause { IfErr result IsSinkFault }
-        ensures faults { L.faults out.new ≡ faults_applied (L.faults out.old) result }
-        ensures refusals { L.refusals out.new ≡ refusals_sent (L.refusals out.old) result }
+    // Puts the line of an assignment behind others, if it isn't met.
+    fn add_unmet(
+        &self,
+        name: &[u8],
+        value: &Value,
+        lines: &mut Vec<UnmetLine>,
+    ) -> Result<(), ApplyFault>
+        ensures allowed { OnOk result (given_refusal none_at (letters_given self.now.core.circuit self.now.core.vectors (name.now, value.now)) ≡ None) }
+        ensures lines { OnOk result (lines.new.items ≡ lines.old.items ++ effect.unmet_lines self.now.core ((name.now, value.now) ∷ [])) }
+        ensures refused { IfErr result (IsFaultFor
+            (given_refusal none_at (letters_given self.now.core.circuit self.now.core.vectors (name.now, value.now)))) }
     {
-        match tell {
-            Tell::Expect(list) => self.tell_unmet(list.items(), out),
-            Tell::Show(names) => self.tell_shown(names.items(), out),
-        }
-    }
-
-    // Whether a line is told of an expectation that isn't met, where what is told isn't refused.
-    fn misses(&self, tell: &Tell) -> bool
-        requires { refusal_of_tell self.now.core.circuit tell.now ≡ None }
-        ensures { result ≡ list_any is_unmet (effect.told_by self.now.core tell.now) }
-    {
-        match tell {
-            Tell::Expect(list) => self.any_unmet(list.items()),
-            Tell::Show(names) => self.none_unmet(names.items()),
-        }
-    }
-
-    // Tells the line of each assignment that isn't met. They aren't refused.
-    fn tell_unmet<L: Lines>(&self, list: &[(Name, Tern)], out: &mut L) -> Result<(), ApplyFault>
-        requires allowed { refusal_of_tell self.now.core.circuit (asked.Expect list.now) ≡ None }
-        requires room { AreInRoom (L.room out.old) (effect.unmet_lines self.now.core list.now) }
-        ensures sent { Sent L.hear L.part (L.heard out.old) (L.heard out.new) (effect.unmet_lines self.now.core list.now) result }
-        ensures cause { IfErr result IsSinkFault }
-        ensures faults { L.faults out.new ≡ faults_applied (L.faults out.old) result }
-        ensures refusals { L.refusals out.new ≡ refusals_sent (L.refusals out.old) result }
-    {
-        for (name, want) in list {
-            self.tell_if_unmet(name.items(), *want, out)?;
-        }
+        let pairs = pairs_given(self.alloc, &self.circuit, &self.vectors, name, value)?;
+        let line = self.unmet(name, &pairs)?;
+        put_line(line, lines)?;
         Ok(())
     }
 
-    // Tells the line of an assignment that isn't met, if it isn't. The name is in use.
-    fn tell_if_unmet<L: Lines>(
+    // The line of a name whose nodes are given these letters, if one of them isn't met.
+    fn unmet(&self, name: &[u8], pairs: &[(usize, Letter)]) -> Result<Option<UnmetLine>, NoMemory>
+        requires { All (λ pair. pair.0 < nodes self.now.core.circuit.graph) pairs.now }
+        ensures { IfOk result (λ found. found ≡ effect.unmet_by self.now.core name.now pairs.now) }
+    {
+        let state = self.stage.state();
+        let met = are_met(state, pairs);
+        if met {
+            return Ok(None);
+        }
+        let name = Name::from_slice(self.alloc, name)?;
+        let want = wanted(self.alloc, pairs)?;
+        let got = present(self.alloc, state, pairs)?;
+        let n = self.count;
+        Ok(Some(UnmetLine { name, want, got, n }))
+    }
+
+    // `show`: tells the line of each of these names.
+    fn show<L: Lines>(&mut self, names: &NameList, out: &mut L) -> Result<(), ApplyFault>
+        ensures obeys { (texts : List GroupTextData) → Obeys L.hear L.part self.old (family.Tell (asked.Show names.now)) self.new
+            (L.heard out.old) (L.heard out.new) texts texts (L.refusals out.old) (L.refusals out.new) result }
+        ensures faults { L.faults out.new ≡ faults_applied (L.faults out.old) result }
+        ensures machine { self.new.machine ≡ self.old.machine }
+    {
+        let (circuit, vectors) = (&self.circuit, &self.vectors);
+        if let Some(refusal) = refusals::known_refusal(circuit, vectors, names.items()) {
+            return Err(ApplyFault::Refused(refusal));
+        }
+        let most = longest_list(circuit, vectors, names.items());
+        let mut room = WaveRoom::new(self.alloc, most)?;
+        out.reserve(COLUMN_ROOM + (SHOW_LINE_ROOM + (longest_shown(names.items()) + most)))?;
+        self.tell_shown(names.items(), &mut room, out)
+    }
+
+    // Tells the line of each of these names.
+    fn tell_shown<L: Lines>(
         &self,
-        name: &[u8],
-        want: Tern,
+        names: &[Name],
+        values: &mut WaveRoom,
         out: &mut L,
     ) -> Result<(), ApplyFault>
-        requires known { is_some (node_of self.now.core.circuit.names name.now) ≡ true }
-        requires room { AreInRoom (L.room out.old) (effect.unmet_lines self.now.core ((name.now, want) ∷ [])) }
-        ensures room { L.room out.new ≡ L.room out.old }
-        ensures sent { Sent L.hear L.part (L.heard out.old) (L.heard out.new) (effect.unmet_lines self.now.core ((name.now, want) ∷ [])) result }
-        ensures cause { IfErr result IsSinkFault }
-        ensures faults { L.faults out.new ≡ faults_applied (L.faults out.old) result }
-        ensures refusals { L.refusals out.new ≡ refusals_sent (L.refusals out.old) result }
-    {
-        let got = self.stage.state()[self.circuit.find(name).unwrap()];
-        if got == want {
-            return Ok(());
-        }
-        let n = self.count;
-        tell_line(Line::Unmet { name, want, got, n }, out)
-    }
-
-    // Whether an assignment isn't met. They aren't refused.
-    fn any_unmet(&self, list: &[(Name, Tern)]) -> bool
-        requires { refusal_of_tell self.now.core.circuit (asked.Expect list.now) ≡ None }
-        ensures { result ≡ list_any is_unmet (effect.unmet_lines self.now.core list.now) }
-    {
-        let mut any = false;
-        for (name, want) in list {
-            any |= self.is_unmet(name.items(), *want);
-        }
-        any
-    }
-
-    // Whether an assignment isn't met. The name is in use.
-    fn is_unmet(&self, name: &[u8], want: Tern) -> bool
-        requires { is_some (node_of self.now.core.circuit.names name.now) ≡ true }
-        ensures { result ≡ list_any is_unmet (effect.unmet_lines self.now.core ((name.now, want) ∷ [])) }
-    {
-        let got = self.stage.state()[self.circuit.find(name).unwrap()];
-        if got == want {
-            return false;
-        }
-        true
-    }
-
-    // Tells the line of each of these names. They aren't refused.
-    fn tell_shown<L: Lines>(&self, names: &[Name], out: &mut L) -> Result<(), ApplyFault>
-        requires allowed { refusal_of_tell self.now.core.circuit (asked.Show names.now) ≡ None }
+        requires short { AreShortLists self.now.core.circuit self.now.core.vectors values.old names.now }
         requires room { AreInRoom (L.room out.old) (map (effect.shown_line self.now.core) names.now) }
         ensures sent { Sent L.hear L.part (L.heard out.old) (L.heard out.new) (map (effect.shown_line self.now.core) names.now) result }
         ensures cause { IfErr result IsSinkFault }
@@ -148,46 +164,141 @@ impl Session {
         ensures refusals { L.refusals out.new ≡ refusals_sent (L.refusals out.old) result }
     {
         for name in names {
-            self.tell_name(name.items(), out)?;
+            self.tell_name(name.items(), values, out)?;
         }
         Ok(())
     }
 
-    // Tells the line of a name, which is in use.
-    fn tell_name<L: Lines>(&self, name: &[u8], out: &mut L) -> Result<(), ApplyFault>
-        requires known { is_some (node_of self.now.core.circuit.names name.now) ≡ true }
+    // Tells the line of a name.
+    fn tell_name<L: Lines>(
+        &self,
+        name: &[u8],
+        values: &mut WaveRoom,
+        out: &mut L,
+    ) -> Result<(), ApplyFault>
+        requires short { length (nodes_named self.now.core.circuit self.now.core.vectors name.now) ≤ values.old }
         requires room { room_of (effect.shown_line self.now.core name.now) ≤ L.room out.old }
+        ensures short { values.new ≡ values.old }
         ensures room { L.room out.new ≡ L.room out.old }
         ensures sent { Sent L.hear L.part (L.heard out.old) (L.heard out.new) (effect.shown_line self.now.core name.now ∷ []) result }
         ensures cause { IfErr result IsSinkFault }
         ensures faults { L.faults out.new ≡ faults_applied (L.faults out.old) result }
         ensures refusals { L.refusals out.new ≡ refusals_sent (L.refusals out.old) result }
     {
-        let state = self.stage.state()[self.circuit.find(name).unwrap()];
-        let values = &[state];
-        tell_line(Line::Shown { name, values }, out)
-    }
-
-    // Whether a line of these names is of an expectation that isn't met: none is.
-    #[tactic(auto, using(session_meaning::proofs::LineLemmas::shown_met))]
-    fn none_unmet(&self, names: &[Name]) -> bool
-        ensures { result ≡ list_any is_unmet (map (effect.shown_line self.now.core) names.now) }
-    {
-        let _ = names;
-        false
+        let state = self.stage.state();
+        match self.vectors.named(&self.circuit, name) {
+            Named::Node(node) => values.show(name, state, &[node], out),
+            Named::Vector(nodes) => values.show(name, state, nodes, out),
+            Named::Nothing => values.show(name, state, &[], out),
+        }
     }
 }
 
-// The length of the longest name of these assignments.
-fn longest_name(list: &[(Name, Tern)]) -> usize
-    ensures longest { All (λ item. length item.0 ≤ result) list.now }
-    ensures few { result < 2 ^ 63 }
+// Puts a line behind others, if there is one.
+fn put_line(line: Option<UnmetLine>, lines: &mut Vec<UnmetLine>) -> Result<(), NoMemory>
+    ensures { OnOk result (lines.new.items ≡ lines.old.items ++ cons_option line []) }
+{
+    if let Some(line) = line {
+        lines.push(line).map_err(AllocError::from)?;
+    }
+    Ok(())
+}
+
+// Whether each of these letters is met by its node's state.
+fn are_met(state: &[Tern], pairs: &[(usize, Letter)]) -> bool
+    requires { All (λ pair. pair.0 < length state.now) pairs.now }
+    ensures { result ≡ list_all (λ pair. effect.is_met pair.1 (state_at state.now pair.0)) pairs.now }
+{
+    for (node, letter) in pairs {
+        if !is_met(*letter, state[*node]) {
+            return false;
+        }
+    }
+    true
+}
+
+// Whether the letter is met by the state.
+fn is_met(letter: Letter, got: Tern) -> bool
+    ensures { result ≡ effect.is_met letter got }
+{
+    match letter {
+        Some(want) => got == want,
+        None => true,
+    }
+}
+
+// The letters of these nodes.
+fn wanted(alloc: Global, pairs: &[(usize, Letter)]) -> Result<Vec<Letter>, NoMemory>
+    ensures items { IfOk result (λ letters. letters.items ≡ map (λ pair. pair.1) pairs.now) }
+    ensures few { IfOk result (λ letters. length letters.items < 2 ^ 60) }
+{
+    let mut letters = Vec::with_capacity(alloc, pairs.len())?;
+    for (_, letter) in pairs {
+        letters.push_reserved(*letter);
+    }
+    Ok(letters)
+}
+
+// The states of these nodes.
+fn present(alloc: Global, state: &[Tern], pairs: &[(usize, Letter)]) -> Result<Vec<Tern>, NoMemory>
+    requires { All (λ pair. pair.0 < length state.now) pairs.now }
+    ensures items { IfOk result (λ states. states.items ≡ map (λ pair. state_at state.now pair.0) pairs.now) }
+    ensures few { IfOk result (λ states. length states.items < 2 ^ 60) }
+{
+    let mut states = Vec::with_capacity(alloc, pairs.len())?;
+    for (node, _) in pairs {
+        states.push_reserved(state[*node]);
+    }
+    Ok(states)
+}
+
+// Room for the longest of these lines.
+fn room_for(lines: &[UnmetLine]) -> usize
+    ensures { AreInRoom result lines.now }
 {
     let mut most = 0;
-    for (name, _) in list {
-        most = most.max(name.items().len());
+    for line in lines {
+        most = most.max(line.room());
     }
     most
+}
+
+impl UnmetLine {
+    // Room for the line.
+    fn room(&self) -> usize
+        ensures { room_of self.now ≤ result }
+    {
+        COLUMN_ROOM
+            + (EXPECT_LINE_ROOM + (self.name.items().len() + (self.want.len() + self.got.len())))
+    }
+
+    // Tells the line.
+    fn tell<L: Lines>(&self, out: &mut L) -> Result<(), ApplyFault>
+        requires room { room_of self.now ≤ L.room out.old }
+        ensures room { L.room out.new ≡ L.room out.old }
+        ensures sent { Sent L.hear L.part (L.heard out.old) (L.heard out.new) (self.now ∷ []) result }
+        ensures cause { IfErr result IsSinkFault }
+        ensures faults { L.faults out.new ≡ faults_applied (L.faults out.old) result }
+        ensures refusals { L.refusals out.new ≡ refusals_sent (L.refusals out.old) result }
+    {
+        let (name, n) = (self.name.items(), self.n);
+        let (want, got) = (&self.want, &self.got);
+        tell_line(Line::Unmet { name, want, got, n }, out)
+    }
+}
+
+// Tells these lines.
+fn tell_unmet<L: Lines>(lines: &[UnmetLine], out: &mut L) -> Result<(), ApplyFault>
+    requires room { AreInRoom (L.room out.old) lines.now }
+    ensures sent { Sent L.hear L.part (L.heard out.old) (L.heard out.new) lines.now result }
+    ensures cause { IfErr result IsSinkFault }
+    ensures faults { L.faults out.new ≡ faults_applied (L.faults out.old) result }
+    ensures refusals { L.refusals out.new ≡ refusals_sent (L.refusals out.old) result }
+{
+    for line in lines {
+        line.tell(out)?;
+    }
+    Ok(())
 }
 
 // The length of the longest of these names.
@@ -198,6 +309,18 @@ fn longest_shown(names: &[Name]) -> usize
     let mut most = 0;
     for name in names {
         most = most.max(name.items().len());
+    }
+    most
+}
+
+// The most nodes of one of these names.
+fn longest_list(circuit: &Circuit, vectors: &Vectors, names: &[Name]) -> usize
+    ensures short { AreShortLists circuit.now vectors.now result names.now }
+    ensures few { result < 2 ^ 62 }
+{
+    let mut most = 0;
+    for name in names {
+        most = most.max(count_of(circuit, vectors, name.items()));
     }
     most
 }

@@ -3,7 +3,7 @@
 ghost use Rattle.std.specs.Prelude.{◌≡◌, ◌<◌, ◌≤◌, ◌+◌, ◌++◌, [], ◌∷◌, length, map, vec_len, vec_capacity, All, IfErr, IfOk};
 ghost use Rattle.path_meaning.specs.Switching.{state_at};
 ghost use Rattle.wave_print.specs.declared.lines.TheConstants.{COLUMN_ROOM, WAVE_LINE_ROOM};
-ghost use Rattle.told_lines.specs.Lines.{Wave, IsShort, room_of, line_seen};
+ghost use Rattle.told_lines.specs.Lines.{Shown, Wave, IsShort, room_of, line_seen};
 ghost use Rattle.session_meaning.specs.Sinks.{IsSinkFault, faults_applied, refusals_sent};
 ghost use Rattle.session_meaning.specs.Outcomes.{Sent};
 
@@ -65,6 +65,33 @@ impl WaveRoom {
         push_states(&mut self.values, state, nodes);
         let values = &self.values;
         let told = tell_line(Line::Wave { n, k, mark, values }, out);
+        self.values.clear();
+        told
+    }
+}
+
+impl WaveRoom {
+    /// Tells the line of a name that is shown, with the states of these nodes.
+    pub(crate) fn show<L: Lines>(
+        &mut self,
+        name: &[u8],
+        state: &[Tern],
+        nodes: &[usize],
+        out: &mut L,
+    ) -> Result<(), ApplyFault>
+        requires room { length nodes.now ≤ self.old }
+        requires line { room_of (Shown name.now (map (state_at state.now) nodes.now)) ≤ L.room out.old }
+        requires within { All (λ node. node < length state.now) nodes.now }
+        ensures room { self.new ≡ self.old }
+        ensures line { L.room out.new ≡ L.room out.old }
+        ensures sent { Sent L.hear L.part (L.heard out.old) (L.heard out.new) (Shown name.now (map (state_at state.now) nodes.now) ∷ []) result }
+        ensures cause { IfErr result IsSinkFault }
+        ensures faults { L.faults out.new ≡ faults_applied (L.faults out.old) result }
+        ensures refusals { L.refusals out.new ≡ refusals_sent (L.refusals out.old) result }
+    {
+        push_states(&mut self.values, state, nodes);
+        let values = &self.values;
+        let told = tell_line(Line::Shown { name, values }, out);
         self.values.clear();
         told
     }

@@ -10,19 +10,23 @@ use Rattle.path_meaning.specs.declared.switching.SwitchKind.TheVariants.{Always}
 use Rattle.path_meaning.specs.Graphs.{nodes}
 use Rattle.netlist.specs.Names.{first_name, node_of}
 use Rattle.netlist.specs.Circuits.{CircuitData, IsCircuit, called}
-use Rattle.netlist.specs.Edits.{node_named, switch_numbered, with_input, without_switch, with_kind}
+use Rattle.netlist.specs.Edits.{switch_numbered, with_input, without_switch, with_kind}
 use Rattle.netlist.specs.declared.fault.EditFault.TheVariants as edit
 use Rattle.group_text.specs.Texts.{GroupTextData}
 use Rattle.script_lang.specs.declared.command.Command.{Command}
 use Rattle.script_lang.specs.declared.command.Command.TheVariants as family
 use Rattle.script_lang.specs.declared.command.Edit.TheVariants.{Input, Del, Kind}
 use Rattle.script_lang.specs.declared.command.Give.TheVariants.{Set}
+use Rattle.script_lang.specs.declared.value.Value.{Value}
+use Rattle.script_lang.specs.declared.value.Value.TheVariants.{Letter}
+use Rattle.node_words.specs.Words.{node_or_list}
+use Rattle.node_values.specs.Givings.{with_state}
 use Rattle.session_meaning.specs.declared.fault.ApplyFault.{ApplyFault}
 use Rattle.session_meaning.specs.declared.fault.ApplyFault.TheVariants as apply
 use Rattle.session_meaning.specs.declared.fault.Refusal.TheVariants as refusal
 use Rattle.session_meaning.specs.Sessions.{SessionData, HeldSession, IsReady}
-use Rattle.session_meaning.specs.Refusals.{refusal_of, or_else, rail_refusal, set_refusal, edit_refusal, is_input}
-use Rattle.session_meaning.specs.Effects.{assigned, with_circuit}
+use Rattle.session_meaning.specs.Refusals.{refusal_of, refusal_of_edit, or_else, named_refusal, given_refusal, rail_at, set_at, values_refusal, edit_refusal, is_input}
+use Rattle.session_meaning.specs.Effects.{circuit_after, state_given, with_circuit, with_inputs}
 use Rattle.session_meaning.specs.Preparing.{BuildsIf}
 use Rattle.session_meaning.specs.Sinks.{faults_with, faults_applied}
 use Rattle.told_lines.specs.Lines.{Told}
@@ -43,7 +47,7 @@ quiet_commands c (Open number) =
 quiet_commands c (Closed number) =
     All-cons IsQuiet (family.Edit (Kind number Always)) [] (record { still = refl; silent = λ old new lines effect. effect.1 }) (All-nil IsQuiet)
 quiet_commands c (Stuck node state) =
-    let item : List ℕ × Tern = (called c node, state) in
+    let item : List ℕ × Value = (called c node, Letter state) in
     All-cons IsQuiet (family.Edit (Input (called c node ∷ []))) (family.Give (Set (item ∷ [])) ∷ []) (record { still = refl; silent = λ old new lines effect. effect.1 })
     (All-cons IsQuiet (family.Give (Set (item ∷ []))) [] (record { still = refl; silent = λ old new lines effect. effect.1 }) (All-nil IsQuiet))
 
@@ -132,19 +136,25 @@ there_edited false is = absurd (cc)
 
 -- a node that is no rail may be made an input node
 input_allowed : (c : CircuitData) (name : List ℕ) (node : ℕ) → RAILS ≤ node → node_of c.names name ≡ Some node →
-    or_else (rail_refusal (node_of c.names name)) None ≡ None
+    refusal_of_edit c [] (Input (name ∷ [])) ≡ None
 input_allowed c name node high found =
-    ap (λ at. or_else (rail_refusal at) None) found
-    ∙ ap (λ (rail : Bool). or_else (if rail then Some refusal.Rail else None) None) (no_rail node high)
+    ap (λ at. or_else (named_refusal rail_at (node_or_list at None)) None) found
+    ∙ ap (λ (rail : Bool). or_else (or_else (if rail then Some refusal.Rail else None) None) None) (no_rail node high)
+
+-- it is made one
+input_made : (c : CircuitData) (name : List ℕ) (node : ℕ) → node_of c.names name ≡ Some node →
+    circuit_after c [] (Input (name ∷ [])) ≡ with_input c node
+input_made c name node found = ap (λ at. with_inputs c (unwrap_or (node_or_list at None) [] ++ [])) found
 
 -- and then it may be set
-set_allowed : (c : CircuitData) (name : List ℕ) (node : ℕ) → RAILS ≤ node → node < nodes c.graph → node_of c.names name ≡ Some node →
-    or_else (set_refusal (with_input c (node_named c name)) (node_of c.names name)) None ≡ None
-set_allowed c name node high low found =
-    ap (λ at. or_else (set_refusal (with_input c (unwrap_or at 0)) at) None) found
-    ∙ ap (λ (rail : Bool). or_else (if rail then Some refusal.Rail else (if is_input (with_input c node) node then None else Some refusal.NotInput)) None)
+set_allowed : (c : CircuitData) (name : List ℕ) (node : ℕ) (state : Tern) → RAILS ≤ node → node < nodes c.graph → node_of c.names name ≡ Some node →
+    values_refusal (set_at (with_input c node)) (with_input c node) [] ((name, Letter state) ∷ []) ≡ None
+set_allowed c name node state high low found =
+    ap (λ at. or_else (given_refusal (set_at (with_input c node)) (with_state state (node_or_list at None))) None) found
+    ∙ ap (λ (rail : Bool).
+    or_else (or_else (if rail then Some refusal.Rail else (if is_input (with_input c node) node then None else Some refusal.NotInput)) None) None)
     (no_rail node high)
-    ∙ ap (λ (level : ℕ). or_else (if level == INPUT_LEVEL then None else Some refusal.NotInput) None)
+    ∙ ap (λ (level : ℕ). or_else (or_else (if level == INPUT_LEVEL then None else Some refusal.NotInput) None) None)
     (get_or-set_same c.graph.levels node INPUT_LEVEL 0 low)
 
 -- in no place
@@ -157,8 +167,9 @@ allowed_commands c kept (Stuck node state) is faulty =
     let found = called_found c node is faulty.0 faulty.1 in (
       input_allowed c name node faulty.0 found,
       λ mid does. (
-        subst (λ (session : SessionData). refusal_of session (family.Give (Set ((name, state) ∷ []))) ≡ None) (sym does.effect.0)
-            (set_allowed c name node faulty.0 faulty.1 found),
+        subst (λ (session : SessionData). refusal_of session (family.Give (Set ((name, Letter state) ∷ []))) ≡ None)
+            (sym (does.effect.0 ∙ ap (with_circuit (start_with c kept)) (input_made c name node found)))
+            (set_allowed c name node state faulty.0 faulty.1 found),
         λ last more. tt,
       ),
     )
@@ -203,15 +214,15 @@ has_start c kept (Some (Stuck node state)) is faulty =
     let old = start_with c kept in
     let name = called c node in
     let found = called_found c node is faulty.0 faulty.1 in
-    let mid : SessionData = with_circuit old (with_input c (node_named c name)) in
-    let item : List ℕ × Tern = (name, state) in
-    let new : SessionData = record mid { state = assigned mid.circuit mid.state (item ∷ []) } in
+    let mid : SessionData = with_circuit old (with_input c node) in
+    let item : List ℕ × Value = (name, Letter state) in
+    let new : SessionData = record mid { state = state_given mid (Set (item ∷ [])) } in
     let inputs : Does old (family.Edit (Input (name ∷ []))) mid [] = record {
       allowed = input_allowed c name node faulty.0 found;
-      effect = (refl, refl);
+      effect = (ap (with_circuit old) (sym (input_made c name node found)), refl);
     } in
     let sets : Does mid (family.Give (Set (item ∷ []))) new [] = record {
-      allowed = set_allowed c name node faulty.0 faulty.1 found;
+      allowed = set_allowed c name node state faulty.0 faulty.1 found;
       effect = (refl, refl);
     } in
     record {

@@ -136,28 +136,29 @@ performs_calm old new command lines texts current calm performs =
 -- ---- while a node is stuck
 
 -- what a calm line asks for is calm
-asked_calm : (c : CircuitData) (stuck : Option (ℕ × Tern)) (line : List ℕ) (command : Command) → IsCalm line →
-    masked_reading stuck c line ≡ Ok (Some command) → unsettles command ≡ false
-asked_calm c stuck line command calm asked = by (reading_of line) refl asked
+asked_calm : (c : CircuitData) (vectors : List (List ℕ × List ℕ)) (stuck : Option (ℕ × Tern)) (line : List ℕ) (command : Command) → IsCalm line →
+    masked_reading stuck c vectors line ≡ Ok (Some command) → unsettles command ≡ false
+asked_calm c vectors stuck line command calm asked = by (reading_of line) refl asked
   where
-    by : (read : Result (Option Command) ScriptFault) → reading_of line ≡ read → masked_reading_by c stuck read ≡ Ok (Some command) →
+    by : (read : Result (Option Command) ScriptFault) → reading_of line ≡ read → masked_reading_by c vectors stuck read ≡ Ok (Some command) →
         unsettles command ≡ false
     by (Ok None) is gives = absurd (cc)
     by (Ok (Some plain)) is gives =
-        let masked : masked_of c stuck plain ≡ Some command = cc in
-        (mask_alike c stuck plain command masked).unsettled ∙ calm plain is
+        let masked : masked_of c vectors stuck plain ≡ Some command = cc in
+        (mask_alike c vectors stuck plain command masked).unsettled ∙ calm plain is
     by (Err fault) is gives = absurd (cc)
 
 -- a command that builds stays as it is
-masked_building : (c : CircuitData) (stuck : Option (ℕ × Tern)) (command : Command) → builds command ≡ true → masked_of c stuck command ≡ Some command
-masked_building c stuck (family.Run run) building = refl
-masked_building c stuck other building = absurd (cc)
+masked_building : (c : CircuitData) (vectors : List (List ℕ × List ℕ)) (stuck : Option (ℕ × Tern)) (command : Command) → builds command ≡ true →
+    masked_of c vectors stuck command ≡ Some command
+masked_building c vectors stuck (family.Run run) building = refl
+masked_building c vectors stuck other building = absurd (cc)
 
 -- so a line that builds asks for its command still
-asked_building : (c : CircuitData) (stuck : Option (ℕ × Tern)) (line : List ℕ) (is : IsBuilding line) →
-    masked_reading stuck c line ≡ Ok (Some is.command)
-asked_building c stuck line is =
-    ap (masked_reading_by c stuck) is.asked ∙ ap Ok (masked_building c stuck is.command is.building)
+asked_building : (c : CircuitData) (vectors : List (List ℕ × List ℕ)) (stuck : Option (ℕ × Tern)) (line : List ℕ) (is : IsBuilding line) →
+    masked_reading stuck c vectors line ≡ Ok (Some is.command)
+asked_building c vectors stuck line is =
+    ap (masked_reading_by c vectors stuck) is.asked ∙ ap Ok (masked_building c vectors stuck is.command is.building)
 
 -- ---- lines
 
@@ -166,10 +167,10 @@ module _ {H : Type 0} (hear : H → Told → H) (part : H → Told → H → Typ
   -- what one line comes to that is obeyed: where it builds, a build would find nothing new then
   pub line_built : IsBuilding line.1 → TakesTurn hear part (masked_reading stuck) cut line old new before after asked told (Ok Accepted) → IsCurrent new.core
   line_built is (inl passed) =
-      let nothing = sym passed.idle.nothing ∙ asked_building old.core.circuit stuck line.1 is in
+      let nothing = sym passed.idle.nothing ∙ asked_building old.core.circuit old.core.vectors stuck line.1 is in
       absurd (cc)
   line_built is (inr follows) =
-      let both = sym follows.asks.asked ∙ asked_building old.core.circuit stuck line.1 is in
+      let both = sym follows.asks.asked ∙ asked_building old.core.circuit old.core.vectors stuck line.1 is in
       let same : is.command ≡ follows.command = cc in
       performs_built old.core new.core follows.command follows.accepts.lines follows.accepts.texts
       (subst (λ command. builds command ≡ true) same is.building) follows.accepts.performs
@@ -180,7 +181,7 @@ module _ {H : Type 0} (hear : H → Told → H) (part : H → Told → H → Typ
   line_calm calm current (inl passed) = subst (λ (session : HeldSession). IsCurrent session.core) (sym passed.keeps.same) current
   line_calm calm current (inr follows) =
       (performs_calm old.core new.core follows.command follows.accepts.lines follows.accepts.texts current
-      (asked_calm old.core.circuit stuck line.1 follows.command calm follows.asks.asked) follows.accepts.performs).current
+      (asked_calm old.core.circuit old.core.vectors stuck line.1 follows.command calm follows.asks.asked) follows.accepts.performs).current
 
 -- all lines: nothing is analysed, and what is kept stays
 pub runs_calm : (stuck : Option (ℕ × Tern)) (cut : Option ℕ) (session : SessionData) (lines : List (ℕ × List ℕ)) (outcome : Outcome) →
@@ -191,7 +192,8 @@ runs_calm stuck cut _ _ _ current calm (passes session line lines rest idle runs
     runs_calm stuck cut session lines rest current (All-tail (λ (one : ℕ × List ℕ). IsCalm one.1) line lines calm) runs
 runs_calm stuck cut _ _ _ current calm (obeys session new line lines command wrote texts rest asks performs runs) =
     let here = All-head (λ (one : ℕ × List ℕ). IsCalm one.1) line lines calm in
-    let goes = performs_calm session new command wrote texts current (asked_calm session.circuit stuck line.1 command here asks.asked) performs in
+    let settled = asked_calm session.circuit session.vectors stuck line.1 command here asks.asked in
+    let goes = performs_calm session new command wrote texts current settled performs in
     let left = runs_calm stuck cut new lines rest goes.current (All-tail (λ (one : ℕ × List ℕ). IsCalm one.1) line lines calm) runs in (
       ap (λ (first : List GroupTextData). first ++ rest.texts) goes.none ∙ left.0,
       left.1 ∙ goes.kept,

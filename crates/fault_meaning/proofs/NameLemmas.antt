@@ -1,13 +1,19 @@
 -- Each entry of a row of a trace has a name: the watch list only grows, and each row has one value for each entry of its moment.
-use Rattle.std.proofs.Common.{◌≡◌, ◌≢◌, ℕ, ◌≤◌, ◌<◌, if◌then◌else◌, Bool, true, false, List, [], ◌∷◌, ◌++◌, length, map, get_or, slice_get, All, Option, Some, None, refl, sym, ap, subst, ◌∙◌, arith, length-append}
-use Rattle.std.specs.Prelude.{filter_map}
+use Rattle.std.proofs.Common.{◌≡◌, ◌≢◌, ℕ, ◌≤◌, ◌<◌, if◌then◌else◌, Bool, true, false, List, [], ◌∷◌, ◌++◌, length, map, get_or, slice_get, All, Option, Some, None, IfSome, refl, sym, ap, subst, ◌∙◌, arith, length-append}
+use Rattle.std.specs.Prelude.{◌==◌, filter_map, flat_map, option_map}
+use Rattle.std.specs.List.{list_all}
 use Rattle.std.proofs.lemmas.List.{length-map}
 use Rattle.std.proofs.lemmas.List.Elements.{All-nil, All-cons, All-append, All-head, All-tail, All-weaker, All-get_or}
 use Rattle.std.proofs.lemmas.Option.{slice_get_within, slice_get-get_or, get_or_from_slice_get}
 use Rattle.ternary.specs.declared.tern.Tern.{Tern}
 use Rattle.path_meaning.specs.Switching.{state_at}
+use Rattle.path_meaning.specs.declared.switching.Switch.{Switch}
 use Rattle.netlist.specs.Circuits.{CircuitData, called}
 use Rattle.netlist.specs.Edits.{node_named}
+use Rattle.vector_values.specs.Values.{Letter}
+use Rattle.script_lang.specs.declared.value.Value.{Value}
+use Rattle.node_values.specs.Givings.{letters_given}
+use Rattle.session_meaning.specs.Refusals.{all_named}
 use Rattle.group_text.specs.Texts.{GroupTextData}
 use Rattle.script_lang.specs.declared.command.Command.{Command}
 use Rattle.script_lang.specs.declared.command.Command.TheVariants as family
@@ -16,12 +22,13 @@ use Rattle.script_lang.specs.declared.command.Setup.TheVariants.{Watch}
 use Rattle.script_lang.specs.declared.command.Run.{Run}
 use Rattle.script_lang.specs.declared.command.Run.TheVariants.{Step, Phase, Cycle, Report}
 use Rattle.script_lang.specs.declared.command.Tell.{Tell}
-use Rattle.script_lang.specs.declared.command.Tell.TheVariants.{Expect, Show}
+use Rattle.script_lang.specs.declared.command.Tell.TheVariants.{Expect, Show, Look}
 use Rattle.session_meaning.specs.Sessions.{SessionData, places_of}
 use Rattle.session_meaning.specs.Preparing.{BuildsIf, builds}
-use Rattle.told_lines.specs.Lines.{Line, Wave, Unmet, Shown, Reported, Refused}
+use Rattle.told_lines.specs.Lines.{Line, Wave, Unmet, Shown, Looked, AtEnd, AtGate, Reported, Refused}
 use Rattle.told_lines.specs.Noting.{rows_of, states_of}
-use Rattle.session_meaning.specs.Effects.{Effect, RunEffect, IsPhase, AreBeats, setup_after, told_by, with_beat, places_in, wave_by, is_state, shown_line, unmet_line, unmet_lines}
+use Rattle.session_meaning.specs.Effects.{Effect, RunEffect, IsPhase, AreBeats, setup_after, told_by, with_beat, places_in, wave_by, is_met, letters_in, shown_line, unmet_line, unmet_lines}
+use Rattle.node_looks.specs.Looks.{other_end, at_end, at_gate, end_line, gate_line, numbered, node_line, end_lines, gate_lines, looked_lines}
 use Rattle.session_meaning.specs.Outcomes.{Performs}
 use Rattle.script_meaning.specs.Runs.{Reading, Outcome, Runs, ends, passes, obeys, refuses}
 use Rattle.fault_sim.specs.declared.fault.Fault.{Fault}
@@ -33,6 +40,9 @@ abbrev FitsIn : ℕ → Line → Type 0
 FitsIn most (Wave n k mark values) = length values ≤ most
 FitsIn most (Unmet name want got n) = Unit {0}
 FitsIn most (Shown name values) = Unit {0}
+FitsIn most (Looked name state sort) = Unit {0}
+FitsIn most (AtEnd switch gate gate_state end end_state) = Unit {0}
+FitsIn most (AtGate switch source source_state drain drain_state) = Unit {0}
 FitsIn most (Reported groups texts new) = Unit {0}
 FitsIn most (Refused place code name count) = Unit {0}
 
@@ -46,6 +56,9 @@ module _ (some most : ℕ) (low : some ≤ most) where
   wider (Wave n k mark values) fits = omega (arith, fits, low)
   wider (Unmet name want got n) fits = tt
   wider (Shown name values) fits = tt
+  wider (Looked name state sort) fits = tt
+  wider (AtEnd switch gate gate_state end end_state) fits = tt
+  wider (AtGate switch source source_state drain drain_state) fits = tt
   wider (Reported groups texts new) fits = tt
   wider (Refused place code name count) fits = tt
 
@@ -95,29 +108,33 @@ All-filter_map {X} {Y} P h each (x ∷ xs) = by (All-filter_map P h each xs) (h 
     by rest (Some y) is = rw is (All-cons P y (filter_map h xs) (each x y is) rest)
 
 -- the lines of expectations have no values
-unmet_fitting : (most : ℕ) (session : SessionData) (list : List (List ℕ × Tern)) → All (FitsIn most) (unmet_lines session list)
+unmet_fitting : (most : ℕ) (session : SessionData) (list : List (List ℕ × Value)) → All (FitsIn most) (unmet_lines session list)
 unmet_fitting most session list = All-filter_map (FitsIn most) (unmet_line session) each list
   where
-    no_wave : (met : Bool) (name : List ℕ) (want got : Tern) (count n k : ℕ) (mark : Bool) (values : List Tern) →
+    no_wave : (met : Bool) (name : List ℕ) (want : List Letter) (got : List Tern) (count n k : ℕ) (mark : Bool) (values : List Tern) →
         (if met then None else Some (Unmet name want got count)) ≢ Some (Wave n k mark values)
     no_wave true name want got count n k mark values is = absurd (cc)
     no_wave false name want got count n k mark values is = absurd (cc)
 
-    each : (item : List ℕ × Tern) (line : Line) → unmet_line session item ≡ Some line → FitsIn most line
+    each : (item : List ℕ × Value) (line : Line) → unmet_line session item ≡ Some line → FitsIn most line
     each item (Wave n k mark values) is =
-        let got = state_at session.state (node_named session.circuit item.0) in
-        absurd (no_wave (is_state got item.1) item.0 item.1 got session.count n k mark values is)
+        let pairs = letters_in (letters_given session.circuit session.vectors item) in
+        absurd (no_wave (list_all (λ pair. is_met pair.1 (state_at session.state pair.0)) pairs) item.0 (map (λ pair. pair.1) pairs)
+        (map (λ pair. state_at session.state pair.0) pairs) session.count n k mark values is)
     each item (Unmet name want got n) is = tt
     each item (Shown name values) is = tt
+    each item (Looked name state sort) is = tt
+    each item (AtEnd switch gate gate_state end end_state) is = tt
+    each item (AtGate switch source source_state drain drain_state) is = tt
     each item (Reported groups texts new) is = tt
     each item (Refused place code name count) is = tt
 
 set_fitting : (old new : SessionData) (setup : Setup) (lines : List Line) → new ≡ setup_after old setup → lines ≡ [] → AreFitting old new lines
 set_fitting old new (Watch names) lines same none =
-    let long : length new.watched ≡ length (old.watched ++ map (node_named old.circuit) names) =
+    let long : length new.watched ≡ length (old.watched ++ all_named old.circuit old.vectors names) =
     ap (λ (session : SessionData). length session.watched) same in
     record {
-      grows = omega (arith, long, length-append old.watched (map (node_named old.circuit) names));
+      grows = omega (arith, long, length-append old.watched (all_named old.circuit old.vectors names));
       fit = subst (All (FitsIn (length new.watched))) (sym none) (All-nil (FitsIn (length new.watched)));
     }
 set_fitting old new other lines same none = still_fitting old new lines (ap (λ (session : SessionData). session.watched) same) none
@@ -140,9 +157,45 @@ shown_fitting most session [] = All-nil (FitsIn most)
 shown_fitting most session (name ∷ names) =
     All-cons (FitsIn most) (shown_line session name) (map (shown_line session) names) tt (shown_fitting most session names)
 
+-- the lines of what there is at nodes have no values
+end_fitting : (most : ℕ) (c : CircuitData) (state : List Tern) (node : ℕ) (entry : ℕ × Option Switch) →
+    IfSome (end_line c state node entry) (FitsIn most)
+end_fitting most c state node (number, None) = tt
+end_fitting most c state node (number, Some switch) = by (other_end node switch)
+  where
+    by : (found : Option ℕ) → IfSome (option_map (at_end c state number switch) found) (FitsIn most)
+    by None = tt
+    by (Some other) = tt
+
+gate_fitting : (most : ℕ) (c : CircuitData) (state : List Tern) (node : ℕ) (entry : ℕ × Option Switch) →
+    IfSome (gate_line c state node entry) (FitsIn most)
+gate_fitting most c state node (number, None) = tt
+gate_fitting most c state node (number, Some switch) = by (switch.gate == node)
+  where
+    by : (met : Bool) → IfSome (if met then Some (at_gate c state number switch) else None) (FitsIn most)
+    by true = tt
+    by false = tt
+
+given_fitting : (most : ℕ) (line : ℕ × Option Switch → Option Line) → ((entry : ℕ × Option Switch) → IfSome (line entry) (FitsIn most)) →
+    (entries : List (ℕ × Option Switch)) → All (FitsIn most) (filter_map line entries)
+given_fitting most line each entries =
+    All-filter_map (FitsIn most) line (λ entry one is. subst (λ (given : Option Line). IfSome given (FitsIn most)) is (each entry)) entries
+
+looked_fitting : (most : ℕ) (c : CircuitData) (state : List Tern) (names : List (List ℕ)) → All (FitsIn most) (flat_map (looked_lines c state) names)
+looked_fitting most c state [] = All-nil (FitsIn most)
+looked_fitting most c state (name ∷ names) =
+    let node = node_named c name in
+    All-append (FitsIn most) (looked_lines c state name) (flat_map (looked_lines c state) names)
+    (All-cons (FitsIn most) (node_line c state node) (end_lines c state node ++ gate_lines c state node) tt
+    (All-append (FitsIn most) (end_lines c state node) (gate_lines c state node)
+    (given_fitting most (end_line c state node) (end_fitting most c state node) (numbered c))
+    (given_fitting most (gate_line c state node) (gate_fitting most c state node) (numbered c))))
+    (looked_fitting most c state names)
+
 told_fitting : (most : ℕ) (session : SessionData) (tell : Tell) → All (FitsIn most) (told_by session tell)
 told_fitting most session (Expect list) = unmet_fitting most session list
 told_fitting most session (Show names) = shown_fitting most session names
+told_fitting most session (Look names) = looked_fitting most session.circuit session.state names
 
 effect_fitting : (old new : SessionData) (command : Command) (lines : List Line) → Effect old command new lines → AreFitting old new lines
 effect_fitting old new (family.Edit edit) lines effect = still_fitting old new lines (ap (λ (session : SessionData). session.watched) effect.0) effect.1
@@ -185,6 +238,11 @@ rows_fitting most (Wave n k mark values ∷ lines) all =
     (rows_fitting most lines (All-tail (FitsIn most) (Wave n k mark values) lines all))
 rows_fitting most (Unmet name want got n ∷ lines) all = rows_fitting most lines (All-tail (FitsIn most) (Unmet name want got n) lines all)
 rows_fitting most (Shown name values ∷ lines) all = rows_fitting most lines (All-tail (FitsIn most) (Shown name values) lines all)
+rows_fitting most (Looked name state sort ∷ lines) all = rows_fitting most lines (All-tail (FitsIn most) (Looked name state sort) lines all)
+rows_fitting most (AtEnd switch gate gate_state end end_state ∷ lines) all =
+    rows_fitting most lines (All-tail (FitsIn most) (AtEnd switch gate gate_state end end_state) lines all)
+rows_fitting most (AtGate switch source source_state drain drain_state ∷ lines) all =
+    rows_fitting most lines (All-tail (FitsIn most) (AtGate switch source source_state drain drain_state) lines all)
 rows_fitting most (Reported groups texts new ∷ lines) all = rows_fitting most lines (All-tail (FitsIn most) (Reported groups texts new) lines all)
 rows_fitting most (Refused place code name count ∷ lines) all = rows_fitting most lines (All-tail (FitsIn most) (Refused place code name count) lines all)
 

@@ -21,6 +21,7 @@ use Rattle.script_lang.specs.declared.command.Command.{Command}
 use Rattle.script_lang.specs.declared.command.Command.TheVariants as family
 use Rattle.script_lang.specs.declared.command.Edit.TheVariants.{Input, Del, Kind}
 use Rattle.script_lang.specs.declared.command.Give.TheVariants.{Set}
+use Rattle.script_lang.specs.declared.value.Value.TheVariants.{Letter}
 use Rattle.script_lang.specs.declared.command.Setup.{Setup}
 use Rattle.script_lang.specs.declared.command.Setup.TheVariants.{Clock, Keep}
 use Rattle.script_lang.specs.declared.command.ScriptFault.{ScriptFault}
@@ -225,28 +226,30 @@ setup_masked : (c : CircuitData) (stuck : Option (ℕ × Tern)) (setup : Setup) 
 setup_masked c stuck (Clock list) = refl
 setup_masked c stuck other = refl
 
-pub mask_alike : (c : CircuitData) (stuck : Option (ℕ × Tern)) (command masked : Command) → masked_of c stuck command ≡ Some masked →
+pub mask_alike : (c : CircuitData) (vectors : List (List ℕ × List ℕ)) (stuck : Option (ℕ × Tern)) (command masked : Command) →
+    masked_of c vectors stuck command ≡ Some masked →
     IsMaskAlike command masked
-mask_alike c stuck (family.Edit edit) masked is =
+mask_alike c vectors stuck (family.Edit edit) masked is =
     let left = in_family family.Edit (masked_edit c stuck edit) masked is in record { bound = ap bounds left.1; unsettled = ap unsettles left.1 }
-mask_alike c stuck (family.Give give) masked is =
-    let left = in_family family.Give (masked_give c stuck give) masked is in record { bound = ap bounds left.1; unsettled = ap unsettles left.1 }
-mask_alike c stuck (family.Setup setup) masked is =
+mask_alike c vectors stuck (family.Give give) masked is =
+    let left = in_family family.Give (masked_give c vectors stuck give) masked is in record { bound = ap bounds left.1; unsettled = ap unsettles left.1 }
+mask_alike c vectors stuck (family.Setup setup) masked is =
     let e : masked ≡ family.Setup (masked_setup c stuck setup) = cc in
     record { bound = ap bounds e ∙ setup_masked c stuck setup; unsettled = ap unsettles e ∙ setup_masked c stuck setup }
-mask_alike c stuck (family.Run run) masked is =
+mask_alike c vectors stuck (family.Run run) masked is =
     let e : masked ≡ family.Run run = cc in record { bound = ap bounds e; unsettled = ap unsettles e }
-mask_alike c stuck (family.Tell tell) masked is =
+mask_alike c vectors stuck (family.Tell tell) masked is =
     let e : masked ≡ family.Tell tell = cc in record { bound = ap bounds e; unsettled = ap unsettles e }
 
 -- a line asks for none if no line of the script does
-asked_never : (c : CircuitData) (stuck : Option (ℕ × Tern)) (read : Result (Option Command) ScriptFault) (command : Command) →
-    ((number : ℕ) → read ≢ Ok (Some (family.Setup (Keep number)))) → masked_reading_by c stuck read ≡ Ok (Some command) → bounds command ≡ false
-asked_never c stuck (Ok None) command never asked = absurd cc
-asked_never c stuck (Ok (Some plain)) command never asked =
-    let is : masked_of c stuck plain ≡ Some command = cc in
-    (mask_alike c stuck plain command is).bound ∙ never_bounds plain (λ bound same. never bound (ap (λ (one : Command). Ok (Some one)) same))
-asked_never c stuck (Err fault) command never asked = absurd cc
+asked_never : (c : CircuitData) (vectors : List (List ℕ × List ℕ)) (stuck : Option (ℕ × Tern)) (read : Result (Option Command) ScriptFault)
+    (command : Command) → ((number : ℕ) → read ≢ Ok (Some (family.Setup (Keep number)))) → masked_reading_by c vectors stuck read ≡ Ok (Some command) →
+    bounds command ≡ false
+asked_never c vectors stuck (Ok None) command never asked = absurd cc
+asked_never c vectors stuck (Ok (Some plain)) command never asked =
+    let is : masked_of c vectors stuck plain ≡ Some command = cc in
+    (mask_alike c vectors stuck plain command is).bound ∙ never_bounds plain (λ bound same. never bound (ap (λ (one : Command). Ok (Some one)) same))
+asked_never c vectors stuck (Err fault) command never asked = absurd cc
 
 -- ---- a run
 
@@ -257,7 +260,7 @@ runs_once stuck cut _ _ _ free never (ends session) = none_new session.kept sess
 runs_once stuck cut _ _ _ free never (passes session line lines rest idle runs) =
     runs_once stuck cut session lines rest free (All-tail AsksNoBound line lines never) runs
 runs_once stuck cut _ _ _ free never (obeys session new line lines command wrote texts rest asks performs runs) =
-    let here = asked_never session.circuit stuck (reading_of line.1) command (All-head AsksNoBound line lines never) asks.asked in
+    let here = asked_never session.circuit session.vectors stuck (reading_of line.1) command (All-head AsksNoBound line lines never) asks.asked in
     let first = performs_once session new command wrote texts free here performs in
     both_new session.kept texts new.kept rest.texts rest.end.kept first.0
     (runs_once stuck cut new lines rest first.1 (All-tail AsksNoBound line lines never) runs)
@@ -273,8 +276,8 @@ commands_never c None = All-nil Never
 commands_never c (Some (Open place)) = All-cons Never (family.Edit (Del place)) [] refl (All-nil Never)
 commands_never c (Some (Closed place)) = All-cons Never (family.Edit (Kind place Always)) [] refl (All-nil Never)
 commands_never c (Some (Stuck node state)) =
-    All-cons Never (family.Edit (Input (called c node ∷ []))) (family.Give (Set ((called c node, state) ∷ [])) ∷ []) refl
-    (All-cons Never (family.Give (Set ((called c node, state) ∷ []))) [] refl (All-nil Never))
+    All-cons Never (family.Edit (Input (called c node ∷ []))) (family.Give (Set ((called c node, Letter state) ∷ [])) ∷ []) refl
+    (All-cons Never (family.Give (Set ((called c node, Letter state) ∷ []))) [] refl (All-nil Never))
 
 done_keeps : (commands : List Command) (old new : SessionData) → All Never commands → AreDone old commands new →
     (new.kept ≡ old.kept) × (new.bound ≡ old.bound)

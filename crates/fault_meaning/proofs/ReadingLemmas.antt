@@ -14,25 +14,25 @@ use Rattle.script_meaning.specs.Runs.{plain_reading, IsSound}
 
 -- if no node is stuck lines are read as ever
 pub masked-plain : masked_reading None ≡ plain_reading
-masked-plain = λ i c line. unmasked-reading c line i
+masked-plain = λ i c vectors line. unmasked-reading c vectors line i
 
-module _ (stuck : Option (ℕ × Tern)) (c : CircuitData) (line : List ℕ) where
-  still_named : (read : Result (Option Command) ScriptFault) → reading_of line ≡ read → masked_reading_by c stuck read ≢ Err NoMemory
+module _ (stuck : Option (ℕ × Tern)) (c : CircuitData) (vectors : List (List ℕ × List ℕ)) (line : List ℕ) where
+  still_named : (read : Result (Option Command) ScriptFault) → reading_of line ≡ read → masked_reading_by c vectors stuck read ≢ Err NoMemory
   still_named (Ok None) is none = absurd (cc)
   still_named (Ok (Some command)) is none = absurd (cc)
   still_named (Err fault) is none = reading-named line (is ∙ none)
 
   still_formed : (read : Result (Option Command) ScriptFault) → reading_of line ≡ read → (command : Command) →
-      masked_reading_by c stuck read ≡ Ok (Some command) → IsFormed command
+      masked_reading_by c vectors stuck read ≡ Ok (Some command) → IsFormed command
   still_formed (Ok None) is command gives = absurd (cc)
   still_formed (Ok (Some given)) is command gives =
-      let same : masked_of c stuck given ≡ Some command = cc in
-      subst (λ left. IfSome left IsFormed) same (masked_of-formed c stuck given (reading-formed line given is))
+      let same : masked_of c vectors stuck given ≡ Some command = cc in
+      subst (λ left. IfSome left IsFormed) same (masked_of-formed c vectors stuck given (reading-formed line given is))
   still_formed (Err fault) is command gives = absurd (cc)
 
 -- the reading while a node may be stuck is sound
 pub masked-sound : (stuck : Option (ℕ × Tern)) → IsSound (masked_reading stuck)
 masked-sound stuck = record {
-  named = λ c line. still_named stuck c line (reading_of line) refl;
-  formed = λ c line. still_formed stuck c line (reading_of line) refl;
+  named = λ c vectors line. still_named stuck c vectors line (reading_of line) refl;
+  formed = λ c vectors line. still_formed stuck c vectors line (reading_of line) refl;
 }

@@ -70,6 +70,7 @@ fn command_bearing(command: &Command) -> Bearing
         Command::Setup(Setup::Limit(_)) => Bearing::Stays,
         Command::Setup(Setup::Clock(_)) => Bearing::Stays,
         Command::Setup(Setup::Save(_)) => Bearing::Stays,
+        Command::Setup(Setup::Vector(_, _)) => Bearing::Stays,
         Command::Run(_) => Bearing::Builds,
         Command::Give(_) | Command::Tell(_) => Bearing::Stays,
     }

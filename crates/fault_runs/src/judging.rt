@@ -108,7 +108,8 @@ fn judge_from<S: Sink + Drop, A: Analyst>(
         Halt::End => judge_beside(alloc, circuit, script, session, &good, faults, out, analyst),
         _ => {
             out.set_numbered(false);
-            refuse_halt(alloc, session.circuit(), halt, script, 1, out)
+            let vectors = session.vectors();
+            refuse_halt(alloc, session.circuit(), vectors, halt, script, 1, out)
         }
     }
 }

@@ -2,6 +2,7 @@
 
 use fault_sim::read_masked;
 use netlist::Circuit;
+use node_words::Vectors;
 use script_lang::{Command, ScriptFault};
 use script_run::LineReader;
 use std::alloc::Global;
@@ -26,7 +27,8 @@ impl LineReader for Masked {
         alloc: Global,
         line: &[u8],
         circuit: &Circuit,
+        vectors: &Vectors,
     ) -> Result<Option<Command>, ScriptFault> {
-        read_masked(alloc, line, circuit, self.stuck)
+        read_masked(alloc, line, circuit, vectors, self.stuck)
     }
 }

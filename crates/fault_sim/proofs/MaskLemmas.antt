@@ -1,7 +1,7 @@
--- Laws of masks: without a stuck node a well-formed command stays as it is, and a masked command is well formed.
-use Rattle.std.proofs.Common.{◌≡◌, ℕ, ◌+◌, ◌<◌, ◌++◌, get_or, take, Bool, true, false, not, List, [], ◌∷◌, length, map, filter, All, Option, Some, None, IfSome, option_map, Result, Ok, Err, IfOk, IfErr, ◌⊎◌, inl, inr, if◌then◌else◌, refl, sym, ap, ◌∙◌, subst, arith}
-use Rattle.std.proofs.lemmas.List.{length-map, map_more}
-use Rattle.std.proofs.lemmas.List.Elements.{All-map, All-filter, All-weaker}
+-- Laws of masks: without a stuck node a well-formed command stays as it is, a masked command is well formed, and lists are masked item by item.
+use Rattle.std.proofs.Common.{◌≡◌, ℕ, ◌+◌, ◌<◌, ◌++◌, get_or, take, Bool, true, false, not, cond, List, [], ◌∷◌, length, map, filter, All, Option, Some, None, IfSome, option_map, Result, Ok, Err, IfOk, IfErr, ◌⊎◌, inl, inr, if◌then◌else◌, refl, sym, ap, ◌∙◌, subst, arith}
+use Rattle.std.proofs.lemmas.List.{append-nil, length-map, map-append, map_more, take_more}
+use Rattle.std.proofs.lemmas.List.Elements.{All-map, All-filter, All-weaker, filter-append}
 use Rattle.ternary.specs.declared.tern.Tern.{Tern}
 use Rattle.netlist.specs.Circuits.{CircuitData}
 use Rattle.line_words.specs.Visible.{IsVisibleName}
@@ -18,10 +18,12 @@ use Rattle.script_lang.specs.declared.command.ScriptFault.TheVariants.{NoMemory}
 use Rattle.script_lang.specs.Forms.{IsFormed, IsFormedEdit, IsFormedGive, IsFormedSetup}
 use Rattle.script_lang.specs.Commands.{reading_of}
 use Rattle.script_lang.proofs.ReadingLemmas.{reading-formed}
-use Rattle.fault_sim.specs.Masks.{is_stuck, state_for, charge_left, masked_edit, masked_give, masked_setup, masked_of, masked_reading_by, masked_reading}
+use Rattle.script_lang.specs.declared.value.Value.{Value}
+use Rattle.script_lang.specs.declared.value.Value.TheVariants as given
+use Rattle.fault_sim.specs.Masks.{is_stuck, is_stuck_alone, state_for, charge_left, charge_value, masked_charges, set_value, masked_edit, masked_give, masked_setup, masked_of, masked_reading_by, masked_reading}
 
 -- what changes nothing leaves a list as it is
-same_assignments : (list : List (List ℕ × Tern)) → map (λ (item : List ℕ × Tern). (item.0, item.1)) list ≡ list
+same_assignments : (list : List (List ℕ × Value)) → map (λ (item : List ℕ × Value). (item.0, item.1)) list ≡ list
 same_assignments [] = refl
 same_assignments (item ∷ list) = ap (λ rest. item ∷ rest) (same_assignments list)
 
@@ -35,12 +37,15 @@ same_clocks ((name, states) ∷ list) =
     ap (λ given. (name, given) ∷ map (λ (item : List ℕ × List Tern). (item.0, map (λ (state : Tern). state) item.1)) list) (same_states states)
     ∙ ap (λ rest. (name, states) ∷ rest) (same_clocks list)
 
-all_kept : (list : List (List ℕ × Tern)) → filter (λ (item : List ℕ × Tern). true) list ≡ list
-all_kept [] = refl
-all_kept (item ∷ list) = ap (λ rest. item ∷ rest) (all_kept list)
+-- if no node is stuck all that `charge` gives is left
+all_kept : (c : CircuitData) (vectors : List (List ℕ × List ℕ)) (list : List (List ℕ × Value)) → masked_charges c vectors None list ≡ list
+all_kept c vectors [] = refl
+all_kept c vectors ((name, given.Letter state) ∷ list) = ap (λ rest. (name, given.Letter state) ∷ rest) (all_kept c vectors list)
+all_kept c vectors ((name, given.Wide value) ∷ list) = ap (λ rest. (name, given.Wide value) ∷ rest) (all_kept c vectors list)
+all_kept c vectors ((name, given.Alone state) ∷ list) = ap (λ rest. (name, given.Alone state) ∷ rest) (all_kept c vectors list)
 
 -- a charge of some words is that charge
-charge_same : (list : List (List ℕ × Tern)) → 0 < length list → charge_left list ≡ Some (Charge list)
+charge_same : (list : List (List ℕ × Value)) → 0 < length list → charge_left list ≡ Some (Charge list)
 charge_same [] some = absurd (omega arith)
 charge_same (item ∷ list) some = refl
 
@@ -49,48 +54,50 @@ unmasked_edit : (c : CircuitData) (edit : Edit) → masked_edit c None edit ≡ 
 unmasked_edit c (Store name size) = refl
 unmasked_edit c edit = refl
 
-unmasked_give : (c : CircuitData) (give : Give) → IsFormedGive give → masked_give c None give ≡ Some give
-unmasked_give c (Set list) formed = ap (λ given. Some (Set given)) (same_assignments list)
-unmasked_give c (Charge list) formed = ap charge_left (all_kept list) ∙ charge_same list formed.0
-unmasked_give c (Back name) formed = refl
+unmasked_give : (c : CircuitData) (vectors : List (List ℕ × List ℕ)) (give : Give) → IsFormedGive give → masked_give c vectors None give ≡ Some give
+unmasked_give c vectors (Set list) formed = ap (λ left. Some (Set left)) (same_assignments list)
+unmasked_give c vectors (Charge list) formed = ap charge_left (all_kept c vectors list) ∙ charge_same list formed.0
+unmasked_give c vectors (Back name) formed = refl
 
 unmasked_setup : (c : CircuitData) (setup : Setup) → masked_setup c None setup ≡ setup
 unmasked_setup c (Clock list) = ap Clock (same_clocks list)
 unmasked_setup c setup = refl
 
-pub unmasked : (c : CircuitData) (command : Command) → IsFormed command → masked_of c None command ≡ Some command
-unmasked c (family.Edit edit) formed = ap (option_map family.Edit) (unmasked_edit c edit)
-unmasked c (family.Give give) formed = ap (option_map family.Give) (unmasked_give c give formed)
-unmasked c (family.Setup setup) formed = ap (λ given. Some (family.Setup given)) (unmasked_setup c setup)
-unmasked c (family.Run run) formed = refl
-unmasked c (family.Tell tell) formed = refl
+pub unmasked : (c : CircuitData) (vectors : List (List ℕ × List ℕ)) (command : Command) → IsFormed command →
+    masked_of c vectors None command ≡ Some command
+unmasked c vectors (family.Edit edit) formed = ap (option_map family.Edit) (unmasked_edit c edit)
+unmasked c vectors (family.Give give) formed = ap (option_map family.Give) (unmasked_give c vectors give formed)
+unmasked c vectors (family.Setup setup) formed = ap (λ given. Some (family.Setup given)) (unmasked_setup c setup)
+unmasked c vectors (family.Run run) formed = refl
+unmasked c vectors (family.Tell tell) formed = refl
 
 -- so each line of a script is read as it is
-pub unmasked-reading : (c : CircuitData) (line : List ℕ) → masked_reading None c line ≡ reading_of line
-unmasked-reading c line = by (reading_of line) (reading-formed line)
+pub unmasked-reading : (c : CircuitData) (vectors : List (List ℕ × List ℕ)) (line : List ℕ) → masked_reading None c vectors line ≡ reading_of line
+unmasked-reading c vectors line = by (reading_of line) (reading-formed line)
   where
     by : (reading : Result (Option Command) ScriptFault) → ((command : Command) → reading ≡ Ok (Some command) → IsFormed command) →
-        masked_reading_by c None reading ≡ reading
+        masked_reading_by c vectors None reading ≡ reading
     by (Ok None) formed = refl
-    by (Ok (Some command)) formed = ap Ok (unmasked c command (formed command refl))
+    by (Ok (Some command)) formed = ap Ok (unmasked c vectors command (formed command refl))
     by (Err fault) formed = refl
 
 -- what is read of a line if no node is stuck
-read_plain : (stuck : Option (ℕ × Tern)) (c : CircuitData) (line : List ℕ) → stuck ≡ None → masked_reading stuck c line ≡ reading_of line
-read_plain stuck c line none = ap (λ at. masked_reading at c line) none ∙ unmasked-reading c line
+read_plain : (stuck : Option (ℕ × Tern)) (c : CircuitData) (vectors : List (List ℕ × List ℕ)) (line : List ℕ) → stuck ≡ None →
+    masked_reading stuck c vectors line ≡ reading_of line
+read_plain stuck c vectors line none = ap (λ at. masked_reading at c vectors line) none ∙ unmasked-reading c vectors line
 
 -- so what was read as ever was read if no node is stuck
-pub read_as : (stuck : Option (ℕ × Tern)) (c : CircuitData) (line : List ℕ) → stuck ≡ None → (result : Result (Option Command) ScriptFault) →
-    IfOk result (λ left. reading_of line ≡ Ok left) → IfOk result (λ left. masked_reading stuck c line ≡ Ok left)
-read_as stuck c line none (Ok left) is = read_plain stuck c line none ∙ is
-read_as stuck c line none (Err fault) is = tt
+pub read_as : (stuck : Option (ℕ × Tern)) (c : CircuitData) (vectors : List (List ℕ × List ℕ)) (line : List ℕ) → stuck ≡ None →
+    (result : Result (Option Command) ScriptFault) → IfOk result (λ left. reading_of line ≡ Ok left) → IfOk result (λ left. masked_reading stuck c vectors line ≡ Ok left)
+read_as stuck c vectors line none (Ok left) is = read_plain stuck c vectors line none ∙ is
+read_as stuck c vectors line none (Err fault) is = tt
 
-pub refused_as : (stuck : Option (ℕ × Tern)) (c : CircuitData) (line : List ℕ) → stuck ≡ None → (result : Result (Option Command) ScriptFault) →
-    IfErr result (λ fault. (fault ≡ NoMemory) ⊎ (reading_of line ≡ Err fault)) →
-    IfErr result (λ fault. (fault ≡ NoMemory) ⊎ (masked_reading stuck c line ≡ Err fault))
-refused_as stuck c line none (Ok left) is = tt
-refused_as stuck c line none (Err fault) (inl want) = inl want
-refused_as stuck c line none (Err fault) (inr is) = inr (read_plain stuck c line none ∙ is)
+pub refused_as : (stuck : Option (ℕ × Tern)) (c : CircuitData) (vectors : List (List ℕ × List ℕ)) (line : List ℕ) → stuck ≡ None →
+    (result : Result (Option Command) ScriptFault) → IfErr result (λ fault. (fault ≡ NoMemory) ⊎ (reading_of line ≡ Err fault)) →
+    IfErr result (λ fault. (fault ≡ NoMemory) ⊎ (masked_reading stuck c vectors line ≡ Err fault))
+refused_as stuck c vectors line none (Ok left) is = tt
+refused_as stuck c vectors line none (Err fault) (inl want) = inl want
+refused_as stuck c vectors line none (Err fault) (inr is) = inr (read_plain stuck c vectors line none ∙ is)
 
 -- a masked command is well formed, if the command is
 edit-formed : (c : CircuitData) (stuck : Option (ℕ × Tern)) (edit : Edit) → IsFormedEdit edit → IfSome (masked_edit c stuck edit) IsFormedEdit
@@ -101,18 +108,21 @@ edit-formed c stuck (Store name size) formed = by (is_stuck c stuck name)
     by false = formed
 edit-formed c stuck edit formed = formed
 
-give-formed : (c : CircuitData) (stuck : Option (ℕ × Tern)) (give : Give) → IsFormedGive give → IfSome (masked_give c stuck give) IsFormedGive
-give-formed c stuck (Set list) formed =
-    let given : List ℕ × Tern → List ℕ × Tern = λ item. (item.0, state_for c stuck item.0 item.1) in
-    (omega (arith, length-map list given, formed.0), All-map (λ (item : List ℕ × Tern). IsVisibleName item.0) given list formed.1)
-give-formed c stuck (Charge list) formed =
-    left (filter (λ item. not (is_stuck c stuck item.0)) list)
-    (All-filter (λ (item : List ℕ × Tern). not (is_stuck c stuck item.0)) (λ (item : List ℕ × Tern). IsVisibleName item.0) list formed.1)
+give-formed : (c : CircuitData) (vectors : List (List ℕ × List ℕ)) (stuck : Option (ℕ × Tern)) (give : Give) → IsFormedGive give →
+    IfSome (masked_give c vectors stuck give) IsFormedGive
+give-formed c vectors stuck (Set list) formed =
+    let masked : List ℕ × Value → List ℕ × Value = λ item. (item.0, set_value c vectors stuck item) in
+    (omega (arith, length-map list masked, formed.0), All-map (λ (item : List ℕ × Value). IsVisibleName item.0) masked list formed.1)
+give-formed c vectors stuck (Charge list) formed =
+    left (masked_charges c vectors stuck list)
+    (All-map (λ (item : List ℕ × Value). IsVisibleName item.0) (λ (item : List ℕ × Value). (item.0, charge_value c vectors stuck item))
+    (filter (λ item. not (is_stuck_alone c stuck item)) list)
+    (All-filter (λ (item : List ℕ × Value). not (is_stuck_alone c stuck item)) (λ (item : List ℕ × Value). IsVisibleName item.0) list formed.1))
   where
-    left : (list : List (List ℕ × Tern)) → All (λ item. IsVisibleName item.0) list → IfSome (charge_left list) IsFormedGive
+    left : (list : List (List ℕ × Value)) → All (λ item. IsVisibleName item.0) list → IfSome (charge_left list) IsFormedGive
     left [] named = tt
     left (item ∷ list) named = (omega arith, named)
-give-formed c stuck (Back name) formed = formed
+give-formed c vectors stuck (Back name) formed = formed
 
 setup-formed : (c : CircuitData) (stuck : Option (ℕ × Tern)) (setup : Setup) → IsFormedSetup setup → IsFormedSetup (masked_setup c stuck setup)
 setup-formed c stuck (Clock list) formed =
@@ -130,20 +140,22 @@ of_family : {X : Type 0} (whole : X → Command) (Formed : X → Type 0) → ((x
 of_family whole Formed each None formed = tt
 of_family whole Formed each (Some x) formed = each x formed
 
-pub masked_of-formed : (c : CircuitData) (stuck : Option (ℕ × Tern)) (command : Command) → IsFormed command → IfSome (masked_of c stuck command) IsFormed
-masked_of-formed c stuck (family.Edit edit) formed =
+pub masked_of-formed : (c : CircuitData) (vectors : List (List ℕ × List ℕ)) (stuck : Option (ℕ × Tern)) (command : Command) → IsFormed command →
+    IfSome (masked_of c vectors stuck command) IsFormed
+masked_of-formed c vectors stuck (family.Edit edit) formed =
     of_family family.Edit IsFormedEdit (λ edit is. is) (masked_edit c stuck edit) (edit-formed c stuck edit formed)
-masked_of-formed c stuck (family.Give give) formed =
-    of_family family.Give IsFormedGive (λ give is. is) (masked_give c stuck give) (give-formed c stuck give formed)
-masked_of-formed c stuck (family.Setup setup) formed = setup-formed c stuck setup formed
-masked_of-formed c stuck (family.Run run) formed = formed
-masked_of-formed c stuck (family.Tell tell) formed = formed
+masked_of-formed c vectors stuck (family.Give give) formed =
+    of_family family.Give IsFormedGive (λ give is. is) (masked_give c vectors stuck give) (give-formed c vectors stuck give formed)
+masked_of-formed c vectors stuck (family.Setup setup) formed = setup-formed c stuck setup formed
+masked_of-formed c vectors stuck (family.Run run) formed = formed
+masked_of-formed c vectors stuck (family.Tell tell) formed = formed
 
 -- the same of what was made, if there was memory for it
-pub masked_of-made : {E : Type 0} (c : CircuitData) (stuck : Option (ℕ × Tern)) (command : Command) (made : Result (Option Command) E) →
-    IfOk made (λ left. left ≡ masked_of c stuck command) → IsFormed command → IfOk made (λ left. IfSome left IsFormed)
-masked_of-made c stuck command (Ok left) is formed = subst (λ left. IfSome left IsFormed) (sym is) (masked_of-formed c stuck command formed)
-masked_of-made c stuck command (Err fault) is formed = tt
+pub masked_of-made : {E : Type 0} (c : CircuitData) (vectors : List (List ℕ × List ℕ)) (stuck : Option (ℕ × Tern)) (command : Command)
+    (made : Result (Option Command) E) → IfOk made (λ left. left ≡ masked_of c vectors stuck command) → IsFormed command → IfOk made (λ left. IfSome left IsFormed)
+masked_of-made c vectors stuck command (Ok left) is formed =
+    subst (λ left. IfSome left IsFormed) (sym is) (masked_of-formed c vectors stuck command formed)
+masked_of-made c vectors stuck command (Err fault) is formed = tt
 
 -- one more item of a list is changed
 pub changed_more : {X Y : Type 0} (change : X → Y) (items : List X) (left more : List Y) (i : ℕ) (item : X) (made : Y) → i < length items →
@@ -151,3 +163,43 @@ pub changed_more : {X Y : Type 0} (change : X → Y) (items : List X) (left more
 changed_more change items left more i item made low here front grown is =
     grown ∙ ap (λ l. l ++ made ∷ []) front ∙ ap (λ one. map change (take i items) ++ one ∷ []) (is ∙ ap change here)
     ∙ sym (map_more change items i item low)
+
+-- ---- what `charge` gives, one assignment after another
+
+module _ (c : CircuitData) (vectors : List (List ℕ × List ℕ)) (stuck : Option (ℕ × Tern)) where
+  abbrev charge_given : List ℕ × Value → List ℕ × Value
+  charge_given item = (item.0, charge_value c vectors stuck item)
+
+  -- that of two lists is that of the first, and then that of the second
+  charges-append : (one other : List (List ℕ × Value)) →
+      masked_charges c vectors stuck (one ++ other) ≡ masked_charges c vectors stuck one ++ masked_charges c vectors stuck other
+  charges-append one other =
+      let kept : List ℕ × Value → Bool = λ item. not (is_stuck_alone c stuck item) in
+      ap (map charge_given) (filter-append kept one other) ∙ map-append charge_given (filter kept one) (filter kept other)
+
+  -- nothing is left of one that gives the stuck node alone a state
+  pub charges_none : (item : List ℕ × Value) (left : List (List ℕ × Value)) → is_stuck_alone c stuck item ≡ true →
+      left ≡ left ++ masked_charges c vectors stuck (item ∷ [])
+  charges_none item left is =
+      sym (append-nil left)
+      ∙ ap (λ (test : Bool). left ++ map charge_given (cond (not test) (item ∷ []) [])) (sym is)
+
+  -- any other is put behind those that are left
+  pub charges_one : (item : List ℕ × Value) (left more : List (List ℕ × Value)) (name : List ℕ) (value : Value) → is_stuck_alone c stuck item ≡ false →
+      name ≡ item.0 → value ≡ charge_value c vectors stuck item → more ≡ left ++ (name, value) ∷ [] →
+      more ≡ left ++ masked_charges c vectors stuck (item ∷ [])
+  charges_one item left more name value is named given grown =
+      grown ∙ ap (λ (n : List ℕ). left ++ (n, value) ∷ []) named ∙ ap (λ (v : Value). left ++ (item.0, v) ∷ []) given
+      ∙ ap (λ (test : Bool). left ++ map charge_given (cond (not test) (item ∷ []) [])) (sym is)
+
+  -- one more item of a list was looked at
+  pub charges_more : (items left more : List (List ℕ × Value)) (i : ℕ) (item : List ℕ × Value) (name : List ℕ) → i < length items →
+      item ≡ get_or items i item → name ≡ item.0 → left ≡ masked_charges c vectors stuck (take i items) →
+      more ≡ left ++ masked_charges c vectors stuck ((name, item.1) ∷ []) → more ≡ masked_charges c vectors stuck (take (i + 1) items)
+  charges_more items left more i item name low here named front grown =
+      grown
+      ∙ ap (λ (l : List (List ℕ × Value)). l ++ masked_charges c vectors stuck ((name, item.1) ∷ [])) front
+      ∙ ap (λ (n : List ℕ). masked_charges c vectors stuck (take i items) ++ masked_charges c vectors stuck ((n, item.1) ∷ [])) named
+      ∙ sym (charges-append (take i items) (item ∷ []))
+      ∙ ap (λ (one : List ℕ × Value). masked_charges c vectors stuck (take i items ++ one ∷ [])) here
+      ∙ sym (ap (masked_charges c vectors stuck) (take_more items i item low))

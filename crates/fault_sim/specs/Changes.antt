@@ -7,6 +7,7 @@ use Rattle.script_lang.specs.declared.command.Command.{Command}
 use Rattle.script_lang.specs.declared.command.Command.TheVariants as family
 use Rattle.script_lang.specs.declared.command.Edit.TheVariants.{Input, Del, Kind}
 use Rattle.script_lang.specs.declared.command.Give.TheVariants.{Set}
+use Rattle.script_lang.specs.declared.value.Value.TheVariants.{Letter}
 use Rattle.fault_sim.specs.declared.fault.Fault.{Fault}
 use Rattle.fault_sim.specs.declared.fault.Fault.TheVariants.{Open, Closed, Stuck}
 
@@ -16,7 +17,7 @@ abbrev pub commands_of : CircuitData → Fault → List Command
 commands_of c (Open number) = family.Edit (Del number) ∷ []
 commands_of c (Closed number) = family.Edit (Kind number Always) ∷ []
 commands_of c (Stuck node state) =
-    family.Edit (Input (called c node ∷ [])) ∷ family.Give (Set ((called c node, state) ∷ [])) ∷ []
+    family.Edit (Input (called c node ∷ [])) ∷ family.Give (Set ((called c node, Letter state) ∷ [])) ∷ []
 
 -- one command, and perhaps another
 abbrev pub commands_in : Command × Option Command → List Command

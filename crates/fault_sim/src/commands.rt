@@ -3,6 +3,7 @@ ghost use Rattle.std.specs.Prelude.{◌≡◌, [], ◌∷◌, All, IfOk};
 ghost use Rattle.script_lang.specs.declared.command.Command.TheVariants as family;
 ghost use Rattle.script_lang.specs.declared.command.Edit.TheVariants.{Input};
 ghost use Rattle.script_lang.specs.declared.command.Give.TheVariants.{Set};
+ghost use Rattle.script_lang.specs.declared.value.Value.TheVariants.{Letter};
 ghost use Rattle.netlist.specs.Circuits.{HasVisibleNames};
 ghost use Rattle.script_lang.specs.Forms.{IsFormed};
 ghost use Rattle.fault_sim.specs.Changes.{commands_of, commands_in, stuck_by};
@@ -11,7 +12,7 @@ ghost use Rattle.fault_sim.specs.Faults.{IsFault};
 use crate::fault::Fault;
 use netlist::Circuit;
 use path_meaning::SwitchKind;
-use script_lang::{AssignList, Command, Edit, Give, Name, NameList};
+use script_lang::{Command, Edit, Give, Name, NameList, Value, ValueList};
 use std::alloc::Global;
 use ternary::{NoMemory, Tern};
 
@@ -65,12 +66,12 @@ pub fn stuck_node(fault: Fault) -> Option<(usize, Tern)>
 // The commands that make the node of a name an input node and set it.
 fn stuck_commands(alloc: Global, name: &[u8], state: Tern) -> Result<(Command, Command), NoMemory>
     ensures { IfOk result (λ given. given
-        ≡ (family.Edit (Input (name.now ∷ [])), family.Give (Set ((name.now, state) ∷ [])))) }
+        ≡ (family.Edit (Input (name.now ∷ [])), family.Give (Set ((name.now, Letter state) ∷ [])))) }
 {
     let mut names = NameList::new(alloc);
     names.push(Name::from_slice(alloc, name)?)?;
-    let mut list = AssignList::new(alloc);
-    list.push((Name::from_slice(alloc, name)?, state))?;
+    let mut list = ValueList::new(alloc);
+    list.push((Name::from_slice(alloc, name)?, Value::Letter(state)))?;
     Ok((
         Command::Edit(Edit::Input(names)),
         Command::Give(Give::Set(list)),

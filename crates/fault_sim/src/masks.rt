@@ -1,37 +1,44 @@
 //! Commands under a node that is stuck.
-ghost use Rattle.std.specs.Prelude.{◌≡◌, ◌⊎◌, Err, Ok, not, map, filter, IfErr, IfOk, IfSome};
+ghost use Rattle.std.specs.Prelude.{◌≡◌, ◌⊎◌, ◌==◌, [], ◌∷◌, ◌++◌, Err, Ok, map, IfErr, IfOk, IfSome, OnOk, if◌then◌else◌};
 ghost use Rattle.script_lang.specs.declared.command.Edit.TheVariants as edited;
 ghost use Rattle.script_lang.specs.declared.command.Give.TheVariants as given;
 ghost use Rattle.script_lang.specs.Forms.{IsFormed};
+ghost use Rattle.vector_values.specs.Values.{plain_value};
 ghost use Rattle.fault_sim.specs.Masks as spec;
 ghost use Rattle.fault_sim.specs.Masks.{is_stuck, masked_of, masked_reading, state_for};
 
 use netlist::Circuit;
+use node_values::{GivenFault, letters_given};
+use node_words::{Named, Vectors};
 use script_lang::{
-    AssignList, ClockList, Command, Edit, Give, Name, ScriptFault, Setup, StateList, read_command,
+    ClockList, Command, Edit, Give, Name, ScriptFault, Setup, StateList, Value, ValueList,
+    read_command,
 };
 use std::alloc::Global;
 use ternary::{NoMemory, Tern};
+use vector_values::{Letter, VectorValue};
 
 /// The command that is obeyed in place of this one while a node is stuck at a state, or None exactly
 /// if nothing is.
 ///
-/// Each letter that `set` or `clock` gives the node is replaced by the state at which it is stuck;
-/// each word that names it is taken out of `charge`, which does nothing if no word is left; and
-/// `store` of it does nothing. Names are looked up in the circuit as it is at the command. All other
-/// words stay.
+/// Each letter that `set` or `clock` gives the node is replaced by the state at which it is stuck, also if a
+/// vector has the node; each word that names it is taken out of `charge`, which does nothing if no word is
+/// left, and its letters in vectors give it nothing; and `store` of it does nothing. Names are looked up in the
+/// circuit and among the vectors as they are at the command. All other words stay.
 pub fn masked(
     alloc: Global,
     command: Command,
     circuit: &Circuit,
+    vectors: &Vectors,
     stuck: Option<(usize, Tern)>,
 ) -> Result<Option<Command>, NoMemory>
-    ensures value { IfOk result (λ left. left ≡ masked_of circuit.now stuck command) }
+    ensures value { IfOk result (λ left. left ≡ masked_of circuit.now vectors.now stuck command) }
     ensures formed { IsFormed command → IfOk result (λ left. IfSome left IsFormed) }
 {
     let mask = Mask {
         alloc,
         circuit,
+        vectors,
         stuck,
     };
     masked_by_family(&mask, command)
@@ -42,12 +49,13 @@ pub fn masked(
 struct Mask<'a> {
     alloc: Global,
     circuit: &'a Circuit,
+    vectors: &'a Vectors,
     stuck: Option<(usize, Tern)>,
 }
 
 // The command under a mask, family by family.
 fn masked_by_family(mask: &Mask<'_>, command: Command) -> Result<Option<Command>, NoMemory>
-    ensures { IfOk result (λ left. left ≡ masked_of mask.now.circuit.now mask.now.stuck command) }
+    ensures { IfOk result (λ left. left ≡ masked_of mask.now.circuit.now mask.now.vectors.now mask.now.stuck command) }
 {
     match command {
         Command::Edit(edit) => Ok(masked_edit(mask, edit).map(Command::Edit)),
@@ -64,17 +72,18 @@ pub fn read_masked(
     alloc: Global,
     bytes: &[u8],
     circuit: &Circuit,
+    vectors: &Vectors,
     stuck: Option<(usize, Tern)>,
 ) -> Result<Option<Command>, ScriptFault>
-    ensures ok { IfOk result (λ left. masked_reading stuck circuit.now bytes.now ≡ Ok left) }
+    ensures ok { IfOk result (λ left. masked_reading stuck circuit.now vectors.now bytes.now ≡ Ok left) }
     ensures refused { IfErr result (λ fault. (fault ≡ ScriptFault.NoMemory)
-        ⊎ (masked_reading stuck circuit.now bytes.now ≡ Err fault)) }
+        ⊎ (masked_reading stuck circuit.now vectors.now bytes.now ≡ Err fault)) }
     ensures formed { IfOk result (λ left. IfSome left IsFormed) }
 {
     match stuck {
         None => read_command(alloc, bytes),
         Some(_) => match read_command(alloc, bytes)? {
-            Some(command) => Ok(masked(alloc, command, circuit, stuck)?),
+            Some(command) => Ok(masked(alloc, command, circuit, vectors, stuck)?),
             None => Ok(None),
         },
     }
@@ -103,7 +112,7 @@ fn masked_store(mask: &Mask<'_>, name: Name, size: u64) -> Option<Edit>
 
 // States that are given, with the stuck node at its own.
 fn masked_give(mask: &Mask<'_>, give: Give) -> Result<Option<Give>, NoMemory>
-    ensures { IfOk result (λ left. left ≡ spec.masked_give mask.now.circuit.now mask.now.stuck give) }
+    ensures { IfOk result (λ left. left ≡ spec.masked_give mask.now.circuit.now mask.now.vectors.now mask.now.stuck give) }
 {
     match give {
         Give::Set(list) => {
@@ -129,9 +138,9 @@ fn masked_setup(mask: &Mask<'_>, setup: Setup) -> Result<Setup, NoMemory>
 }
 
 // `charge` without the words that name the stuck node, unless no word is left.
-fn masked_charge(mask: &Mask<'_>, list: &AssignList) -> Result<Option<Give>, NoMemory>
+fn masked_charge(mask: &Mask<'_>, list: &ValueList) -> Result<Option<Give>, NoMemory>
     ensures { IfOk result (λ left. left
-        ≡ spec.masked_give mask.now.circuit.now mask.now.stuck (given.Charge list.now)) }
+        ≡ spec.masked_give mask.now.circuit.now mask.now.vectors.now mask.now.stuck (given.Charge list.now)) }
 {
     let list = others(mask, list)?;
     if list.items().is_empty() {
@@ -141,31 +150,137 @@ fn masked_charge(mask: &Mask<'_>, list: &AssignList) -> Result<Option<Give>, NoM
     }
 }
 
-// The assignments that don't name the stuck node.
-fn others(mask: &Mask<'_>, list: &AssignList) -> Result<AssignList, NoMemory>
+// The assignments that don't give the stuck node alone a state, with those of vectors giving it none.
+fn others(mask: &Mask<'_>, list: &ValueList) -> Result<ValueList, NoMemory>
     ensures { IfOk result (λ left. left
-        ≡ filter (λ item. not (is_stuck mask.now.circuit.now mask.now.stuck item.0)) list.now) }
+        ≡ spec.masked_charges mask.now.circuit.now mask.now.vectors.now mask.now.stuck list.now) }
 {
-    let mut left = AssignList::new(mask.alloc);
-    for (name, state) in list.items() {
-        if !names_stuck(mask, name.items()) {
-            left.push((Name::from_slice(mask.alloc, name.items())?, *state))?;
-        }
+    let mut left = ValueList::new(mask.alloc);
+    for (name, value) in list.items() {
+        put_other(mask, &mut left, name.items(), value)?;
     }
     Ok(left)
 }
 
-// The assignments, with the stuck node given the state at which it is stuck.
-fn masked_assignments(mask: &Mask<'_>, list: &AssignList) -> Result<AssignList, NoMemory>
-    ensures { IfOk result (λ left. left
-        ≡ map (λ item. (item.0, state_for mask.now.circuit.now mask.now.stuck item.0 item.1)) list.now) }
+// Puts the assignment behind the others that are left, unless it gives the stuck node alone a state.
+fn put_other(
+    mask: &Mask<'_>,
+    left: &mut ValueList,
+    name: &[u8],
+    value: &Value,
+) -> Result<(), NoMemory>
+    ensures { OnOk result (left.new ≡ left.old
+        ++ spec.masked_charges mask.now.circuit.now mask.now.vectors.now mask.now.stuck ((name.now, value.now) ∷ [])) }
 {
-    let mut left = AssignList::new(mask.alloc);
-    for (name, state) in list.items() {
-        let state = given_state(mask, name.items(), *state);
-        left.push((Name::from_slice(mask.alloc, name.items())?, state))?;
+    if charges_stuck(mask, name, value) {
+        return Ok(());
+    }
+    let value = charge_value(mask, name, value)?;
+    left.push((Name::from_slice(mask.alloc, name)?, value))?;
+    Ok(())
+}
+
+// Whether the assignment gives the stuck node alone a state.
+fn charges_stuck(mask: &Mask<'_>, name: &[u8], value: &Value) -> bool
+    ensures { result ≡ spec.is_stuck_alone mask.now.circuit.now mask.now.stuck (name.now, value.now) }
+{
+    match value {
+        Value::Wide(_) => false,
+        Value::Letter(_) | Value::Alone(_) => names_stuck(mask, name),
+    }
+}
+
+// The assignments, with the stuck node given the state at which it is stuck.
+fn masked_assignments(mask: &Mask<'_>, list: &ValueList) -> Result<ValueList, NoMemory>
+    ensures { IfOk result (λ left. left
+        ≡ spec.masked_sets mask.now.circuit.now mask.now.vectors.now mask.now.stuck list.now) }
+{
+    let mut left = ValueList::new(mask.alloc);
+    for (name, value) in list.items() {
+        let value = set_value(mask, name.items(), value)?;
+        left.push((Name::from_slice(mask.alloc, name.items())?, value))?;
     }
     Ok(left)
+}
+
+// What `set` gives the nodes of a name.
+fn set_value(mask: &Mask<'_>, name: &[u8], value: &Value) -> Result<Value, NoMemory>
+    ensures { IfOk result (λ given. given
+        ≡ spec.set_value mask.now.circuit.now mask.now.vectors.now mask.now.stuck (name.now, value.now)) }
+{
+    match mask.stuck {
+        Some(at) if names_stuck(mask, name) => with_own(mask.alloc, at.1, value),
+        Some(at) => vector_value(mask, at.0, Some(at.1), name, value),
+        None => value.copied(mask.alloc),
+    }
+}
+
+// What `charge` gives the nodes of a name.
+fn charge_value(mask: &Mask<'_>, name: &[u8], value: &Value) -> Result<Value, NoMemory>
+    ensures { IfOk result (λ given. given
+        ≡ spec.charge_value mask.now.circuit.now mask.now.vectors.now mask.now.stuck (name.now, value.now)) }
+{
+    match mask.stuck {
+        Some(at) => vector_value(mask, at.0, None, name, value),
+        None => value.copied(mask.alloc),
+    }
+}
+
+// The value with this state in the place of the one that it gives a node alone.
+fn with_own(alloc: Global, own: Tern, value: &Value) -> Result<Value, NoMemory>
+    ensures { IfOk result (λ given. given ≡ spec.with_own own value.now) }
+{
+    match value {
+        Value::Letter(_) => Ok(Value::Letter(own)),
+        Value::Wide(wide) => Ok(Value::Wide(wide.copied(alloc)?)),
+        Value::Alone(_) => Ok(Value::Alone(own)),
+    }
+}
+
+// The value, with this letter in the place of each that it gives the node as one of a vector's.
+fn vector_value(
+    mask: &Mask<'_>,
+    node: usize,
+    own: Letter,
+    name: &[u8],
+    value: &Value,
+) -> Result<Value, NoMemory>
+    ensures { IfOk result (λ given. given
+        ≡ spec.vector_value mask.now.circuit.now mask.now.vectors.now node own (name.now, value.now)) }
+{
+    match mask.vectors.named(mask.circuit, name) {
+        Named::Vector(_) => {
+            match letters_given(mask.alloc, mask.circuit, mask.vectors, name, value) {
+                Ok(pairs) => Ok(Value::Wide(masked_letters(mask.alloc, node, own, &pairs)?)),
+                Err(GivenFault::NoMemory) => Err(NoMemory),
+                Err(GivenFault::UnknownNode | GivenFault::VectorValue) => value.copied(mask.alloc),
+            }
+        }
+        Named::Node(_) | Named::Nothing => value.copied(mask.alloc),
+    }
+}
+
+// These letters, with this one in the place of each of the node's.
+fn masked_letters(
+    alloc: Global,
+    node: usize,
+    own: Letter,
+    pairs: &[(usize, Letter)],
+) -> Result<VectorValue, NoMemory>
+    ensures { IfOk result (λ value. value ≡ plain_value (spec.masked_letters node own pairs.now)) }
+{
+    let mut letters = Vec::with_capacity(alloc, pairs.len())?;
+    for pair in pairs {
+        letters.push_reserved(masked_letter(node, own, pair));
+    }
+    Ok(VectorValue::of_letters(letters))
+}
+
+// The letter of a pair, or this one if the pair is the node's.
+fn masked_letter(node: usize, own: Letter, pair: &(usize, Letter)) -> Letter
+    ensures { result ≡ (if pair.now.0 == node then own else pair.now.1) }
+{
+    if pair.0 == node { own } else { pair.1 }
 }
 
 // The clocks, with the stuck node given the state at which it is stuck each time.

@@ -78,7 +78,8 @@ pub alike-effect : (lanes : ℕ) (command : LaneCommand) → IsFormed lanes comm
 alike-effect lanes (Values kind list) formed lane other one two after later lines more alike first second =
     kept_alike (λ s. s) one two after later alike (ap less_states first.0) (ap less_states second.0)
 alike-effect lanes (Shared (family.Edit edit)) formed lane other one two after later lines more alike first second =
-    kept_alike (λ s. record s { circuit = circuit_after s.circuit edit }) one two after later alike (ap less_states first.0) (ap less_states second.0)
+    kept_alike (λ s. record s { circuit = circuit_after s.circuit s.vectors edit }) one two after later alike (ap less_states first.0)
+    (ap less_states second.0)
 alike-effect lanes (Shared (family.Give give)) formed lane other one two after later lines more alike first second = absurd (formed.1)
 alike-effect lanes (Shared (family.Setup setup)) formed lane other one two after later lines more alike first second =
     kept_alike (λ s. setup_after s setup) one two after later alike (ap less_states first.0 ∙ set_less one setup formed.1)

@@ -10,7 +10,6 @@ use Rattle.line_words.specs.LineFaults.{line_fault, is_comment}
 use Rattle.line_words.specs.Words.{words_of}
 use Rattle.script_lang.specs.declared.command.Command.{Command}
 use Rattle.script_lang.specs.declared.command.Give.{Give}
-use Rattle.script_lang.specs.declared.command.Give.TheVariants as plain
 use Rattle.script_lang.specs.declared.command.ScriptFault.{ScriptFault}
 use Rattle.script_lang.specs.declared.command.ScriptFault.TheVariants as fault
 use Rattle.script_lang.specs.Commands.{reading_of}
@@ -20,7 +19,7 @@ use Rattle.lane_script.specs.declared.command.LaneCommand.{LaneCommand}
 use Rattle.lane_script.specs.declared.command.LaneCommand.TheVariants.{Values, Shared}
 use Rattle.lane_script.specs.declared.command.ValueCommand.TheVariants as value
 use Rattle.lane_script.specs.Columns.{column_reading, column_reading_by, column_reading_of, is_left_out}
-use Rattle.lane_script.specs.Commands.{in_column, IsShared}
+use Rattle.lane_script.specs.Commands.{in_column, plain_of, IsShared}
 use Rattle.lane_script.specs.Forms.{AreLaneValues, IsFormed}
 use Rattle.lane_script.specs.Values.{lane_value_of, values_given}
 use Rattle.lane_script.proofs.ColumnLemmas.{column_words, line_words, values_asked, set_words, charge_words, out_words, values_formed, shared_line, shared_command}
@@ -67,10 +66,11 @@ module _ (lanes : ℕ) (line : List ℕ) where
     -- a line by its first word
     word_reads : (set charge out : Bool) → bytes_eq word (codes "set") ≡ set → bytes_eq word (codes "charge") ≡ charge → is_left_out word ≡ out → LineReads lanes line
     word_reads true charge out is_set is_charge is_out =
-        values_read plain.Set (λ lane inside. set_words lanes lane word rest inside ((bytes_eq-Decides word (codes "set")).0 is_set))
+        values_read (plain_of value.Set) (λ lane inside. set_words lanes lane word rest inside ((bytes_eq-Decides word (codes "set")).0 is_set))
         (λ list formed reads. commands (Values value.Set list) formed reads) (values_given lanes rest) refl
     word_reads false true out is_set is_charge is_out =
-        values_read plain.Charge (λ lane inside. charge_words lanes lane word rest inside ((bytes_eq-Decides word (codes "charge")).0 is_charge))
+        values_read (plain_of value.Charge)
+        (λ lane inside. charge_words lanes lane word rest inside ((bytes_eq-Decides word (codes "charge")).0 is_charge))
         (λ list formed reads. commands (Values value.Charge list) formed reads) (values_given lanes rest) refl
     word_reads false false true is_set is_charge is_out =
         fails fault.BadCommand (λ same. cc) (λ lane inside. line_words lanes line word rest sound other cut lane ∙ out_words lanes lane word rest is_out)

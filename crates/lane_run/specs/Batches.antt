@@ -9,9 +9,10 @@ use Rattle.script_meaning.specs.Runs.{Reading, RefusedLine, Outcome, Runs, refus
 use Rattle.run_ends.specs.Answers.{Answer}
 use Rattle.lane_session.specs.Rows.{Interleaves}
 
--- how lines are read in one of so many columns, whatever the circuit is: as a plain script's whose values are the column's letters
+-- how lines are read in one of so many columns, whatever the circuit and the vectors are: as a plain script's whose values are the
+-- column's letters
 abbrev pub reading_in : ℕ → ℕ → Reading
-reading_in lanes lane circuit line = column_reading_of lanes lane line
+reading_in lanes lane circuit vectors line = column_reading_of lanes lane line
 
 -- a script runs in so many columns, each from its data: in each it runs as a plain script to an outcome, in all of them the same texts are
 -- analysed and the same refusal ends it, if one does, and row by row their lines are this text

@@ -40,7 +40,8 @@ pub fn run_batch<S: Sink + Drop, A: Analyst>(
         Halt::End => Ok(End::Done),
         _ => {
             let columns = session.lanes() as usize;
-            refuse_halt(alloc, session.circuit(), halt, text, columns, out)
+            let vectors = session.vectors();
+            refuse_halt(alloc, session.circuit(), vectors, halt, text, columns, out)
         }
     }
 }

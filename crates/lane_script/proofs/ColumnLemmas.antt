@@ -14,11 +14,10 @@ use Rattle.line_words.proofs.VisibleLemmas.{words_of-visible}
 use Rattle.script_lang.specs.declared.command.Command.{Command}
 use Rattle.script_lang.specs.declared.command.Command.TheVariants as family
 use Rattle.script_lang.specs.declared.command.Give.{Give}
-use Rattle.script_lang.specs.declared.command.Give.TheVariants as plain
 use Rattle.script_lang.specs.declared.command.ScriptFault.{ScriptFault}
 use Rattle.script_lang.specs.declared.command.ScriptFault.TheVariants as fault
 use Rattle.script_lang.specs.Parts.{all_of, beats_of}
-use Rattle.script_lang.specs.Commands.{assignments_given, commanded, reading_by, reading_of, reading_of_words, some_command}
+use Rattle.script_lang.specs.Commands.{commanded, reading_by, reading_of, reading_of_words, some_command}
 use Rattle.script_lang.specs.Forms as form
 use Rattle.script_lang.proofs.FormLemmas.{all_given, given_some, named_beats}
 use Rattle.lane_script.specs.declared.command.ValueCommand.{ValueCommand}
@@ -27,7 +26,7 @@ use Rattle.lane_script.specs.declared.command.LaneCommand.{LaneCommand}
 use Rattle.lane_script.specs.declared.command.LaneCommand.TheVariants.{Shared}
 use Rattle.lane_script.specs.declared.reader.Sort.{Sort}
 use Rattle.lane_script.specs.declared.reader.Sort.TheVariants as sort
-use Rattle.lane_script.specs.Columns.{column_reading, column_reading_by, column_reading_of, is_left_out, word_in, words_in}
+use Rattle.lane_script.specs.Columns.{column_reading, column_reading_by, column_reading_of, words_by_verb, is_left_out, letters_given, value_verb, word_in}
 use Rattle.lane_script.specs.Commands.{plain_of, IsShared}
 use Rattle.lane_script.specs.Forms.{AreLaneValues, IsFormed, IsLaneValue}
 use Rattle.lane_script.specs.Values.{are_fit, lane_value_of, sort_of, values_given}
@@ -62,31 +61,32 @@ valued_words command lanes lane word words inside is =
     ∙ ap (λ given. some_command (commanded family.Give (commanded (plain_of command) given))) (given_in_column lanes lane words inside)
   where
     by : (command : ValueCommand) → column_reading lanes lane (verb_of_values command ∷ words)
-        ≡ some_command (commanded family.Give (commanded (plain_of command) (assignments_given (map (word_in lanes lane) words))))
+        ≡ some_command (commanded family.Give (commanded (plain_of command) (letters_given (map (word_in lanes lane) words))))
     by value.Set = refl
     by value.Charge = refl
 
 pub set_words : (lanes lane : ℕ) (word : List ℕ) (words : List (List ℕ)) → lane < lanes → word ≡ codes "set" →
-    column_reading lanes lane (word ∷ words) ≡ values_asked plain.Set lane (values_given lanes words)
+    column_reading lanes lane (word ∷ words) ≡ values_asked (plain_of value.Set) lane (values_given lanes words)
 set_words = valued_words value.Set
 
 pub charge_words : (lanes lane : ℕ) (word : List ℕ) (words : List (List ℕ)) → lane < lanes → word ≡ codes "charge" →
-    column_reading lanes lane (word ∷ words) ≡ values_asked plain.Charge lane (values_given lanes words)
+    column_reading lanes lane (word ∷ words) ≡ values_asked (plain_of value.Charge) lane (values_given lanes words)
 charge_words = valued_words value.Charge
 
 -- what is left out is no command
 pub out_words : (lanes lane : ℕ) (word : List ℕ) (words : List (List ℕ)) → is_left_out word ≡ true →
     column_reading lanes lane (word ∷ words) ≡ Err fault.BadCommand
 out_words lanes lane word words is =
-    ap (λ (out : Bool). if out then Err fault.BadCommand else reading_of_words (words_in lanes lane (word ∷ words))) is
+    ap (λ (out : Bool). if out then Err fault.BadCommand else words_by_verb lanes lane word words (value_verb word)) is
 
 -- all else is in each column as in a plain script
 pub other_words : (lanes lane : ℕ) (word : List ℕ) (words : List (List ℕ)) → IsOther word →
     column_reading lanes lane (word ∷ words) ≡ reading_of_words (word ∷ words)
 other_words lanes lane word words other =
-    ap (λ (out : Bool). if out then Err fault.BadCommand else reading_of_words (words_in lanes lane (word ∷ words))) other.out
-    ∙ ap (λ (first : Bool). reading_of_words (word ∷ (if first || bytes_eq word (codes "charge") then map (word_in lanes lane) words else words))) other.set
-    ∙ ap (λ (second : Bool). reading_of_words (word ∷ (if second then map (word_in lanes lane) words else words))) other.charge
+    ap (λ (out : Bool). if out then Err fault.BadCommand else words_by_verb lanes lane word words (value_verb word)) other.out
+    ∙ ap (λ (first : Bool). words_by_verb lanes lane word words
+    (if first then Some value.Set else (if bytes_eq word (codes "charge") then Some value.Charge else None))) other.set
+    ∙ ap (λ (second : Bool). words_by_verb lanes lane word words (if second then Some value.Charge else None)) other.charge
 
 -- ---- the sorts of words
 

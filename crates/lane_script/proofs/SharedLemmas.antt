@@ -9,7 +9,7 @@ use Rattle.script_lang.specs.declared.command.Setup.{Setup}
 use Rattle.script_lang.specs.declared.command.Setup.TheVariants.{Keep, Save}
 use Rattle.script_lang.specs.declared.command.Run.{Run}
 use Rattle.script_lang.specs.declared.command.Run.TheVariants.{Report}
-use Rattle.script_lang.specs.declared.command.Tell.TheVariants.{Expect, Show}
+use Rattle.script_lang.specs.declared.command.Tell.TheVariants.{Expect, Show, Look}
 use Rattle.script_lang.specs.Commands.{reading_of_words, word_of, word_of_run, word_of_setup}
 use Rattle.script_lang.proofs.VerbLemmas.{first_word}
 use Rattle.lane_script.specs.declared.command.ValueCommand.TheVariants as value
@@ -64,3 +64,4 @@ shared_words word words made other is = by made (first_word word words made is)
     by (family.Run run) is = run_shared run is
     by (family.Tell (Expect list)) is = left_out word (codes "expect") is refl other.out
     by (family.Tell (Show names)) is = left_out word (codes "show") is refl other.out
+    by (family.Tell (Look names)) is = left_out word (codes "look") is refl other.out

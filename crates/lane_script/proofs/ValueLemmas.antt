@@ -12,11 +12,10 @@ use Rattle.path_meaning.specs.Switching.{state_at}
 use Rattle.line_words.specs.Words.{is_word}
 use Rattle.script_lang.specs.declared.command.ScriptFault.{ScriptFault}
 use Rattle.script_lang.specs.declared.command.ScriptFault.TheVariants as fault
-use Rattle.script_lang.specs.Parts.{all_of, assignment_of, equals, is_equals, parts_of, state_of, states_of, IsLastEquals}
-use Rattle.script_lang.specs.Commands.{assignments_given}
+use Rattle.script_lang.specs.Parts.{all_of, letter_of, equals, is_equals, parts_of, state_of, states_of, IsLastEquals}
 use Rattle.script_lang.proofs.CutLemmas.{parts_at}
 use Rattle.std.specs.List.{before_last, after_last}
-use Rattle.lane_script.specs.Columns.{parts_in, word_in}
+use Rattle.lane_script.specs.Columns.{letters_given, parts_in, word_in}
 use Rattle.lane_script.specs.Commands.{state_in, value_in}
 use Rattle.lane_script.specs.Values.{are_fit, lane_value_of, values_given}
 
@@ -129,16 +128,16 @@ other_letters lanes lane name (letter ∷ more ∷ letters) states is differs =
 -- a word with these parts, whose letters stand for these states or for none
 parts_given : (lanes lane : ℕ) (word name letters : List ℕ) → lane < lanes → parts_of word ≡ Some (name, letters) → is_word name ≡ true →
     (found : Option (List Tern)) → states_of letters ≡ found →
-    assignment_of (parts_in lanes lane word (name, letters)) ≡ option_map (value_in lane) (fitting lanes (named name found))
+    letter_of (parts_in lanes lane word (name, letters)) ≡ option_map (value_in lane) (fitting lanes (named name found))
 parts_given lanes lane word name letters inside cut some None is =
-    ap (λ (states : Option (List Tern)). assignment_of (if is_some states && (length letters == lanes) then name ++ equals ∷ get_or letters lane 0 ∷ [] else word)) is
+    ap (λ (states : Option (List Tern)). letter_of (if is_some states && (length letters == lanes) then name ++ equals ∷ get_or letters lane 0 ∷ [] else word)) is
     ∙ ap assigned cut ∙ ap (option_map (λ (state : Tern). (name, state))) (state-none letters is)
 parts_given lanes lane word name letters inside cut some (Some states) is =
-    ap (λ (all : Option (List Tern)). assignment_of (if is_some all && (length letters == lanes) then name ++ equals ∷ get_or letters lane 0 ∷ [] else word)) is
+    ap (λ (all : Option (List Tern)). letter_of (if is_some all && (length letters == lanes) then name ++ equals ∷ get_or letters lane 0 ∷ [] else word)) is
     ∙ by (length letters == lanes) refl
   where
     by : (counted : Bool) → (length letters == lanes) ≡ counted →
-        assignment_of (if counted then name ++ equals ∷ get_or letters lane 0 ∷ [] else word) ≡ option_map (value_in lane) (fitting lanes (Some (name, states)))
+        letter_of (if counted then name ++ equals ∷ get_or letters lane 0 ∷ [] else word) ≡ option_map (value_in lane) (fitting lanes (Some (name, states)))
     by false differs = ap assigned cut ∙ other_letters lanes lane name letters states is differs
     by true same =
         let count : length letters ≡ lanes = eqb-true (length letters) lanes same in
@@ -158,11 +157,11 @@ named_word word name letters cut =
 
 -- a word gives for all columns what its word in a column gives there
 pub value_in_column : (lanes lane : ℕ) (word : List ℕ) → lane < lanes →
-    assignment_of (word_in lanes lane word) ≡ option_map (value_in lane) (lane_value_of lanes word)
+    letter_of (word_in lanes lane word) ≡ option_map (value_in lane) (lane_value_of lanes word)
 value_in_column lanes lane word inside = by (parts_of word) refl
   where
     by : (cut : Option (List ℕ × List ℕ)) → parts_of word ≡ cut →
-        assignment_of (option_map_or (parts_in lanes lane word) cut word)
+        letter_of (option_map_or (parts_in lanes lane word) cut word)
         ≡ option_map (value_in lane) (fitting lanes (option_and_then (λ parts. named parts.0 (states_of parts.1)) cut))
     by None is = ap assigned is
     by (Some (name, letters)) is = parts_given lanes lane word name letters inside is (named_word word name letters is) (states_of letters) refl
@@ -182,9 +181,9 @@ all-mapped {X} {Y} {Z} f change g h each (item ∷ items) =
 
 -- what all words give, in a column
 pub values_in_column : (lanes lane : ℕ) (words : List (List ℕ)) → lane < lanes →
-    all_of assignment_of (map (word_in lanes lane) words) ≡ option_map (map (value_in lane)) (all_of (lane_value_of lanes) words)
+    all_of letter_of (map (word_in lanes lane) words) ≡ option_map (map (value_in lane)) (all_of (lane_value_of lanes) words)
 values_in_column lanes lane words inside =
-    all-mapped assignment_of (word_in lanes lane) (lane_value_of lanes) (value_in lane) (λ word. value_in_column lanes lane word inside) words
+    all-mapped letter_of (word_in lanes lane) (lane_value_of lanes) (value_in lane) (λ word. value_in_column lanes lane word inside) words
 
 -- values that are given are, in a column, the assignments that are given there
 abbrev pub given_in : ℕ → Result (List (List ℕ × List Tern)) ScriptFault → Result (List (List ℕ × Tern)) ScriptFault
@@ -192,7 +191,7 @@ given_in lane (Ok list) = Ok (map (value_in lane) list)
 given_in lane (Err fault) = Err fault
 
 pub given_in_column : (lanes lane : ℕ) (words : List (List ℕ)) → lane < lanes →
-    assignments_given (map (word_in lanes lane) words) ≡ given_in lane (values_given lanes words)
+    letters_given (map (word_in lanes lane) words) ≡ given_in lane (values_given lanes words)
 given_in_column lanes lane [] inside = refl
 given_in_column lanes lane (word ∷ words) inside =
     ap (λ (found : Option (List (List ℕ × Tern))). ok_or found fault.BadValue) (values_in_column lanes lane (word ∷ words) inside)

@@ -1,25 +1,31 @@
 -- The columns of a script: what a line is in each of them. A column's line is the script's, where each value with a letter for each
--- column is that column's letter; the first letter is that of the first column.
+-- column is that column's letter; the first letter is that of the first column. A value goes to a node, and to no vector.
 use Rattle.std.specs.Prelude.{ℕ, Bool, ◌==◌, ◌&&◌, ◌||◌, List, [], ◌∷◌, ◌++◌, length, map, codes, bytes_eq, slice_index, Option, Some, None, is_some, Result, Ok, Err, if◌then◌else◌}
-use Rattle.std.specs.Option.{option_map_or}
+use Rattle.std.specs.Option.{ok_or, option_map_or}
 use Rattle.line_words.specs.declared.line_check.LineFault.{LineFault}
 use Rattle.line_words.specs.declared.line_check.LineFault.TheVariants as of_line
 use Rattle.line_words.specs.LineFaults.{line_fault, is_comment}
 use Rattle.line_words.specs.Words.{words_of}
+use Rattle.ternary.specs.declared.tern.Tern.{Tern}
 use Rattle.script_lang.specs.declared.command.Command.{Command}
+use Rattle.script_lang.specs.declared.command.Command.TheVariants as family
 use Rattle.script_lang.specs.declared.command.ScriptFault.{ScriptFault}
-use Rattle.script_lang.specs.declared.command.ScriptFault.TheVariants.{LineTooLong, BadByte, BadCommand}
-use Rattle.script_lang.specs.Parts.{equals, parts_of, states_of}
-use Rattle.script_lang.specs.Commands.{reading_of_words}
+use Rattle.script_lang.specs.declared.command.ScriptFault.TheVariants.{LineTooLong, BadByte, BadCommand, FewWords, BadValue}
+use Rattle.script_lang.specs.Parts.{all_of, equals, letter_of, parts_of, states_of}
+use Rattle.script_lang.specs.Commands.{commanded, reading_of_words, some_command}
+use Rattle.lane_script.specs.declared.command.ValueCommand.{ValueCommand}
+use Rattle.lane_script.specs.declared.command.ValueCommand.TheVariants as value
+use Rattle.lane_script.specs.Commands.{plain_of}
 
--- the verb gives values to nodes
-abbrev pub gives_values : List ℕ → Bool
-gives_values verb = bytes_eq verb (codes "set") || bytes_eq verb (codes "charge")
+-- the command that gives nodes values, if the verb is that of one
+abbrev pub value_verb : List ℕ → Option ValueCommand
+value_verb verb =
+    if bytes_eq verb (codes "set") then Some value.Set else (if bytes_eq verb (codes "charge") then Some value.Charge else None)
 
 -- a script of columns has no such command
 abbrev pub is_left_out : List ℕ → Bool
 is_left_out verb =
-    bytes_eq verb (codes "expect") || bytes_eq verb (codes "show") || bytes_eq verb (codes "save") || bytes_eq verb (codes "back")
+    bytes_eq verb (codes "expect") || bytes_eq verb (codes "show") || bytes_eq verb (codes "look") || bytes_eq verb (codes "save") || bytes_eq verb (codes "back")
     || bytes_eq verb (codes "report") || bytes_eq verb (codes "keep")
 
 -- letters of states, one for each column
@@ -34,15 +40,21 @@ parts_in lanes lane word parts = if are_of_columns lanes parts.1 then parts.0 ++
 abbrev pub word_in : ℕ → ℕ → List ℕ → List ℕ
 word_in lanes lane word = option_map_or (parts_in lanes lane word) (parts_of word) word
 
--- the words of a line in a column
-abbrev pub words_in : ℕ → ℕ → List (List ℕ) → List (List ℕ)
-words_in lanes lane [] = []
-words_in lanes lane (verb ∷ words) = verb ∷ (if gives_values verb then map (word_in lanes lane) words else words)
+-- one letter of a node or more
+abbrev pub letters_given : List (List ℕ) → Result (List (List ℕ × Tern)) ScriptFault
+letters_given [] = Err FewWords
+letters_given (word ∷ words) = ok_or (all_of letter_of (word ∷ words)) BadValue
+
+-- what a verb's words are in a column: if the verb gives values, those of the column, else the words of a plain script
+abbrev pub words_by_verb : ℕ → ℕ → List ℕ → List (List ℕ) → Option ValueCommand → Result (Option Command) ScriptFault
+words_by_verb lanes lane verb words (Some command) =
+    some_command (commanded family.Give (commanded (plain_of command) (letters_given (map (word_in lanes lane) words))))
+words_by_verb lanes lane verb words None = reading_of_words (verb ∷ words)
 
 -- what the words of a line are in a column
 abbrev pub column_reading : ℕ → ℕ → List (List ℕ) → Result (Option Command) ScriptFault
 column_reading lanes lane [] = Ok None
-column_reading lanes lane (verb ∷ words) = if is_left_out verb then Err BadCommand else reading_of_words (words_in lanes lane (verb ∷ words))
+column_reading lanes lane (verb ∷ words) = if is_left_out verb then Err BadCommand else words_by_verb lanes lane verb words (value_verb verb)
 
 -- a line, by its fault as a line of any text; a comment asks for nothing
 abbrev pub column_reading_by : ℕ → ℕ → List ℕ → Option LineFault → Result (Option Command) ScriptFault

@@ -2,6 +2,8 @@
 use Rattle.std.specs.Prelude.{ℕ, ◌==◌, List, length, map, if◌then◌else◌}
 use Rattle.ternary.specs.declared.tern.Tern.{Tern}
 use Rattle.path_meaning.specs.Switching.{state_at}
+use Rattle.script_lang.specs.declared.value.Value.{Value}
+use Rattle.script_lang.specs.declared.value.Value.TheVariants.{Alone}
 use Rattle.script_lang.specs.declared.command.Command.{Command}
 use Rattle.script_lang.specs.declared.command.Command.TheVariants as family
 use Rattle.script_lang.specs.declared.command.Give.{Give}
@@ -19,14 +21,18 @@ use Rattle.lane_script.specs.declared.command.LaneCommand.TheVariants.{Values, S
 abbrev pub state_in : ℕ → List Tern → Tern
 state_in lane states = if length states == 1 then state_at states 0 else state_at states lane
 
--- the node's name, and the state that the column is given
+-- the name and the state that the column is given
 abbrev pub value_in : ℕ → List ℕ × List Tern → List ℕ × Tern
 value_in lane value = (value.0, state_in lane value.1)
 
--- the plain command that gives such values
+-- the state goes to the node of the name, and to no vector
+abbrev pub alone_of : List ℕ × Tern → List ℕ × Value
+alone_of item = (item.0, Alone item.1)
+
+-- the plain command that gives such states
 abbrev pub plain_of : ValueCommand → List (List ℕ × Tern) → Give
-plain_of value.Set = plain.Set
-plain_of value.Charge = plain.Charge
+plain_of value.Set list = plain.Set (map alone_of list)
+plain_of value.Charge list = plain.Charge (map alone_of list)
 
 -- what a column is given of a command
 abbrev pub in_column : ℕ → LaneCommand → Command

@@ -17,7 +17,7 @@ use ternary::NoMemory;
 ///
 /// The refusals are those of a plain script's line, in their order, in each column alike. A value of
 /// `set` and `charge` has one letter, or one for each column, and else is a bad value; `expect`, `show`,
-/// `save`, `back`, `report` and `keep` are no commands here.
+/// `look`, `save`, `back`, `report` and `keep` are no commands here.
 pub fn read_lane_command(
     alloc: Global,
     bytes: &[u8],
@@ -69,7 +69,7 @@ fn sort_of(verb: &[u8]) -> Sort
     match verb {
         b"set" => Sort::Valued(ValueCommand::Set),
         b"charge" => Sort::Valued(ValueCommand::Charge),
-        b"expect" | b"show" | b"save" | b"back" | b"report" | b"keep" => Sort::LeftOut,
+        b"expect" | b"show" | b"look" | b"save" | b"back" | b"report" | b"keep" => Sort::LeftOut,
         _ => Sort::Shared,
     }
 }

@@ -26,5 +26,5 @@ does_so plain after circuit state is few = record {
 }
 
 pub edit_does : (plain after : SessionData) (command : Command) → edits command ≡ true → Effect plain command after [] → EditDoes plain after
-edit_does plain after (family.Edit edit) is effect = does_so plain after _ _ effect.0 (nodes-after-most plain.circuit edit)
+edit_does plain after (family.Edit edit) is effect = does_so plain after _ _ effect.0 (nodes-after-most plain.circuit plain.vectors edit)
 edit_does plain after other is effect = absurd (cc)

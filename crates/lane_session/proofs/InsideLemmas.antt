@@ -1,5 +1,5 @@
 -- The parts of a session of columns: each column is a session, and stays one through the commands that the plain session does for all.
-use Rattle.std.proofs.Common.{◌≡◌, ℕ, ◌-◌, ◌<◌, true, List, [], ◌++◌, length, map, replicate, Option, None, Some, Ok, Err, IfSome, refl, sym, ap, ap₂, subst, ◌∙◌, inl, inr}
+use Rattle.std.proofs.Common.{◌≡◌, ℕ, ◌-◌, ◌<◌, true, List, [], ◌++◌, length, map, replicate, All, is_some, Option, None, Some, Ok, Err, IfSome, refl, sym, ap, ap₂, subst, ◌∙◌, inl, inr}
 use Rattle.std.specs.List.{IsDistinct}
 use Rattle.std.specs.Prelude.{◌⊎◌, ◌≢◌, slice_index_or, Result, IfErr, OnOk, OnErr}
 use Rattle.ternary.specs.declared.tern.Tern.{Tern}
@@ -14,6 +14,7 @@ use Rattle.circuit_texts.specs.declared.texts.BuildFault.{BuildFault}
 use Rattle.circuit_texts.specs.declared.texts.BuildFault.TheVariants as build
 use Rattle.circuit_texts.specs.Sizes.{TellsTooLarge}
 use Rattle.batch_lanes.specs.Settling.{none_yet}
+use Rattle.netlist.specs.Names.{node_of}
 use Rattle.netlist.specs.Circuits.{CircuitData}
 use Rattle.group_text.specs.Texts.{GroupTextData}
 use Rattle.group_text.specs.Compared.{same_text}
@@ -35,7 +36,7 @@ use Rattle.session_meaning.specs.Preparing.{fault_of_build}
 use Rattle.session_meaning.specs.Effects.{Effect, assigned, states_with, one_more}
 use Rattle.session_meaning.proofs.StateLemmas.{length-states_with, length-settles, sound-states_with, sound-step, sound-settles}
 use Rattle.lane_session.specs.LaneSessions.{session_in, Stands}
-use Rattle.lane_session.specs.Stages.{HeldLanes, StageData, states_in, SameStates, IsSoundState, StandFirst, Serves, FitsIn, MovesTogether, KeepsFit, ReadiedTogether, ReadiesTogether, TooLargeTogether, StepTaken, AreSettled, BeatPut, with_columns, one_column, AreInside, Shares, QuietlyTogether}
+use Rattle.lane_session.specs.Stages.{HeldLanes, StageData, states_in, SameStates, IsSoundState, StandFirst, Serves, FitsIn, MovesTogether, KeepsFit, ReadiedTogether, ReadiesTogether, TooLargeTogether, StepTaken, AreSettled, BeatPut, with_columns, one_column, AreInside, Shares, QuietlyTogether, given_states}
 use Rattle.lane_session.proofs.EditLemmas.{edit_does}
 use Rattle.lane_session.proofs.BuildLemmas.{length-used_more}
 use Rattle.lane_session.proofs.RefusalLemmas.{AsksNoSave, edit-asks, values-ask}
@@ -90,7 +91,9 @@ module _ (plain after : SessionData) (is : IsSession plain) (stage new : StageDa
     (inside : AreInside plain stage clocks limit kept) (kind : ValueCommand) (list : List (List ℕ × List Tern))
     (shares : (refusal_of plain (in_column 0 (Values kind list)) ≡ None) × Effect plain (in_column 0 (Values kind list)) after [])
     (lanes : new.lanes ≡ stage.lanes)
-    (states : (lane : ℕ) → lane < stage.lanes → states_in new lane ≡ assigned after.circuit (states_in stage lane) (map (value_in lane) list)) where
+    (known : All (λ (item : List ℕ × List Tern). is_some (node_of plain.circuit.names item.0) ≡ true) list)
+    (states : (lane : ℕ) → lane < stage.lanes →
+    states_in new lane ≡ assigned (states_in stage lane) (given_states after.circuit (map (value_in lane) list))) where
   -- the plain session has other states at most
   shared_is : (state : List Tern) × (after ≡ record plain { state = state })
   shared_is = (_, shares.1.0)
@@ -99,14 +102,14 @@ module _ (plain after : SessionData) (is : IsSession plain) (stage new : StageDa
   circuit_is = ap (λ (s : SessionData). s.circuit) shared_is.1
 
   given : (lane : ℕ) → Effect (one_column plain (states_in stage lane) count kept) (in_column lane (Values kind list))
-      (one_column after (assigned plain.circuit (states_in stage lane) (map (value_in lane) list)) count kept) []
-  given lane = effect-values plain after (states_in stage lane) count kept lane kind list shares.1
+      (one_column after (assigned (states_in stage lane) (given_states plain.circuit (map (value_in lane) list))) count kept) []
+  given lane = effect-values plain after (states_in stage lane) count kept lane kind list known shares.1
 
   given_effect : (lane : ℕ) → lane < stage.lanes →
       Effect (session_in (data_of plain stage count kept) lane) (in_column lane (Values kind list)) (session_in (data_of after new count kept) lane) []
   given_effect lane within =
       subst (λ (state : List Tern). Effect (one_column plain (states_in stage lane) count kept) (in_column lane (Values kind list)) (one_column after state count kept) [])
-      (sym (states lane within ∙ ap (λ (c : CircuitData). assigned c (states_in stage lane) (map (value_in lane) list)) circuit_is)) (given lane)
+      (sym (states lane within ∙ ap (λ (c : CircuitData). assigned (states_in stage lane) (given_states c (map (value_in lane) list))) circuit_is)) (given lane)
 
   pub given_quietly : QuietlyTogether (data_of plain stage count kept) (Values kind list) (data_of after new count kept) (Ok tt)
   given_quietly = done_quietly plain is stage clocks limit kept count inside after new (Values kind list) lanes (values-ask kind list) shares.0 given_effect

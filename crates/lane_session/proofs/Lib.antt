@@ -1,5 +1,6 @@
 pub mod ColumnLemmas
 pub mod RowLemmas
+pub mod AloneLemmas
 pub mod RefusalLemmas
 pub mod BuildLemmas
 pub mod SharedLemmas

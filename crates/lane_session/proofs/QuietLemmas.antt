@@ -1,38 +1,40 @@
 -- Commands that take no step: what the plain session does of them, and what the parts of a session of columns are then.
-use Rattle.std.proofs.Common.{◌≡◌, ℕ, suc, ◌+◌, ◌-◌, ◌<◌, ◌≤◌, Bool, true, false, List, [], ◌∷◌, length, map, replicate, All, None, Result, Ok, Err, IfSome, refl, sym, ap, subst, ◌∙◌, inl, inr, arith}
+use Rattle.std.proofs.Common.{◌≡◌, ℕ, suc, ◌+◌, ◌-◌, ◌<◌, ◌≤◌, Bool, true, false, List, [], ◌∷◌, length, map, replicate, All, is_some, Option, None, Result, Ok, Err, IfSome, refl, sym, ap, subst, ◌∙◌, inl, inr, arith}
 use Rattle.std.specs.Prelude.{◌⊎◌}
 use Rattle.std.proofs.lemmas.List.Elements.{All-nil, All-cons, All-weaker}
 use Rattle.ternary.specs.declared.tern.Tern.{Tern}
 use Rattle.ternary.specs.declared.tern.Tern.TheVariants.{Zero, One, Unk}
 use Rattle.path_meaning.specs.declared.TheConstants.{RAILS}
 use Rattle.path_meaning.specs.Graphs.{nodes}
+use Rattle.netlist.specs.Names.{node_of}
 use Rattle.netlist.specs.Circuits.{CircuitData, IsCircuit}
 use Rattle.group_text.specs.Texts.{GroupTextData}
 use Rattle.script_lang.specs.declared.command.Command.{Command}
 use Rattle.script_lang.specs.declared.command.Command.TheVariants as family
-use Rattle.script_lang.specs.declared.command.Setup.TheVariants.{Watch, Limit, Clock}
+use Rattle.script_lang.specs.declared.command.Setup.TheVariants.{Watch, Limit, Clock, Vector}
 use Rattle.lane_script.specs.declared.command.LaneCommand.{LaneCommand}
 use Rattle.lane_script.specs.declared.command.LaneCommand.TheVariants.{Values, Shared}
 use Rattle.lane_script.specs.declared.command.ValueCommand.{ValueCommand}
 use Rattle.lane_script.specs.declared.command.ValueCommand.TheVariants as value
-use Rattle.lane_script.specs.Commands.{in_column, value_in}
+use Rattle.lane_script.specs.Commands.{alone_of, in_column, value_in}
 use Rattle.lane_script.specs.Forms.{AreLaneValues, IsLaneValue}
 use Rattle.session_meaning.specs.declared.fault.ApplyFault.{ApplyFault}
 use Rattle.session_meaning.specs.declared.fault.ApplyFault.TheVariants.{Refused, GroupNodes, GroupSwitches, WriteFault, NoMemory}
 use Rattle.session_meaning.specs.Sessions.{SessionData, HeldSession, ClockData, IsSession, start_of}
-use Rattle.session_meaning.specs.Refusals.{refusal_of}
+use Rattle.session_meaning.specs.declared.fault.Refusal.{Refusal}
+use Rattle.session_meaning.specs.Refusals.{charge_at, refusal_of, set_at, values_refusal}
 use Rattle.session_meaning.specs.Machines.{edits}
 use Rattle.session_meaning.specs.Preparing.{builds, BuildsIf}
 use Rattle.told_lines.specs.Lines.{Line, Told}
-use Rattle.session_meaning.specs.Effects.{Effect, clock_of}
+use Rattle.session_meaning.specs.Effects.{Effect, clock_of, states_by}
 use Rattle.session_meaning.specs.Sinks.{faults_applied}
 use Rattle.session_meaning.specs.Outcomes.{Obeys}
 use Rattle.session_meaning.proofs.EffectLemmas.{ready-start}
-use Rattle.session_meaning.proofs.RefusalLemmas.{set_known, charged_known}
-use Rattle.session_meaning.proofs.StateLemmas.{set_past, charged_past}
+use Rattle.session_meaning.proofs.ValueLemmas.{charge-past, set-past}
+use Rattle.lane_session.proofs.AloneLemmas.{names-alone, past-alone, states-alone}
 use Rattle.lane_session.specs.LaneSessions.{LaneSessionData, session_in}
 use Rattle.lane_session.specs.Stages.{HeldLanes, StageData, states_in, AreSound, IsSoundState, Serves, AreInside, NamesFree, Shares, QuietlyTogether, one_column, with_columns, is_silent}
-use Rattle.lane_session.proofs.SharedLemmas.{effect-watch, effect-limit, effect-clock}
+use Rattle.lane_session.proofs.SharedLemmas.{effect-watch, effect-vector, effect-limit, effect-clock}
 use Rattle.lane_session.proofs.EditLemmas.{edit_does}
 use Rattle.lane_session.proofs.RefusalLemmas.{AsksNoSave}
 use Rattle.lane_session.proofs.InsideLemmas.{unshared, unshared_inside, none_serves}
@@ -108,12 +110,29 @@ module _ (plain after : SessionData) (lanes : ℕ) (kind : ValueCommand) (list :
   pub values_free : refusal_of plain (in_column 0 (Values kind list)) ≡ None → All (λ item. NamesFree plain.circuit item.0) list
   values_free allowed = All-unmap (λ (item : List ℕ × Tern). NamesFree plain.circuit item.0) (value_in 0) list (free kind allowed)
     where
+      free_of : (at : ℕ → Option Refusal) → values_refusal at plain.circuit plain.vectors (map alone_of (map (value_in 0) list)) ≡ None →
+          All (λ (pair : ℕ × Tern). RAILS ≤ pair.0) (states_by plain.circuit plain.vectors (map alone_of (map (value_in 0) list))) →
+          All (λ (item : List ℕ × Tern). NamesFree plain.circuit item.0) (map (value_in 0) list)
+      free_of at none past k d inside =
+          let items : List (List ℕ × Tern) = map (value_in 0) list in
+          let known = names-alone plain.circuit plain.vectors at items none in
+          let given = subst (λ (states : List (ℕ × Tern)). All (λ (pair : ℕ × Tern). RAILS ≤ pair.0) states)
+          (states-alone plain.circuit plain.vectors items known) past in
+          (known k d inside, past-alone plain.circuit plain.vectors items given k d inside)
+
       free : (kind : ValueCommand) → refusal_of plain (in_column 0 (Values kind list)) ≡ None →
           All (λ (item : List ℕ × Tern). NamesFree plain.circuit item.0) (map (value_in 0) list)
-      free value.Set none k d inside =
-          (set_known plain.circuit (map (value_in 0) list) none k d inside, set_past plain.circuit (map (value_in 0) list) none k d inside)
-      free value.Charge none k d inside =
-          (charged_known plain.circuit (map (value_in 0) list) none k d inside, charged_past plain.circuit (map (value_in 0) list) none k d inside)
+      free value.Set none =
+          free_of (set_at plain.circuit) none (set-past plain.circuit plain.vectors (map alone_of (map (value_in 0) list)) none)
+      free value.Charge none =
+          free_of (charge_at plain.circuit) none (charge-past plain.circuit plain.vectors (map alone_of (map (value_in 0) list)) none)
+
+  -- so they are in use
+  pub values_known : refusal_of plain (in_column 0 (Values kind list)) ≡ None →
+      All (λ (item : List ℕ × List Tern). is_some (node_of plain.circuit.names item.0) ≡ true) list
+  values_known allowed =
+      All-weaker (λ (item : List ℕ × List Tern). NamesFree plain.circuit item.0) (λ (item : List ℕ × List Tern). is_some (node_of plain.circuit.names item.0) ≡ true)
+      (λ item free. free.0) list (values_free allowed)
 
   -- the circuit stays
   pub values_circuit : Effect plain (in_column 0 (Values kind list)) after [] → after.circuit ≡ plain.circuit
@@ -183,6 +202,11 @@ module _ (plain after : SessionData) (is : IsSession plain) (stage : StageData) 
         Shares plain command after result → QuietlyTogether held.core (Shared command) (data_of after stage count kept) result
     watch_quietly names watch = came_as (family.Setup (Watch names)) watch tt (λ effect lane. effect-watch plain after (states_in stage lane) count kept lane names effect)
 
+    pub vector_quietly : (name : List ℕ) (words : List (List ℕ)) → command ≡ family.Setup (Vector name words) → (result : Result (Unit {0}) ApplyFault) →
+        Shares plain command after result → QuietlyTogether held.core (Shared command) (data_of after stage count kept) result
+    vector_quietly name words vector =
+        came_as (family.Setup (Vector name words)) vector tt (λ effect lane. effect-vector plain after (states_in stage lane) count kept lane name words effect)
+
     pub limit_quietly : (number : ℕ) → command ≡ family.Setup (Limit number) → (result : Result (Unit {0}) ApplyFault) →
         Shares plain command after result → QuietlyTogether held.core (Shared command) (data_of after stage count kept) result
     limit_quietly number limited = came_as (family.Setup (Limit number)) limited tt (λ effect lane. effect-limit plain after (states_in stage lane) count kept lane number effect)
@@ -199,6 +223,14 @@ module _ (plain after : SessionData) (is : IsSession plain) (stage : StageData) 
       moved_apart plain after stage clocks clocks limit limit kept inside (ap (λ (s : SessionData). s.circuit) effect.0)
       (inside.clocks_are ∙ sym (ap (λ (s : SessionData). s.clocks) effect.0)) (inside.limit_is ∙ sym (ap (λ (s : SessionData). s.limit) effect.0))
   watch_inside names watch (Err fault) shares = unmoved_inside plain after stage clocks limit kept command fault inside shares
+
+  pub vector_inside : (name : List ℕ) (words : List (List ℕ)) → command ≡ family.Setup (Vector name words) → (result : Result (Unit {0}) ApplyFault) →
+      Shares plain command after result → AreInside after stage clocks limit kept
+  vector_inside name words vector (Ok done) shares =
+      let effect : Effect plain (family.Setup (Vector name words)) after [] = subst (λ (c : Command). Effect plain c after []) vector shares.1 in
+      moved_apart plain after stage clocks clocks limit limit kept inside (ap (λ (s : SessionData). s.circuit) effect.0)
+      (inside.clocks_are ∙ sym (ap (λ (s : SessionData). s.clocks) effect.0)) (inside.limit_is ∙ sym (ap (λ (s : SessionData). s.limit) effect.0))
+  vector_inside name words vector (Err fault) shares = unmoved_inside plain after stage clocks limit kept command fault inside shares
 
   pub clock_inside : (list : List (List ℕ × List Tern)) (more : List ClockData) → command ≡ family.Setup (Clock list) → more ≡ map (clock_of plain.circuit) list →
       Effect plain command after [] → AreInside after stage more limit kept

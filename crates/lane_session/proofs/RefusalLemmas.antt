@@ -5,20 +5,21 @@ use Rattle.netlist.specs.Names.{node_of}
 use Rattle.script_lang.specs.declared.command.Command.{Command}
 use Rattle.script_lang.specs.declared.command.Command.TheVariants as family
 use Rattle.script_lang.specs.declared.command.Give.TheVariants.{Set, Charge, Back}
-use Rattle.script_lang.specs.declared.command.Setup.TheVariants.{Watch, Limit, Clock, Keep, Save}
+use Rattle.script_lang.specs.declared.command.Setup.TheVariants.{Watch, Limit, Clock, Keep, Save, Vector}
 use Rattle.lane_script.specs.declared.command.LaneCommand.{LaneCommand}
 use Rattle.lane_script.specs.declared.command.LaneCommand.TheVariants.{Values, Shared}
 use Rattle.lane_script.specs.declared.command.ValueCommand.{ValueCommand}
 use Rattle.lane_script.specs.declared.command.ValueCommand.TheVariants as value
-use Rattle.lane_script.specs.Commands.{in_column, value_in}
+use Rattle.lane_script.specs.Commands.{alone_of, in_column, value_in}
 use Rattle.session_meaning.specs.declared.fault.Refusal.{Refusal}
 use Rattle.session_meaning.specs.Sessions.{SessionData}
-use Rattle.session_meaning.specs.Refusals.{first_refusal, or_else, refusal_of, set_refusal, charge_refusal}
+use Rattle.session_meaning.specs.Refusals.{first_refusal, or_else, refusal_of, set_at, charge_at, values_refusal}
 use Rattle.session_meaning.specs.Preparing.{builds}
 use Rattle.session_meaning.specs.Machines.{edits}
 use Rattle.group_text.specs.Texts.{GroupTextData}
 use Rattle.lane_session.specs.LaneSessions.{session_in}
 use Rattle.lane_session.specs.Laws.{ColumnsRefuseAlike}
+use Rattle.lane_session.proofs.AloneLemmas.{alone_at, values-alone}
 
 -- no cause of the command's refusal is among the states that are kept under names
 abbrev pub AsksNoSave : Command → Type 0
@@ -38,6 +39,7 @@ saved_alike session saves (family.Setup (Limit number)) none = refl
 saved_alike session saves (family.Setup (Clock list)) none = refl
 saved_alike session saves (family.Setup (Keep number)) none = refl
 saved_alike session saves (family.Setup (Save name)) none = absurd none
+saved_alike session saves (family.Setup (Vector name words)) none = refl
 saved_alike session saves (family.Run run) none = refl
 saved_alike session saves (family.Tell tell) none = refl
 
@@ -63,13 +65,17 @@ module _ (session : SessionData) (state : List Tern) (limit count : ℕ) (missed
   abbrev pub beside : SessionData
   beside = record session { state = state; limit = limit; count = count; missed = missed; bound = bound; kept = kept; fresh = fresh }
 
+  values_alike : (at : ℕ → Option Refusal) (list : List (List ℕ × List Tern)) (lane other : ℕ) →
+      values_refusal at session.circuit session.vectors (map alone_of (map (value_in lane) list))
+      ≡ values_refusal at session.circuit session.vectors (map alone_of (map (value_in other) list))
+  values_alike at list lane other =
+      let refusal : List ℕ × Tern → Option Refusal = λ item. alone_at at (node_of session.circuit.names item.0) in
+      values-alone session.circuit session.vectors at (map (value_in lane) list) ∙ first_refusal-map (value_in lane) refusal list
+      ∙ sym (values-alone session.circuit session.vectors at (map (value_in other) list) ∙ first_refusal-map (value_in other) refusal list)
+
   pub refused_alike : (command : LaneCommand) (lane other : ℕ) → refusal_of beside (in_column lane command) ≡ refusal_of session (in_column other command)
-  refused_alike (Values value.Set list) lane other =
-      first_refusal-map (value_in lane) (λ item. set_refusal session.circuit (node_of session.circuit.names item.0)) list
-      ∙ sym (first_refusal-map (value_in other) (λ item. set_refusal session.circuit (node_of session.circuit.names item.0)) list)
-  refused_alike (Values value.Charge list) lane other =
-      first_refusal-map (value_in lane) (λ item. charge_refusal session.circuit (node_of session.circuit.names item.0)) list
-      ∙ sym (first_refusal-map (value_in other) (λ item. charge_refusal session.circuit (node_of session.circuit.names item.0)) list)
+  refused_alike (Values value.Set list) lane other = values_alike (set_at session.circuit) list lane other
+  refused_alike (Values value.Charge list) lane other = values_alike (charge_at session.circuit) list lane other
   refused_alike (Shared (family.Edit edit)) lane other = refl
   refused_alike (Shared command) lane other = refl
 

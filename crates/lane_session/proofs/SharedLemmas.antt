@@ -1,26 +1,29 @@
 -- What the plain session does for all columns: its command's effect, with the states of a column beside it, is the effect of the column's.
 -- The plan: a command that takes no step has the same effect on what columns share, whatever their states are; an edit adds a node that is X
 -- for each that is new, and values are given to each column by its letters.
-use Rattle.std.proofs.Common.{◌≡◌, ℕ, true, false, List, [], length, map, None, refl, ap, ◌∙◌}
+use Rattle.std.proofs.Common.{◌≡◌, ℕ, true, false, List, [], length, map, All, is_some, None, refl, sym, ap, ◌∙◌}
+use Rattle.std.proofs.lemmas.List.Elements.{All-map}
 use Rattle.ternary.specs.declared.tern.Tern.{Tern}
 use Rattle.ternary.specs.Counts.{raised}
 use Rattle.path_meaning.specs.Graphs.{nodes}
+use Rattle.netlist.specs.Names.{node_of}
 use Rattle.group_text.specs.Texts.{GroupTextData}
 use Rattle.script_lang.specs.declared.command.Command.{Command}
 use Rattle.script_lang.specs.declared.command.Command.TheVariants as family
-use Rattle.script_lang.specs.declared.command.Setup.TheVariants.{Watch, Limit, Clock}
+use Rattle.script_lang.specs.declared.command.Setup.TheVariants.{Watch, Limit, Clock, Vector}
 use Rattle.lane_script.specs.declared.command.LaneCommand.{LaneCommand}
 use Rattle.lane_script.specs.declared.command.LaneCommand.TheVariants.{Values}
 use Rattle.lane_script.specs.declared.command.ValueCommand.{ValueCommand}
 use Rattle.lane_script.specs.declared.command.ValueCommand.TheVariants as value
-use Rattle.lane_script.specs.Commands.{in_column, value_in}
+use Rattle.lane_script.specs.Commands.{alone_of, in_column, value_in}
 use Rattle.session_meaning.specs.Sessions.{SessionData}
 use Rattle.session_meaning.specs.Refusals.{refusal_of}
 use Rattle.session_meaning.specs.Machines.{edits}
-use Rattle.session_meaning.specs.Effects.{Effect, assigned}
+use Rattle.session_meaning.specs.Effects.{Effect, assigned, states_by}
 use Rattle.session_meaning.specs.Outcomes.{Does}
 use Rattle.machine_laws.specs.Editing.{with_new_nodes}
-use Rattle.lane_session.specs.Stages.{one_column}
+use Rattle.lane_session.specs.Stages.{given_states, one_column}
+use Rattle.lane_session.proofs.AloneLemmas.{states-alone}
 use Rattle.lane_session.proofs.RefusalLemmas.{AsksNoSave, beside, refused_alike, saved_alike}
 
 module _ (plain after : SessionData) (state : List Tern) (count : ℕ) (kept : List GroupTextData) (lane : ℕ) where
@@ -37,17 +40,34 @@ module _ (plain after : SessionData) (state : List Tern) (count : ℕ) (kept : L
   effect-edit other is effect = absurd (cc)
 
   -- and of a command that gives values
-  pub effect-values : (kind : ValueCommand) (list : List (List ℕ × List Tern)) → Effect plain (in_column 0 (Values kind list)) after [] →
-      Effect old (in_column lane (Values kind list)) (one_column after (assigned plain.circuit state (map (value_in lane) list)) count kept) []
-  effect-values value.Set list effect =
-      (ap (λ (shared : SessionData). one_column shared (assigned plain.circuit state (map (value_in lane) list)) count kept) effect.0, refl)
-  effect-values value.Charge list effect =
-      (ap (λ (shared : SessionData). one_column shared (assigned plain.circuit state (map (value_in lane) list)) count kept) effect.0, refl)
+  values_is : (list : List (List ℕ × List Tern)) → All (λ (item : List ℕ × List Tern). is_some (node_of plain.circuit.names item.0) ≡ true) list →
+      given_states plain.circuit (map (value_in lane) list) ≡ states_by plain.circuit plain.vectors (map alone_of (map (value_in lane) list))
+  values_is list known =
+      sym (states-alone plain.circuit plain.vectors (map (value_in lane) list)
+      (All-map (λ (item : List ℕ × Tern). is_some (node_of plain.circuit.names item.0) ≡ true) (value_in lane) list known))
+
+  pub effect-values : (kind : ValueCommand) (list : List (List ℕ × List Tern)) →
+      All (λ (item : List ℕ × List Tern). is_some (node_of plain.circuit.names item.0) ≡ true) list → Effect plain (in_column 0 (Values kind list)) after [] →
+      Effect old (in_column lane (Values kind list)) (one_column after (assigned state (given_states plain.circuit (map (value_in lane) list))) count kept) []
+  effect-values value.Set list known effect = (
+    ap (λ (shared : SessionData). one_column shared (assigned state (given_states plain.circuit (map (value_in lane) list))) count kept) effect.0
+        ∙ ap (λ (states : List (ℕ × Tern)). one_column plain (assigned state states) count kept) (values_is list known),
+    refl,
+  )
+  effect-values value.Charge list known effect = (
+    ap (λ (shared : SessionData). one_column shared (assigned state (given_states plain.circuit (map (value_in lane) list))) count kept) effect.0
+        ∙ ap (λ (states : List (ℕ × Tern)). one_column plain (assigned state states) count kept) (values_is list known),
+    refl,
+  )
 
   -- and of one that changes neither the circuit nor states
   pub effect-watch : (names : List (List ℕ)) → Effect plain (family.Setup (Watch names)) after [] →
       Effect old (family.Setup (Watch names)) (one_column after state count kept) []
   effect-watch names effect = (ap (λ (shared : SessionData). one_column shared state count kept) effect.0, refl)
+
+  pub effect-vector : (name : List ℕ) (words : List (List ℕ)) → Effect plain (family.Setup (Vector name words)) after [] →
+      Effect old (family.Setup (Vector name words)) (one_column after state count kept) []
+  effect-vector name words effect = (ap (λ (shared : SessionData). one_column shared state count kept) effect.0, refl)
 
   pub effect-limit : (number : ℕ) → Effect plain (family.Setup (Limit number)) after [] →
       Effect old (family.Setup (Limit number)) (one_column after state count kept) []

@@ -168,6 +168,7 @@ with_columns plain stage count kept = record {
   lo = stage.lo;
   watched = plain.watched;
   clocks = plain.clocks;
+  vectors = plain.vectors;
   limit = plain.limit;
   count = count;
   kept = kept;
@@ -175,7 +176,11 @@ with_columns plain stage count kept = record {
 
 -- a column of one, by what it shares with the others and its state
 abbrev pub one_column : SessionData → List Tern → ℕ → List GroupTextData → SessionData
-one_column plain state count kept = script_session plain.circuit state plain.watched plain.clocks plain.limit count kept
+one_column plain state count kept = script_session plain.circuit state plain.watched plain.clocks plain.vectors plain.limit count kept
+
+-- the states that a column's values give nodes, in order
+abbrev pub given_states : CircuitData → List (List ℕ × Tern) → List (ℕ × Tern)
+given_states c list = map (λ item. (node_named c item.0, item.1)) list
 
 -- a name is in use, and no rail's
 abbrev pub NamesFree : CircuitData → List ℕ → Type 0

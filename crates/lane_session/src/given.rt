@@ -2,10 +2,10 @@
 
 ghost use Rattle.std.specs.Prelude.{◌≡◌, IfOk, map};
 ghost use Rattle.lane_script.specs.declared.command.LaneCommand.TheVariants.{Values};
-ghost use Rattle.lane_script.specs.Commands.{in_column, value_in};
+ghost use Rattle.lane_script.specs.Commands.{alone_of, in_column, value_in};
 
 use lane_script::ValueCommand;
-use script_lang::{AssignList, Command, Give, Name, StateList};
+use script_lang::{Command, Give, Name, StateList, Value, ValueList};
 use std::alloc::Global;
 use ternary::{NoMemory, Tern};
 
@@ -24,13 +24,13 @@ pub(crate) fn first_given(
 }
 
 // These names, each with the state that the first column is given.
-fn first_values(alloc: Global, values: &[(Name, StateList)]) -> Result<AssignList, NoMemory>
-    ensures { IfOk result (λ list. list ≡ map (value_in 0) values.now) }
+fn first_values(alloc: Global, values: &[(Name, StateList)]) -> Result<ValueList, NoMemory>
+    ensures { IfOk result (λ list. list ≡ map alone_of (map (value_in 0) values.now)) }
 {
-    let mut list = AssignList::new(alloc);
+    let mut list = ValueList::new(alloc);
     for (name, states) in values {
         let state = states.items().first().copied().unwrap_or(Tern::Zero);
-        list.push((Name::from_slice(alloc, name.items())?, state))?;
+        list.push((Name::from_slice(alloc, name.items())?, Value::Alone(state)))?;
     }
     Ok(list)
 }

@@ -12,6 +12,7 @@ use analysis_cache::{Analyst, Kept};
 use cosmos_session::{ApplyFault, Clock, FIRST_LIMIT, Session};
 use lane_script::LaneCommand;
 use netlist::Circuit;
+use node_words::Vectors;
 use port_edge::Sink;
 use script_lang::Command;
 use std::alloc::Global;
@@ -75,6 +76,13 @@ impl LaneSession {
     {
         let _some = self.stage.lanes();
         self.plain.circuit()
+    }
+
+    /// The vectors that names stand for.
+    pub fn vectors(&self) -> &Vectors
+        ensures { result.now ≡ self.now.core.vectors }
+    {
+        self.plain.vectors()
     }
 
     /// How many columns there are.

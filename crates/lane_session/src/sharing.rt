@@ -11,7 +11,7 @@ ghost use Rattle.lane_script.specs.Forms.{IsFormed};
 ghost use Rattle.session_meaning.specs.Sessions.{IsSession};
 ghost use Rattle.session_meaning.specs.Machines.{edits};
 ghost use Rattle.session_meaning.specs.Effects.{assigned, clock_of};
-ghost use Rattle.lane_session.specs.Stages.{AreSound, KeepsFit, NamesFree, Shares, QuietlyTogether, is_silent, states_in};
+ghost use Rattle.lane_session.specs.Stages.{AreSound, KeepsFit, NamesFree, Shares, QuietlyTogether, given_states, is_silent, states_in};
 
 use crate::given::first_given;
 use crate::session::LaneSession;
@@ -89,6 +89,7 @@ impl LaneSession {
             Setup::Watch(names) => self.watch(shared, names),
             Setup::Limit(number) => self.set_limit(shared, *number),
             Setup::Clock(list) => self.set_clocks(shared, list),
+            Setup::Vector(name, words) => self.set_vector(shared, name, words),
             Setup::Keep(_) | Setup::Save(_) => unreachable!(),
         }
     }
@@ -101,6 +102,23 @@ impl LaneSession {
         ensures { QuietlyTogether self.old.core (Shared shared.now) self.new.core result }
     {
         let _ = names;
+        share(shared, &mut self.plain)
+    }
+
+    // `vector`: gives a name to the nodes that these words stand for.
+    fn set_vector(
+        &mut self,
+        shared: &Command,
+        name: &Name,
+        words: &NameList,
+    ) -> Result<(), ApplyFault>
+        requires formed { form.IsFormed shared.now }
+        requires silent { is_silent shared.now ≡ true }
+        requires vector { shared.now ≡ family.Setup (asked.Vector name.now words.now) }
+        ensures { QuietlyTogether self.old.core (Shared shared.now) self.new.core result }
+    {
+        let _ = name;
+        let _ = words;
         share(shared, &mut self.plain)
     }
 
@@ -152,7 +170,7 @@ fn assign_all(circuit: &Circuit, list: &[(Name, StateList)], stage: &mut LaneSta
     requires free { All (λ item. NamesFree circuit.now item.0) list.now }
     ensures lanes { stage.new.lanes ≡ stage.old.lanes }
     ensures states { (lane : ℕ) → lane < stage.old.lanes
-        → states_in stage.new lane ≡ assigned circuit.now (states_in stage.old lane) (map (value_in lane) list.now) }
+        → states_in stage.new lane ≡ assigned (states_in stage.old lane) (given_states circuit.now (map (value_in lane) list.now)) }
     ensures machine { KeepsFit circuit.now.graph stage.old.machine stage.new.machine }
 {
     for (name, states) in list {

@@ -1,9 +1,9 @@
 //! The word that a refusal is about, which its cure names.
 //!
 //! `net_word`, `card_word`, `script_word` and `list_word` find it in the refused line, by the refusal's code; of
-//! a script's line the circuit at the refusal is seen besides. `card_at` is a deck's card, whose words may stand
-//! on several lines. `help_texts` says at its cures which word each code is about; if the line has no such word,
-//! it is the line's first one.
+//! a script's line the circuit and the vectors at the refusal are seen besides. `card_at` is a deck's card, whose
+//! words may stand on several lines. `help_texts` says at its cures which word each code is about; if the line has
+//! no such word, it is the line's first one.
 //!
 //! A word is for a human alone, and no clause says which one it is: these functions are safe and end, in a time
 //! that goes with the text's length. Tests show the words.
@@ -11,7 +11,7 @@
 //! ```text
 //! net_word(FaultCode::N3Format, b"| units: 1 format: UCB")                    is UCB
 //! card_word(DeckWhat::NoSubckt, b"x1 a b inv w=1u")                           is inv
-//! script_word(FaultCode::S6NotInput, b"set a=1 b=0\n", 1, circuit, 1)         is b, if a is an input node
+//! script_word(FaultCode::S6NotInput, b"set a=1 b=0\n", 1, circuit, vectors, 1)    is b, if a is an input node
 //! ```
 #![tactic(auto)]
 

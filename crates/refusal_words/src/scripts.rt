@@ -3,30 +3,36 @@
 use crate::line_parts::{cut_at_equals, first_word, last_word, line_at, word_behind};
 use line_words::{decimal, lines, words};
 use netlist::{Circuit, RAILS};
+use node_words::{Named, Vectors};
 use strength_order::INPUT_LEVEL;
 use ternary::Tern;
 use wave_print::FaultCode;
 
-/// The word that the refusal of the line with this number of a script is about, in the circuit at the refusal.
+/// The word that the refusal of the line with this number of a script is about, in the circuit and among the vectors
+/// at the refusal.
 ///
-/// A value has one letter, or as many as there are columns.
+/// A value has one letter, or as many as there are columns, or is one of a vector.
 pub fn script_word<'a>(
     code: FaultCode,
     text: &'a [u8],
     number: u64,
     circuit: &Circuit,
+    vectors: &Vectors,
     columns: usize,
 ) -> &'a [u8] {
     let line = told_line(code, text, number);
+    let names = Names { circuit, vectors };
     match code {
-        FaultCode::E1UnknownNode => name_of_sort(line, circuit, NodeSort::Unknown),
+        FaultCode::E1UnknownNode => name_of_sort(line, names, NodeSort::Unknown),
         FaultCode::E2NoSuchSwitch | FaultCode::S16NoSave => word_behind(line, 1),
-        FaultCode::E3Rail => name_of_sort(line, circuit, NodeSort::Rail),
+        FaultCode::E3Rail => name_of_sort(line, names, NodeSort::Rail),
         FaultCode::E4BadStrength | FaultCode::E5BadSize => last_word(line),
-        FaultCode::S4BadValue => bad_value(line, columns),
+        FaultCode::S4BadValue => bad_value(line, names, columns),
+        FaultCode::S12NameTaken => word_behind(line, 1),
+        FaultCode::S14VectorValue => vector_value(line, names),
         FaultCode::S5BadNumber => bad_number(line),
-        FaultCode::S6NotInput => name_of_sort(line, circuit, NodeSort::Storage),
-        FaultCode::S7NotStore => name_of_sort(line, circuit, NodeSort::Input),
+        FaultCode::S6NotInput => name_of_sort(line, names, NodeSort::Storage),
+        FaultCode::S7NotStore => name_of_sort(line, names, NodeSort::Input),
         _ => first_word(line),
     }
 }
@@ -55,37 +61,77 @@ fn clocks_before(text: &[u8], number: u64) -> &[u8] {
     clocks
 }
 
-// What a name stands for in a circuit.
+// The names that are in use.
+#[derive(Clone, Copy)]
+struct Names<'a> {
+    circuit: &'a Circuit,
+    vectors: &'a Vectors,
+}
+
+// What a name stands for.
 #[derive(Clone, Copy, PartialEq, Eq)]
 enum NodeSort {
     Unknown,
     Rail,
     Input,
     Storage,
+    Vector,
 }
 
 // What this name stands for.
-fn sort_of(circuit: &Circuit, name: &[u8]) -> NodeSort {
-    match circuit.find(name) {
-        None => NodeSort::Unknown,
+fn sort_of(names: Names<'_>, name: &[u8]) -> NodeSort {
+    match names.circuit.find(name) {
         Some(node) if node < RAILS => NodeSort::Rail,
-        Some(node) if circuit.graph().level(node) == INPUT_LEVEL => NodeSort::Input,
+        Some(node) if names.circuit.graph().level(node) == INPUT_LEVEL => NodeSort::Input,
         Some(_) => NodeSort::Storage,
+        None if is_vector(names, name) => NodeSort::Vector,
+        None => NodeSort::Unknown,
     }
 }
 
-// The first name of a line that stands for such a node, and the line's first word if there is none.
-fn name_of_sort<'a>(line: &'a [u8], circuit: &Circuit, sort: NodeSort) -> &'a [u8] {
+// Whether the name is that of a vector.
+fn is_vector(names: Names<'_>, name: &[u8]) -> bool {
+    matches!(names.vectors.named(names.circuit, name), Named::Vector(_))
+}
+
+// The first name of a line that stands for such a node, or else for a vector; and the line's first word if there is
+// none.
+fn name_of_sort<'a>(line: &'a [u8], names: Names<'_>, sort: NodeSort) -> &'a [u8] {
+    let command = first_word(line);
+    match first_of_sort(line, names, sort) {
+        Some(name) => name,
+        None => match first_of_sort(line, names, NodeSort::Vector) {
+            Some(name) => name,
+            None => command,
+        },
+    }
+}
+
+// The first name of a line that stands for such a node, or for a vector.
+fn first_of_sort<'a>(line: &'a [u8], names: Names<'_>, sort: NodeSort) -> Option<&'a [u8]> {
     let command = first_word(line);
     let mut is_first = true;
     for word in words(line) {
         let name = name_in(command, word);
-        if !is_first && sort_of(circuit, name) == sort {
-            return name;
+        if !is_first && sort_of(names, name) == sort {
+            return Some(name);
         }
         is_first = false;
     }
-    command
+    None
+}
+
+// The first word of a line that gives a vector more than a letter, and the line's first word if there is none.
+fn vector_value<'a>(line: &'a [u8], names: Names<'_>) -> &'a [u8] {
+    for word in words(line) {
+        if let Some((name, value)) = cut_at_equals(word)
+            && value.len() > 1
+            && is_vector(names, name)
+        {
+            return word;
+        }
+    }
+    first_word(line)
 }
 
 // The name in a word of a command.
@@ -100,25 +146,53 @@ fn name_in<'a>(command: &[u8], word: &'a [u8]) -> &'a [u8] {
 }
 
 // The word that should be an assignment or a kind and isn't one.
-fn bad_value(line: &[u8], columns: usize) -> &[u8] {
+fn bad_value<'a>(line: &'a [u8], names: Names<'_>, columns: usize) -> &'a [u8] {
     match first_word(line) {
         b"add" => word_behind(line, 1),
         b"type" => word_behind(line, 2),
-        b"clock" => first_unfit(line, None),
-        _ => first_unfit(line, Some(columns)),
+        b"clock" => first_unfit(line, names, None),
+        _ => first_unfit(line, names, Some(columns)),
     }
 }
 
-// The first word behind the command that is no assignment of one letter, or of so many, or of any number of them.
-fn first_unfit(line: &[u8], columns: Option<usize>) -> &[u8] {
+// The first word behind the command that is no assignment of one letter, or of so many, or of any number of them, and
+// none of a value to a vector.
+fn first_unfit<'a>(line: &'a [u8], names: Names<'_>, columns: Option<usize>) -> &'a [u8] {
     let mut is_first = true;
     for word in words(line) {
-        if !is_first && !is_assignment(word, columns) {
+        if !is_first && !is_assignment(word, columns) && !is_vector_value(word, names) {
             return word;
         }
         is_first = false;
     }
     first_word(line)
+}
+
+// Whether the word is an assignment of a vector's value to a vector.
+fn is_vector_value(word: &[u8], names: Names<'_>) -> bool {
+    match cut_at_equals(word) {
+        Some((name, [b'%', b'h', digits @ ..])) => is_vector(names, name) && are_hex_digits(digits),
+        Some((name, [b'%', b'd', digits @ ..])) => {
+            is_vector(names, name) && decimal(digits).is_some()
+        }
+        Some((name, letters)) => is_vector(names, name) && are_vector_letters(letters),
+        None => false,
+    }
+}
+
+// Whether there are bytes and each is a hexadecimal digit.
+fn are_hex_digits(digits: &[u8]) -> bool {
+    !digits.is_empty() && digits.iter().all(|digit| digit.is_ascii_hexdigit())
+}
+
+// Whether there are bytes and each is the letter of a state, or `-`.
+fn are_vector_letters(letters: &[u8]) -> bool {
+    for &letter in letters {
+        if letter != b'-' && Tern::from_letter(letter).is_none() {
+            return false;
+        }
+    }
+    !letters.is_empty()
 }
 
 // Whether the word is an assignment of one letter, or of so many, or of any number of them.

@@ -1,5 +1,5 @@
 -- What a line without a fault asks for is well formed: its words are visible names, and the names of assignments are fronts of words.
-use Rattle.std.proofs.Common.{◌≡◌, ℕ, suc, ◌-◌, ◌<◌, ◌≤◌, true, false, not, ◌&&◌, List, [], ◌∷◌, length, All, Option, Some, None, IfSome, option_map, Result, Ok, Err, IfOk, nat_le, refl, ap, ◌∙◌, subst, arith}
+use Rattle.std.proofs.Common.{◌≡◌, ℕ, suc, ◌-◌, ◌<◌, ◌≤◌, Bool, true, false, not, ◌&&◌, List, [], ◌∷◌, length, All, Option, Some, None, IfSome, option_map, Result, Ok, Err, IfOk, nat_le, refl, ap, ◌∙◌, subst, arith}
 use Rattle.std.specs.Prelude.{⊤}
 use Rattle.std.specs.List.{before_last, after_last, suffix_len}
 use Rattle.std.specs.Option.{ok_or, option_and_then}
@@ -21,14 +21,16 @@ use Rattle.script_lang.specs.declared.command.Command.TheVariants as family
 use Rattle.script_lang.specs.declared.command.Edit.{Edit}
 use Rattle.script_lang.specs.declared.command.Edit.TheVariants.{Input, Store, Add, Del, Strength, Kind, Wire}
 use Rattle.script_lang.specs.declared.command.Give.TheVariants.{Set, Charge, Back}
-use Rattle.script_lang.specs.declared.command.Setup.TheVariants.{Watch, Limit, Clock, Keep, Save}
+use Rattle.script_lang.specs.declared.value.Value.{Value}
+use Rattle.script_lang.specs.declared.command.Setup.{Setup}
+use Rattle.script_lang.specs.declared.command.Setup.TheVariants.{Watch, Limit, Clock, Keep, Save, Vector}
 use Rattle.script_lang.specs.declared.command.Run.TheVariants.{Step, Phase, Cycle, Report}
-use Rattle.script_lang.specs.declared.command.Tell.TheVariants.{Expect, Show}
+use Rattle.script_lang.specs.declared.command.Tell.TheVariants.{Expect, Show, Look}
 use Rattle.script_lang.specs.declared.command.ScriptFault.{ScriptFault}
 use Rattle.script_lang.specs.declared.command.ScriptFault.TheVariants.{BadValue, BadNumber}
-use Rattle.script_lang.specs.Parts.{all_of, assignment_of, beats_of, is_equals, parts_of, state_of, states_of, times_of, times_within}
-use Rattle.script_lang.specs.Commands.{add_by, add_with, by_terminals, assignments_given, clocks_given, command_by, commanded, commanded_by, del_by, kind_by, kind_given, name_given, names_given, number_given, reading_of_words, some_command, store_by, strength_by, times_given, verb_of, wire_by, wire_with}
-use Rattle.script_lang.specs.Forms.{AreAssignments, AreBeats, AreNames, AreTerminalNames, IsFormed, IsFormedEdit, IsTimes}
+use Rattle.script_lang.specs.Parts.{all_of, assignment_of, beats_of, is_equals, parts_of, states_of, times_of, times_within, value_read}
+use Rattle.script_lang.specs.Commands.{add_by, add_with, by_terminals, assignments_given, clocks_given, command_by, commanded, commanded_by, del_by, kind_by, kind_given, name_given, names_given, number_given, reading_of_words, some_command, store_by, strength_by, times_given, vector_by, verb_of, wire_by, wire_with}
+use Rattle.script_lang.specs.Forms.{AreAssignments, AreBeats, AreNames, AreTerminalNames, IsFormed, IsFormedEdit, IsFormedSetup, IsTimes}
 use Rattle.line_words.specs.Visible.{IsVisibleName}
 use Rattle.script_lang.proofs.GivenLemmas.{holds_alone, holds_in, holds_of, holds_of_two, pair_given, terminals_given}
 
@@ -87,9 +89,10 @@ all_given f P Q each (item ∷ items) given all is =
     (ap suc more.0, All-cons Q parts.0 parts.1 (each item parts.0 (All-head P item items all) parts.2) more.1)
 
 -- an assignment of a name has a name
-named_assignment : (word : List ℕ) (item : List ℕ × Tern) → IsVisibleName word → assignment_of word ≡ Some item → IsVisibleName item.0
-named_assignment word item is found =
-    let parts = given_parts state_of (parts_of word) item found in (IsVisibleName-part word item.0 parts.0 is parts.1).0
+named_assignment : (dashes : Bool) (word : List ℕ) (item : List ℕ × Value) → IsVisibleName word → assignment_of dashes word ≡ Some item →
+    IsVisibleName item.0
+named_assignment dashes word item is found =
+    let parts = given_parts (value_read dashes) (parts_of word) item found in (IsVisibleName-part word item.0 parts.0 is parts.1).0
 
 -- the letters of a clock have a name, and there is one at least
 pub named_beats : (word : List ℕ) (item : List ℕ × List Tern) → IsVisibleName word → beats_of word ≡ Some item → IsVisibleName item.0 × (0 < length item.1)
@@ -112,10 +115,12 @@ formed_names [] names are is = cc
 formed_names (word ∷ words) names are is = subst AreNames (let same : word ∷ words ≡ names = cc in same) (omega arith, are)
 
 -- assignments that are given are one or more, and have names
-formed_assignments : (words : List (List ℕ)) (list : List (List ℕ × Tern)) → All IsVisibleName words → assignments_given words ≡ Ok list → AreAssignments list
-formed_assignments [] list are is = cc
-formed_assignments (word ∷ words) list are is =
-    let all = all_given assignment_of IsVisibleName (λ item. IsVisibleName item.0) named_assignment (word ∷ words) list are (given_some (all_of assignment_of (word ∷ words)) BadValue list is) in
+formed_assignments : (dashes : Bool) (words : List (List ℕ)) (list : List (List ℕ × Value)) → All IsVisibleName words →
+    assignments_given dashes words ≡ Ok list → AreAssignments list
+formed_assignments dashes [] list are is = cc
+formed_assignments dashes (word ∷ words) list are is =
+    let all = all_given (assignment_of dashes) IsVisibleName (λ item. IsVisibleName item.0) (named_assignment dashes) (word ∷ words) list are
+    (given_some (all_of (assignment_of dashes) (word ∷ words)) BadValue list is) in
     (omega (arith, all.0), all.1)
 
 -- clocks that are given are one or more, and each has a name and a letter
@@ -143,6 +148,13 @@ formed_name : (words : List (List ℕ)) (name : List ℕ) → All IsVisibleName 
 formed_name [] name are is = cc
 formed_name (word ∷ []) name are is = subst IsVisibleName (let same : word ≡ name = cc in same) (All-head IsVisibleName word [] are)
 formed_name (word ∷ other ∷ words) name are is = cc
+
+-- so is that of `vector`, and its words are one or more
+formed_vector : (words : List (List ℕ)) (made : Setup) → All IsVisibleName words → vector_by words ≡ Ok made → IsFormedSetup made
+formed_vector [] made are is = cc
+formed_vector (name ∷ words) made are is =
+    holds_of IsFormedSetup (Vector name) (names_given words) made
+    (λ names given. (All-head IsVisibleName name words are, formed_names words names (All-tail IsVisibleName name words are) given)) is
 
 -- the name of `store` is a word
 formed_store : (words : List (List ℕ)) (made : Edit) → All IsVisibleName words → store_by words ≡ Ok made → IsFormedEdit made
@@ -212,9 +224,9 @@ formed_by (Some verb.Input) words made are is =
     holds_in IsFormed family.Edit Input (names_given words) made (λ names given. formed_names words names are given) is
 formed_by (Some verb.Store) words made are is = edit_formed (store_by words) made (λ edit given. formed_store words edit are given) is
 formed_by (Some verb.Set) words made are is =
-    holds_in IsFormed family.Give Set (assignments_given words) made (λ list given. formed_assignments words list are given) is
+    holds_in IsFormed family.Give Set (assignments_given false words) made (λ list given. formed_assignments false words list are given) is
 formed_by (Some verb.Charge) words made are is =
-    holds_in IsFormed family.Give Charge (assignments_given words) made (λ list given. formed_assignments words list are given) is
+    holds_in IsFormed family.Give Charge (assignments_given false words) made (λ list given. formed_assignments false words list are given) is
 formed_by (Some verb.Watch) words made are is =
     holds_in IsFormed family.Setup Watch (names_given words) made (λ names given. formed_names words names are given) is
 formed_by (Some verb.Limit) words made are is = holds_in IsFormed family.Setup Limit (times_given words) made (formed_times words) is
@@ -224,9 +236,11 @@ formed_by (Some verb.Clock) words made are is =
     holds_in IsFormed family.Setup Clock (clocks_given words) made (λ list given. formed_clocks words list are given) is
 formed_by (Some verb.Cycle) words made are is = holds_in IsFormed family.Run Cycle (times_given words) made (formed_times words) is
 formed_by (Some verb.Expect) words made are is =
-    holds_in IsFormed family.Tell Expect (assignments_given words) made (λ list given. formed_assignments words list are given) is
+    holds_in IsFormed family.Tell Expect (assignments_given true words) made (λ list given. formed_assignments true words list are given) is
 formed_by (Some verb.Show) words made are is =
     holds_in IsFormed family.Tell Show (names_given words) made (λ names given. formed_names words names are given) is
+formed_by (Some verb.Look) words made are is =
+    holds_in IsFormed family.Tell Look (names_given words) made (λ names given. formed_names words names are given) is
 formed_by (Some verb.Add) words made are is =
     edit_formed (add_by words) made (λ edit given. formed_terminals add_with words edit (formed_add edit) are given) is
 formed_by (Some verb.Del) words made are is = edit_formed (del_by words) made (formed_del words) is
@@ -238,6 +252,8 @@ formed_by (Some verb.Report) words made are is = holds_alone IsFormed (family.Ru
 formed_by (Some verb.Keep) words made are is = holds_in IsFormed family.Setup Keep (times_given words) made (formed_times words) is
 formed_by (Some verb.Save) words made are is =
     holds_in IsFormed family.Setup Save (name_given words) made (λ name given. formed_name words name are given) is
+formed_by (Some verb.Vector) words made are is =
+    holds_of IsFormed family.Setup (vector_by words) made (λ setup given. formed_vector words setup are given) is
 formed_by (Some verb.Back) words made are is =
     holds_in IsFormed family.Give Back (name_given words) made (λ name given. formed_name words name are given) is
 

@@ -14,13 +14,13 @@ use Rattle.script_lang.specs.declared.command.Command.TheVariants as family
 use Rattle.script_lang.specs.declared.command.Edit.{Edit}
 use Rattle.script_lang.specs.declared.command.Edit.TheVariants.{Input, Store, Add, Del, Strength, Kind, Wire}
 use Rattle.script_lang.specs.declared.command.Give.TheVariants.{Set, Charge, Back}
-use Rattle.script_lang.specs.declared.command.Setup.TheVariants.{Watch, Limit, Clock, Keep, Save}
+use Rattle.script_lang.specs.declared.command.Setup.TheVariants.{Watch, Limit, Clock, Keep, Save, Vector}
 use Rattle.script_lang.specs.declared.command.Run.TheVariants.{Step, Phase, Cycle, Report}
-use Rattle.script_lang.specs.declared.command.Tell.TheVariants.{Expect, Show}
+use Rattle.script_lang.specs.declared.command.Tell.TheVariants.{Expect, Show, Look}
 use Rattle.script_lang.specs.declared.command.ScriptFault.{ScriptFault}
 use Rattle.script_lang.specs.declared.command.ScriptFault.TheVariants.{NoMemory, BadValue, BadNumber}
 use Rattle.script_lang.specs.Parts.{all_of, assignment_of, beats_of, kind_of, times_of}
-use Rattle.script_lang.specs.Commands.{verb_of, name_given, names_given, assignments_given, clocks_given, times_given, kind_given, number_given, commanded, commanded_by, alone, by_pair, by_terminals, store_by, add_by, add_with, del_by, strength_by, kind_by, wire_by, wire_with, command_by, some_command, reading_of_words, reading_by, reading_of}
+use Rattle.script_lang.specs.Commands.{verb_of, name_given, names_given, assignments_given, clocks_given, times_given, kind_given, number_given, commanded, commanded_by, alone, by_pair, by_terminals, store_by, add_by, add_with, del_by, strength_by, kind_by, wire_by, wire_with, vector_by, command_by, some_command, reading_of_words, reading_by, reading_of}
 use Rattle.script_lang.specs.Forms.{IsFormed}
 use Rattle.script_lang.proofs.FormLemmas.{formed_words}
 
@@ -48,9 +48,13 @@ names-named : (words : List (List ℕ)) → names_given words ≢ Err NoMemory
 names-named [] same = cc
 names-named (name ∷ names) same = cc
 
-assignments-named : (words : List (List ℕ)) → assignments_given words ≢ Err NoMemory
-assignments-named [] same = cc
-assignments-named (word ∷ words) same = missing (all_of assignment_of (word ∷ words)) BadValue (λ e. cc) same
+assignments-named : (dashes : Bool) (words : List (List ℕ)) → assignments_given dashes words ≢ Err NoMemory
+assignments-named dashes [] same = cc
+assignments-named dashes (word ∷ words) same = missing (all_of (assignment_of dashes) (word ∷ words)) BadValue (λ e. cc) same
+
+vector-named : (words : List (List ℕ)) → vector_by words ≢ Err NoMemory
+vector-named [] same = cc
+vector-named (name ∷ words) same = commanded-named (Vector name) (names_given words) (names-named words) same
 
 clocks-named : (words : List (List ℕ)) → clocks_given words ≢ Err NoMemory
 clocks-named [] same = cc
@@ -127,16 +131,17 @@ command-named : (found : Option Verb) (words : List (List ℕ)) → command_by f
 command-named None words same = cc
 command-named (Some verb.Input) words same = family-named family.Edit Input (names_given words) (names-named words) same
 command-named (Some verb.Store) words same = commanded-named family.Edit (store_by words) (store-named words) same
-command-named (Some verb.Set) words same = family-named family.Give Set (assignments_given words) (assignments-named words) same
-command-named (Some verb.Charge) words same = family-named family.Give Charge (assignments_given words) (assignments-named words) same
+command-named (Some verb.Set) words same = family-named family.Give Set (assignments_given false words) (assignments-named false words) same
+command-named (Some verb.Charge) words same = family-named family.Give Charge (assignments_given false words) (assignments-named false words) same
 command-named (Some verb.Watch) words same = family-named family.Setup Watch (names_given words) (names-named words) same
 command-named (Some verb.Limit) words same = family-named family.Setup Limit (times_given words) (times-named words) same
 command-named (Some verb.Step) words same = alone-named (family.Run Step) words same
 command-named (Some verb.Phase) words same = alone-named (family.Run Phase) words same
 command-named (Some verb.Clock) words same = family-named family.Setup Clock (clocks_given words) (clocks-named words) same
 command-named (Some verb.Cycle) words same = family-named family.Run Cycle (times_given words) (times-named words) same
-command-named (Some verb.Expect) words same = family-named family.Tell Expect (assignments_given words) (assignments-named words) same
+command-named (Some verb.Expect) words same = family-named family.Tell Expect (assignments_given true words) (assignments-named true words) same
 command-named (Some verb.Show) words same = family-named family.Tell Show (names_given words) (names-named words) same
+command-named (Some verb.Look) words same = family-named family.Tell Look (names_given words) (names-named words) same
 command-named (Some verb.Add) words same = commanded-named family.Edit (add_by words) (terminals-named add_with add-named words) same
 command-named (Some verb.Del) words same = commanded-named family.Edit (del_by words) (del-named words) same
 command-named (Some verb.Strength) words same = commanded-named family.Edit (strength_by words) (strength-named words) same
@@ -145,6 +150,7 @@ command-named (Some verb.Wire) words same = commanded-named family.Edit (wire_by
 command-named (Some verb.Report) words same = alone-named (family.Run Report) words same
 command-named (Some verb.Keep) words same = family-named family.Setup Keep (times_given words) (times-named words) same
 command-named (Some verb.Save) words same = family-named family.Setup Save (name_given words) (name-named words) same
+command-named (Some verb.Vector) words same = commanded-named family.Setup (vector_by words) (vector-named words) same
 command-named (Some verb.Back) words same = family-named family.Give Back (name_given words) (name-named words) same
 
 some-named : (answer : Result Command ScriptFault) → answer ≢ Err NoMemory → some_command answer ≢ Err NoMemory

@@ -11,12 +11,13 @@ use Rattle.script_lang.specs.declared.command.Command.TheVariants as family
 use Rattle.script_lang.specs.declared.command.Edit.{Edit}
 use Rattle.script_lang.specs.declared.command.Edit.TheVariants.{Input, Store, Add, Del, Strength, Kind, Wire}
 use Rattle.script_lang.specs.declared.command.Give.TheVariants.{Set, Charge, Back}
-use Rattle.script_lang.specs.declared.command.Setup.TheVariants.{Watch, Limit, Clock, Keep, Save}
+use Rattle.script_lang.specs.declared.command.Setup.{Setup}
+use Rattle.script_lang.specs.declared.command.Setup.TheVariants.{Watch, Limit, Clock, Keep, Save, Vector}
 use Rattle.script_lang.specs.declared.command.Run.TheVariants.{Step, Phase, Cycle, Report}
-use Rattle.script_lang.specs.declared.command.Tell.TheVariants.{Expect, Show}
+use Rattle.script_lang.specs.declared.command.Tell.TheVariants.{Expect, Show, Look}
 use Rattle.script_lang.specs.declared.command.ScriptFault.{ScriptFault}
 use Rattle.script_lang.specs.declared.command.ScriptFault.TheVariants.{BadNumber}
-use Rattle.script_lang.specs.Commands.{add_by, add_with, by_terminals, assignments_given, clocks_given, command_by, commanded, commanded_by, del_by, kind_by, kind_given, name_given, names_given, number_given, reading_of_words, some_command, store_by, strength_by, times_given, verb_of, wire_by, wire_with, word_of, word_of_edit}
+use Rattle.script_lang.specs.Commands.{add_by, add_with, by_terminals, assignments_given, clocks_given, command_by, commanded, commanded_by, del_by, kind_by, kind_given, name_given, names_given, number_given, reading_of_words, some_command, store_by, strength_by, times_given, vector_by, verb_of, wire_by, wire_with, word_of, word_of_edit, word_of_setup}
 use Rattle.script_lang.proofs.GivenLemmas.{holds_alone, holds_in, holds_of, holds_of_two, pair_given, terminals_given}
 
 -- the word of a verb
@@ -33,6 +34,7 @@ text_of verb.Clock = codes "clock"
 text_of verb.Cycle = codes "cycle"
 text_of verb.Expect = codes "expect"
 text_of verb.Show = codes "show"
+text_of verb.Look = codes "look"
 text_of verb.Add = codes "add"
 text_of verb.Del = codes "del"
 text_of verb.Strength = codes "strength"
@@ -42,6 +44,7 @@ text_of verb.Report = codes "report"
 text_of verb.Keep = codes "keep"
 text_of verb.Save = codes "save"
 text_of verb.Back = codes "back"
+text_of verb.Vector = codes "vector"
 
 -- the word is that of the verb, if there is one
 abbrev IsWordOf : List ℕ → Option Verb → Type 0
@@ -70,6 +73,7 @@ verb_word word =
     (found_by word verb.Cycle _
     (found_by word verb.Expect _
     (found_by word verb.Show _
+    (found_by word verb.Look _
     (found_by word verb.Add _
     (found_by word verb.Del _
     (found_by word verb.Strength _
@@ -78,7 +82,8 @@ verb_word word =
     (found_by word verb.Report _
     (found_by word verb.Keep _
     (found_by word verb.Save _
-    (found_by word verb.Back None tt))))))))))))))))))))
+    (found_by word verb.Back _
+    (found_by word verb.Vector None tt))))))))))))))))))))))
 
 -- ---- the word of what was made
 
@@ -97,6 +102,10 @@ store_word words made is =
     by : (name : List ℕ) (found : Option ℕ) → ok_or (option_map (Store name) found) BadNumber ≡ Ok made → HasEdit (codes "store") made
     by name None is = cc
     by name (Some number) is = subst (HasEdit (codes "store")) (let same : Store name number ≡ made = cc in same) refl
+
+vector_word : (words : List (List ℕ)) (setup : Setup) → vector_by words ≡ Ok setup → word_of_setup setup ≡ codes "vector"
+vector_word [] setup is = cc
+vector_word (name ∷ words) setup is = holds_of (λ one. word_of_setup one ≡ codes "vector") (Vector name) (names_given words) setup (λ _ _. refl) is
 
 add_word : (made : Edit) (kind gate source drain : List ℕ) (rest : List (List ℕ)) → add_with kind gate source drain rest ≡ Ok made →
     HasEdit (codes "add") made
@@ -143,16 +152,17 @@ edit_word text given made each is = holds_of (Has text) family.Edit given made e
 command_word : (v : Verb) (words : List (List ℕ)) (made : Command) → command_by (Some v) words ≡ Ok made → Has (text_of v) made
 command_word verb.Input words made is = holds_in (Has (codes "input")) family.Edit Input (names_given words) made (λ _ _. refl) is
 command_word verb.Store words made is = edit_word (codes "store") (store_by words) made (store_word words) is
-command_word verb.Set words made is = holds_in (Has (codes "set")) family.Give Set (assignments_given words) made (λ _ _. refl) is
-command_word verb.Charge words made is = holds_in (Has (codes "charge")) family.Give Charge (assignments_given words) made (λ _ _. refl) is
+command_word verb.Set words made is = holds_in (Has (codes "set")) family.Give Set (assignments_given false words) made (λ _ _. refl) is
+command_word verb.Charge words made is = holds_in (Has (codes "charge")) family.Give Charge (assignments_given false words) made (λ _ _. refl) is
 command_word verb.Watch words made is = holds_in (Has (codes "watch")) family.Setup Watch (names_given words) made (λ _ _. refl) is
 command_word verb.Limit words made is = holds_in (Has (codes "limit")) family.Setup Limit (times_given words) made (λ _ _. refl) is
 command_word verb.Step words made is = holds_alone (Has (codes "step")) (family.Run Step) words made refl is
 command_word verb.Phase words made is = holds_alone (Has (codes "phase")) (family.Run Phase) words made refl is
 command_word verb.Clock words made is = holds_in (Has (codes "clock")) family.Setup Clock (clocks_given words) made (λ _ _. refl) is
 command_word verb.Cycle words made is = holds_in (Has (codes "cycle")) family.Run Cycle (times_given words) made (λ _ _. refl) is
-command_word verb.Expect words made is = holds_in (Has (codes "expect")) family.Tell Expect (assignments_given words) made (λ _ _. refl) is
+command_word verb.Expect words made is = holds_in (Has (codes "expect")) family.Tell Expect (assignments_given true words) made (λ _ _. refl) is
 command_word verb.Show words made is = holds_in (Has (codes "show")) family.Tell Show (names_given words) made (λ _ _. refl) is
+command_word verb.Look words made is = holds_in (Has (codes "look")) family.Tell Look (names_given words) made (λ _ _. refl) is
 command_word verb.Add words made is =
     edit_word (codes "add") (add_by words) made (λ edit given. terminals_word add_with (codes "add") words edit (add_word edit) given) is
 command_word verb.Del words made is = edit_word (codes "del") (del_by words) made (del_word words) is
@@ -163,6 +173,7 @@ command_word verb.Wire words made is =
 command_word verb.Report words made is = holds_alone (Has (codes "report")) (family.Run Report) words made refl is
 command_word verb.Keep words made is = holds_in (Has (codes "keep")) family.Setup Keep (times_given words) made (λ _ _. refl) is
 command_word verb.Save words made is = holds_in (Has (codes "save")) family.Setup Save (name_given words) made (λ _ _. refl) is
+command_word verb.Vector words made is = holds_of (Has (codes "vector")) family.Setup (vector_by words) made (vector_word words) is
 command_word verb.Back words made is = holds_in (Has (codes "back")) family.Give Back (name_given words) made (λ _ _. refl) is
 
 -- a line that asks for a command begins with the command's word

@@ -1,6 +1,6 @@
 -- The commands of a script: which command a line is, if any, and why it is refused.
 -- The script language is this project's own.
-use Rattle.std.specs.Prelude.{ℕ, List, [], ◌∷◌, codes, bytes_eq, Option, Some, None, option_map, Result, Ok, Err, if◌then◌else◌}
+use Rattle.std.specs.Prelude.{ℕ, Bool, true, false, List, [], ◌∷◌, codes, bytes_eq, Option, Some, None, option_map, Result, Ok, Err, if◌then◌else◌}
 use Rattle.std.specs.Option.{ok_or}
 use Rattle.ternary.specs.declared.tern.Tern.{Tern}
 use Rattle.path_meaning.specs.declared.switching.SwitchKind.{SwitchKind}
@@ -9,6 +9,7 @@ use Rattle.line_words.specs.declared.line_check.LineFault.TheVariants as of_line
 use Rattle.line_words.specs.Decimals.{decimal_of}
 use Rattle.line_words.specs.LineFaults.{line_fault, is_comment}
 use Rattle.line_words.specs.Words.{words_of}
+use Rattle.script_lang.specs.declared.value.Value.{Value}
 use Rattle.script_lang.specs.declared.verb.Verb.{Verb}
 use Rattle.script_lang.specs.declared.verb.Verb.TheVariants as verb
 use Rattle.script_lang.specs.declared.command.Command.{Command}
@@ -18,11 +19,11 @@ use Rattle.script_lang.specs.declared.command.Edit.TheVariants.{Input, Store, Ad
 use Rattle.script_lang.specs.declared.command.Give.{Give}
 use Rattle.script_lang.specs.declared.command.Give.TheVariants.{Set, Charge, Back}
 use Rattle.script_lang.specs.declared.command.Setup.{Setup}
-use Rattle.script_lang.specs.declared.command.Setup.TheVariants.{Watch, Limit, Clock, Keep, Save}
+use Rattle.script_lang.specs.declared.command.Setup.TheVariants.{Watch, Limit, Clock, Keep, Save, Vector}
 use Rattle.script_lang.specs.declared.command.Run.{Run}
 use Rattle.script_lang.specs.declared.command.Run.TheVariants.{Step, Phase, Cycle, Report}
 use Rattle.script_lang.specs.declared.command.Tell.{Tell}
-use Rattle.script_lang.specs.declared.command.Tell.TheVariants.{Expect, Show}
+use Rattle.script_lang.specs.declared.command.Tell.TheVariants.{Expect, Show, Look}
 use Rattle.script_lang.specs.declared.command.ScriptFault.{ScriptFault}
 use Rattle.script_lang.specs.declared.command.ScriptFault.TheVariants.{LineTooLong, BadByte, BadCommand, FewWords, ManyWords, BadValue, BadNumber}
 use Rattle.script_lang.specs.Parts.{all_of, assignment_of, beats_of, kind_of, times_of}
@@ -42,6 +43,7 @@ verb_of word =
     else (if bytes_eq word (codes "cycle") then Some verb.Cycle
     else (if bytes_eq word (codes "expect") then Some verb.Expect
     else (if bytes_eq word (codes "show") then Some verb.Show
+    else (if bytes_eq word (codes "look") then Some verb.Look
     else (if bytes_eq word (codes "add") then Some verb.Add
     else (if bytes_eq word (codes "del") then Some verb.Del
     else (if bytes_eq word (codes "strength") then Some verb.Strength
@@ -50,7 +52,8 @@ verb_of word =
     else (if bytes_eq word (codes "report") then Some verb.Report
     else (if bytes_eq word (codes "keep") then Some verb.Keep
     else (if bytes_eq word (codes "save") then Some verb.Save
-    else (if bytes_eq word (codes "back") then Some verb.Back else None))))))))))))))))))))
+    else (if bytes_eq word (codes "back") then Some verb.Back
+    else (if bytes_eq word (codes "vector") then Some verb.Vector else None))))))))))))))))))))))
 
 -- one name alone
 abbrev pub name_given : List (List ℕ) → Result (List ℕ) ScriptFault
@@ -63,10 +66,10 @@ abbrev pub names_given : List (List ℕ) → Result (List (List ℕ)) ScriptFaul
 names_given [] = Err FewWords
 names_given (name ∷ names) = Ok (name ∷ names)
 
--- one assignment or more
-abbrev pub assignments_given : List (List ℕ) → Result (List (List ℕ × Tern)) ScriptFault
-assignments_given [] = Err FewWords
-assignments_given (word ∷ words) = ok_or (all_of assignment_of (word ∷ words)) BadValue
+-- one assignment or more, in which `-` may stand or not
+abbrev pub assignments_given : Bool → List (List ℕ) → Result (List (List ℕ × Value)) ScriptFault
+assignments_given dashes [] = Err FewWords
+assignments_given dashes (word ∷ words) = ok_or (all_of (assignment_of dashes) (word ∷ words)) BadValue
 
 -- the letters of one clock or more
 abbrev pub clocks_given : List (List ℕ) → Result (List (List ℕ × List Tern)) ScriptFault
@@ -102,6 +105,11 @@ commanded_by command (Err fault) second = Err fault
 abbrev pub alone : Command → List (List ℕ) → Result Command ScriptFault
 alone command [] = Ok command
 alone command (word ∷ words) = Err ManyWords
+
+-- `vector`, which is given a name and one word or more
+abbrev pub vector_by : List (List ℕ) → Result Setup ScriptFault
+vector_by [] = Err FewWords
+vector_by (name ∷ words) = commanded (Vector name) (names_given words)
 
 -- an edit that is given two words
 abbrev pub by_pair : (List ℕ → List ℕ → Result Edit ScriptFault) → List (List ℕ) → Result Edit ScriptFault
@@ -159,16 +167,17 @@ abbrev pub command_by : Option Verb → List (List ℕ) → Result Command Scrip
 command_by None words = Err BadCommand
 command_by (Some verb.Input) words = commanded family.Edit (commanded Input (names_given words))
 command_by (Some verb.Store) words = commanded family.Edit (store_by words)
-command_by (Some verb.Set) words = commanded family.Give (commanded Set (assignments_given words))
-command_by (Some verb.Charge) words = commanded family.Give (commanded Charge (assignments_given words))
+command_by (Some verb.Set) words = commanded family.Give (commanded Set (assignments_given false words))
+command_by (Some verb.Charge) words = commanded family.Give (commanded Charge (assignments_given false words))
 command_by (Some verb.Watch) words = commanded family.Setup (commanded Watch (names_given words))
 command_by (Some verb.Limit) words = commanded family.Setup (commanded Limit (times_given words))
 command_by (Some verb.Step) words = alone (family.Run Step) words
 command_by (Some verb.Phase) words = alone (family.Run Phase) words
 command_by (Some verb.Clock) words = commanded family.Setup (commanded Clock (clocks_given words))
 command_by (Some verb.Cycle) words = commanded family.Run (commanded Cycle (times_given words))
-command_by (Some verb.Expect) words = commanded family.Tell (commanded Expect (assignments_given words))
+command_by (Some verb.Expect) words = commanded family.Tell (commanded Expect (assignments_given true words))
 command_by (Some verb.Show) words = commanded family.Tell (commanded Show (names_given words))
+command_by (Some verb.Look) words = commanded family.Tell (commanded Look (names_given words))
 command_by (Some verb.Add) words = commanded family.Edit (add_by words)
 command_by (Some verb.Del) words = commanded family.Edit (del_by words)
 command_by (Some verb.Strength) words = commanded family.Edit (strength_by words)
@@ -177,6 +186,7 @@ command_by (Some verb.Wire) words = commanded family.Edit (wire_by words)
 command_by (Some verb.Report) words = alone (family.Run Report) words
 command_by (Some verb.Keep) words = commanded family.Setup (commanded Keep (times_given words))
 command_by (Some verb.Save) words = commanded family.Setup (commanded Save (name_given words))
+command_by (Some verb.Vector) words = commanded family.Setup (vector_by words)
 command_by (Some verb.Back) words = commanded family.Give (commanded Back (name_given words))
 
 -- a line's command, if it has words
@@ -222,6 +232,7 @@ word_of_setup (Limit number) = codes "limit"
 word_of_setup (Clock list) = codes "clock"
 word_of_setup (Keep number) = codes "keep"
 word_of_setup (Save name) = codes "save"
+word_of_setup (Vector name words) = codes "vector"
 
 -- of one that has the circuit built
 abbrev pub word_of_run : Run → List ℕ
@@ -234,6 +245,7 @@ word_of_run Report = codes "report"
 abbrev pub word_of_tell : Tell → List ℕ
 word_of_tell (Expect list) = codes "expect"
 word_of_tell (Show names) = codes "show"
+word_of_tell (Look names) = codes "look"
 
 -- of any command
 abbrev pub word_of : Command → List ℕ

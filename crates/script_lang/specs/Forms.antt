@@ -2,6 +2,7 @@
 use Rattle.std.specs.Prelude.{ℕ, ◌<◌, ◌≤◌, List, length, All}
 use Rattle.ternary.specs.declared.tern.Tern.{Tern}
 use Rattle.script_lang.specs.declared.TheConstants.{MOST_TIMES}
+use Rattle.script_lang.specs.declared.value.Value.{Value}
 use Rattle.script_lang.specs.declared.command.Command.{Command}
 use Rattle.script_lang.specs.declared.command.Command.TheVariants as family
 use Rattle.script_lang.specs.declared.command.Edit.{Edit}
@@ -9,11 +10,11 @@ use Rattle.script_lang.specs.declared.command.Edit.TheVariants.{Input, Store, Ad
 use Rattle.script_lang.specs.declared.command.Give.{Give}
 use Rattle.script_lang.specs.declared.command.Give.TheVariants.{Set, Charge, Back}
 use Rattle.script_lang.specs.declared.command.Setup.{Setup}
-use Rattle.script_lang.specs.declared.command.Setup.TheVariants.{Watch, Limit, Clock, Keep, Save}
+use Rattle.script_lang.specs.declared.command.Setup.TheVariants.{Watch, Limit, Clock, Keep, Save, Vector}
 use Rattle.script_lang.specs.declared.command.Run.{Run}
 use Rattle.script_lang.specs.declared.command.Run.TheVariants.{Step, Phase, Cycle, Report}
 use Rattle.script_lang.specs.declared.command.Tell.{Tell}
-use Rattle.script_lang.specs.declared.command.Tell.TheVariants.{Expect, Show}
+use Rattle.script_lang.specs.declared.command.Tell.TheVariants.{Expect, Show, Look}
 use Rattle.line_words.specs.Visible.{IsVisibleName}
 
 -- one name or more
@@ -21,7 +22,7 @@ abbrev pub AreNames : List (List ℕ) → Type 0
 AreNames names = (0 < length names) × All IsVisibleName names
 
 -- one assignment or more
-abbrev pub AreAssignments : List (List ℕ × Tern) → Type 0
+abbrev pub AreAssignments : List (List ℕ × Value) → Type 0
 AreAssignments list = (0 < length list) × All (λ item. IsVisibleName item.0) list
 
 -- one clock or more, each with one state or more
@@ -59,6 +60,7 @@ IsFormedSetup (Limit number) = IsTimes number
 IsFormedSetup (Clock list) = AreBeats list
 IsFormedSetup (Keep number) = IsTimes number
 IsFormedSetup (Save name) = IsVisibleName name
+IsFormedSetup (Vector name words) = IsVisibleName name × AreNames words
 
 -- and what has the circuit built
 abbrev pub IsFormedRun : Run → Type 0
@@ -71,6 +73,7 @@ IsFormedRun Report = Unit {0}
 abbrev pub IsFormedTell : Tell → Type 0
 IsFormedTell (Expect list) = AreAssignments list
 IsFormedTell (Show names) = AreNames names
+IsFormedTell (Look names) = AreNames names
 
 -- a command is well formed: its lists have an item, its names are names, and its number of times is in range
 abbrev pub IsFormed : Command → Type 0

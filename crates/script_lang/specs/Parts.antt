@@ -1,14 +1,18 @@
 -- The parts of a script's words: names, assignments, letters of clocks, numbers.
 use Rattle.std.specs.Prelude.{◌≡◌, ◌≢◌, ◌<◌, ℕ, Bool, ◌==◌, ◌&&◌, ◌||◌, List, [], ◌∷◌, length, codes, bytes_eq, slice_index, nat_le, Option, Some, None, option_map, if◌then◌else◌}
 use Rattle.std.specs.List.{before_last, after_last}
-use Rattle.std.specs.Option.{option_and_then}
+use Rattle.std.specs.Option.{option_and_then, option_map_or}
 use Rattle.ternary.specs.declared.tern.Tern.{Tern}
 use Rattle.ternary.specs.Tern.{of_letter}
 use Rattle.path_meaning.specs.declared.switching.SwitchKind.{SwitchKind}
 use Rattle.path_meaning.specs.declared.switching.SwitchKind.TheVariants.{NChan, PChan, Always}
 use Rattle.line_words.specs.Decimals.{decimal_of}
 use Rattle.line_words.specs.Words.{is_word}
+use Rattle.vector_values.specs.Values as wide
+use Rattle.vector_values.specs.Values.{ValueData}
 use Rattle.script_lang.specs.declared.TheConstants.{MOST_TIMES}
+use Rattle.script_lang.specs.declared.value.Value.{Value}
+use Rattle.script_lang.specs.declared.value.Value.TheVariants.{Letter, Wide}
 
 -- what each item gives, in order, or none if some item gives none
 abbrev pub all_of : {X Y : Type 0} → (X → Option Y) → List X → Option (List Y)
@@ -36,9 +40,22 @@ state_of [] = None
 state_of (letter ∷ []) = of_letter letter
 state_of (letter ∷ other ∷ letters) = None
 
--- an assignment is a word `name=v`, with v the letter of a state
-abbrev pub assignment_of : List ℕ → Option (List ℕ × Tern)
-assignment_of word = option_and_then (λ parts. option_map (λ state. (parts.0, state)) (state_of parts.1)) (parts_of word)
+-- a letter of a node is a word `name=v`, with v the letter of a state
+abbrev pub letter_of : List ℕ → Option (List ℕ × Tern)
+letter_of word = option_and_then (λ parts. option_map (λ state. (parts.0, state)) (state_of parts.1)) (parts_of word)
+
+-- what is given by a value: its state, if it is one letter of a state, else all of it
+abbrev pub value_by : ValueData → Value
+value_by value = option_map_or Letter (wide.state_of value) (Wide value)
+
+-- the value that a text writes, with `-` if it may stand
+abbrev pub value_read : Bool → List ℕ → Option Value
+value_read dashes text = option_map value_by (wide.value_of dashes text)
+
+-- an assignment is a word `name=value`
+abbrev pub assignment_of : Bool → List ℕ → Option (List ℕ × Value)
+assignment_of dashes word =
+    option_and_then (λ parts. option_map (λ value. (parts.0, value)) (value_read dashes parts.1)) (parts_of word)
 
 -- the states of letters, or none if a byte is no letter of a state
 abbrev pub states_of : List ℕ → Option (List Tern)

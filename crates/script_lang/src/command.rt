@@ -1,4 +1,4 @@
-use crate::lists::{AssignList, ClockList, Name, NameList};
+use crate::lists::{ClockList, Name, NameList, ValueList};
 use path_meaning::SwitchKind;
 use ternary::NoMemory;
 use thiserror::Error;
@@ -54,9 +54,9 @@ pub enum Edit {
 #[derive(Debug, Drop)]
 pub enum Give {
     /// `set NAME=V..`: sets input nodes, from left to right.
-    Set(AssignList),
+    Set(ValueList),
     /// `charge NAME=V..`: sets storage nodes, from left to right.
-    Charge(AssignList),
+    Charge(ValueList),
     /// `back NAME`: gives each node that was there the state that was kept under the name.
     Back(Name),
 }
@@ -74,6 +74,9 @@ pub enum Setup {
     Keep(u64),
     /// `save NAME`: keeps the present states of all nodes under the name.
     Save(Name),
+    /// `vector NAME WORD..`: gives the name to the nodes that the words stand for, in the place of those
+    /// that it had.
+    Vector(Name, NameList),
 }
 
 /// A command that has the circuit built first.
@@ -93,10 +96,12 @@ pub enum Run {
 /// A command that tells of what is there.
 #[derive(Debug, Drop)]
 pub enum Tell {
-    /// `expect NAME=V..`: a line for each node that isn't in this state.
-    Expect(AssignList),
-    /// `show NAME..`: a line for each node, with its state.
+    /// `expect NAME=V..`: a line for each name whose nodes aren't all in these states.
+    Expect(ValueList),
+    /// `show NAME..`: a line for each name, with the states of its nodes.
     Show(NameList),
+    /// `look NAME..`: the lines of each node and of the transistors at it.
+    Look(NameList),
 }
 
 /// Why a line of a script is no command. If several causes stand together, the first here wins;

@@ -6,7 +6,7 @@
 //! of `reading_of`.
 //!
 //! ```text
-//! read_command(alloc, b"set a=1 b=0")     is Ok(Some(Command::Give(Give::Set([a One, b Zero]))))
+//! read_command(alloc, b"set a=1 b=0")     is Ok(Some(Command::Give(Give::Set([a Letter One, b Letter Zero]))))
 //! read_command(alloc, b"| a comment")     is Ok(None)
 //! read_command(alloc, b"limit")           is Err(ScriptFault::FewWords)
 //! ```
@@ -21,13 +21,15 @@ mod laws;
 mod lists;
 mod parts;
 mod reader;
+mod value;
 mod verb;
 
 pub use command::{Command, Edit, Give, Run, ScriptFault, Setup, Tell};
 pub use laws::{limits_are_as_stated, readings_are_commands_or_refusals};
-pub use lists::{AssignList, ClockList, ItemList, Name, NameList, StateList};
+pub use lists::{ClockList, ItemList, Name, NameList, StateList, ValueList};
 pub use parts::beats;
 pub use reader::read_command;
+pub use value::Value;
 
 /// The greatest number of `limit`, of `cycle` and of `keep`.
 pub const MOST_TIMES: u64 = 1_000_000;

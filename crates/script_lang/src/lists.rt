@@ -1,6 +1,7 @@
 //! The lists of which commands are made.
 ghost use Rattle.std.specs.Prelude.{◌≡◌, [], ◌∷◌, ◌++◌, IfOk, OnOk, OnErr};
 
+use crate::value::Value;
 use std::alloc::{AllocError, Global};
 use std::fmt;
 use std::marker::Model;
@@ -26,8 +27,8 @@ pub type Name = ItemList<u8>;
 /// Names.
 pub type NameList = ItemList<Name>;
 
-/// Names, each with the state that its node is given.
-pub type AssignList = ItemList<(Name, Tern)>;
+/// Names, each with the value that its nodes are given.
+pub type ValueList = ItemList<(Name, Value)>;
 
 /// States.
 pub type StateList = ItemList<Tern>;

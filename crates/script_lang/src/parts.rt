@@ -1,25 +1,30 @@
 //! The parts of a script's words: assignments, letters of clocks, numbers.
 ghost use Rattle.std.specs.Prelude.{◌≡◌, IfOk, MatchOption, option_map};
-ghost use Rattle.script_lang.specs.Parts.{assignment_of, beats_of, kind_of, parts_of, state_of, states_of, times_of, HasNoEquals, IsLastEquals};
+ghost use Rattle.script_lang.specs.Parts.{assignment_of, beats_of, kind_of, parts_of, states_of, times_of, HasNoEquals, IsLastEquals};
 
 use crate::MOST_TIMES;
 use crate::lists::{Name, StateList};
+use crate::value::{self, Value};
 use line_words::decimal;
 use path_meaning::SwitchKind;
 use std::alloc::Global;
 use ternary::{NoMemory, Tern};
 
-/// The name and the state of a word `name=v`, or None if the word is no assignment.
-pub(crate) fn assignment(alloc: Global, word: &[u8]) -> Result<Option<(Name, Tern)>, NoMemory>
-    ensures { IfOk result (λ found. found ≡ assignment_of word.now) }
+/// The name and the value of a word `name=value`, or None if the word is no assignment.
+pub(crate) fn assignment(
+    alloc: Global,
+    word: &[u8],
+    dashes: bool,
+) -> Result<Option<(Name, Value)>, NoMemory>
+    ensures { IfOk result (λ found. found ≡ assignment_of dashes word.now) }
 {
-    let Some((name, letters)) = cut_at_last_equals(word) else {
+    let Some((name, text)) = cut_at_last_equals(word) else {
         return Ok(None);
     };
-    let Some(state) = state(letters) else {
+    let Some(value) = value::read(alloc, text, dashes)? else {
         return Ok(None);
     };
-    Ok(Some((Name::from_slice(alloc, name)?, state)))
+    Ok(Some((Name::from_slice(alloc, name)?, value)))
 }
 
 /// The name and the states of a word `name=vvv..`, cut at its last `=`, or None if the word is no such
@@ -51,16 +56,6 @@ pub(crate) fn kind_named(word: &[u8]) -> Option<SwitchKind>
         b"n" | b"e" => Some(SwitchKind::NChan),
         b"p" => Some(SwitchKind::PChan),
         b"d" => Some(SwitchKind::Always),
-        _ => None,
-    }
-}
-
-// The state that a letter alone stands for.
-fn state(letters: &[u8]) -> Option<Tern>
-    ensures { result ≡ state_of letters.now }
-{
-    match letters {
-        [letter] => Tern::from_letter(*letter),
         _ => None,
     }
 }

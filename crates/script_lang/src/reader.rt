@@ -1,12 +1,12 @@
 //! Reading a line of a script.
 ghost use Rattle.std.specs.Prelude.{◌≡◌, ◌⊎◌, Err, Ok, IfErr, IfOk, IfSome};
 ghost use Rattle.script_lang.specs.Parts.{all_of, assignment_of, beats_of};
-ghost use Rattle.script_lang.specs.Commands.{alone, assignments_given, clocks_given, command_by, name_given, names_given, reading_of, reading_of_words, store_by, times_given};
+ghost use Rattle.script_lang.specs.Commands.{alone, assignments_given, clocks_given, command_by, name_given, names_given, reading_of, reading_of_words, store_by, times_given, vector_by};
 ghost use Rattle.script_lang.specs.Forms.{IsFormed};
 
 use crate::command::{Command, Edit, Give, Run, ScriptFault, Setup, Tell};
 use crate::edits::{read_add, read_del, read_kind, read_strength, read_wire};
-use crate::lists::{AssignList, ClockList, Name, NameList};
+use crate::lists::{ClockList, Name, NameList, ValueList};
 use crate::parts::{assignment, beats, times};
 use crate::verb::{Verb, verb_named};
 use line_words::{LineFault, Words, check_line, decimal, is_comment, words};
@@ -59,11 +59,11 @@ fn read_verb(
         ),
         Some(Verb::Store) => Ok(read_store(alloc, words)?.map(Command::Edit)),
         Some(Verb::Set) => {
-            let list = read_assignments(alloc, words)?;
+            let list = read_assignments(alloc, words, false)?;
             Ok(list.map(Give::Set).map(Command::Give))
         }
         Some(Verb::Charge) => {
-            let list = read_assignments(alloc, words)?;
+            let list = read_assignments(alloc, words, false)?;
             Ok(list.map(Give::Charge).map(Command::Give))
         }
         Some(Verb::Watch) => Ok(
@@ -81,10 +81,11 @@ fn read_verb(
         ),
         Some(Verb::Cycle) => Ok(read_times(words).map(Run::Cycle).map(Command::Run)),
         Some(Verb::Expect) => {
-            let list = read_assignments(alloc, words)?;
+            let list = read_assignments(alloc, words, true)?;
             Ok(list.map(Tell::Expect).map(Command::Tell))
         }
         Some(Verb::Show) => Ok(read_names(alloc, words)?.map(Tell::Show).map(Command::Tell)),
+        Some(Verb::Look) => Ok(read_names(alloc, words)?.map(Tell::Look).map(Command::Tell)),
         Some(Verb::Add) => Ok(read_add(alloc, words)?.map(Command::Edit)),
         Some(Verb::Del) => Ok(read_del(words).map(Command::Edit)),
         Some(Verb::Strength) => Ok(read_strength(words).map(Command::Edit)),
@@ -97,6 +98,7 @@ fn read_verb(
                 .map(Setup::Save)
                 .map(Command::Setup),
         ),
+        Some(Verb::Vector) => Ok(read_vector(alloc, words)?.map(Command::Setup)),
         Some(Verb::Back) => Ok(read_name(alloc, words)?.map(Give::Back).map(Command::Give)),
         None => Ok(Err(ScriptFault::BadCommand)),
     }
@@ -113,6 +115,20 @@ fn read_name(alloc: Global, mut words: Words<'_>) -> Result<Result<Name, ScriptF
         return Ok(Err(ScriptFault::ManyWords));
     }
     Ok(Ok(Name::from_slice(alloc, name)?))
+}
+
+// Reads the name and the words of `vector`.
+fn read_vector(alloc: Global, mut words: Words<'_>) -> Result<Result<Setup, ScriptFault>, NoMemory>
+    ensures { IfOk result (λ answer. answer ≡ vector_by words.entry) }
+{
+    let Some(name) = words.next() else {
+        return Ok(Err(ScriptFault::FewWords));
+    };
+    let names = all_names(alloc, words)?;
+    if names.items().is_empty() {
+        return Ok(Err(ScriptFault::FewWords));
+    }
+    Ok(Ok(Setup::Vector(Name::from_slice(alloc, name)?, names)))
 }
 
 // Reads one name or more.
@@ -138,14 +154,15 @@ fn all_names(alloc: Global, words: Words<'_>) -> Result<NameList, NoMemory>
     Ok(names)
 }
 
-// Reads one assignment or more.
+// Reads one assignment or more, in which `-` may stand or not.
 fn read_assignments(
     alloc: Global,
     words: Words<'_>,
-) -> Result<Result<AssignList, ScriptFault>, NoMemory>
-    ensures { IfOk result (λ answer. answer ≡ assignments_given words.entry) }
+    dashes: bool,
+) -> Result<Result<ValueList, ScriptFault>, NoMemory>
+    ensures { IfOk result (λ answer. answer ≡ assignments_given dashes words.entry) }
 {
-    match all_assignments(alloc, words)? {
+    match all_assignments(alloc, words, dashes)? {
         Some(list) if list.items().is_empty() => Ok(Err(ScriptFault::FewWords)),
         Some(list) => Ok(Ok(list)),
         None => Ok(Err(ScriptFault::BadValue)),
@@ -153,12 +170,16 @@ fn read_assignments(
 }
 
 // All words as assignments, or None if one is none.
-fn all_assignments(alloc: Global, words: Words<'_>) -> Result<Option<AssignList>, NoMemory>
-    ensures { IfOk result (λ found. found ≡ all_of assignment_of words.entry) }
+fn all_assignments(
+    alloc: Global,
+    words: Words<'_>,
+    dashes: bool,
+) -> Result<Option<ValueList>, NoMemory>
+    ensures { IfOk result (λ found. found ≡ all_of (assignment_of dashes) words.entry) }
 {
-    let mut list = AssignList::new(alloc);
+    let mut list = ValueList::new(alloc);
     for word in words {
-        match assignment(alloc, word)? {
+        match assignment(alloc, word, dashes)? {
             Some(item) => list.push(item)?,
             None => return Ok(None),
         }

@@ -16,6 +16,7 @@ pub(crate) enum Verb {
     Cycle,
     Expect,
     Show,
+    Look,
     Add,
     Del,
     Strength,
@@ -25,6 +26,7 @@ pub(crate) enum Verb {
     Keep,
     Save,
     Back,
+    Vector,
 }
 
 /// The verb that a word is, compared byte by byte.
@@ -44,6 +46,7 @@ pub(crate) fn verb_named(word: &[u8]) -> Option<Verb>
         b"cycle" => Some(Verb::Cycle),
         b"expect" => Some(Verb::Expect),
         b"show" => Some(Verb::Show),
+        b"look" => Some(Verb::Look),
         b"add" => Some(Verb::Add),
         b"del" => Some(Verb::Del),
         b"strength" => Some(Verb::Strength),
@@ -53,6 +56,7 @@ pub(crate) fn verb_named(word: &[u8]) -> Option<Verb>
         b"keep" => Some(Verb::Keep),
         b"save" => Some(Verb::Save),
         b"back" => Some(Verb::Back),
+        b"vector" => Some(Verb::Vector),
         _ => None,
     }
 }

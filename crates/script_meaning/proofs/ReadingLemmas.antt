@@ -4,4 +4,4 @@ use Rattle.script_meaning.specs.Runs.{plain_reading, IsSound}
 
 -- the reading of scripts is sound
 pub plain-sound : IsSound plain_reading
-plain-sound = record { named = λ circuit line. reading-named line; formed = λ circuit line. reading-formed line }
+plain-sound = record { named = λ circuit vectors line. reading-named line; formed = λ circuit vectors line. reading-formed line }

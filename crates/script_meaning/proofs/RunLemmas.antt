@@ -53,7 +53,7 @@ module _ (reading : Reading) (sound : IsSound reading) (cut : Option ℕ) (sessi
   -- of a line that asks for a command, by what that comes to
   outcome-asked : (command : Command) → Asks reading cut session line command → HasOutcome reading cut session (line ∷ lines)
   outcome-asked command asks =
-      elim (command_ends session command ready (sound.formed session.circuit line.1 command asks.asked)) [
+      elim (command_ends session command ready (sound.formed session.circuit session.vectors line.1 command asks.asked)) [
         | refused_so refusal is ↦ outcome-refused (plain_cause (refusal_code refusal)) (refused command refusal asks is refl)
         | large_so fault allowed building first ↦
             let caused = size_caused session.circuit fault first in
@@ -64,20 +64,20 @@ module _ (reading : Reading) (sound : IsSound reading) (cut : Option ℕ) (sessi
       ]
 
   -- by what the line is read as
-  outcome-read : is_cut cut line.0 ≡ false → (read : Result (Option Command) ScriptFault) → reading session.circuit line.1 ≡ read →
+  outcome-read : is_cut cut line.0 ≡ false → (read : Result (Option Command) ScriptFault) → reading session.circuit session.vectors line.1 ≡ read →
       HasOutcome reading cut session (line ∷ lines)
   outcome-read inside (Ok None) is =
       let rest = goes session ready in
       (rest.0, passes session line lines rest.0 (record { inside = inside; nothing = is }) rest.1)
   outcome-read inside (Ok (Some command)) is = outcome-asked command (record { inside = inside; asked = is })
   outcome-read inside (Err fault) is =
-      let coded = script_coded fault (λ want. sound.named session.circuit line.1 (is ∙ ap Err want)) in
+      let coded = script_coded fault (λ want. sound.named session.circuit session.vectors line.1 (is ∙ ap Err want)) in
       outcome-refused (plain_cause coded.0) (unread fault coded.0 inside is coded.1 refl)
 
   -- by whether the line holds the first byte too many
   outcome-by_cut : (far : Bool) → is_cut cut line.0 ≡ far → HasOutcome reading cut session (line ∷ lines)
   outcome-by_cut true is = outcome-refused (plain_cause S11TooLong) (too_long is refl)
-  outcome-by_cut false is = outcome-read is (reading session.circuit line.1) refl
+  outcome-by_cut false is = outcome-read is (reading session.circuit session.vectors line.1) refl
 
 pub outcome_exists : (reading : Reading) → IsSound reading → (cut : Option ℕ) (lines : List (ℕ × List ℕ)) (session : SessionData) → IsReady session → HasOutcome reading cut session lines
 outcome_exists reading sound cut [] session ready = (at_end session, ends session)

@@ -41,7 +41,8 @@ module _ {H : Type 0} (hear : H → Told → H) (part : H → Told → H → Typ
 
 -- a line that can't be read is refused, if its fault has a code
 pub is_unread : (reading : Reading) (cut : Option ℕ) (session : SessionData) (line : ℕ × List ℕ) (fault : ScriptFault) (code : FaultCode) → is_cut cut line.0 ≡ false →
-    (fault ≡ script.NoMemory) ⊎ (reading session.circuit line.1 ≡ Err fault) → script_code fault ≡ Some code → IsRefused reading cut session line (plain_cause code)
+    (fault ≡ script.NoMemory) ⊎ (reading session.circuit session.vectors line.1 ≡ Err fault) → script_code fault ≡ Some code →
+    IsRefused reading cut session line (plain_cause code)
 is_unread reading cut session line fault code inside (inl want) coded =
     let none : None ≡ Some code = sym (ap script_code want) ∙ coded in absurd (cc)
 is_unread reading cut session line fault code inside (inr is) coded = unread fault code inside is coded refl

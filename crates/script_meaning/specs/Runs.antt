@@ -26,18 +26,19 @@ use Rattle.run_ends.specs.Answers.{Answer}
 use Rattle.run_ends.specs.Causes.{Cause, plain_cause, size_cause, cause_line}
 use Rattle.script_meaning.specs.Codes.{script_code, refusal_code}
 
--- how a line is read in a circuit: the command that it asks for, nothing to do, or why it is no command
+-- how a line is read in a circuit with vectors: the command that it asks for, nothing to do, or why it is no command
 abbrev pub Reading : Type 0
-Reading = CircuitData → List ℕ → Result (Option Command) ScriptFault
+Reading = CircuitData → List (List ℕ × List ℕ) → List ℕ → Result (Option Command) ScriptFault
 
--- the reading of scripts: a line is its command, whatever the circuit is
+-- the reading of scripts: a line is its command, whatever the circuit and the vectors are
 abbrev pub plain_reading : Reading
-plain_reading circuit line = reading_of line
+plain_reading circuit vectors line = reading_of line
 
 -- a reading refuses no line for lack of memory, and each command that it gives is well formed
 pub record IsSound (reading : Reading) : Type 0 where
-  pub named : (circuit : CircuitData) (line : List ℕ) → reading circuit line ≢ Err NoMemory
-  pub formed : (circuit : CircuitData) (line : List ℕ) (command : Command) → reading circuit line ≡ Ok (Some command) → IsFormed command
+  pub named : (circuit : CircuitData) (vectors : List (List ℕ × List ℕ)) (line : List ℕ) → reading circuit vectors line ≢ Err NoMemory
+  pub formed : (circuit : CircuitData) (vectors : List (List ℕ × List ℕ)) (line : List ℕ) (command : Command) →
+      reading circuit vectors line ≡ Ok (Some command) → IsFormed command
 
 -- the line of a script at which it stopped, and why that is refused
 pub record RefusedLine : Type 0 where
@@ -69,18 +70,18 @@ after_command lines texts rest =
 -- the line asks for nothing: it has no words, or is a comment
 pub record IsIdle (reading : Reading) (cut : Option ℕ) (session : SessionData) (line : ℕ × List ℕ) : Type 0 where
   pub inside : is_cut cut line.0 ≡ false
-  pub nothing : reading session.circuit line.1 ≡ Ok None
+  pub nothing : reading session.circuit session.vectors line.1 ≡ Ok None
 
 -- the line asks for a command
 pub record Asks (reading : Reading) (cut : Option ℕ) (session : SessionData) (line : ℕ × List ℕ) (command : Command) : Type 0 where
   pub inside : is_cut cut line.0 ≡ false
-  pub asked : reading session.circuit line.1 ≡ Ok (Some command)
+  pub asked : reading session.circuit session.vectors line.1 ≡ Ok (Some command)
 
 -- the line is refused for this cause: it holds the first byte too many of the script; or it is no command; or its command is refused; or
 -- the circuit can't be built for its command, since a group is too large
 pub data IsRefused (reading : Reading) (cut : Option ℕ) (session : SessionData) (line : ℕ × List ℕ) (cause : Cause) : Type 0 where
   too_long : is_cut cut line.0 ≡ true → cause ≡ plain_cause S11TooLong → IsRefused reading cut session line cause
-  unread : (fault : ScriptFault) (code : FaultCode) → is_cut cut line.0 ≡ false → reading session.circuit line.1 ≡ Err fault →
+  unread : (fault : ScriptFault) (code : FaultCode) → is_cut cut line.0 ≡ false → reading session.circuit session.vectors line.1 ≡ Err fault →
       script_code fault ≡ Some code → cause ≡ plain_cause code → IsRefused reading cut session line cause
   refused : (command : Command) (refusal : Refusal) → Asks reading cut session line command → refusal_of session command ≡ Some refusal →
       cause ≡ plain_cause (refusal_code refusal) → IsRefused reading cut session line cause

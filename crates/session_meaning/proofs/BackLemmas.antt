@@ -1,11 +1,8 @@
 -- The nodes whose states differ are placed in a machine, one after the other, and a session stays one.
-use Rattle.std.proofs.Common.{◌≡◌, ◌≢◌, ℕ, List, Option, Some, None, IfSome, ◌⊎◌, inl, inr, refl, sym, ap, subst, ◌∙◌}
+use Rattle.std.proofs.Common.{◌≡◌, ◌≢◌, ℕ, List, Option, Some, None, IfSome, inl, inr, refl, sym, ap, subst, ◌∙◌}
 use Rattle.ternary.specs.declared.tern.Tern.{Tern}
 use Rattle.path_meaning.specs.Graphs.{GraphData, nodes}
 use Rattle.path_meaning.specs.Switching.{state_at}
-use Rattle.machine_parts.specs.declared.part.HeldPart.{HeldPart}
-use Rattle.machine_parts.specs.Marking.{IsMarked}
-use Rattle.machine_parts.specs.Stepping.{Concerns}
 use Rattle.machine_laws.specs.Machines.{MachineData}
 use Rattle.group_text.specs.Texts.{GroupTextData}
 use Rattle.session_meaning.specs.Saves.{kept_under, state_back}
@@ -13,45 +10,20 @@ use Rattle.session_meaning.specs.Sessions.{HeldSession}
 use Rattle.session_meaning.specs.Machines.{Serves, IsHeldSession, ConcernsOther, PlacesOthersIn, last_in}
 use Rattle.session_meaning.specs.Stages.{StageData, PutsNode, PutsIn, PutsOtherIn, PutsOthers, PutsOthersIn}
 use Rattle.session_meaning.proofs.ClockLemmas.{IsSession-state}
-use Rattle.session_meaning.proofs.MachineLemmas.{placed_on, serves_there}
+use Rattle.session_meaning.proofs.MachineLemmas.{placed_on, serves_there, places-none, places-more}
 use Rattle.session_meaning.proofs.SaveLemmas.{kept-fits, length-back, sound-back}
-use Rattle.machine_laws.proofs.KeptLemmas.{placing_keeps_texts}
 
 module _ (g : GraphData) (before after : List Tern) where
-  -- none was placed yet
-  none_put : (machine : MachineData) → PutsOthers g before after machine machine
-  none_put machine = record {
-    covers = λ covers. covers;
-    known = λ kept known. known;
-    last = refl;
-    parts = refl;
-    moves = refl;
-    marks = λ k marked. inl marked;
-  }
-
   pub none_put-in : (machine : Option MachineData) → PutsOthersIn g before after machine machine
   none_put-in None = refl
-  none_put-in (Some machine) = (machine, refl, none_put machine)
+  none_put-in (Some machine) = (machine, refl, places-none g (ConcernsOther before after) machine)
 
   -- one more was placed
   one_put : (node : ℕ) (value : Tern) (old mid new : MachineData) → state_at before node ≢ state_at after node → PutsOthers g before after old mid →
       PutsNode g node value mid new → PutsOthers g before after old new
-  one_put node value old mid new differs so_far puts = record {
-    covers = λ covers. puts.covers (so_far.covers covers);
-    known = λ kept known. placing_keeps_texts g kept node value mid new puts.places (so_far.known kept known);
-    last = puts.places.last ∙ so_far.last;
-    parts = puts.places.parts ∙ so_far.parts;
-    moves = puts.places.moves ∙ so_far.moves;
-    marks = λ k marked. marked_by k (puts.places.only k marked);
-  }
-    where
-      marked_by : (k : ℕ) → IsMarked mid.marks k ⊎ Concerns mid.parts k node → IsMarked old.marks k ⊎ ConcernsOther before after old.parts k
-      marked_by k (inl was) = so_far.marks k was
-      marked_by k (inr concerns) = inr (record {
-        node = node;
-        differs = differs;
-        concerns = subst (λ (parts : List HeldPart). Concerns parts k node) so_far.parts concerns;
-      })
+  one_put node value old mid new differs so_far puts =
+      places-more g (ConcernsOther before after) node value old mid new
+      (λ parts k concerns. record { node = node; differs = differs; concerns = concerns }) so_far puts
 
   pub one_put-in : (node : ℕ) (value : Tern) (old mid new : Option MachineData) → state_at before node ≢ state_at after node →
       PutsOthersIn g before after old mid → PutsIn g node value mid new → PutsOthersIn g before after old new

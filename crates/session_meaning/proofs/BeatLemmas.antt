@@ -17,7 +17,7 @@ use Rattle.told_lines.proofs.HearingLemmas.{hear_all-append, of_column-append, s
 use Rattle.session_meaning.specs.declared.fault.ApplyFault.{ApplyFault}
 use Rattle.session_meaning.specs.Sessions.{SessionData, ClockData, IsReady, places_of, have_places}
 use Rattle.session_meaning.specs.Effects.{IsPhase, AreBeats, with_beat, places_in}
-use Rattle.session_meaning.specs.Outcomes.{FrontDone, BeatsBegun, TakesBeats, IsPhaseSent}
+use Rattle.session_meaning.specs.Outcomes.{FrontDone, BeatsBegun, TakesBeats, IsDoneAndSent}
 use Rattle.session_meaning.proofs.EffectLemmas.{beats-ready, beats_exist}
 
 -- phases at places keep the clocks
@@ -157,10 +157,10 @@ module _ {H : Type 0} (hear : H → Told → H) where
     -- one more phase was done
     pub beat_done : (start now next : SessionData) (state : List Tern) (done : List ℕ) (place : ℕ) (before mid after : H) →
         BeatsDone start now done before mid → record now { state = state } ≡ with_beat now place →
-        IsPhaseSent hear part (record now { state = state }) next mid after (Ok tt) → BeatsDone start next (done ++ place ∷ []) before after
+        IsDoneAndSent IsPhase hear part (record now { state = state }) next mid after (Ok tt) → BeatsDone start next (done ++ place ∷ []) before after
     beat_done start now next state done place before mid after so_far beat sent =
         beats_joined start now next done (place ∷ []) before mid after sent.lines so_far
-        (one_beat now next place sent.lines (subst (λ (s : SessionData). IsPhase s next sent.lines) beat sent.phase)) sent.sent
+        (one_beat now next place sent.lines (subst (λ (s : SessionData). IsPhase s next sent.lines) beat sent.done)) sent.sent
 
     -- a part of the lines of more phases was heard, and a prefix of them done: it is a part of the lines of all
     beats_part : (start now next last : SessionData) (all done more rest : List ℕ) (before mid after : H) (lines : List Line) →
@@ -184,9 +184,9 @@ module _ {H : Type 0} (hear : H → Told → H) where
     -- the hearer ended a phase
     pub beat_stopped : (start now next : SessionData) (state : List Tern) (all done rest : List ℕ) (place : ℕ) (before mid after : H) (cause : ApplyFault) →
         IsReady start → all ≡ done ++ (place ∷ rest) → BeatsDone start now done before mid → record now { state = state } ≡ with_beat now place →
-        IsPhaseSent hear part (record now { state = state }) next mid after (Err cause) → BeatsBegun hear part all start next before after
+        IsDoneAndSent IsPhase hear part (record now { state = state }) next mid after (Err cause) → BeatsBegun hear part all start next before after
     beat_stopped start now next state all done rest place before mid after cause ready split so_far beat sent =
-        let phase = one_beat now next place sent.lines (subst (λ (s : SessionData). IsPhase s next sent.lines) beat sent.phase) in
+        let phase = one_beat now next place sent.lines (subst (λ (s : SessionData). IsPhase s next sent.lines) beat sent.done) in
         beats_part start now next next all done (place ∷ []) rest before mid after sent.lines ready split so_far phase sent.sent
         (record { done = place ∷ []; left = []; split = refl; lines = sent.lines; beats = phase })
 

@@ -70,6 +70,7 @@ IsSession-clocks session list clocks formed even none same within is = record {
   clocks = within;
   places = rw same (even_places session.circuit list even);
   some = rw same (some_places session.circuit list formed);
+  vectors = is.vectors;
   low = is.low;
   high = is.high;
 }
@@ -85,6 +86,7 @@ IsSession-beside session state count missed bound kept fresh known sound is = re
   clocks = is.clocks;
   places = is.places;
   some = is.some;
+  vectors = is.vectors;
   low = is.low;
   high = is.high;
 }

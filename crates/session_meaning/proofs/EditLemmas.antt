@@ -35,16 +35,16 @@ use Rattle.session_meaning.specs.declared.switches.SwitchEdit.{SwitchEdit}
 use Rattle.session_meaning.specs.declared.switches.SwitchEdit.TheVariants.{Removal, Strength, Kind}
 use Rattle.session_meaning.specs.declared.fault.ApplyFault.{ApplyFault}
 use Rattle.session_meaning.specs.Sessions.{SessionData, HeldSession, IsReady, IsSession}
-use Rattle.session_meaning.specs.Refusals.{refusal_of, refusal_of_edit, making_refusal, edit_refusal, rail_refusal, strength_for}
+use Rattle.session_meaning.specs.Refusals.{refusal_of, refusal_of_edit, making_refusal, edit_refusal, all_named, strength_for}
 use Rattle.session_meaning.specs.Effects.{circuit_after, with_circuit, with_inputs}
 use Rattle.session_meaning.specs.Preparing.{fault_of_edit}
 use Rattle.session_meaning.specs.Switches.{place_after, edit_fault, edit_of}
 use Rattle.session_meaning.specs.Machines.{Serves, Survives, IsHeldSession, kept_in}
 use Rattle.session_meaning.specs.Outcomes.{Does, Quietly}
 use Rattle.session_meaning.specs.Stages.{StageData, EditsFrom}
+use Rattle.node_words.proofs.WithinLemmas.{within-grown}
 use Rattle.session_meaning.proofs.UndoLemmas.{Undoes}
 use Rattle.session_meaning.proofs.SaveLemmas.{saves-grown}
-use Rattle.session_meaning.proofs.StateLemmas.{past_rails}
 use Rattle.session_meaning.proofs.StayingLemmas.{bounding, keeps_bound}
 
 -- ---- nodes
@@ -98,6 +98,7 @@ IsSession-grown session c is_circuit more is = record {
       (λ clock low. omega (arith, low, more)) session.clocks is.clocks;
   places = is.places;
   some = is.some;
+  vectors = within-grown (nodes session.circuit.graph) (nodes c.graph) session.vectors more is.vectors;
   low = is.low;
   high = is.high;
 }
@@ -113,18 +114,18 @@ pub kept_states : (session : SessionData) (c : CircuitData) → nodes c.graph �
 kept_states session c few = ap (λ (state : List Tern). record session { circuit = c; state = state }) (sym (same_states session.state (nodes c.graph) few))
 
 -- `input` makes no new node, and gives no new name
-pub nodes-with_inputs : (names : List (List ℕ)) (c : CircuitData) → nodes (with_inputs c names).graph ≡ nodes c.graph
+pub nodes-with_inputs : (list : List ℕ) (c : CircuitData) → nodes (with_inputs c list).graph ≡ nodes c.graph
 nodes-with_inputs [] c = refl
-nodes-with_inputs (name ∷ names) c =
-    nodes-with_inputs names (with_input c (node_named c name)) ∙ length-set c.graph.levels (node_named c name) INPUT_LEVEL
+nodes-with_inputs (node ∷ list) c = nodes-with_inputs list (with_input c node) ∙ length-set c.graph.levels node INPUT_LEVEL
 
 -- an edit makes three nodes at most
-pub nodes-after-most : (c : CircuitData) (edit : Edit) → nodes (circuit_after c edit).graph ≤ nodes c.graph + 3
-nodes-after-most c (asked.Input names) = omega (arith, nodes-with_inputs names c)
-nodes-after-most c (asked.Store name size) = omega (arith, length-set c.graph.levels (node_named c name) (level_of_size size))
-nodes-after-most c (asked.Add kind gate source drain strength) = nodes-with_nodes-most (gate ∷ source ∷ drain ∷ []) c
-nodes-after-most c (asked.Wire number gate source drain) = nodes-with_nodes-most (gate ∷ source ∷ drain ∷ []) c
-nodes-after-most c other = omega arith
+pub nodes-after-most : (c : CircuitData) (vectors : List (List ℕ × List ℕ)) (edit : Edit) →
+    nodes (circuit_after c vectors edit).graph ≤ nodes c.graph + 3
+nodes-after-most c vectors (asked.Input names) = omega (arith, nodes-with_inputs (all_named c vectors names) c)
+nodes-after-most c vectors (asked.Store name size) = omega (arith, length-set c.graph.levels (node_named c name) (level_of_size size))
+nodes-after-most c vectors (asked.Add kind gate source drain strength) = nodes-with_nodes-most (gate ∷ source ∷ drain ∷ []) c
+nodes-after-most c vectors (asked.Wire number gate source drain) = nodes-with_nodes-most (gate ∷ source ∷ drain ∷ []) c
+nodes-after-most c vectors other = omega arith
 
 -- the session with this circuit, and the state and the machine of this stage
 abbrev pub edited : HeldSession → CircuitData → StageData → HeldSession
@@ -318,8 +319,8 @@ same-halted session c stage table is state machine stood =
 -- ---- edits
 
 -- an edit that isn't refused, and whose new nodes are X: what its command does
-pub edit_does : (session : SessionData) (edit : Edit) (c : CircuitData) (stage : StageData) → refusal_of_edit session.circuit edit ≡ None →
-    c ≡ circuit_after session.circuit edit → stage.state ≡ with_new_nodes session.state (nodes c.graph) →
+pub edit_does : (session : SessionData) (edit : Edit) (c : CircuitData) (stage : StageData) →
+    refusal_of_edit session.circuit session.vectors edit ≡ None → c ≡ circuit_after session.circuit session.vectors edit → stage.state ≡ with_new_nodes session.state (nodes c.graph) →
     Does session (family.Edit edit) (record session { circuit = c; state = stage.state }) []
 edit_does session edit c stage allowed is grown = record {
   allowed = allowed;
@@ -327,8 +328,8 @@ edit_does session edit c stage allowed is grown = record {
 }
 
 -- and of one that makes no node, where the states stay
-pub still_does : (session new : SessionData) (edit : Edit) (c : CircuitData) → refusal_of_edit session.circuit edit ≡ None →
-    c ≡ circuit_after session.circuit edit → nodes c.graph ≤ length session.state → new ≡ record session { circuit = c } →
+pub still_does : (session new : SessionData) (edit : Edit) (c : CircuitData) → refusal_of_edit session.circuit session.vectors edit ≡ None →
+    c ≡ circuit_after session.circuit session.vectors edit → nodes c.graph ≤ length session.state → new ≡ record session { circuit = c } →
     Does session (family.Edit edit) new []
 still_does session new edit c allowed is few same = record {
   allowed = allowed;
@@ -337,11 +338,13 @@ still_does session new edit c allowed is few same = record {
 
 -- nodes that are made input nodes: what their command does
 pub inputs_does : (session new : SessionData) (names : List (List ℕ)) → length session.state ≡ nodes session.circuit.graph →
-    refusal_of session (family.Edit (asked.Input names)) ≡ None → new ≡ record session { circuit = with_inputs session.circuit names } →
+    refusal_of session (family.Edit (asked.Input names)) ≡ None →
+    new ≡ record session { circuit = with_inputs session.circuit (all_named session.circuit session.vectors names) } →
     Does session (family.Edit (asked.Input names)) new []
 inputs_does session new names counted allowed same =
-    still_does session new (asked.Input names) (with_inputs session.circuit names) allowed refl
-    (omega (arith, counted, nodes-with_inputs names session.circuit)) same
+    let list = all_named session.circuit session.vectors names in
+    still_does session new (asked.Input names) (with_inputs session.circuit list) allowed refl
+    (omega (arith, counted, nodes-with_inputs list session.circuit)) same
 
 -- the refusal of an edit of a transistor that leaves its terminals
 pub refusal_of-switch : (session : SessionData) (number : ℕ) (edit : SwitchEdit) →
@@ -351,10 +354,11 @@ refusal_of-switch session number (Strength strength) = refl
 refusal_of-switch session number (Kind kind) = refl
 
 -- and the circuit after it
-circuit_after-switch : (c : CircuitData) (number : ℕ) (edit : SwitchEdit) → circuit_after c (edit_of number edit) ≡ with_place c number (place_after c number edit)
-circuit_after-switch c number Removal = refl
-circuit_after-switch c number (Strength strength) = refl
-circuit_after-switch c number (Kind kind) = refl
+circuit_after-switch : (c : CircuitData) (vectors : List (List ℕ × List ℕ)) (number : ℕ) (edit : SwitchEdit) →
+    circuit_after c vectors (edit_of number edit) ≡ with_place c number (place_after c number edit)
+circuit_after-switch c vectors number Removal = refl
+circuit_after-switch c vectors number (Strength strength) = refl
+circuit_after-switch c vectors number (Kind kind) = refl
 
 -- a transistor that is edited so: what its command does
 pub switched_does : (session : SessionData) (c : CircuitData) (stage : StageData) (number : ℕ) (edit : SwitchEdit) →
@@ -364,13 +368,9 @@ pub switched_does : (session : SessionData) (c : CircuitData) (stage : StageData
 switched_does session c stage number edit answered is grown =
     edit_does session (edit_of number edit) c stage
     (refusal_of-switch session number edit ∙ ap edit_refusal (no_fault (edit_fault session.circuit number edit) answered))
-    (is ∙ sym (circuit_after-switch session.circuit number edit)) grown
+    (is ∙ sym (circuit_after-switch session.circuit session.vectors number edit)) grown
 
--- a node that may be edited is past the rails
-pub past_edited : (found : Option ℕ) (node : ℕ) → rail_refusal found ≡ None → found ≡ Some node → RAILS ≤ node
-past_edited found node none there = past_rails node None (subst (λ (f : Option ℕ). rail_refusal f ≡ None) there none)
-
--- it is made an input node
+-- a node past the rails is made an input node
 pub input_made : (node : ℕ) (answer : Result (Unit {0}) EditFault) (Made : Type 0) → RAILS ≤ node → answer ≡ answer_of (rail_fault node) →
     OnOk answer Made → Made
 input_made node answer Made past answered made = by (nat_lt node RAILS) refl answered

@@ -4,7 +4,7 @@
 use Rattle.std.proofs.Common.{◌≡◌, ℕ, ◌-◌, ◌≤◌, ◌++◌, List, [], ◌∷◌, length, All, nat_lt, Option, None, Some, Bool, true, false, refl, ◌∙◌, inl, inr, arith}
 use Rattle.std.specs.Prelude.{if◌then◌else◌, ◌⊎◌}
 use Rattle.std.proofs.lemmas.List.{length-set, length-replicate}
-use Rattle.std.proofs.lemmas.List.Elements.{All-nil}
+use Rattle.std.proofs.lemmas.List.Elements.{All-nil, All-head, All-tail}
 use Rattle.std.proofs.lemmas.Bool.Decides.{nat_tests}
 use Rattle.ternary.specs.declared.tern.Tern.{Tern}
 use Rattle.ternary.specs.declared.tern.Tern.TheVariants.{Unk}
@@ -41,13 +41,14 @@ use Rattle.session_meaning.specs.declared.fault.Refusal.{Refusal}
 use Rattle.session_meaning.specs.declared.fault.Refusal.TheVariants.{Rail, BadSize}
 use Rattle.session_meaning.specs.Saves.{kept_under, FitsSave}
 use Rattle.session_meaning.specs.Sessions.{SessionData, ClockData, IsReady, start_of, places_of}
-use Rattle.session_meaning.specs.Refusals.{refusal_of, refusal_of_edit, refusal_of_give, refusal_of_setup, first_refusal, rail_refusal, store_refusal, length_refusal, strength_for}
+use Rattle.session_meaning.specs.Refusals.{refusal_of, refusal_of_edit, refusal_of_give, refusal_of_setup, store_refusal, length_refusal, strength_for, all_named}
 use Rattle.session_meaning.specs.Preparing.{builds, with_present, IsBuild, BuildsIf}
 use Rattle.told_lines.specs.Lines.{Line, Reported}
-use Rattle.session_meaning.specs.Effects.{Effect, RunEffect, IsPhase, AreBeats, circuit_after, state_given, setup_after, with_told, told_by, with_inputs, assigned, with_beat, moved_to, wave_by, places_in, with_circuit}
+use Rattle.session_meaning.specs.Effects.{Effect, RunEffect, IsPhase, AreBeats, circuit_after, state_given, setup_after, with_told, told_by, with_inputs, assigned, states_by, with_beat, moved_to, wave_by, places_in, with_circuit}
 use Rattle.session_meaning.specs.Outcomes.{Does, Performs}
-use Rattle.session_meaning.proofs.RefusalLemmas.{first_refusal-none, or_else-none}
-use Rattle.session_meaning.proofs.StateLemmas.{length-assigned, length-states_with, length-settles, set_past, charged_past, clocks_past, sound-assigned, sound-states_with, sound-step, sound-settles}
+use Rattle.session_meaning.proofs.RefusalLemmas.{or_else-none}
+use Rattle.session_meaning.proofs.ValueLemmas.{charge-past, inputs-past, set-past}
+use Rattle.session_meaning.proofs.StateLemmas.{length-assigned, length-states_with, length-settles, set_past, clocks_past, sound-assigned, sound-states_with, sound-step, sound-settles}
 use Rattle.session_meaning.proofs.OutcomeLemmas.{built_performs, still_performs}
 use Rattle.session_meaning.proofs.SaveLemmas.{kept-fits, with_save-fits, fits-present, length-back, sound-back}
 use Rattle.session_meaning.proofs.SizeLemmas.{texts_or_size}
@@ -55,20 +56,12 @@ use Rattle.session_meaning.proofs.EditLemmas.{IsReady-grown, nodes-with_inputs, 
 
 -- ---- edits
 
--- a node whose edit isn't refused is in use and no rail
-no_rail_edit : (found : Option ℕ) → rail_refusal found ≡ None → (node : ℕ) × (found ≡ Some node) × (RAILS ≤ node)
-no_rail_edit None none = absurd (cc)
-no_rail_edit (Some node) none = (node, refl, grind (arith, nat_tests))
-
--- a circuit stays well formed by an `input` that isn't refused
-IsCircuit-with_inputs : (names : List (List ℕ)) (c : CircuitData) → first_refusal (λ name. rail_refusal (node_of c.names name)) names ≡ None →
-    IsCircuit c → IsCircuit (with_inputs c names)
-IsCircuit-with_inputs [] c none is = is
-IsCircuit-with_inputs (name ∷ names) c none is =
-    let both = first_refusal-none (λ name. rail_refusal (node_of c.names name)) name names none in
-    let found = no_rail_edit (node_of c.names name) both.0 in
-    IsCircuit-with_inputs names (with_input c (node_named c name)) both.1
-    (IsCircuit-with_level c (node_named c name) INPUT_LEVEL (rw found.1 found.2) IsLevel-input is)
+-- a circuit stays well formed if nodes past the rails become input nodes
+IsCircuit-with_inputs : (list : List ℕ) (c : CircuitData) → All (λ node. RAILS ≤ node) list → IsCircuit c → IsCircuit (with_inputs c list)
+IsCircuit-with_inputs [] c past is = is
+IsCircuit-with_inputs (node ∷ list) c past is =
+    IsCircuit-with_inputs list (with_input c node) (All-tail (λ (other : ℕ). RAILS ≤ other) node list past)
+    (IsCircuit-with_level c node INPUT_LEVEL (All-head (λ (other : ℕ). RAILS ≤ other) node list past) IsLevel-input is)
 
 -- a node whose new size isn't refused is in use, is no rail, and gets a level
 no_rail_store : (c : CircuitData) (size : ℕ) (found : Option ℕ) → store_refusal c size found ≡ None →
@@ -84,27 +77,29 @@ no_rail_store c size (Some node) none = by (nat_lt node RAILS) (is_size c.profil
     by false true is_rail is_fits none = (node, refl, grind (arith, nat_tests), IsLevel-size c.profile size is_fits)
 
 -- a circuit stays well formed by an edit that isn't refused
-IsCircuit-after : (c : CircuitData) (edit : Edit) → refusal_of_edit c edit ≡ None → IsCircuit c → IsCircuit (circuit_after c edit)
-IsCircuit-after c (Input names) allowed is = IsCircuit-with_inputs names c allowed is
-IsCircuit-after c (Store name size) allowed is =
+IsCircuit-after : (c : CircuitData) (vectors : List (List ℕ × List ℕ)) (edit : Edit) → refusal_of_edit c vectors edit ≡ None → IsCircuit c →
+    IsCircuit (circuit_after c vectors edit)
+IsCircuit-after c vectors (Input names) allowed is =
+    IsCircuit-with_inputs (all_named c vectors names) c (inputs-past c vectors names allowed) is
+IsCircuit-after c vectors (Store name size) allowed is =
     let found = no_rail_store c size (node_of c.names name) allowed in
     IsCircuit-with_level c (node_named c name) (level_of_size size) (rw found.1 found.2) found.3 is
-IsCircuit-after c (Add kind gate source drain strength) allowed is =
+IsCircuit-after c vectors (Add kind gate source drain strength) allowed is =
     let used = strength_for kind strength in
     IsCircuit-with_transistor c kind used gate source drain is (unrefused_add c used gate source drain allowed)
-IsCircuit-after c (Del number) allowed is = IsCircuit-without_switch c number is
-IsCircuit-after c (Strength number strength) allowed is =
+IsCircuit-after c vectors (Del number) allowed is = IsCircuit-without_switch c number is
+IsCircuit-after c vectors (Strength number strength) allowed is =
     IsCircuit-with_strength c number strength (unrefused_strength c number strength allowed) is
-IsCircuit-after c (Kind number kind) allowed is = IsCircuit-with_kind c number kind is
-IsCircuit-after c (Wire number gate source drain) allowed is = IsCircuit-with_wires c number gate source drain is
+IsCircuit-after c vectors (Kind number kind) allowed is = IsCircuit-with_kind c number kind is
+IsCircuit-after c vectors (Wire number gate source drain) allowed is = IsCircuit-with_wires c number gate source drain is
 
 -- and no edit takes a node away
-nodes-after : (c : CircuitData) (edit : Edit) → nodes c.graph ≤ nodes (circuit_after c edit).graph
-nodes-after c (Input names) = omega (arith, nodes-with_inputs names c)
-nodes-after c (Store name size) = omega (arith, length-set c.graph.levels (node_named c name) (level_of_size size))
-nodes-after c (Add kind gate source drain strength) = nodes-with_transistor c kind (strength_for kind strength) gate source drain
-nodes-after c (Wire number gate source drain) = nodes-with_wires c number gate source drain
-nodes-after c other = omega arith
+nodes-after : (c : CircuitData) (vectors : List (List ℕ × List ℕ)) (edit : Edit) → nodes c.graph ≤ nodes (circuit_after c vectors edit).graph
+nodes-after c vectors (Input names) = omega (arith, nodes-with_inputs (all_named c vectors names) c)
+nodes-after c vectors (Store name size) = omega (arith, length-set c.graph.levels (node_named c name) (level_of_size size))
+nodes-after c vectors (Add kind gate source drain strength) = nodes-with_transistor c kind (strength_for kind strength) gate source drain
+nodes-after c vectors (Wire number gate source drain) = nodes-with_wires c number gate source drain
+nodes-after c vectors other = omega arith
 
 -- ---- phases and cycles
 
@@ -175,7 +170,7 @@ run_exists session ready Report has = (
 effect_exists : (session : SessionData) → IsReady session → (command : Command) →
     (builds command ≡ true → (texts : List GroupTextData) × HasTexts session.circuit.graph texts) →
     (new : SessionData) × (lines : List Line) × Effect session command new lines
-effect_exists session ready (family.Edit edit) has = (with_circuit session (circuit_after session.circuit edit), [], (refl, refl))
+effect_exists session ready (family.Edit edit) has = (with_circuit session (circuit_after session.circuit session.vectors edit), [], (refl, refl))
 effect_exists session ready (family.Give give) has =
     (record session { state = state_given session give }, [], (refl, refl))
 effect_exists session ready (family.Setup setup) has = (setup_after session setup, [], (refl, refl))
@@ -225,20 +220,22 @@ ends session command ready formed = by (refusal_of session command) (builds comm
     by None true is does (inr large) = too_large large.0 is does large.1
 
 -- the data stay ready where nodes past the rails get states
-ready-assigned : (old : SessionData) (list : List (List ℕ × Tern)) → All (λ item. RAILS ≤ node_named old.circuit item.0) list → IsReady old →
-    IsReady (record old { state = assigned old.circuit old.state list })
+ready-assigned : (old : SessionData) (list : List (ℕ × Tern)) → All (λ pair. RAILS ≤ pair.0) list → IsReady old →
+    IsReady (record old { state = assigned old.state list })
 ready-assigned old list past ready = record {
   netlist = ready.netlist;
-  states = length-assigned old.circuit list old.state ∙ ready.states;
-  sound = sound-assigned old.circuit list old.state past ready.sound;
+  states = length-assigned list old.state ∙ ready.states;
+  sound = sound-assigned list old.state past ready.sound;
   free = ready.free;
   saved = ready.saved;
 }
 
 -- so they do by a command that gives states and isn't refused
 ready-give : (old : SessionData) (give : Give) → refusal_of_give old give ≡ None → IsReady old → IsReady (record old { state = state_given old give })
-ready-give old (Set list) allowed ready = ready-assigned old list (set_past old.circuit list allowed) ready
-ready-give old (Charge list) allowed ready = ready-assigned old list (charged_past old.circuit list allowed) ready
+ready-give old (Set list) allowed ready =
+    ready-assigned old (states_by old.circuit old.vectors list) (set-past old.circuit old.vectors list allowed) ready
+ready-give old (Charge list) allowed ready =
+    ready-assigned old (states_by old.circuit old.vectors list) (charge-past old.circuit old.vectors list allowed) ready
 ready-give old (Back name) allowed ready =
     let fits = kept-fits (nodes old.circuit.graph) old.saves name ready.saved in
     record {
@@ -286,7 +283,8 @@ ready-run old new Report lines effect ready =
 ready-effect : (old new : SessionData) (command : Command) (lines : List Line) → refusal_of old command ≡ None → Effect old command new lines →
     IsReady old → IsReady new
 ready-effect old new (family.Edit edit) lines allowed effect ready =
-    rw (effect.0) (IsReady-grown old (circuit_after old.circuit edit) (IsCircuit-after old.circuit edit allowed ready.netlist) (nodes-after old.circuit edit) ready)
+    rw (effect.0) (IsReady-grown old (circuit_after old.circuit old.vectors edit) (IsCircuit-after old.circuit old.vectors edit allowed ready.netlist)
+    (nodes-after old.circuit old.vectors edit) ready)
 ready-effect old new (family.Give give) lines allowed effect ready = rw (effect.0) (ready-give old give allowed ready)
 ready-effect old new (family.Setup setup) lines allowed effect ready = rw (effect.0) (ready-set old setup allowed ready)
 ready-effect old new (family.Run run) lines allowed effect ready = ready-run old new run lines effect ready

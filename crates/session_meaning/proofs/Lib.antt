@@ -1,8 +1,11 @@
 pub mod RefusalLemmas
 pub mod LineLemmas
+pub mod LookLemmas
 pub mod SizeLemmas
 pub mod OutcomeLemmas
 pub mod StateLemmas
+pub mod ValueLemmas
+pub mod ItemLemmas
 pub mod SaveLemmas
 pub mod EditLemmas
 pub mod EffectLemmas

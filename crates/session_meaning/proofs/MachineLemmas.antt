@@ -1,8 +1,8 @@
 -- A session and its machine: what serves the data serves them after nodes were placed, after a step and after a phase.
 -- The plan: what is done to the machine is read by cases on whether there is one; its state is the session's before and after.
 use Rattle.std.proofs.Common.{◌≡◌, ℕ, ◌≤◌, ◌<◌, Bool, true, false, List, [], ◌∷◌, map, All, Option, None, Some, IfSome, refl, sym, ap, subst, ◌∙◌, inl, inr, arith}
-use Rattle.std.specs.Prelude.{Contains, if◌then◌else◌, ◌⊎◌, nat_lt}
-use Rattle.std.proofs.lemmas.List.Elements.{All-nil, All-cons, All-head, All-tail, All-weaker, All-contains}
+use Rattle.std.specs.Prelude.{Contains, if◌then◌else◌, ◌⊎◌}
+use Rattle.std.proofs.lemmas.List.Elements.{All-weaker, All-contains}
 use Rattle.std.proofs.lemmas.Bool.Decides.{nat_tests}
 use Rattle.ternary.specs.declared.tern.Tern.{Tern}
 use Rattle.ternary.specs.Counts.{raised}
@@ -21,15 +21,13 @@ use Rattle.machine_laws.specs.Fitting.{Covers, FitsGraph, IsKeptBy}
 use Rattle.machine_laws.proofs.PartGroups.{member_in_group}
 use Rattle.machine_laws.proofs.KeptLemmas.{placing_keeps_texts, fitting_machines_share_texts}
 use Rattle.group_meaning.proofs.GroupLemmas.{member_storage}
-use Rattle.netlist.specs.Names.{node_of}
 use Rattle.netlist.specs.Circuits.{CircuitData}
-use Rattle.netlist.specs.Edits.{node_named}
-use Rattle.session_meaning.specs.declared.fault.Refusal.TheVariants.{Rail, NotInput}
+use Rattle.session_meaning.specs.declared.fault.Refusal.TheVariants.{NotInput}
 use Rattle.session_meaning.specs.Sessions.{HeldSession, ClockData}
-use Rattle.session_meaning.specs.Refusals.{first_refusal, set_refusal, clock_refusal, cycle_refusal, is_input}
+use Rattle.session_meaning.specs.Refusals.{first_refusal, clock_refusal, cycle_refusal, is_input}
 use Rattle.session_meaning.specs.Effects.{assigned, moved_to, one_more}
-use Rattle.session_meaning.specs.Machines.{Serves, FitsIn, IsHeldSession, ConcernsNamed, PlacesIn, StepsMachine, moves_of, placed_of}
-use Rattle.session_meaning.specs.Stages.{StageData, PutsNode, PutsIn, Assigns, AssignsIn, Ticks, TicksIn, TakesStep, TakesPhase, MovesBy, IsSettled}
+use Rattle.session_meaning.specs.Machines.{Serves, FitsIn, IsHeldSession, ConcernsGiven, PlacesIn, StepsMachine, moves_of, placed_of}
+use Rattle.session_meaning.specs.Stages.{StageData, PutsNode, PutsIn, PlacesSome, Assigns, AssignsIn, Ticks, TicksIn, TakesStep, TakesPhase, MovesBy, IsSettled}
 use Rattle.session_meaning.proofs.RefusalLemmas.{none_of_all}
 use Rattle.session_meaning.proofs.StateLemmas.{length-assigned, length-settles, sound-assigned, sound-step, sound-settles}
 use Rattle.session_meaning.proofs.ClockLemmas.{IsSession-state, IsSession-beside}
@@ -48,35 +46,6 @@ no_member g machine covers node input k has =
 -- a node that is an input node by the test is one
 input_level : (c : CircuitData) (node : ℕ) → is_input c node ≡ true → level_of c.graph node ≡ INPUT_LEVEL
 input_level c node is = grind (arith, nat_tests)
-
--- a node that may be set is an input node
-set_input : (c : CircuitData) (name : List ℕ) → set_refusal c (node_of c.names name) ≡ None → level_of c.graph (node_named c name) ≡ INPUT_LEVEL
-set_input c name none = by (node_of c.names name) refl none
-  where
-    inside : (node : ℕ) (rail input : Bool) → is_input c node ≡ input →
-        (if rail then Some Rail else (if input then None else Some NotInput)) ≡ None → level_of c.graph node ≡ INPUT_LEVEL
-    inside node true input is none = absurd (cc)
-    inside node false true is none = input_level c node is
-    inside node false false is none = absurd (cc)
-
-    by : (found : Option ℕ) → node_of c.names name ≡ found → set_refusal c found ≡ None → level_of c.graph (node_named c name) ≡ INPUT_LEVEL
-    by None is none = absurd (cc)
-    by (Some node) is none =
-        rw is (inside node (nat_lt node RAILS) (is_input c node) refl none)
-
--- the nodes of a `set` that isn't refused are input nodes
-pub set_inputs : (c : CircuitData) (list : List (List ℕ × Tern)) → first_refusal (λ item. set_refusal c (node_of c.names item.0)) list ≡ None →
-    All (λ name. level_of c.graph (node_named c name) ≡ INPUT_LEVEL) (map (λ item. item.0) list)
-set_inputs c list none =
-    named list (none_of_all (λ item. set_refusal c (node_of c.names item.0)) list none)
-  where
-    named : (items : List (List ℕ × Tern)) → All (λ item. set_refusal c (node_of c.names item.0) ≡ None) items →
-        All (λ name. level_of c.graph (node_named c name) ≡ INPUT_LEVEL) (map (λ item. item.0) items)
-    named [] all = All-nil (λ (name : List ℕ). level_of c.graph (node_named c name) ≡ INPUT_LEVEL)
-    named (item ∷ items) all =
-        All-cons (λ (name : List ℕ). level_of c.graph (node_named c name) ≡ INPUT_LEVEL) (item.0) (map (λ other. other.0) items)
-        (set_input c (item.0) (All-head (λ (other : List ℕ × Tern). set_refusal c (node_of c.names other.0) ≡ None) item items all))
-        (named items (All-tail (λ (other : List ℕ × Tern). set_refusal c (node_of c.names other.0) ≡ None) item items all))
 
 -- clocks whose nodes aren't refused have input nodes
 clock_inputs : (c : CircuitData) (clocks : List ClockData) → first_refusal (clock_refusal c) clocks ≡ None →
@@ -97,56 +66,62 @@ pub cycle_inputs : (c : CircuitData) (clocks : List ClockData) → cycle_refusal
 cycle_inputs c [] none = absurd (cc)
 cycle_inputs c (clock ∷ clocks) none = clock_inputs c (clock ∷ clocks) none
 
--- ---- names and clocks that are placed
+-- ---- nodes and clocks that are placed
 
--- nothing was placed yet
-assigns-none : (c : CircuitData) (names : List (List ℕ)) (machine : MachineData) → Assigns c names machine machine
-assigns-none c names machine = record {
+-- no node was placed yet
+pub places-none : (g : GraphData) (Concerned : List HeldPart → ℕ → Type 0) (machine : MachineData) → PlacesSome g Concerned machine machine
+places-none g Concerned machine = record {
   covers = λ covers. covers;
   known = λ kept known. known;
   last = refl;
   parts = refl;
   moves = refl;
   marks = λ k marked. inl marked;
-  unplaced = λ covers inputs. refl;
 }
 
-pub assigns_in-none : (c : CircuitData) (names : List (List ℕ)) (machine : Option MachineData) → AssignsIn c names machine machine
-assigns_in-none c names None = refl
-assigns_in-none c names (Some machine) = (machine, refl, assigns-none c names machine)
-
--- one more of the names was placed
-assigns-more : (c : CircuitData) (names : List (List ℕ)) (name : List ℕ) (value : Tern) (old mid new : MachineData) →
-    Contains names name → Assigns c names old mid → PutsNode c.graph (node_named c name) value mid new → Assigns c names old new
-assigns-more c names name value old mid new named so_far puts = record {
+-- one node more was placed
+pub places-more : (g : GraphData) (Concerned : List HeldPart → ℕ → Type 0) (node : ℕ) (value : Tern) (old mid new : MachineData) →
+    ((parts : List HeldPart) (k : ℕ) → Concerns parts k node → Concerned parts k) → PlacesSome g Concerned old mid → PutsNode g node value mid new →
+    PlacesSome g Concerned old new
+places-more g Concerned node value old mid new concerned so_far puts = record {
   covers = λ covers. puts.covers (so_far.covers covers);
-  known = λ kept known. placing_keeps_texts c.graph kept (node_named c name) value mid new puts.places (so_far.known kept known);
+  known = λ kept known. placing_keeps_texts g kept node value mid new puts.places (so_far.known kept known);
   last = puts.places.last ∙ so_far.last;
   parts = puts.places.parts ∙ so_far.parts;
   moves = puts.places.moves ∙ so_far.moves;
   marks = λ k marked. marked_by k (puts.places.only k marked);
-  unplaced = λ covers inputs. puts.unplaced (no_member c.graph mid (so_far.covers covers) (node_named c name) (input_of inputs))
-      ∙ so_far.unplaced covers inputs;
 }
   where
-    marked_by : (k : ℕ) → IsMarked mid.marks k ⊎ Concerns mid.parts k (node_named c name) → IsMarked old.marks k ⊎ ConcernsNamed c names old.parts k
-    marked_by k (inl before) = so_far.marks k before
-    marked_by k (inr concerns) = inr (record {
-      name = name;
-      named = named;
-      concerns = subst (λ (parts : List HeldPart). Concerns parts k (node_named c name)) so_far.parts concerns;
-    })
+    marked_by : (k : ℕ) → IsMarked mid.marks k ⊎ Concerns mid.parts k node → IsMarked old.marks k ⊎ Concerned old.parts k
+    marked_by k (inl was) = so_far.marks k was
+    marked_by k (inr concerns) = inr (concerned old.parts k (subst (λ (parts : List HeldPart). Concerns parts k node) so_far.parts concerns))
 
-    input_of : All (λ other. level_of c.graph (node_named c other) ≡ INPUT_LEVEL) names → level_of c.graph (node_named c name) ≡ INPUT_LEVEL
-    input_of inputs = All-contains (λ (other : List ℕ). level_of c.graph (node_named c other) ≡ INPUT_LEVEL) names name inputs named
+-- nothing was placed yet
+assigns-none : (g : GraphData) (given : List ℕ) (machine : MachineData) → Assigns g given machine machine
+assigns-none g given machine = record { some = places-none g (ConcernsGiven given) machine; unplaced = λ covers inputs. refl }
 
-pub assigns_in-more : (c : CircuitData) (names : List (List ℕ)) (name : List ℕ) (value : Tern) (old mid new : Option MachineData) →
-    Contains names name → AssignsIn c names old mid → PutsIn c.graph (node_named c name) value mid new → AssignsIn c names old new
-assigns_in-more c names name value None mid new named none puts =
-    subst (λ (m : Option MachineData). PutsIn c.graph (node_named c name) value m new) none puts
-assigns_in-more c names name value (Some old) mid new named (between, there, so_far) puts =
-    let (next, is, put) = subst (λ (m : Option MachineData). PutsIn c.graph (node_named c name) value m new) there puts in
-    (next, is, assigns-more c names name value old between next named so_far put)
+pub assigns_in-none : (g : GraphData) (given : List ℕ) (machine : Option MachineData) → AssignsIn g given machine machine
+assigns_in-none g given None = refl
+assigns_in-none g given (Some machine) = (machine, refl, assigns-none g given machine)
+
+-- one more of the nodes was placed
+assigns-more : (g : GraphData) (given : List ℕ) (node : ℕ) (value : Tern) (old mid new : MachineData) → Contains given node →
+    Assigns g given old mid → PutsNode g node value mid new → Assigns g given old new
+assigns-more g given node value old mid new among so_far puts = record {
+  some = places-more g (ConcernsGiven given) node value old mid new (λ parts k concerns. record { node = node; among = among; concerns = concerns })
+      so_far.some puts;
+  unplaced = λ covers inputs. puts.unplaced (no_member g mid (so_far.covers covers) node (input_of inputs)) ∙ so_far.unplaced covers inputs;
+}
+  where
+    input_of : All (λ other. level_of g other ≡ INPUT_LEVEL) given → level_of g node ≡ INPUT_LEVEL
+    input_of inputs = All-contains (λ (other : ℕ). level_of g other ≡ INPUT_LEVEL) given node inputs among
+
+pub assigns_in-more : (g : GraphData) (given : List ℕ) (node : ℕ) (value : Tern) (old mid new : Option MachineData) → Contains given node →
+    AssignsIn g given old mid → PutsIn g node value mid new → AssignsIn g given old new
+assigns_in-more g given node value None mid new among none puts = subst (λ (m : Option MachineData). PutsIn g node value m new) none puts
+assigns_in-more g given node value (Some old) mid new among (between, there, so_far) puts =
+    let (next, is, put) = subst (λ (m : Option MachineData). PutsIn g node value m new) there puts in
+    (next, is, assigns-more g given node value old between next among so_far put)
 
 -- no clock ticked yet
 ticks-none : (g : GraphData) (clocks : List ClockData) (machine : MachineData) → Ticks g clocks machine machine
@@ -192,46 +167,46 @@ serves_there g kept states new next there same covers known =
     subst (λ (m : Option MachineData). IfSome m (Serves g states kept)) (sym there)
     (record { covers = covers; same = subst (λ (m : Option MachineData). IfSome m (λ machine. machine.state ≡ states)) there same; known = known })
 
--- the machine serves after named nodes were placed
-serves-assigned : (c : CircuitData) (names : List (List ℕ)) (kept : List GroupTextData) (before states : List Tern) (old new : Option MachineData) →
-    IfSome old (Serves c.graph before kept) → AssignsIn c names old new → IfSome new (λ machine. machine.state ≡ states) →
-    IfSome new (Serves c.graph states kept)
-serves-assigned c names kept before states None new serves none same =
-    subst (λ (m : Option MachineData). IfSome m (Serves c.graph states kept)) (sym none) tt
-serves-assigned c names kept before states (Some machine) new serves (next, there, assigns) same =
-    serves_there c.graph kept states new next there same (assigns.covers serves.covers) (assigns.known kept serves.known)
+-- the machine serves after nodes were placed
+serves-assigned : (g : GraphData) (given : List ℕ) (kept : List GroupTextData) (before states : List Tern) (old new : Option MachineData) →
+    IfSome old (Serves g before kept) → AssignsIn g given old new → IfSome new (λ machine. machine.state ≡ states) → IfSome new (Serves g states kept)
+serves-assigned g given kept before states None new serves none same =
+    subst (λ (m : Option MachineData). IfSome m (Serves g states kept)) (sym none) tt
+serves-assigned g given kept before states (Some machine) new serves (next, there, assigns) same =
+    serves_there g kept states new next there same (assigns.covers serves.covers) (assigns.known kept serves.known)
 
 -- the session with the state and the machine of this stage
 abbrev pub placed_on : HeldSession → StageData → HeldSession
 placed_on session stage = record { core = record session.core { state = stage.state }; machine = stage.machine }
 
--- a session is one after named nodes past the rails were placed
-pub held-assigned : (session : HeldSession) (list : List (List ℕ × Tern)) (stage : StageData) → All (λ item. RAILS ≤ node_named session.core.circuit item.0) list →
-    stage.state ≡ assigned session.core.circuit session.core.state list →
-    AssignsIn session.core.circuit (map (λ item. item.0) list) session.machine stage.machine → IfSome stage.machine (λ machine. machine.state ≡ stage.state) →
+-- a session is one after nodes past the rails were placed
+pub held-assigned : (session : HeldSession) (list : List (ℕ × Tern)) (stage : StageData) → All (λ pair. RAILS ≤ pair.0) list →
+    stage.state ≡ assigned session.core.state list →
+    AssignsIn session.core.circuit.graph (map (λ pair. pair.0) list) session.machine stage.machine →
+    IfSome stage.machine (λ machine. machine.state ≡ stage.state) →
     IsHeldSession session → IsHeldSession (placed_on session stage)
 held-assigned session list stage past moved placed same held =
     let circuit = session.core.circuit in
     let ready = held.core.ready in
     record {
       core = IsSession-state session.core stage.state
-          (rw moved (length-assigned circuit list session.core.state ∙ ready.states))
-          (rw moved (sound-assigned circuit list session.core.state past ready.sound)) held.core;
-      machine = serves-assigned circuit (map (λ item. item.0) list) session.core.kept session.core.state stage.state session.machine stage.machine
+          (rw moved (length-assigned list session.core.state ∙ ready.states))
+          (rw moved (sound-assigned list session.core.state past ready.sound)) held.core;
+      machine = serves-assigned circuit.graph (map (λ pair. pair.0) list) session.core.kept session.core.state stage.state session.machine stage.machine
           held.machine placed same;
     }
 
 -- what the machine then is
-pub places-assigned : (c : CircuitData) (names : List (List ℕ)) (old new : Option MachineData) → AssignsIn c names old new → PlacesIn c names old new
-places-assigned c names None new none = none
-places-assigned c names (Some machine) new (next, there, assigns) =
+pub places-assigned : (g : GraphData) (given : List ℕ) (old new : Option MachineData) → AssignsIn g given old new → PlacesIn given old new
+places-assigned g given None new none = none
+places-assigned g given (Some machine) new (next, there, assigns) =
     record { machine = next; there = there; parts = assigns.parts; moves = assigns.moves; marks = assigns.marks }
 
 -- if all of the nodes are input nodes no member was placed
-pub unplaced-assigned : (c : CircuitData) (names : List (List ℕ)) (old new : Option MachineData) → IfSome old (Covers c.graph) → AssignsIn c names old new →
-    All (λ name. level_of c.graph (node_named c name) ≡ INPUT_LEVEL) names → placed_of new ≡ placed_of old
-unplaced-assigned c names None new covers none inputs = ap placed_of none
-unplaced-assigned c names (Some machine) new covers (next, there, assigns) inputs = ap placed_of there ∙ assigns.unplaced covers inputs
+pub unplaced-assigned : (g : GraphData) (given : List ℕ) (old new : Option MachineData) → IfSome old (Covers g) → AssignsIn g given old new →
+    All (λ node. level_of g node ≡ INPUT_LEVEL) given → placed_of new ≡ placed_of old
+unplaced-assigned g given None new covers none inputs = ap placed_of none
+unplaced-assigned g given (Some machine) new covers (next, there, assigns) inputs = ap placed_of there ∙ assigns.unplaced covers inputs
 
 -- a machine that serves covers
 pub covers-serves : (g : GraphData) (states : List Tern) (kept : List GroupTextData) (machine : Option MachineData) → IfSome machine (Serves g states kept) →

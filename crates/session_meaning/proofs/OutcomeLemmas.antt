@@ -1,21 +1,22 @@
 -- Outcomes: a command whose effect was done, and whose lines were heard or a part of them, is obeyed; and what a build before it comes to.
 use Rattle.std.proofs.Common.{◌≡◌, ℕ, ◌<◌, Bool, true, false, List, [], ◌++◌, None, Ok, Err, refl, sym, ap, subst, ◌∙◌, inl, inr, append-nil}
-use Rattle.std.specs.Prelude.{Result, OnOk, IfErr}
+use Rattle.std.specs.Prelude.{Option, Result, OnOk, IfErr}
 use Rattle.path_meaning.specs.Graphs.{nodes}
 use Rattle.circuit_texts.specs.declared.texts.BuildFault.TheVariants as build
 use Rattle.group_text.specs.Texts.{GroupTextData}
 use Rattle.script_lang.specs.declared.command.Command.{Command}
 use Rattle.script_lang.specs.declared.command.Command.TheVariants as family
 use Rattle.script_lang.specs.declared.command.Run.TheVariants.{Cycle}
+use Rattle.session_meaning.specs.declared.fault.Refusal.{Refusal}
 use Rattle.session_meaning.specs.declared.fault.ApplyFault.{ApplyFault}
 use Rattle.session_meaning.specs.declared.fault.ApplyFault.TheVariants.{Refused, GroupNodes, GroupSwitches, WriteFault, NoMemory}
 use Rattle.session_meaning.specs.Sessions.{SessionData, HeldSession, places_of}
 use Rattle.session_meaning.specs.Refusals.{refusal_of}
-use Rattle.session_meaning.specs.Preparing.{builds, with_present, IsBuild, BuildsIf, Prepares, NamesNode}
+use Rattle.session_meaning.specs.Preparing.{builds, with_present, IsBuild, IsFaultFor, BuildsIf, Prepares, NamesNode}
 use Rattle.told_lines.specs.Lines.{Line, Told}
 use Rattle.session_meaning.specs.Effects.{Effect, places_in}
-use Rattle.session_meaning.specs.Sinks.{IsSinkFault, refusals_sent, refusals_with}
-use Rattle.session_meaning.specs.Outcomes.{Performs, DoesPart, Begins, Obeys, Sent, TakesBeats}
+use Rattle.session_meaning.specs.Sinks.{IsSinkFault, faults_with, refusals_sent, refusals_with}
+use Rattle.session_meaning.specs.Outcomes.{Performs, DoesPart, Begins, Obeys, Quietly, Sent, TakesBeats, IsDoneAndSent}
 use Rattle.session_meaning.specs.Stages.{Readied}
 use Rattle.circuit_texts.proofs.SizeLemmas.{told_node}
 
@@ -68,6 +69,30 @@ still_performs old new command lines still allowed effect =
 
 -- ---- what is obeyed
 
+-- a command that isn't done for its refusal, or for lack of memory, changes nothing
+pub fault_quiet : (session : HeldSession) (command : Command) (fault : ApplyFault) → IsFaultFor (refusal_of session.core command) fault →
+    Quietly session command session (Err fault)
+fault_quiet session command (Refused refusal) is = (is, refl)
+fault_quiet session command (GroupNodes node count) is = absurd is
+fault_quiet session command (GroupSwitches node count) is = absurd is
+fault_quiet session command WriteFault is = absurd is
+fault_quiet session command NoMemory is = refl
+
+-- the same if the data are as before, and the fault is given by another name
+pub fault_kept : (session new : HeldSession) (command : Command) (fault told : ApplyFault) → new ≡ session → told ≡ fault →
+    IsFaultFor (refusal_of session.core command) fault → Quietly session command new (Err told)
+fault_kept session new command fault told same tells is =
+    subst (λ (other : ApplyFault). Quietly session command new (Err other)) (sym tells)
+    (subst (λ (other : HeldSession). Quietly session command other (Err fault)) (sym same) (fault_quiet session command fault is))
+
+-- it is no fault of the hearer
+pub fault_uncounted : (found : Option Refusal) (fault : ApplyFault) (faults : ℕ) → IsFaultFor found fault → faults ≡ faults_with faults fault
+fault_uncounted found (Refused refusal) faults is = refl
+fault_uncounted found (GroupNodes node count) faults is = absurd is
+fault_uncounted found (GroupSwitches node count) faults is = absurd is
+fault_uncounted found WriteFault faults is = absurd is
+fault_uncounted found NoMemory faults is = refl
+
 module _ {H : Type 0} (hear : H → Told → H) (part : H → Told → H → Type 0) where
   -- the hearer ended a command that was begun: the command is obeyed
   begun_obeys : (old new : HeldSession) (command : Command) (before after : H) (asked told : List GroupTextData) (refusals now : ℕ) (fault : ApplyFault) →
@@ -101,16 +126,28 @@ module _ {H : Type 0} (hear : H → Told → H) (part : H → Told → H → Typ
       sent_obeys old new command lines [] before after texts texts refusals now result
       (still_performs old.core new.core command lines still allowed effect) done (sym (append-nil texts)) sent cause counted
 
+  -- a command that isn't done for its refusal, or for lack of memory, is obeyed so
+  pub fault_obeys : (session : HeldSession) (command : Command) (before : H) (texts : List GroupTextData) (refusals : ℕ) (fault : ApplyFault) →
+      IsFaultFor (refusal_of session.core command) fault → Obeys hear part session command session before before texts texts refusals refusals (Err fault)
+  fault_obeys session command before texts refusals (Refused refusal) is =
+      (record { cause = is; keeps = record { same = refl; unheard = refl; unasked = refl } }, refl)
+  fault_obeys session command before texts refusals (GroupNodes node count) is = absurd is
+  fault_obeys session command before texts refusals (GroupSwitches node count) is = absurd is
+  fault_obeys session command before texts refusals WriteFault is = absurd is
+  fault_obeys session command before texts refusals NoMemory is =
+      inl (record { core = refl; machine = refl; cut_off = inl (refl, refl); unheard = refl }, refl)
+
   -- and where the circuit was built before it
-  pub ready_obeys : (old mid new : HeldSession) (command : Command) (lines : List Line) (before after : H) (asked told : List GroupTextData)
-      (refusals now : ℕ) (result : Result (Unit {0}) ApplyFault) → builds command ≡ true → refusal_of old.core command ≡ None →
-      Readied old mid asked told → Effect mid.core command new.core lines → DoesPart mid.core command new.core →
-      Sent hear part before after lines result → IfErr result IsSinkFault → now ≡ refusals_sent refusals result →
-      Obeys hear part old command new before after asked told refusals now result
+  pub ready_obeys : (old mid new : HeldSession) (command : Command) (before after : H) (asked told : List GroupTextData) (refusals now : ℕ)
+      (result : Result (Unit {0}) ApplyFault) → builds command ≡ true → refusal_of old.core command ≡ None →
+      ((lines : List Line) → Effect mid.core command new.core lines → DoesPart mid.core command new.core) → Readied old mid asked told →
+      IsDoneAndSent (λ core next. Effect core command next) hear part mid.core new.core before after result → IfErr result IsSinkFault →
+      now ≡ refusals_sent refusals result → Obeys hear part old command new before after asked told refusals now result
   unfolding built_performs
-  ready_obeys old mid new command lines before after asked told refusals now result building allowed ready effect done sent cause counted =
-      sent_obeys old new command lines ready.texts before after asked told refusals now result
-      (built_performs old.core mid.core new.core command lines ready.texts building ready.build allowed effect) done ready.analysed sent cause counted
+  ready_obeys old mid new command before after asked told refusals now result building allowed part_of ready sent cause counted =
+      sent_obeys old new command sent.lines ready.texts before after asked told refusals now result
+      (built_performs old.core mid.core new.core command sent.lines ready.texts building ready.build allowed sent.done) (part_of sent.lines sent.done)
+      ready.analysed sent.sent cause counted
 
   -- phases at the places of a cycle were done after a build, or a prefix of them: the cycle is obeyed
   pub cycle_obeys : (old mid new : HeldSession) (times : ℕ) (before after : H) (asked told : List GroupTextData) (refusals now : ℕ)

@@ -1,11 +1,10 @@
 -- Refusals: what it says of each item that there is none among them.
 use Rattle.std.proofs.Common.{◌≡◌, ℕ, true, List, [], ◌∷◌, All, Option, Some, None, is_some, refl}
 use Rattle.std.proofs.lemmas.List.Elements.{All-nil, All-cons, All-weaker}
-use Rattle.ternary.specs.declared.tern.Tern.{Tern}
 use Rattle.netlist.specs.Names.{node_of}
 use Rattle.netlist.specs.Circuits.{CircuitData}
 use Rattle.session_meaning.specs.declared.fault.Refusal.{Refusal}
-use Rattle.session_meaning.specs.Refusals.{first_refusal, or_else, known_refusal, set_refusal, charge_refusal}
+use Rattle.session_meaning.specs.Refusals.{first_refusal, or_else, set_refusal}
 
 -- each of two refusals is none if the first of them is
 pub or_else-none : (first second : Option Refusal) → or_else first second ≡ None → (first ≡ None) × (second ≡ None)
@@ -24,45 +23,14 @@ none_of_all {X} f (item ∷ items) none =
     let both = first_refusal-none f item items none in
     All-cons (λ item. f item ≡ None) item items both.0 (none_of_all f items both.1)
 
--- a name that isn't refused is in use
-pub is_some-known : (found : Option ℕ) → known_refusal found ≡ None → is_some found ≡ true
-is_some-known None none = absurd (cc)
-is_some-known (Some node) none = refl
-
--- so is one that is set
+-- a name that is set is in use
 pub is_some-set : (c : CircuitData) (found : Option ℕ) → set_refusal c found ≡ None → is_some found ≡ true
 is_some-set c None none = absurd (cc)
 is_some-set c (Some node) none = refl
 
--- so is one that is charged
-pub is_some-charged : (c : CircuitData) (found : Option ℕ) → charge_refusal c found ≡ None → is_some found ≡ true
-is_some-charged c None none = absurd (cc)
-is_some-charged c (Some node) none = refl
-
--- the names of a `watch` or a `show` that isn't refused are in use
-pub names_known : (c : CircuitData) (names : List (List ℕ)) → first_refusal (λ name. known_refusal (node_of c.names name)) names ≡ None →
-    All (λ name. is_some (node_of c.names name) ≡ true) names
-names_known c names none =
-    All-weaker (λ name. known_refusal (node_of c.names name) ≡ None) (λ name. is_some (node_of c.names name) ≡ true)
-    (λ name. is_some-known (node_of c.names name)) names (none_of_all (λ name. known_refusal (node_of c.names name)) names none)
-
--- and those of a list of names with values whose names are set
+-- so are those of a list of names with values whose names are set
 pub set_known : {V : Type 0} (c : CircuitData) (list : List (List ℕ × V)) → first_refusal (λ item. set_refusal c (node_of c.names item.0)) list ≡ None →
     All (λ item. is_some (node_of c.names item.0) ≡ true) list
 set_known {V} c list none =
     All-weaker (λ (item : List ℕ × V). set_refusal c (node_of c.names item.0) ≡ None) (λ item. is_some (node_of c.names item.0) ≡ true)
     (λ item. is_some-set c (node_of c.names item.0)) list (none_of_all (λ item. set_refusal c (node_of c.names item.0)) list none)
-
--- and those of a `charge` that isn't refused
-pub charged_known : (c : CircuitData) (list : List (List ℕ × Tern)) → first_refusal (λ item. charge_refusal c (node_of c.names item.0)) list ≡ None →
-    All (λ item. is_some (node_of c.names item.0) ≡ true) list
-charged_known c list none =
-    All-weaker (λ (item : List ℕ × Tern). charge_refusal c (node_of c.names item.0) ≡ None) (λ item. is_some (node_of c.names item.0) ≡ true)
-    (λ item. is_some-charged c (node_of c.names item.0)) list (none_of_all (λ item. charge_refusal c (node_of c.names item.0)) list none)
-
--- and those of an `expect` that isn't refused
-pub expected_known : (c : CircuitData) (list : List (List ℕ × Tern)) → first_refusal (λ item. known_refusal (node_of c.names item.0)) list ≡ None →
-    All (λ item. is_some (node_of c.names item.0) ≡ true) list
-expected_known c list none =
-    All-weaker (λ (item : List ℕ × Tern). known_refusal (node_of c.names item.0) ≡ None) (λ item. is_some (node_of c.names item.0) ≡ true)
-    (λ item. is_some-known (node_of c.names item.0)) list (none_of_all (λ item. known_refusal (node_of c.names item.0)) list none)

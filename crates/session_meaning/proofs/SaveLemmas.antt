@@ -1,5 +1,5 @@
 -- What is kept under names stays fit for a circuit that grows, what comes back is a state of it, and what was saved comes back.
-use Rattle.std.proofs.Common.{◌≡◌, ◌≢◌, ℕ, zero, suc, ◌+◌, ◌<◌, ◌≤◌, Bool, true, false, not, cond, List, [], ◌∷◌, ◌++◌, length, get_or, take, drop, nat_lt, Option, Some, None, IfSome, if◌then◌else◌, refl, sym, ap, subst, ◌∙◌, arith, append_assoc, append-nil, length-append, length-drop}
+use Rattle.std.proofs.Common.{◌≡◌, ◌≢◌, ℕ, zero, suc, ◌+◌, ◌<◌, ◌≤◌, Bool, true, false, not, cond, List, [], ◌∷◌, ◌++◌, All, length, get_or, take, drop, nat_lt, Option, Some, None, IfSome, if◌then◌else◌, refl, sym, ap, subst, ◌∙◌, arith, append_assoc, append-nil, length-append, length-drop}
 use Rattle.std.specs.Prelude.{find, option_map, position, slice_set, unwrap_or}
 use Rattle.std.specs.List.{position_or_len}
 use Rattle.std.proofs.lemmas.Bool.Decides.{nat_tests}
@@ -13,6 +13,8 @@ use Rattle.path_meaning.specs.Graphs.{nodes}
 use Rattle.path_meaning.specs.Rails.{IsSound}
 use Rattle.path_meaning.specs.Switching.{state_at}
 use Rattle.path_meaning.specs.declared.TheConstants.{GND, VDD, RAILS}
+use Rattle.node_words.specs.Vectors.{AreWithin}
+use Rattle.session_meaning.specs.declared.TheConstants.{MOST_WATCHED}
 use Rattle.session_meaning.specs.Saves.{is_under, kept_under, with_save, back_to, state_back, FitsSave, AreSaves}
 use Rattle.session_meaning.specs.Sessions.{SessionData, IsReady, IsSession}
 
@@ -62,10 +64,12 @@ fits-present session ready =
     let railed = ready.netlist.railed in
     record { few = omega (arith, counted); railed = omega (arith, counted, railed); sound = ready.sound }
 
--- a session stays one where other states are kept that fit
-pub IsSession-saves : (session : SessionData) (saves : List (List ℕ × List Tern)) → AreSaves (nodes session.circuit.graph) saves → IsSession session →
-    IsSession (record session { saves = saves })
-IsSession-saves session saves fit is = record {
+-- a session stays one with nodes that are watched, vectors, and kept states, that are fit for its circuit
+pub IsSession-setup : (session : SessionData) (watched : List ℕ) (vectors : List (List ℕ × List ℕ)) (saves : List (List ℕ × List Tern)) →
+    All (λ node. node < nodes session.circuit.graph) watched → length watched ≤ MOST_WATCHED → AreWithin (nodes session.circuit.graph) vectors →
+    AreSaves (nodes session.circuit.graph) saves → IsSession session →
+    IsSession (record session { watched = watched; vectors = vectors; saves = saves })
+IsSession-setup session watched vectors saves among few within fit is = record {
   ready = record {
     netlist = is.ready.netlist;
     states = is.ready.states;
@@ -73,14 +77,20 @@ IsSession-saves session saves fit is = record {
     free = is.ready.free;
     saved = fit;
   };
-  watched = is.watched;
-  few = is.few;
+  watched = among;
+  few = few;
   clocks = is.clocks;
   places = is.places;
   some = is.some;
+  vectors = within;
   low = is.low;
   high = is.high;
 }
+
+-- a session stays one where other states are kept that fit
+pub IsSession-saves : (session : SessionData) (saves : List (List ℕ × List Tern)) → AreSaves (nodes session.circuit.graph) saves → IsSession session →
+    IsSession (record session { saves = saves })
+IsSession-saves session saves fit is = IsSession-setup session session.watched session.vectors saves is.watched is.few is.vectors fit is
 
 -- a state comes back with one for each node
 pub length-back : (count : ℕ) (found : Option (List Tern)) (state : List Tern) → length state ≡ count → IfSome found (FitsSave count) →

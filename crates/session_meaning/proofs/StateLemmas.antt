@@ -19,22 +19,21 @@ use Rattle.netlist.specs.Names.{node_of}
 use Rattle.netlist.specs.Circuits.{CircuitData, IsCircuit}
 use Rattle.netlist.specs.Edits.{node_named}
 use Rattle.session_meaning.specs.declared.fault.Refusal.{Refusal}
-use Rattle.session_meaning.specs.declared.fault.Refusal.TheVariants.{Rail, NotInput, NotStore}
+use Rattle.session_meaning.specs.declared.fault.Refusal.TheVariants.{Rail, NotInput}
 use Rattle.session_meaning.specs.Sessions.{ClockData}
-use Rattle.session_meaning.specs.Refusals.{first_refusal, set_refusal, charge_refusal, is_input}
+use Rattle.session_meaning.specs.Refusals.{first_refusal, set_refusal, is_input}
 use Rattle.session_meaning.specs.Effects.{assigned, clock_of, states_with}
 use Rattle.session_meaning.proofs.RefusalLemmas.{none_of_all}
 
 -- ---- one more of them
 
 -- one more assignment is done
-pub assigned-more : (c : CircuitData) (list : List (List ℕ × Tern)) (place : ℕ) (item : List ℕ × Tern) (state new : List Tern) → place < length list →
-    item ≡ get_or list place item → new ≡ slice_set state (node_named c item.0) item.1 →
-    assigned c new (drop (place + 1) list) ≡ assigned c state (drop place list)
-assigned-more c list place item state new inside is set =
-    ap (λ (now : List Tern). assigned c now (drop (place + 1) list)) set
-    ∙ sym (ap (assigned c state) (drop_more list place item inside)
-    ∙ ap (λ (first : List ℕ × Tern). assigned c state (first ∷ drop (place + 1) list)) (sym is))
+pub assigned-more : (list : List (ℕ × Tern)) (place : ℕ) (pair : ℕ × Tern) (state new : List Tern) → place < length list →
+    pair ≡ get_or list place pair → new ≡ slice_set state pair.0 pair.1 → assigned new (drop (place + 1) list) ≡ assigned state (drop place list)
+assigned-more list place pair state new inside is set =
+    ap (λ (now : List Tern). assigned now (drop (place + 1) list)) set
+    ∙ sym (ap (assigned state) (drop_more list place pair inside)
+    ∙ ap (λ (first : ℕ × Tern). assigned state (first ∷ drop (place + 1) list)) (sym is))
 
 -- one more clock is put
 pub states_with-more : (clocks : List ClockData) (k place : ℕ) (clock : ClockData) (state new : List Tern) → k < length clocks →
@@ -48,10 +47,9 @@ states_with-more clocks k place clock state new inside is set =
 -- ---- their number
 
 -- assignments keep the number of states
-pub length-assigned : (c : CircuitData) (list : List (List ℕ × Tern)) (state : List Tern) → length (assigned c state list) ≡ length state
-length-assigned c [] state = refl
-length-assigned c (item ∷ list) state =
-    length-assigned c list (slice_set state (node_named c item.0) item.1) ∙ length-set state (node_named c item.0) item.1
+pub length-assigned : (list : List (ℕ × Tern)) (state : List Tern) → length (assigned state list) ≡ length state
+length-assigned [] state = refl
+length-assigned (pair ∷ list) state = length-assigned list (slice_set state pair.0 pair.1) ∙ length-set state pair.0 pair.1
 
 -- so do clocks
 pub length-states_with : (clocks : List ClockData) (place : ℕ) (state : List Tern) → length (states_with clocks place state) ≡ length state
@@ -98,24 +96,12 @@ past_set : (c : CircuitData) (found : Option ℕ) → set_refusal c found ≡ No
 past_set c None none = absurd (cc)
 past_set c (Some node) none = past_rails node (if is_input c node then None else Some NotInput) none
 
--- nor one that is charged
-past_charged : (c : CircuitData) (found : Option ℕ) → charge_refusal c found ≡ None → RAILS ≤ unwrap_or found 0
-past_charged c None none = absurd (cc)
-past_charged c (Some node) none = past_rails node (if is_input c node then Some NotStore else None) none
-
 -- so are all of a list that is set
 pub set_past : {V : Type 0} (c : CircuitData) (list : List (List ℕ × V)) → first_refusal (λ item. set_refusal c (node_of c.names item.0)) list ≡ None →
     All (λ item. RAILS ≤ node_named c item.0) list
 set_past {V} c list none =
     All-weaker (λ (item : List ℕ × V). set_refusal c (node_of c.names item.0) ≡ None) (λ item. RAILS ≤ node_named c item.0)
     (λ item. past_set c (node_of c.names item.0)) list (none_of_all (λ item. set_refusal c (node_of c.names item.0)) list none)
-
--- and of one that is charged
-pub charged_past : (c : CircuitData) (list : List (List ℕ × Tern)) → first_refusal (λ item. charge_refusal c (node_of c.names item.0)) list ≡ None →
-    All (λ item. RAILS ≤ node_named c item.0) list
-charged_past c list none =
-    All-weaker (λ (item : List ℕ × Tern). charge_refusal c (node_of c.names item.0) ≡ None) (λ item. RAILS ≤ node_named c item.0)
-    (λ item. past_charged c (node_of c.names item.0)) list (none_of_all (λ item. charge_refusal c (node_of c.names item.0)) list none)
 
 -- the clocks of names past the rails have such nodes
 pub clocks_past : (c : CircuitData) (list : List (List ℕ × List Tern)) → All (λ item. RAILS ≤ node_named c item.0) list →
@@ -127,13 +113,12 @@ clocks_past c (item ∷ list) past =
     (clocks_past c list (All-tail (λ (other : List ℕ × List Tern). RAILS ≤ node_named c other.0) item list past))
 
 -- assignments past the rails keep a state sound
-pub sound-assigned : (c : CircuitData) (list : List (List ℕ × Tern)) (state : List Tern) → All (λ item. RAILS ≤ node_named c item.0) list →
-    IsSound state → IsSound (assigned c state list)
-sound-assigned c [] state past sound = sound
-sound-assigned c (item ∷ list) state past sound =
-    sound-assigned c list (slice_set state (node_named c item.0) item.1)
-    (All-tail (λ (other : List ℕ × Tern). RAILS ≤ node_named c other.0) item list past)
-    (sound-set state (node_named c item.0) item.1 (All-head (λ (other : List ℕ × Tern). RAILS ≤ node_named c other.0) item list past) sound)
+pub sound-assigned : (list : List (ℕ × Tern)) (state : List Tern) → All (λ pair. RAILS ≤ pair.0) list → IsSound state →
+    IsSound (assigned state list)
+sound-assigned [] state past sound = sound
+sound-assigned (pair ∷ list) state past sound =
+    sound-assigned list (slice_set state pair.0 pair.1) (All-tail (λ (other : ℕ × Tern). RAILS ≤ other.0) pair list past)
+    (sound-set state pair.0 pair.1 (All-head (λ (other : ℕ × Tern). RAILS ≤ other.0) pair list past) sound)
 
 -- so do clocks
 pub sound-states_with : (clocks : List ClockData) (place : ℕ) (state : List Tern) → All (λ clock. RAILS ≤ clock.node) clocks → IsSound state →

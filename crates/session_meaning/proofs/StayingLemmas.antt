@@ -4,7 +4,6 @@ use Rattle.path_meaning.specs.Graphs.{GraphData}
 use Rattle.group_text.specs.Texts.{GroupTextData}
 use Rattle.group_analysis.specs.Using.{used_texts}
 use Rattle.machine_laws.specs.Machines.{MachineData}
-use Rattle.netlist.specs.Circuits.{CircuitData}
 use Rattle.session_meaning.specs.Sessions.{HeldSession, ClockData}
 use Rattle.session_meaning.specs.Machines.{AreAmong, IsHeldSession, kept_in, last_in}
 use Rattle.session_meaning.specs.Stages.{StageData, AssignsIn, TicksIn, MovesBy}
@@ -49,10 +48,10 @@ pub last-moved : (Leads : MachineData → MachineData → Type 0) (old new : Sta
     moves.after.last ≡ moves.before.last → last_in new.machine ≡ last_in old.machine
 last-moved Leads old new moves same = ap last_in moves.there ∙ same ∙ ap last_in (sym moves.was)
 
--- where named nodes are placed in it
-pub last-assigned : (c : CircuitData) (names : List (List ℕ)) (old new : Option MachineData) → AssignsIn c names old new → last_in new ≡ last_in old
-last-assigned c names None new none = ap last_in none
-last-assigned c names (Some machine) new (next, there, assigns) = ap last_in there ∙ assigns.last
+-- where nodes are placed in it
+pub last-assigned : (g : GraphData) (given : List ℕ) (old new : Option MachineData) → AssignsIn g given old new → last_in new ≡ last_in old
+last-assigned g given None new none = ap last_in none
+last-assigned g given (Some machine) new (next, there, assigns) = ap last_in there ∙ assigns.last
 
 -- and where clocks' nodes are
 pub last-ticked : (g : GraphData) (clocks : List ClockData) (old new : Option MachineData) → TicksIn g clocks old new → last_in new ≡ last_in old

@@ -1,10 +1,10 @@
 -- The effect of each command that isn't refused: the new data, and the lines that are told.
 -- A unit step gives every node its steady state by unblocked paths, all at once; a phase settles by such steps.
 -- After Bryant, "A Switch-Level Model and Simulator for MOS Digital Systems", 1984; the commands are this project's own.
-use Rattle.std.specs.Prelude.{◌≡◌, ℕ, Bool, true, false, ◌||◌, ◌+◌, ◌*◌, ◌-◌, ◌%◌, ◌^◌, min, List, [], ◌∷◌, ◌++◌, length, replicate, map, filter_map, slice_set, Option, Some, None, if◌then◌else◌}
-use Rattle.std.specs.List.{range_with_len, list_any}
+use Rattle.std.specs.Prelude.{◌≡◌, ℕ, Bool, true, false, ◌||◌, ◌+◌, ◌*◌, ◌-◌, ◌%◌, ◌^◌, min, List, [], ◌∷◌, ◌++◌, length, replicate, map, filter_map, slice_set, Option, Some, None, Result, Ok, Err, if◌then◌else◌}
+use Rattle.std.specs.List.{flat_map, list_all, list_any, range_with_len}
 use Rattle.ternary.specs.declared.tern.Tern.{Tern}
-use Rattle.ternary.specs.declared.tern.Tern.TheVariants.{Zero, One, Unk}
+use Rattle.ternary.specs.declared.tern.Tern.TheVariants.{Unk}
 use Rattle.path_meaning.specs.Switching.{state_at}
 use Rattle.path_meaning.specs.Step.{IsStep}
 use Rattle.oscillation_x.specs.Settling.{Settles}
@@ -14,6 +14,11 @@ use Rattle.path_meaning.specs.Graphs.{nodes}
 use Rattle.group_text.specs.FirstTexts.{first_texts}
 use Rattle.group_text.specs.Texts.{GroupTextData}
 use Rattle.circuit_texts.specs.Building.{HasTexts}
+use Rattle.vector_values.specs.Values.{Letter}
+use Rattle.script_lang.specs.declared.value.Value.{Value}
+use Rattle.node_words.specs.Vectors.{with_vector}
+use Rattle.node_values.specs.declared.fault.GivenFault.{GivenFault}
+use Rattle.node_values.specs.Givings.{letters_given, states_given}
 use Rattle.script_lang.specs.declared.command.Command.{Command}
 use Rattle.script_lang.specs.declared.command.Command.TheVariants as family
 use Rattle.script_lang.specs.declared.command.Edit.{Edit}
@@ -21,25 +26,36 @@ use Rattle.script_lang.specs.declared.command.Edit.TheVariants.{Input, Store, Ad
 use Rattle.script_lang.specs.declared.command.Give.{Give}
 use Rattle.script_lang.specs.declared.command.Give.TheVariants.{Set, Charge, Back}
 use Rattle.script_lang.specs.declared.command.Setup.{Setup}
-use Rattle.script_lang.specs.declared.command.Setup.TheVariants.{Watch, Limit, Clock, Keep, Save}
+use Rattle.script_lang.specs.declared.command.Setup.TheVariants.{Watch, Limit, Clock, Keep, Save, Vector}
 use Rattle.script_lang.specs.declared.command.Run.{Run}
 use Rattle.script_lang.specs.declared.command.Run.TheVariants.{Step, Phase, Cycle, Report}
 use Rattle.script_lang.specs.declared.command.Tell.{Tell}
-use Rattle.script_lang.specs.declared.command.Tell.TheVariants.{Expect, Show}
+use Rattle.script_lang.specs.declared.command.Tell.TheVariants.{Expect, Show, Look}
+use Rattle.node_looks.specs.Looks.{looked_lines}
 use Rattle.session_meaning.specs.Saves.{state_back, with_save}
 use Rattle.session_meaning.specs.Sessions.{SessionData, ClockData, places_of}
-use Rattle.session_meaning.specs.Refusals.{strength_for}
+use Rattle.session_meaning.specs.Refusals.{all_named, nodes_named, strength_for}
 use Rattle.told_lines.specs.Lines.{Line, Wave, Unmet, Shown, Reported, is_unmet}
+pub use Rattle.told_lines.specs.Sums.{is_state}
 
--- the circuit with the named nodes as input nodes
-abbrev pub with_inputs : CircuitData → List (List ℕ) → CircuitData
+-- the circuit with these nodes as input nodes
+abbrev pub with_inputs : CircuitData → List ℕ → CircuitData
 with_inputs c [] = c
-with_inputs c (name ∷ names) = with_inputs (with_input c (node_named c name)) names
+with_inputs c (node ∷ nodes) = with_inputs (with_input c node) nodes
 
--- the state with the named nodes in their states, from left to right
-abbrev pub assigned : CircuitData → List Tern → List (List ℕ × Tern) → List Tern
-assigned c state [] = state
-assigned c state (item ∷ items) = assigned c (slice_set state (node_named c item.0) item.1) items
+-- the letters that an assignment gives its nodes; if it gives none it is refused
+abbrev pub letters_in : Result (List (ℕ × Letter)) GivenFault → List (ℕ × Letter)
+letters_in (Ok pairs) = pairs
+letters_in (Err fault) = []
+
+-- the states that assignments give nodes, from left to right
+abbrev pub states_by : CircuitData → List (List ℕ × List ℕ) → List (List ℕ × Value) → List (ℕ × Tern)
+states_by c vectors list = flat_map (λ item. states_given (letters_in (letters_given c vectors item))) list
+
+-- the state with these nodes in their states, from left to right
+abbrev pub assigned : List Tern → List (ℕ × Tern) → List Tern
+assigned state [] = state
+assigned state (pair ∷ pairs) = assigned (slice_set state pair.0 pair.1) pairs
 
 -- the clock of a name and its letters
 abbrev pub clock_of : CircuitData → (List ℕ × List Tern) → ClockData
@@ -95,26 +111,28 @@ AreBeats old (place ∷ places) new lines =
 abbrev pub places_in : ℕ → ℕ → List ℕ
 places_in count times = map (λ i. i % count) (range_with_len 0 (times * count))
 
--- both states are the same
-abbrev pub is_state : Tern → Tern → Bool
-is_state Zero Zero = true
-is_state One One = true
-is_state Unk Unk = true
-is_state left right = false
+-- the letter is met by a state: that of any state by each
+abbrev pub is_met : Letter → Tern → Bool
+is_met None got = true
+is_met (Some want) got = is_state got want
 
--- the line of an assignment whose node isn't in the wanted state
-abbrev pub unmet_line : SessionData → (List ℕ × Tern) → Option Line
-unmet_line session item =
-    let got = state_at session.state (node_named session.circuit item.0) in
-    if is_state got item.1 then None else Some (Unmet item.0 item.1 got session.count)
+-- the line of a name whose nodes have these letters, if the state of one of them doesn't meet its own
+abbrev pub unmet_by : SessionData → List ℕ → List (ℕ × Letter) → Option Line
+unmet_by session name pairs =
+    if list_all (λ pair. is_met pair.1 (state_at session.state pair.0)) pairs then None
+    else Some (Unmet name (map (λ pair. pair.1) pairs) (map (λ pair. state_at session.state pair.0) pairs) session.count)
+
+-- the line of an assignment that isn't met
+abbrev pub unmet_line : SessionData → List ℕ × Value → Option Line
+unmet_line session item = unmet_by session item.0 (letters_in (letters_given session.circuit session.vectors item))
 
 -- the lines of the assignments that aren't met, from left to right
-abbrev pub unmet_lines : SessionData → List (List ℕ × Tern) → List Line
+abbrev pub unmet_lines : SessionData → List (List ℕ × Value) → List Line
 unmet_lines session list = filter_map (unmet_line session) list
 
--- the line of a name that is shown: the state of its node
+-- the line of a name that is shown: the states of its nodes
 abbrev pub shown_line : SessionData → List ℕ → Line
-shown_line session name = Shown name (state_at session.state (node_named session.circuit name) ∷ [])
+shown_line session name = Shown name (map (state_at session.state) (nodes_named session.circuit session.vectors name))
 
 -- the data with this circuit in place of theirs: each node that is new is X
 abbrev pub with_circuit : SessionData → CircuitData → SessionData
@@ -130,28 +148,29 @@ pub record IsReported (old new : SessionData) (lines : List Line) : Type 0 where
 -- ---- by families
 
 -- the circuit after an edit
-abbrev pub circuit_after : CircuitData → Edit → CircuitData
-circuit_after c (Input names) = with_inputs c names
-circuit_after c (Store name size) = with_store c (node_named c name) size
-circuit_after c (Add kind gate source drain strength) = with_transistor c kind (strength_for kind strength) gate source drain
-circuit_after c (Del number) = without_switch c number
-circuit_after c (Strength number strength) = with_strength c number strength
-circuit_after c (Kind number kind) = with_kind c number kind
-circuit_after c (Wire number gate source drain) = with_wires c number gate source drain
+abbrev pub circuit_after : CircuitData → List (List ℕ × List ℕ) → Edit → CircuitData
+circuit_after c vectors (Input names) = with_inputs c (all_named c vectors names)
+circuit_after c vectors (Store name size) = with_store c (node_named c name) size
+circuit_after c vectors (Add kind gate source drain strength) = with_transistor c kind (strength_for kind strength) gate source drain
+circuit_after c vectors (Del number) = without_switch c number
+circuit_after c vectors (Strength number strength) = with_strength c number strength
+circuit_after c vectors (Kind number kind) = with_kind c number kind
+circuit_after c vectors (Wire number gate source drain) = with_wires c number gate source drain
 
 -- the state after a command that gives nodes states
 abbrev pub state_given : SessionData → Give → List Tern
-state_given old (Set list) = assigned old.circuit old.state list
-state_given old (Charge list) = assigned old.circuit old.state list
+state_given old (Set list) = assigned old.state (states_by old.circuit old.vectors list)
+state_given old (Charge list) = assigned old.state (states_by old.circuit old.vectors list)
 state_given old (Back name) = state_back old.saves name old.state
 
 -- the data after a command that sets what others go by
 abbrev pub setup_after : SessionData → Setup → SessionData
-setup_after old (Watch names) = record old { watched = old.watched ++ map (node_named old.circuit) names }
+setup_after old (Watch names) = record old { watched = old.watched ++ all_named old.circuit old.vectors names }
 setup_after old (Limit number) = record old { limit = number }
 setup_after old (Clock list) = record old { clocks = map (clock_of old.circuit) list }
 setup_after old (Keep number) = record old { bound = Some number }
 setup_after old (Save name) = record old { saves = with_save old.saves name old.state }
+setup_after old (Vector name words) = record old { vectors = with_vector old.circuit old.vectors name words }
 
 -- the effect of a command that has the circuit built
 abbrev pub RunEffect : SessionData → Run → SessionData → List Line → Type 0
@@ -164,6 +183,7 @@ RunEffect old Report new lines = IsReported old new lines
 abbrev pub told_by : SessionData → Tell → List Line
 told_by session (Expect list) = unmet_lines session list
 told_by session (Show names) = map (shown_line session) names
+told_by session (Look names) = flat_map (looked_lines session.circuit session.state) names
 
 -- the data after these lines were told: whether one of them was of an expectation that isn't met is remembered
 abbrev pub with_told : SessionData → List Line → SessionData
@@ -171,7 +191,7 @@ with_told old lines = record old { missed = old.missed || list_any is_unmet line
 
 -- the effect of a command: from the data before it, the data after it and its lines
 abbrev pub Effect : SessionData → Command → SessionData → List Line → Type 0
-Effect old (family.Edit edit) new lines = (new ≡ with_circuit old (circuit_after old.circuit edit)) × (lines ≡ [])
+Effect old (family.Edit edit) new lines = (new ≡ with_circuit old (circuit_after old.circuit old.vectors edit)) × (lines ≡ [])
 Effect old (family.Give give) new lines = (new ≡ record old { state = state_given old give }) × (lines ≡ [])
 Effect old (family.Setup setup) new lines = (new ≡ setup_after old setup) × (lines ≡ [])
 Effect old (family.Run run) new lines = RunEffect old run new lines

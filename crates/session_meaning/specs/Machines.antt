@@ -13,8 +13,7 @@ use Rattle.machine_laws.specs.Machines.{MachineData}
 use Rattle.machine_parts.specs.Marking.{IsMarked}
 use Rattle.machine_parts.specs.Stepping.{Concerns, ReadsChange}
 use Rattle.machine_laws.specs.Fitting.{Covers, FitsGraph, IsKeptBy}
-use Rattle.netlist.specs.Circuits.{CircuitData}
-use Rattle.netlist.specs.Edits.{node_named}
+use Rattle.script_lang.specs.declared.value.Value.{Value}
 use Rattle.script_lang.specs.declared.command.Command.{Command}
 use Rattle.script_lang.specs.declared.command.Command.TheVariants as family
 use Rattle.script_lang.specs.declared.command.Give.{Give}
@@ -24,7 +23,7 @@ use Rattle.script_lang.specs.declared.command.Run.TheVariants.{Step, Phase, Cycl
 use Rattle.session_meaning.specs.Sessions.{SessionData, HeldSession, IsSession}
 use Rattle.told_lines.specs.Lines.{Line, Wave}
 use Rattle.told_lines.specs.Sums.{steps_of}
-use Rattle.session_meaning.specs.Effects.{RunEffect}
+use Rattle.session_meaning.specs.Effects.{RunEffect, states_by}
 
 -- a machine as contracts of a session see it: how much room it has for new nodes isn't told
 abbrev pub without_room : MachineData → MachineData
@@ -120,24 +119,28 @@ pub record SettlesMachine (old : HeldSession) (run : Run) (new : HeldSession) : 
   pub built : IsBuilt new
   pub moves : MovesMachine old.core.limit old.machine new.machine lines
 
--- the part with this number has a named node as a member or reads one
-pub record ConcernsNamed (c : CircuitData) (names : List (List ℕ)) (parts : List HeldPart) (k : ℕ) : Type 0 where
-  pub name : List ℕ
-  pub named : Contains names name
-  pub concerns : Concerns parts k (node_named c name)
+-- the part with this number has one of these nodes as a member or reads one
+pub record ConcernsGiven (given : List ℕ) (parts : List HeldPart) (k : ℕ) : Type 0 where
+  pub node : ℕ
+  pub among : Contains given node
+  pub concerns : Concerns parts k node
 
--- named nodes were placed in the machine: it didn't move, and those parts alone are marked more that the nodes concern
-pub record PlacesNamed (c : CircuitData) (names : List (List ℕ)) (old : MachineData) (new : Option MachineData) : Type 0 where
+-- these nodes were placed in the machine: it didn't move, and those parts alone are marked more that the nodes concern
+pub record PlacesGiven (given : List ℕ) (old : MachineData) (new : Option MachineData) : Type 0 where
   pub machine : MachineData
   pub there : new ≡ Some machine
   pub parts : machine.parts ≡ old.parts
   pub moves : machine.moves ≡ old.moves
-  pub marks : (k : ℕ) → IsMarked machine.marks k → IsMarked old.marks k ⊎ ConcernsNamed c names old.parts k
+  pub marks : (k : ℕ) → IsMarked machine.marks k → IsMarked old.marks k ⊎ ConcernsGiven given old.parts k
 
--- named nodes were placed in the machine, if there is one
-abbrev pub PlacesIn : CircuitData → List (List ℕ) → Option MachineData → Option MachineData → Type 0
-PlacesIn c names None new = new ≡ None
-PlacesIn c names (Some machine) new = PlacesNamed c names machine new
+-- these nodes were placed in the machine, if there is one
+abbrev pub PlacesIn : List ℕ → Option MachineData → Option MachineData → Type 0
+PlacesIn given None new = new ≡ None
+PlacesIn given (Some machine) new = PlacesGiven given machine new
+
+-- the nodes that assignments give states
+abbrev pub nodes_given : SessionData → List (List ℕ × Value) → List ℕ
+nodes_given session list = map (λ pair. pair.0) (states_by session.circuit session.vectors list)
 
 -- the part with this number has a node as a member or reads one whose states differ
 pub record ConcernsOther (before after : List Tern) (parts : List HeldPart) (k : ℕ) : Type 0 where
@@ -180,8 +183,8 @@ EditsMachine old new = IfSome new.machine (Survives old.machine)
 -- nodes were given states
 abbrev pub GivesMachine : HeldSession → Give → HeldSession → Type 0
 GivesMachine old (Set list) new =
-    PlacesIn old.core.circuit (map (λ item. item.0) list) old.machine new.machine × (placed_of new.machine ≡ placed_of old.machine)
-GivesMachine old (Charge list) new = PlacesIn old.core.circuit (map (λ item. item.0) list) old.machine new.machine
+    PlacesIn (nodes_given old.core list) old.machine new.machine × (placed_of new.machine ≡ placed_of old.machine)
+GivesMachine old (Charge list) new = PlacesIn (nodes_given old.core list) old.machine new.machine
 GivesMachine old (Back name) new = PlacesOthersIn old.core.state new.core.state old.machine new.machine
 
 -- the circuit was built, and more was done, as the command says

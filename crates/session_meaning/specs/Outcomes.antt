@@ -17,7 +17,7 @@ use Rattle.circuit_texts.specs.Building.{IsCutOff}
 use Rattle.session_meaning.specs.Preparing.{Prepares, builds}
 use Rattle.session_meaning.specs.Sessions.{SessionData, HeldSession, places_of}
 use Rattle.session_meaning.specs.Refusals.{refusal_of}
-use Rattle.session_meaning.specs.Effects.{Effect, IsPhase, AreBeats, places_in}
+use Rattle.session_meaning.specs.Effects.{Effect, AreBeats, places_in}
 
 -- the command isn't refused, and has this effect
 pub record Does (old : SessionData) (command : Command) (new : SessionData) (lines : List Line) : Type 0 where
@@ -141,9 +141,10 @@ TakesBeats hear part places old new before after (Ok _) =
     (lines : List Line) × AreBeats old places new lines × (after ≡ hear_all hear before (of_column 0 lines))
 TakesBeats hear part places old new before after (Err fault) = BeatsBegun hear part places old new before after
 
--- a phase was done, and its line heard, or a part of it
-pub record IsPhaseSent {H : Type 0} (hear : H → Told → H) (part : H → Told → H → Type 0) (old new : SessionData) (before after : H)
-    (result : Result (Unit {0}) ApplyFault) : Type 0 where
+-- what leads from data to other data with these lines was done, as a unit step, a phase or a report, and the lines were heard, or a part
+-- of them
+pub record IsDoneAndSent (Does : SessionData → SessionData → List Line → Type 0) {H : Type 0} (hear : H → Told → H) (part : H → Told → H → Type 0)
+    (old new : SessionData) (before after : H) (result : Result (Unit {0}) ApplyFault) : Type 0 where
   pub lines : List Line
-  pub phase : IsPhase old new lines
+  pub done : Does old new lines
   pub sent : Sent hear part before after lines result

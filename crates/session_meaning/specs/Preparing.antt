@@ -1,6 +1,6 @@
 -- What is built before a command: the texts of the circuit's groups that aren't kept are analysed, and all of them are used.
 -- After Beatty and Bryant, "Fast Incremental Circuit Analysis Using Extracted Hierarchy", 1988.
-use Rattle.std.specs.Prelude.{◌≡◌, ◌<◌, Bool, true, false, List, [], length}
+use Rattle.std.specs.Prelude.{◌≡◌, ◌<◌, Bool, true, false, List, [], length, Option, Some}
 use Rattle.ternary.specs.Counts.{raised}
 use Rattle.group_text.specs.Texts.{GroupTextData}
 use Rattle.group_text.specs.FirstTexts.{new_texts}
@@ -13,6 +13,9 @@ use Rattle.circuit_texts.specs.declared.texts.BuildFault.TheVariants as build
 use Rattle.path_meaning.specs.Graphs.{GraphData, nodes}
 use Rattle.netlist.specs.declared.fault.EditFault.{EditFault}
 use Rattle.netlist.specs.declared.fault.EditFault.TheVariants as edit
+use Rattle.node_words.specs.declared.fault.VectorFault.{VectorFault}
+use Rattle.node_words.specs.declared.fault.VectorFault.TheVariants as vector
+use Rattle.session_meaning.specs.declared.fault.Refusal.{Refusal}
 use Rattle.session_meaning.specs.declared.fault.Refusal.TheVariants as refusal
 use Rattle.session_meaning.specs.declared.fault.ApplyFault.{ApplyFault}
 use Rattle.session_meaning.specs.declared.fault.ApplyFault.TheVariants.{Refused, GroupNodes, GroupSwitches, WriteFault, NoMemory}
@@ -45,6 +48,14 @@ BuildsIf false old mid texts = (mid ≡ old) × (texts ≡ [])
 abbrev pub Prepares : SessionData → Command → SessionData → List GroupTextData → Type 0
 Prepares old command mid texts = BuildsIf (builds command) old mid texts
 
+-- the fault is the refusal that there is, or lack of memory
+abbrev pub IsFaultFor : Option Refusal → ApplyFault → Type 0
+IsFaultFor found (Refused refusal) = found ≡ Some refusal
+IsFaultFor found (GroupNodes node count) = ⊥
+IsFaultFor found (GroupSwitches node count) = ⊥
+IsFaultFor found WriteFault = ⊥
+IsFaultFor found NoMemory = Unit {0}
+
 -- what ends a command for which the circuit can't be built
 abbrev pub fault_of_build : BuildFault → ApplyFault
 fault_of_build (build.GroupNodes node count) = GroupNodes node count
@@ -61,6 +72,13 @@ fault_of_edit edit.AliasTaken = NoMemory
 fault_of_edit edit.TooManyNodes = Refused refusal.TooManyNodes
 fault_of_edit edit.TooManySwitches = Refused refusal.TooManySwitches
 fault_of_edit edit.NoMemory = NoMemory
+
+-- what ends a command whose name isn't given to the nodes of its words
+abbrev pub fault_of_vector : VectorFault → ApplyFault
+fault_of_vector vector.NameTaken = Refused refusal.NameTaken
+fault_of_vector vector.UnknownNode = Refused refusal.UnknownNode
+fault_of_vector vector.TooMany = Refused refusal.TooMany
+fault_of_vector vector.NoMemory = NoMemory
 
 -- the node that a fault names, where it names one, is one of the graph's
 abbrev pub NamesNode : GraphData → ApplyFault → Type 0

@@ -11,6 +11,7 @@ use Rattle.machine_laws.specs.Machines.{MachineData}
 use Rattle.netlist.specs.Circuits.{CircuitData, IsCircuit}
 use Rattle.script_lang.specs.declared.TheConstants.{MOST_TIMES}
 use Rattle.session_meaning.specs.declared.TheConstants.{MOST_WATCHED, FIRST_LIMIT}
+use Rattle.node_words.specs.Vectors.{AreWithin}
 use Rattle.session_meaning.specs.Saves.{AreSaves}
 
 -- a clock: a node, and its states at the places of a cycle
@@ -19,9 +20,9 @@ pub record ClockData : Type 0 where
   pub states : List Tern
 
 -- the circuit, the state of its nodes, the nodes that are watched, the clocks, the limit of a phase, how many waveform lines there
--- were, whether some `expect` was not met, the names under which states are kept, with these, the bound on the number of texts that are
--- kept, if there is one, the texts of groups whose analyses are kept, the most recently used first, and how many were analysed since the
--- last report
+-- were, whether some `expect` was not met, the names of vectors, with their nodes, the names under which states are kept, with these, the
+-- bound on the number of texts that are kept, if there is one, the texts of groups whose analyses are kept, the most recently used first,
+-- and how many were analysed since the last report
 pub record SessionData : Type 0 where
   pub circuit : CircuitData
   pub state : List Tern
@@ -30,6 +31,7 @@ pub record SessionData : Type 0 where
   pub limit : ℕ
   pub count : ℕ
   pub missed : Bool
+  pub vectors : List (List ℕ × List ℕ)
   pub saves : List (List ℕ × List Tern)
   pub bound : Option ℕ
   pub kept : List GroupTextData
@@ -51,6 +53,7 @@ start_of circuit = record {
   limit = FIRST_LIMIT;
   count = 0;
   missed = false;
+  vectors = [];
   saves = [];
   bound = None;
   kept = [];
@@ -75,8 +78,8 @@ pub record IsReady (session : SessionData) : Type 0 where
   pub free : All (λ clock. RAILS ≤ clock.node) session.clocks
   pub saved : AreSaves (nodes session.circuit.graph) session.saves
 
--- the session is ready; each watched node is a node, and so is each clock's; the watched nodes are few, the limit is within its range,
--- and all clocks have the same number of places, one at least
+-- the session is ready; each watched node is a node, and so is each clock's and each of a vector; the watched nodes are few, the limit is
+-- within its range, and all clocks have the same number of places, one at least
 pub record IsSession (session : SessionData) : Type 0 where
   pub ready : IsReady session
   pub watched : All (λ node. node < nodes session.circuit.graph) session.watched
@@ -84,5 +87,6 @@ pub record IsSession (session : SessionData) : Type 0 where
   pub clocks : All (λ clock. clock.node < nodes session.circuit.graph) session.clocks
   pub places : have_places (places_of session.clocks) session.clocks ≡ true
   pub some : session.clocks ≢ [] → 0 < places_of session.clocks
+  pub vectors : AreWithin (nodes session.circuit.graph) session.vectors
   pub low : 1 ≤ session.limit
   pub high : session.limit ≤ MOST_TIMES

@@ -1,5 +1,5 @@
 -- The state of a session's nodes, and the machine that moves it, if there is one: what calls inside the session do to both.
-use Rattle.std.specs.Prelude.{◌≡◌, ◌≢◌, ℕ, ◌+◌, ◌<◌, ◌⊎◌, Bool, false, List, ◌++◌, All, Option, None, Some, Result, Ok, Err}
+use Rattle.std.specs.Prelude.{◌≡◌, ◌≢◌, ℕ, ◌+◌, ◌<◌, ◌≤◌, ◌⊎◌, Bool, false, List, length, ◌++◌, All, Option, None, Some, Result, Ok, Err}
 use Rattle.ternary.specs.declared.tern.Tern.{Tern}
 use Rattle.ternary.specs.Counts.{raised}
 use Rattle.strength_order.specs.declared.TheConstants.{INPUT_LEVEL}
@@ -11,6 +11,7 @@ use Rattle.circuit_texts.specs.declared.texts.BuildFault.{BuildFault}
 use Rattle.circuit_texts.specs.declared.texts.BuildFault.TheVariants as build
 use Rattle.circuit_texts.specs.Sizes.{TellsTooLarge}
 use Rattle.circuit_texts.specs.Building.{IsCutOff}
+use Rattle.machine_parts.specs.declared.part.HeldPart.{HeldPart}
 use Rattle.machine_parts.specs.Parts.{HasMember}
 use Rattle.machine_laws.specs.Machines.{MachineData, Places}
 use Rattle.machine_parts.specs.Marking.{IsMarked}
@@ -19,15 +20,18 @@ use Rattle.machine_laws.specs.Fitting.{Covers, FitsGraph, IsKeptBy}
 use Rattle.machine_laws.specs.Editing.{Edits}
 use Rattle.channel_groups.specs.declared.change.Change.{Change}
 use Rattle.netlist.specs.Circuits.{CircuitData}
-use Rattle.netlist.specs.Edits.{node_named}
+use Rattle.session_meaning.specs.Refusals.{nodes_named}
 use Rattle.session_meaning.specs.declared.fault.ApplyFault.{ApplyFault}
 use Rattle.session_meaning.specs.declared.fault.ApplyFault.TheVariants.{Refused, GroupNodes, GroupSwitches, WriteFault, NoMemory}
 use Rattle.session_meaning.specs.Sessions.{SessionData, HeldSession, ClockData}
-use Rattle.told_lines.specs.Lines.{Line, Told}
-use Rattle.session_meaning.specs.Effects.{IsUnitStep, IsPhase, AreBeats, IsReported, moved_to}
+use Rattle.told_lines.specs.Lines.{Line}
+use Rattle.session_meaning.specs.Effects.{IsPhase, AreBeats, moved_to}
 use Rattle.session_meaning.specs.Preparing.{IsBuild}
-use Rattle.session_meaning.specs.Machines.{ConcernsNamed, ConcernsOther, BuildsMachine, MovesMachine, moves_of, placed_of}
-use Rattle.session_meaning.specs.Outcomes.{Sent}
+use Rattle.session_meaning.specs.Machines.{ConcernsGiven, ConcernsOther, BuildsMachine, MovesMachine, moves_of, placed_of}
+
+-- each of these names has so many nodes at most
+abbrev pub AreShortLists : CircuitData → List (List ℕ × List ℕ) → ℕ → List (List ℕ) → Type 0
+AreShortLists c vectors most names = All (λ name. length (nodes_named c vectors name) ≤ most) names
 
 -- the state, the machine, if there is one, and for how many nodes more there is room
 pub record StageData : Type 0 where
@@ -72,21 +76,27 @@ abbrev pub PutsIn : GraphData → ℕ → Tern → Option MachineData → Option
 PutsIn g node value None new = new ≡ None
 PutsIn g node value (Some machine) new = (next : MachineData) × (new ≡ Some next) × PutsNode g node value machine next
 
--- named nodes were placed in a machine: it covers a graph that it covered, its texts are kept that were, those of the last build are the
--- same, it didn't move, those parts alone are marked more that the nodes concern, and where all are input nodes no member was placed
-pub record Assigns (c : CircuitData) (names : List (List ℕ)) (old new : MachineData) : Type 0 where
-  pub covers : Covers c.graph old → Covers c.graph new
-  pub known : (kept : List GroupTextData) → IsKeptBy c.graph kept old → IsKeptBy c.graph kept new
+-- some nodes were placed in a machine: it covers a graph that it covered, its texts are kept that were, those of the last build and the parts
+-- are the same, it didn't move, and it marked no more than what these nodes concern
+pub record PlacesSome (g : GraphData) (Concerned : List HeldPart → ℕ → Type 0) (old new : MachineData) : Type 0 where
+  pub covers : Covers g old → Covers g new
+  pub known : (kept : List GroupTextData) → IsKeptBy g kept old → IsKeptBy g kept new
   pub last : new.last ≡ old.last
   pub parts : new.parts ≡ old.parts
   pub moves : new.moves ≡ old.moves
-  pub marks : (k : ℕ) → IsMarked new.marks k → IsMarked old.marks k ⊎ ConcernsNamed c names old.parts k
-  pub unplaced : Covers c.graph old → All (λ name. level_of c.graph (node_named c name) ≡ INPUT_LEVEL) names → new.placed ≡ old.placed
+  pub marks : (k : ℕ) → IsMarked new.marks k → IsMarked old.marks k ⊎ Concerned old.parts k
 
--- named nodes were placed in the machine, if there is one
-abbrev pub AssignsIn : CircuitData → List (List ℕ) → Option MachineData → Option MachineData → Type 0
-AssignsIn c names None new = new ≡ None
-AssignsIn c names (Some machine) new = (next : MachineData) × (new ≡ Some next) × Assigns c names machine next
+-- these nodes were placed in a machine: it covers a graph that it covered, its texts are kept that were, those of the last build are the
+-- same, it didn't move, those parts alone are marked more that the nodes concern, and if all are input nodes no member was placed
+pub record Assigns (g : GraphData) (given : List ℕ) (old new : MachineData) : Type 0 where
+  pub some : PlacesSome g (ConcernsGiven given) old new
+  pub open some use *
+  pub unplaced : Covers g old → All (λ node. level_of g node ≡ INPUT_LEVEL) given → new.placed ≡ old.placed
+
+-- these nodes were placed in the machine, if there is one
+abbrev pub AssignsIn : GraphData → List ℕ → Option MachineData → Option MachineData → Type 0
+AssignsIn g given None new = new ≡ None
+AssignsIn g given (Some machine) new = (next : MachineData) × (new ≡ Some next) × Assigns g given machine next
 
 -- a node with this state was given that one: it is the same, or the node was placed in the machine, if there is one
 abbrev pub PutsOtherIn : GraphData → ℕ → Tern → Tern → Option MachineData → Option MachineData → Type 0
@@ -94,13 +104,8 @@ PutsOtherIn g node value before old new = ((value ≡ before) × (new ≡ old)) 
 
 -- the nodes whose states differ were placed in a machine: it covers a graph that it covered, its texts are kept that were, those of the last
 -- build are the same, it didn't move, and those parts alone are marked more that such a node concerns
-pub record PutsOthers (g : GraphData) (before after : List Tern) (old new : MachineData) : Type 0 where
-  pub covers : Covers g old → Covers g new
-  pub known : (kept : List GroupTextData) → IsKeptBy g kept old → IsKeptBy g kept new
-  pub last : new.last ≡ old.last
-  pub parts : new.parts ≡ old.parts
-  pub moves : new.moves ≡ old.moves
-  pub marks : (k : ℕ) → IsMarked new.marks k → IsMarked old.marks k ⊎ ConcernsOther before after old.parts k
+abbrev pub PutsOthers : GraphData → List Tern → List Tern → MachineData → MachineData → Type 0
+PutsOthers g before after old new = PlacesSome g (ConcernsOther before after) old new
 
 -- they were placed in the machine, if there is one
 abbrev pub PutsOthersIn : GraphData → List Tern → List Tern → Option MachineData → Option MachineData → Type 0
@@ -208,13 +213,6 @@ pub record IsSettled (old new : HeldSession) (steps : ℕ) (joined : Bool) : Typ
   pub placed : machine.placed ≡ placed_of old.machine
   pub rests : joined ≡ false → steps < old.core.limit → (k : ℕ) → ¬ IsMarked machine.marks k
 
--- a unit step was done, and its line heard, or a part of it
-pub record IsStepSent {H : Type 0} (hear : H → Told → H) (part : H → Told → H → Type 0) (old new : SessionData) (before after : H)
-    (result : Result (Unit {0}) ApplyFault) : Type 0 where
-  pub lines : List Line
-  pub step : IsUnitStep old new lines
-  pub sent : Sent hear part before after lines result
-
 -- a phase was done by the machine
 pub record PhaseMoves (old new : HeldSession) : Type 0 where
   pub lines : List Line
@@ -226,13 +224,6 @@ pub record BeatsMove (places : List ℕ) (old new : HeldSession) : Type 0 where
   pub lines : List Line
   pub beats : AreBeats old.core places new.core lines
   pub moves : MovesMachine old.core.limit old.machine new.machine lines
-
--- a report was done, and its line heard, or a part of it
-pub record IsReportSent {H : Type 0} (hear : H → Told → H) (part : H → Told → H → Type 0) (old new : SessionData) (before after : H)
-    (result : Result (Unit {0}) ApplyFault) : Type 0 where
-  pub lines : List Line
-  pub report : IsReported old new lines
-  pub sent : Sent hear part before after lines result
 
 -- behind phases at any places the machine did those at these
 abbrev pub BeatsMoveOn : List ℕ → HeldSession → HeldSession → Type 0

@@ -1,9 +1,10 @@
 ghost use Rattle.std.specs.Prelude.{◌≡◌};
-ghost use Rattle.session_meaning.specs.Preparing.{fault_of_build, fault_of_edit};
+ghost use Rattle.session_meaning.specs.Preparing.{fault_of_build, fault_of_edit, fault_of_vector};
 ghost use Rattle.session_meaning.specs.Sinks.{fault_of_sink};
 
 use circuit_texts::BuildFault;
 use netlist::EditFault;
+use node_words::VectorFault;
 use port_edge::PortFault;
 use std::alloc::AllocError;
 use ternary::NoMemory;
@@ -35,6 +36,14 @@ pub enum Refusal {
     NoClock,
     /// The watch list would have more than `MOST_WATCHED` entries.
     TooManyWatched,
+    /// A value that may stand at a vector alone stands at another name.
+    BadValue,
+    /// A vector's name is that of a node in use.
+    NameTaken,
+    /// A vector, or all vectors together, would have too many entries, or too many ranges lie one in another.
+    TooMany,
+    /// A value doesn't fit its vector.
+    VectorValue,
     /// As many other names keep states as may: `MOST_SAVES`.
     TooManySaves,
     /// Nothing is kept under the name.
@@ -81,6 +90,18 @@ impl ApplyFault {
             EditFault::TooManyNodes => ApplyFault::Refused(Refusal::TooManyNodes),
             EditFault::TooManySwitches => ApplyFault::Refused(Refusal::TooManySwitches),
             EditFault::AliasTaken | EditFault::NoMemory => ApplyFault::NoMemory,
+        }
+    }
+
+    /// What ends a command whose name isn't given to the nodes of its words.
+    pub fn of_vector(fault: VectorFault) -> ApplyFault
+        ensures { result ≡ fault_of_vector fault }
+    {
+        match fault {
+            VectorFault::NameTaken => ApplyFault::Refused(Refusal::NameTaken),
+            VectorFault::UnknownNode => ApplyFault::Refused(Refusal::UnknownNode),
+            VectorFault::TooMany => ApplyFault::Refused(Refusal::TooMany),
+            VectorFault::NoMemory => ApplyFault::NoMemory,
         }
     }
 

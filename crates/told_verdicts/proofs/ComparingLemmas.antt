@@ -2,7 +2,7 @@
 use Rattle.std.proofs.Common.{◌≡◌, ℕ, zero, suc, ◌+◌, Bool, true, false, List, [], ◌∷◌, Option, None, Some, MatchOption, inl, inr, refl, sym, ap, ◌∙◌, subst, arith}
 use Rattle.std.proofs.lemmas.Option.{slice_get_within}
 use Rattle.ternary.specs.declared.tern.Tern.{Tern}
-use Rattle.told_lines.specs.Lines.{Line, Wave, Unmet, Shown, Reported, Refused}
+use Rattle.told_lines.specs.Lines.{Line, Wave, Unmet, Shown, Looked, AtEnd, AtGate, Reported, Refused}
 use Rattle.told_lines.specs.Hearing.{hear_all, of_column}
 use Rattle.told_lines.specs.Noting.{WaveRowData, rows_of, states_of}
 use Rattle.fault_sim.specs.Traces.{Trace, AreAlike, AreAlikeRows, DifferFirstAt, FirstInRow, IsBefore, IsDifference, IsVerdict}
@@ -138,6 +138,9 @@ comes_to column (Wave n k mark values ∷ lines) (good ∷ left) row strong weak
     }
 comes_to column (Unmet name want got n ∷ lines) left row strong weak = comes_to column lines left row strong weak
 comes_to column (Shown name values ∷ lines) left row strong weak = comes_to column lines left row strong weak
+comes_to column (Looked name state sort ∷ lines) left row strong weak = comes_to column lines left row strong weak
+comes_to column (AtEnd switch gate gate_state end end_state ∷ lines) left row strong weak = comes_to column lines left row strong weak
+comes_to column (AtGate switch source source_state drain drain_state ∷ lines) left row strong weak = comes_to column lines left row strong weak
 comes_to column (Reported groups texts fresh ∷ lines) left row strong weak = comes_to column lines left row strong weak
 comes_to column (Refused place code name count ∷ lines) left row strong weak = comes_to column lines left row strong weak
 

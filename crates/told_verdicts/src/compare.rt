@@ -1,13 +1,12 @@
 //! A hearer that compares a run with a good one.
-ghost use Rattle.std.specs.Prelude.{◌≡◌, ◌^◌};
+ghost use Rattle.std.specs.Prelude.{◌≡◌};
 ghost use Rattle.told_verdicts.specs.Comparing as spec;
 
 use crate::entries::place_or;
 use fault_sim::Verdict;
-use port_edge::PortFault;
 use std::marker::Model;
-use ternary::{NoMemory, Tern};
-use told_lines::{Line, Lines, WaveRow};
+use ternary::Tern;
+use told_lines::{Line, Unfailing, WaveRow};
 
 /// A place in the rows of a run: the number of the row, counted from 1, and an entry of the watch list, counted
 /// from 0.
@@ -85,31 +84,18 @@ impl<'a> Compare<'a> {
     }
 }
 
-impl<'a> Lines for Compare<'a> {
+impl<'a> Unfailing for Compare<'a> {
     ghost use Rattle.told_verdicts.specs.Comparing.{CompareData, compared};
 
-    ghost Heard = { CompareData };
+    ghost Notion = { CompareData };
 
-    ghost heard = { λ compare. compare };
+    ghost known = { λ compare. compare };
 
-    ghost hear = { compared };
+    ghost learn = { compared };
 
-    ghost part = { λ _ _ _. ⊥ };
-
-    ghost room = { λ _. 2 ^ 64 };
-
-    ghost faults = { λ _. 0 };
-
-    ghost refusals = { λ _. 0 };
-
-    fn reserve(&mut self, _bytes: usize) -> Result<(), NoMemory> {
-        Ok(())
-    }
-
-    fn tell(&mut self, _column: u32, line: Line) -> Result<(), PortFault> {
+    fn hear_line(&mut self, _column: u32, line: Line) {
         if let Line::Wave { values, .. } = line {
             self.compare(values);
         }
-        Ok(())
     }
 }

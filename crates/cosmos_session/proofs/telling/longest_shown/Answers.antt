@@ -5,8 +5,8 @@ use Rattle.cosmos_session.proofs.telling.longest_shown.Goals as goal
 
 pub loop-name-preserved : goal.loop-name-preserved
 loop-name-preserved c = record {
-  longest = longest-next (λ (name : List ℕ). length name) c.args.names.now c.loop-name.name-index c.name-item.result c.loop-name.most _
-      (omega arith) c.name-item.is (search rules) (search rules) c.loop-name.invariant.longest;
+  longest = longest-next (λ (name : List ℕ). length name) c.args.names.now c.loop-name.name-index c.name-item.result c.loop-name.most _ (omega arith) c.name-item.is
+      (search rules) (search rules) c.loop-name.invariant.longest;
   few = search rules;
 }
 

@@ -1,4 +1,4 @@
-use Rattle.std.proofs.Common.{◌<◌, ◌≤◌, ◌^◌, All, length, take}
+use Rattle.std.proofs.Common.{◌≤◌, ◌<◌, ◌^◌, All, length, take}
 use Rattle.cosmos_session.proofs.telling.longest_shown.Given as goal
 
 abbrev pub invariant-loop-name : goal.invariant-loop-name

@@ -1,10 +1,11 @@
 -- The good run starts with nothing kept; what is told of the faults beside it, or of the line at which it ended, is the answer.
-use Rattle.std.proofs.Common.{◌≡◌, List, None, Option, ℕ, refl, sym, ap, subst}
+use Rattle.std.proofs.Common.{◌≡◌, List, None, Option, ℕ, refl, sym, ap, subst, ◌∙◌}
 use Rattle.netlist.specs.Circuits.{CircuitData}
 use Rattle.told_lines.specs.Printing.{PrinterData}
 use Rattle.session_meaning.specs.Sessions.{SessionData, start_of}
 use Rattle.script_meaning.specs.Halts.{IsCutShort}
 use Rattle.run_ends.specs.Ends.{IsToldBy}
+use Rattle.run_ends.specs.Stops.{faults_written, IsRefusedOnce}
 use Rattle.fault_meaning.specs.Judging.{IsJudgement}
 use Rattle.fault_meaning.specs.Runnings.{RunsTo}
 use Rattle.fault_meaning.proofs.JudgingLemmas.{told_verdicts, told_cut_short, cut_short}
@@ -44,3 +45,12 @@ returns-in_default-clause-told g c =
     (ap (λ (printer : PrinterData). printer.page.numbered) c.set_numbered.ensures) asked mid c.in_ok-good.good
     c.circuit.result.now c.refuse_halt.result c.args.session.core.kept c.in_ok-good.halt
     (ap (λ (session : SessionData). session.kept) c.requires.start) ran c.circuit.ensures.value c.refuse_halt.ensures.told)
+
+pub returns-in_default-clause-write : goal.returns-in_default-clause-write
+returns-in_default-clause-write g c =
+    c.refuse_halt.ensures.write ∙ ap (λ (printer : PrinterData). faults_written printer.faults c.refuse_halt.result) c.set_numbered.ensures
+
+pub returns-in_default-clause-refused : goal.returns-in_default-clause-refused
+returns-in_default-clause-refused g c =
+    subst (λ (printer : PrinterData). IsRefusedOnce printer.refusals c.refuse_halt.new.out.refusals c.refuse_halt.result)
+    c.set_numbered.ensures c.refuse_halt.ensures.refused

@@ -1,6 +1,6 @@
-use Rattle.std.proofs.Common.{◌≡◌, map, take}
-use Rattle.fault_sim.specs.Masks.{state_for}
+use Rattle.std.proofs.Common.{◌≡◌, take}
+use Rattle.fault_sim.specs.Masks.{masked_sets}
 use Rattle.fault_sim.proofs.masks.masked_assignments.Given as goal
 
 abbrev pub invariant-loop-name : goal.invariant-loop-name
-invariant-loop-name l = l.left ≡ map (λ item. (item.0, state_for l.mask.circuit.now l.mask.stuck item.0 item.1)) (take l.name-index l.name-items)
+invariant-loop-name l = l.left ≡ masked_sets l.mask.circuit.now l.mask.vectors.now l.mask.stuck (take l.name-index l.name-items)

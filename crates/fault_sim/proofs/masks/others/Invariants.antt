@@ -1,6 +1,6 @@
-use Rattle.std.proofs.Common.{◌≡◌, filter, not, take}
-use Rattle.fault_sim.specs.Masks.{is_stuck}
+use Rattle.std.proofs.Common.{◌≡◌, take}
+use Rattle.fault_sim.specs.Masks.{masked_charges}
 use Rattle.fault_sim.proofs.masks.others.Given as goal
 
 abbrev pub invariant-loop-name : goal.invariant-loop-name
-invariant-loop-name l = l.left ≡ filter (λ item. not (is_stuck l.mask.circuit.now l.mask.stuck item.0)) (take l.name-index l.name-items)
+invariant-loop-name l = l.left ≡ masked_charges l.mask.circuit.now l.mask.vectors.now l.mask.stuck (take l.name-index l.name-items)

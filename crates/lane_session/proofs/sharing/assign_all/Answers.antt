@@ -9,7 +9,7 @@ use Rattle.netlist.specs.Circuits.{CircuitData}
 use Rattle.netlist.specs.Edits.{node_named}
 use Rattle.lane_script.specs.Commands as script
 use Rattle.session_meaning.specs.Effects.{assigned}
-use Rattle.lane_session.specs.Stages.{HasValue, states_in}
+use Rattle.lane_session.specs.Stages.{HasValue, given_states, states_in}
 use Rattle.lane_session.proofs.ColumnLemmas.{HasStates-value, placed_value}
 use Rattle.lane_session.proofs.FitLemmas.{keeps_fit}
 use Rattle.lane_session.proofs.sharing.assign_all.Goals as goal
@@ -22,11 +22,11 @@ node_found c name text found node same is there =
 -- one more name is done in a column
 assigned_next : (c : CircuitData) (lane : ℕ) (list : List (List ℕ × List Tern)) (k : ℕ) (item : List ℕ × List Tern) (state new : List Tern) → k < length list →
     item ≡ get_or list k item → new ≡ slice_set state (node_named c item.0) (script.state_in lane item.1) →
-    assigned c new (map (script.value_in lane) (drop (k + 1) list)) ≡ assigned c state (map (script.value_in lane) (drop k list))
+    assigned new (given_states c (map (script.value_in lane) (drop (k + 1) list))) ≡ assigned state (given_states c (map (script.value_in lane) (drop k list)))
 assigned_next c lane list k item state new inside is set =
-    ap (λ (now : List Tern). assigned c now (map (script.value_in lane) (drop (k + 1) list))) set
-    ∙ sym (ap (λ (left : List (List ℕ × List Tern)). assigned c state (map (script.value_in lane) left)) (drop_more list k item inside)
-    ∙ ap (λ (first : List ℕ × List Tern). assigned c state (map (script.value_in lane) (first ∷ drop (k + 1) list))) (sym is))
+    ap (λ (now : List Tern). assigned now (given_states c (map (script.value_in lane) (drop (k + 1) list)))) set
+    ∙ sym (ap (λ (left : List (List ℕ × List Tern)). assigned state (given_states c (map (script.value_in lane) left))) (drop_more list k item inside)
+    ∙ ap (λ (first : List ℕ × List Tern). assigned state (given_states c (map (script.value_in lane) (first ∷ drop (k + 1) list)))) (sym is))
 
 pub unwrap-node-requires : goal.unwrap-node-requires
 unwrap-node-requires c =

@@ -36,3 +36,6 @@ returns-in-strength c = ap verb_of (sym (text_from_reads c.args.word.now (codes 
 
 pub returns-in-report : goal.returns-in-report
 returns-in-report c = ap verb_of (sym (text_from_reads c.args.word.now (codes "report") (omega arith) (search rules)))
+
+pub returns-in-vector : goal.returns-in-vector
+returns-in-vector c = ap verb_of (sym (text_from_reads c.args.word.now (codes "vector") (omega arith) (search rules)))

@@ -2,7 +2,6 @@
 use Rattle.std.proofs.Common.{◌≡◌, ℕ, List, true, Option, None, Some, is_some, refl, sym, ◌∙◌}
 use Rattle.ternary.specs.declared.tern.Tern.{Tern}
 use Rattle.machine_laws.specs.Machines.{MachineData}
-use Rattle.netlist.specs.Circuits.{CircuitData}
 use Rattle.script_lang.specs.declared.command.Command.{Command}
 use Rattle.script_lang.specs.declared.command.Command.TheVariants as family
 use Rattle.script_lang.specs.declared.command.Give.{Give}
@@ -25,9 +24,9 @@ lost None new same some none = absurd (cc)
 lost (Some machine) new same some none = none_there new machine same none
 
 -- one was there, and nodes were placed in it
-placed_lost : (c : CircuitData) (names : List (List ℕ)) (old new : Option MachineData) → PlacesIn c names old new → is_some old ≡ true → new ≡ None → ⊥
-placed_lost c names None new places some none = absurd (cc)
-placed_lost c names (Some machine) new places some none = none_there new places.machine places.there none
+placed_lost : (given : List ℕ) (old new : Option MachineData) → PlacesIn given old new → is_some old ≡ true → new ≡ None → ⊥
+placed_lost given None new places some none = absurd (cc)
+placed_lost given (Some machine) new places some none = none_there new places.machine places.there none
 
 -- so it is where the nodes whose states differ were
 others_lost : (before after : List Tern) (old new : Option MachineData) → PlacesOthersIn before after old new → is_some old ≡ true → new ≡ None → ⊥
@@ -35,8 +34,8 @@ others_lost before after None new places some none = absurd (cc)
 others_lost before after (Some machine) new places some none = none_there new places.machine places.there none
 
 by_give : (old new : HeldSession) (give : Give) → GivesMachine old give new → is_some old.machine ≡ true → new.machine ≡ None → ⊥
-by_give old new (Set list) after some none = placed_lost old.core.circuit _ old.machine new.machine after.0 some none
-by_give old new (Charge list) after some none = placed_lost old.core.circuit _ old.machine new.machine after some none
+by_give old new (Set list) after some none = placed_lost _ old.machine new.machine after.0 some none
+by_give old new (Charge list) after some none = placed_lost _ old.machine new.machine after some none
 by_give old new (Back name) after some none = others_lost old.core.state new.core.state old.machine new.machine after some none
 
 by_run : (old new : HeldSession) (run : Run) → RunsMachine old run new → new.machine ≡ None → ⊥

@@ -1,20 +1,20 @@
-use Rattle.std.proofs.Common.{refl, sym}
-use Rattle.session_meaning.proofs.RefusalLemmas.{charged_known}
-use Rattle.session_meaning.proofs.StateLemmas.{charged_past}
+use Rattle.std.proofs.Common.{refl}
+use Rattle.session_meaning.proofs.ValueLemmas.{charge-past}
 use Rattle.cosmos_session.proofs.session.Session.charge.Goals as goal
 
-pub returns-in-Some-clause-quiet : goal.returns-in-Some-clause-quiet
-returns-in-Some-clause-quiet c = (rw (← c.self.view_is, ← c.items.ensures) (sym c.in-Some.ensures), refl)
-
-pub put_assigned-requires-clause-known : goal.put_assigned-requires-clause-known
-put_assigned-requires-clause-known c =
-    rw (c.items-2.ensures, ← c.self.view_is)
-    (charged_known c.self.inside.circuit c.args.list.now (sym (rw (c.in_default.is, c.items.ensures) at c.charge_refusal.ensures)))
+pub put_assigned-requires-clause-within : goal.put_assigned-requires-clause-within
+put_assigned-requires-clause-within c = rw c.deref.ensures.value c.in_ok-states.ensures.within
 
 pub put_assigned-requires-clause-past : goal.put_assigned-requires-clause-past
 put_assigned-requires-clause-past c =
-    rw (c.items-2.ensures, ← c.self.view_is)
-    (charged_past c.self.inside.circuit c.args.list.now (sym (rw (c.in_default.is, c.items.ensures) at c.charge_refusal.ensures)))
+    let core = c.args.self.now.core in
+    rw (c.deref.ensures.value, c.in_ok-states.ensures.states) (charge-past core.circuit core.vectors c.args.list.now c.in_ok-states.ensures.allowed)
+
+pub returns-clause-quiet : goal.returns-clause-quiet
+returns-clause-quiet c = record {
+  allowed = c.in_ok-states.ensures.allowed;
+  effect = (rw (c.deref.ensures.value, c.in_ok-states.ensures.states) at c.put_assigned.ensures.state, refl);
+}
 
 pub returns-clause-machine : goal.returns-clause-machine
-returns-clause-machine c = rw (← c.items-2.ensures) c.put_assigned.ensures.machine
+returns-clause-machine c = rw (c.deref.ensures.value, c.in_ok-states.ensures.states) at c.put_assigned.ensures.machine

@@ -10,7 +10,7 @@ use Rattle.cosmos_session.proofs.session.Session.make_input.Goals as goal
 undoes : (c : After-put_input) → Undoes c.put_input.new.circuit.graph (the_view c.self.inside).core.circuit.graph c.change_of_level-change.result
 undoes c =
     undoes-level (the_view c.self.inside).core.circuit c.put_input.new.circuit _ _ c.self.invariant.0.core.ready.netlist c.graph.ensures.value
-    c.found_past_rails-node.result _ c.change_of_level-change.ensures c.put_input.ensures
+    c.args.node _ c.change_of_level-change.ensures c.put_input.ensures
 
 pub edit-requires-clause-covers : goal.edit-requires-clause-covers
 edit-requires-clause-covers c =

@@ -1,13 +1,14 @@
--- The names before this one are input nodes' names.
+-- The nodes before this one are input nodes.
 use Rattle.std.proofs.Common.{◌≡◌, drop}
+use Rattle.path_meaning.specs.Graphs.{nodes}
 use Rattle.session_meaning.specs.Effects.{with_inputs}
 use Rattle.session_meaning.specs.Machines.{EditsMachine}
 use Rattle.cosmos_session.proofs.session.Session.make_inputs.Given as goal
 
-abbrev pub invariant-loop-name : goal.invariant-loop-name
-invariant-loop-name l = record {
-  made : with_inputs l.self.core.circuit (drop l.name-index l.names) ≡ with_inputs l.initial.self.core.circuit l.names;
-  names : l.self.core.circuit.names ≡ l.initial.self.core.circuit.names;
+abbrev pub invariant-loop-node : goal.invariant-loop-node
+invariant-loop-node l = record {
+  made : with_inputs l.self.core.circuit (drop l.node-index l.list) ≡ with_inputs l.initial.self.core.circuit l.list;
+  count : nodes l.self.core.circuit.graph ≡ nodes l.initial.self.core.circuit.graph;
   same : l.self.core ≡ record l.initial.self.core { circuit = l.self.core.circuit };
   machine : EditsMachine l.initial.self l.self;
 }

@@ -14,7 +14,6 @@ tell_report-requires-clause-texts g c =
 
 pub returns-clause-obeys : goal.returns-clause-obeys
 returns-clause-obeys g c =
-    let sent = c.tell_report.ensures.report in
-    ready_obeys g.L.Lines.hear g.L.Lines.part c.args.self.now c.prepare.new.self c.tell_report.new.self (family.Run asked.Report) sent.lines
-    _ _ _ _ _ _ c.tell_report.result refl refl c.in_ok-prepare.ensures sent.report (sent.lines, sent.report)
-    (rw c.reserve.ensures.heard at sent.sent) c.tell_report.ensures.cause (rw c.reserve.ensures.refusals at c.tell_report.ensures.refusals)
+    ready_obeys g.L.Lines.hear g.L.Lines.part c.args.self.now c.prepare.new.self c.tell_report.new.self (family.Run asked.Report) _ _ _ _ _ _ c.tell_report.result refl refl
+    (λ lines done. (lines, done)) c.in_ok-prepare.ensures (rw c.reserve.ensures.heard at c.tell_report.ensures.report)
+    c.tell_report.ensures.cause (rw c.reserve.ensures.refusals at c.tell_report.ensures.refusals)

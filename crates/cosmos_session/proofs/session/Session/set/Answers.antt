@@ -1,13 +1,26 @@
-use Rattle.std.proofs.Common.{refl, sym}
-use Rattle.session_meaning.proofs.MachineLemmas.{set_inputs}
+use Rattle.std.proofs.Common.{refl}
+use Rattle.session_meaning.proofs.ValueLemmas.{set-inputs, set-past}
 use Rattle.cosmos_session.proofs.session.Session.set.Goals as goal
 
-pub returns-in-Some-clause-quiet : goal.returns-in-Some-clause-quiet
-returns-in-Some-clause-quiet c = (rw (← c.self.view_is, ← c.items.ensures) (sym c.in-Some.ensures), refl)
+pub put_assigned-requires-clause-within : goal.put_assigned-requires-clause-within
+put_assigned-requires-clause-within c = rw c.deref.ensures.value c.in_ok-states.ensures.within
+
+pub put_assigned-requires-clause-past : goal.put_assigned-requires-clause-past
+put_assigned-requires-clause-past c =
+    let core = c.args.self.now.core in
+    rw (c.deref.ensures.value, c.in_ok-states.ensures.states) (set-past core.circuit core.vectors c.args.list.now c.in_ok-states.ensures.allowed)
+
+pub returns-clause-quiet : goal.returns-clause-quiet
+returns-clause-quiet c = record {
+  allowed = c.in_ok-states.ensures.allowed;
+  effect = (rw (c.deref.ensures.value, c.in_ok-states.ensures.states) at c.put_assigned.ensures.state, refl);
+}
 
 pub returns-clause-machine : goal.returns-clause-machine
 returns-clause-machine c =
-    let inputs = set_inputs c.self.inside.circuit c.args.list.now (sym (rw (c.in_default.is, c.items.ensures) at c.set_refusal.ensures)) in (
-      rw (← c.items-2.ensures) c.put_assigned.ensures.machine,
-      c.put_assigned.ensures.unplaced (rw (c.items-2.ensures, ← c.self.view_is) inputs),
+    let core = c.args.self.now.core in (
+      rw (c.deref.ensures.value, c.in_ok-states.ensures.states) at c.put_assigned.ensures.machine,
+      c.put_assigned.ensures.unplaced
+          (rw (c.deref.ensures.value, c.in_ok-states.ensures.states)
+          (set-inputs core.circuit core.vectors c.args.list.now c.in_ok-states.ensures.allowed)),
     )

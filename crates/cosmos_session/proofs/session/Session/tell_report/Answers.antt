@@ -16,7 +16,7 @@ returns-clause-report g c =
     subst (λ (s : HeldSession). (list : List GroupTextData) × HasTexts s.core.circuit.graph list) (sym c.self.view_is) c.requires.texts in
     rw (← c.self.view_is) (record {
       lines = Reported c.groups-groups.result c.texts-texts.result session.core.fresh ∷ [];
-      report = reported session.core session.machine c.groups-groups.result c.texts-texts.result built c.texts-texts.ensures.without (texts.0) (texts.1)
+      done = reported session.core session.machine c.groups-groups.result c.texts-texts.result built c.texts-texts.ensures.without (texts.0) (texts.1)
           c.groups-groups.ensures c.texts-texts.ensures.value;
       sent = c.tell_line.ensures.sent;
     })

@@ -12,7 +12,7 @@ use Rattle.lane_session.specs.Stages.{HeldLanes, Shares}
 use Rattle.lane_session.proofs.FormLemmas.{formed_in}
 use Rattle.lane_session.proofs.RefusalLemmas.{values-ask}
 use Rattle.lane_session.proofs.InsideLemmas.{given_inside, given_quietly}
-use Rattle.lane_session.proofs.QuietLemmas.{values_fit, values_free, values_circuit, unmoved_quietly}
+use Rattle.lane_session.proofs.QuietLemmas.{values_fit, values_free, values_known, values_circuit, unmoved_quietly}
 use Rattle.lane_session.proofs.session.LaneSession.assign.Goals.{In_ok-share}
 use Rattle.lane_session.proofs.session.LaneSession.assign.Goals as goal
 
@@ -53,6 +53,7 @@ invariant_of-self-2 c =
     let i = c.self.inside in (
       given_inside i.plain.core c.share.new.plain.core c.share.ensures.before i.stage c.assign_all.new.stage i.clocks.items i.limit (texts_of i.kept) i.count c.self.invariant.0
           c.args.kind c.args.list.now (did (goal.at.invariant_of-self-2 c).In_ok-share) c.assign_all.ensures.lanes
+          (values_known i.plain.core c.share.new.plain.core i.stage.lanes c.args.kind c.args.list.now (did (goal.at.invariant_of-self-2 c).In_ok-share).0)
           (rw (c.circuit.ensures.value, c.items-2.ensures) at c.assign_all.ensures.states) (rw c.circuit.ensures.value at c.assign_all.ensures.machine),
       c.self.invariant.1,
     )
@@ -73,4 +74,5 @@ returns c =
     rw (← c.self.view_is)
     (given_quietly i.plain.core c.share.new.plain.core c.share.ensures.before i.stage c.assign_all.new.stage i.clocks.items i.limit (texts_of i.kept) i.count c.self.invariant.0
     c.args.kind c.args.list.now (did (goal.at.returns c).In_ok-share) c.assign_all.ensures.lanes
+    (values_known i.plain.core c.share.new.plain.core i.stage.lanes c.args.kind c.args.list.now (did (goal.at.returns c).In_ok-share).0)
     (rw (c.circuit.ensures.value, c.items-2.ensures) at c.assign_all.ensures.states))
