@@ -2,3 +2,4 @@ pub mod Columns
 pub mod Decks
 pub mod Samples
 pub mod Requests
+pub mod Talks

@@ -3,6 +3,7 @@
 //! The main call is `request_of`: it answers a `Request`, which is a question about a netlist or about a deck,
 //! or what needs no file. The layer above rests on its contract, which is the function `request_of` of
 //! `specs/Requests`, and answers each case. `is_deck_name` tells decks from netlists if a request takes both.
+//! `talk_net` finds `talk NET`, which is no request, since it is answered by turns.
 //!
 //! ```text
 //! request_of(["check", "inverter.sim"])                 is About { net: "inverter.sim", question: Report(Check) }
@@ -20,9 +21,11 @@ mod decks;
 mod lanes;
 mod request;
 mod sample;
+mod talks;
 
 pub use columns::lanes_of;
 pub use decks::is_deck_name;
 pub use lanes::Lanes;
 pub use request::{Alone, Purpose, Question, Report, Request, request_of};
 pub use sample::Sample;
+pub use talks::talk_net;

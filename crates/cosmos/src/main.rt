@@ -11,9 +11,10 @@
 //! `cosmos large KIND SEED N` one line that sums up the run of both. `cosmos why NET SCRIPT NODE` runs
 //! the script, whose lines aren't written, and writes why the node may be 1 and why it may be 0 at its
 //! end. `cosmos faults NET SCRIPT LIST` runs the script under each fault of a list and writes whether it
-//! shows. `cosmos help` writes a page on all requests and commands, `cosmos help WORD` what the request or
-//! the command WORD does, and `cosmos version` the program's version. All other words are answered by the
-//! usage line.
+//! shows. `cosmos talk NET` reads the netlist or the deck, and then obeys lines as they come from standard input, each
+//! answered before the next one is read. `cosmos help` writes a page on all requests and commands, `cosmos help WORD`
+//! what the request or the command WORD does, and `cosmos version` the program's version. All other words are answered
+//! by the usage line.
 //!
 //! The exit status is that of `cosmos_app::run`, whose contract says what is written: 0 where all went
 //! well, 1 where an expectation wasn't met or there is a finding, 2 for words that are no command line and for
@@ -21,10 +22,12 @@
 //! list, 5 and 6 where reading or writing failed, and 7 for lack of memory. For 2 standard error has the forms
 //! of all requests, or a line if it is NODE that isn't in use; for 3 and 4 a line with the file's name, the
 //! number of the refused line, its code and the cure, as `help_texts` has it; for 5, 6 and 7 a line that says
-//! more. No clause speaks of standard error.
+//! more. Under `talk` it has the cure of each refused line too, if standard input is a terminal. No clause speaks of
+//! standard error.
 //!
 //! `answer_over` makes that call, over any opener of files and a printer to any outlet, and has its clauses for all of
-//! them; `main` hands it the files of the system and a printer to standard output.
+//! them; `main` hands it the files of the system and a printer to standard output. `talk_over` does so for a talk, over
+//! any port of one.
 //!
 //! ```text
 //! cosmos sim inverter.sim inverter.cmd
@@ -37,11 +40,13 @@ ghost use Rattle.command_line.specs.Requests.{names_of, request_of};
 ghost use Rattle.cosmos_app.specs.Answers.{IsAnswered};
 ghost use Rattle.cosmos_app.specs.Counts.{files_count, sink_count};
 ghost use Rattle.cosmos_app.specs.Starts.{RequestStarts};
+ghost use Rattle.cosmos_app.specs.Talking.{HandsOn, HasReadOnce, IsTalkTo};
 
 mod telling;
 mod told;
 
-use cosmos_app::{Status, run};
+use command_line::talk_net;
+use cosmos_app::{Status, run, talk};
 use group_analysis::Analyst;
 use node_elimination::SymbolicAnalyst;
 use port_edge::{FilesOver, Open, Outlet, SinkOver, real_files, real_outlet};
@@ -50,6 +55,8 @@ use std::hash::RandomState;
 use std::process::ExitCode;
 use std::{env, io};
 use table_keys::TableKeys;
+use talk_port::{RealTalk, StdWriter, Talk, real_talk};
+use talk_run::Teller;
 use telling::{tell_start, tell_stop};
 use told::Told;
 use told_lines::Printer;
@@ -90,6 +97,9 @@ fn answer_drawn(rt: &HostRuntime, words: &[String]) -> Status {
 // Answers the words over the files of the system and the standard output, and says on standard error why a run
 // stopped: of a file that can't be read the name that was started last.
 fn answer(rt: &HostRuntime, words: &[String], keys: TableKeys) -> Status {
+    if let Some(net) = talk_net(words) {
+        return answer_talk(rt, words, net, keys);
+    }
     let sink = SinkOver::new(Told::over(real_outlet(rt), rt, words));
     let Ok(mut out) = Printer::new(rt.alloc(), sink, false) else {
         tell_stop(rt, words, Status::NoMemory, None, None, None);
@@ -103,6 +113,38 @@ fn answer(rt: &HostRuntime, words: &[String], keys: TableKeys) -> Status {
     let (of_file, of_output) = (files.reason(), sink.reason());
     tell_stop(rt, words, status, files.name(), of_file, of_output);
     status
+}
+
+// Holds the talk about a netlist or a deck over the files of the system, standard input and standard output, and says on
+// standard error why it stopped.
+fn answer_talk(rt: &HostRuntime, words: &[String], net: &str, keys: TableKeys) -> Status {
+    let Some(mut out) = real_teller(rt, words) else {
+        tell_stop(rt, words, Status::NoMemory, None, None, None);
+        return Status::NoMemory;
+    };
+    let mut files = real_files(rt, keys);
+    let analyst = SymbolicAnalyst::with_keys(rt.alloc(), keys);
+    let status = talk_over(rt.alloc(), net, &mut files, &mut out, analyst);
+    let of_talk = out.into_port().reason();
+    if files.reason().is_some() || of_talk.is_none() {
+        tell_stop(rt, words, status, files.name(), files.reason(), None);
+    } else {
+        tell_stop(rt, words, status, Some("standard input"), of_talk, of_talk);
+    }
+    status
+}
+
+// A talk over standard input and standard output, whose notes are told.
+type ToldTalk<'r, 'w> = RealTalk<'r, Told<'r, 'w, StdWriter<io::Printer<'r, HostRuntime>>>>;
+
+// A teller over standard input and standard output, in a run with these words, if there is memory for it.
+fn real_teller<'r, 'w>(
+    rt: &'r HostRuntime,
+    words: &'w [String],
+) -> Option<Teller<ToldTalk<'r, 'w>>> {
+    let outlet = Told::over(StdWriter::new(io::writer(rt)), rt, words);
+    let port = real_talk(rt, outlet).ok()?;
+    Teller::new(rt.alloc(), port).ok()
 }
 
 // Answers the words over the files of an opener and a printer to an outlet.
@@ -121,4 +163,21 @@ fn answer_over<O: Open + Drop, W: Outlet + Drop, A: Analyst>(
     ensures write { out.new.faults ≡ sink_count out.old.faults result }
 {
     run(alloc, words, files, out, analyst)
+}
+
+// Holds the talk about a netlist or a deck over the files of an opener and the port of any talk.
+fn talk_over<O: Open + Drop, T: Talk + Drop, A: Analyst + Drop>(
+    alloc: Global,
+    net: &str,
+    files: &mut FilesOver<O>,
+    out: &mut Teller<T>,
+    analyst: A,
+) -> Status
+    ensures answer { IfSome (O.holds files.old.opener) (λ holds.
+        IsTalkTo net.now holds (A.analysed analyst) out.old.spoken.talk out.new.spoken.talk result) }
+    ensures handed { HandsOn out.new.behind result }
+    ensures read { HasReadOnce files.old.faults files.new.faults out.old.spoken.unheard out.new.spoken.unheard result }
+    ensures write { out.new.faults ≡ sink_count out.old.faults result }
+{
+    talk(alloc, net, files, out, analyst)
 }

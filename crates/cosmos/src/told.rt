@@ -4,12 +4,13 @@ ghost use Rattle.std.specs.Prelude.{◌≡◌};
 
 use port_edge::{NotedFile, Outlet};
 use std::io::{self, IsTerminal};
+use talk_port::Flush;
 
 // After how many lines the next word is told.
 const STRIDE: u64 = 100;
 
 /// An outlet over another, which took what that took. A note is told behind the name that the words have for
-/// its file. Under `faults` it tells how many faults were judged, where standard error is a terminal and
+/// its file; standard input has one if it is a terminal. Under `faults` it tells how many faults were judged, where standard error is a terminal and
 /// standard output, whose lines would say it, is none.
 #[derive(Drop)]
 pub(crate) struct Told<'r, 'w, W: Outlet> {
@@ -59,25 +60,44 @@ impl<W: Outlet> Outlet for Told<'_, '_, W> {
     }
 
     fn note(&mut self, file: NotedFile, text: &[u8]) {
-        if let (Some(name), Ok(text)) = (named(self.words, file), str::from_utf8(text)) {
+        if let (Some(name), Ok(text)) = (named(self.rt, self.words, file), str::from_utf8(text)) {
             let _ = eprintln!(self.rt; "{name}{text}");
         }
     }
 }
 
-// The name that words have for a file, if they name it: of a sample they name none.
-fn named(words: &[String], file: NotedFile) -> Option<&str> {
+impl<W: Flush> Flush for Told<'_, '_, W> {
+    ghost handed = { λ told. W.handed told.inner };
+
+    fn flush(&mut self) -> io::Result<()> {
+        self.inner.flush()
+    }
+}
+
+// The name that words have for a file, if they name it: of a sample they name none. The lines of a talk are those of
+// standard input.
+fn named<'w>(rt: &HostRuntime, words: &'w [String], file: NotedFile) -> Option<&'w str> {
     if begins(words, "large") {
         return None;
     }
     let place = match file {
         NotedFile::Circuit => 1,
+        NotedFile::Script if begins(words, "talk") => return terminal_name(rt),
         NotedFile::Script if begins(words, "batch") => 3,
         NotedFile::Script => 2,
         NotedFile::List => 3,
     };
     let name = words.get(place)?;
     Some(name.as_str())
+}
+
+// The name of standard input, if it is a terminal: a program at the other end reads the refusals themselves.
+fn terminal_name(rt: &HostRuntime) -> Option<&'static str> {
+    if rt.stdin().is_terminal() {
+        Some("standard input")
+    } else {
+        None
+    }
 }
 
 // Whether the words begin with this one.

@@ -5,3 +5,4 @@ pub mod Starts
 pub mod Counts
 pub mod Wholes
 pub mod Laws
+pub mod Talking

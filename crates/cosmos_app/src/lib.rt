@@ -9,6 +9,9 @@
 //! steps. After a fault or lack of memory the bytes are a prefix of such an answer. By the law
 //! `answers_are_unique` there is one answer, unless the words ask for a listing or for reasons.
 //!
+//! `talk` holds the talk about a netlist or a deck, by its name; its contract says by turns that each line was answered
+//! before the next one was asked for.
+//!
 //! ```text
 //! run(alloc, ["sim", "inverter.sim", "inverter.cmd"], files, out)   is Status::Done
 //! run(alloc, ["sim-spice", "gates.sp", "gates.cmd"], files, out)    is Status::Done
@@ -31,10 +34,13 @@
 mod batch;
 mod faults;
 mod laws;
+mod noting;
 mod reports;
+mod talking;
 mod top;
 
 pub use laws::answers_are_unique;
 pub use run_ends::Status;
 pub use script_meaning::scripts_end_at_their_first_refused_line;
+pub use talking::talk;
 pub use top::run;

@@ -110,7 +110,7 @@ pub fn run<F: Files, S: Sink + Drop, A: Analyst>(
 }
 
 // The status that a run ends with.
-fn end_status(end: Result<End, Stop>) -> Status
+pub(crate) fn end_status(end: Result<End, Stop>) -> Status
     ensures { result ≡ status_after end }
 {
     match end {
@@ -178,6 +178,7 @@ fn answer_alone<S: Sink + Drop, A: Analyst>(
 }
 
 // Reads the netlist, and answers the question in its circuit.
+#[tactic(auto, using(run_ends::proofs::EndLemmas::read_none, run_ends::proofs::EndLemmas::untouched_none))]
 fn answer_about<F: Files, S: Sink + Drop, A: Analyst>(
     alloc: Global,
     net: &str,

@@ -9,11 +9,12 @@ use crate::finding::text_of;
 ///
 /// Each `{}` stands for the word concerned. For N1, N2, S1, S2, S3, P1, P2 and P3 it is the first word
 /// of the line; for N3 the format, for N5 the word that begins with `caps:`; for E1, E3, S6 and S7 the
-/// node's name as the line has it, for E6 the second name; for S16 the name; for E2 and S5 the word in
+/// node's name as the line has it, or the vector's that has the node, for S12 the vector's, for S14 the
+/// assignment, for E6 the second name; for S16 the name; for E2 and S5 the word in
 /// the place of the number, for S4 that in the place of the assignment or the kind; for E4 and E5 the
 /// strength and the size; for G1 and G2 the name that the refusal has; for P4 to P8 the subcircuit's
 /// name, for P10 the model's. The others have none.
-pub const CURES: [(&str, &str); 42] = [
+pub const CURES: [(&str, &str); 45] = [
     (
         "L1 LineTooLong",
         "the line has more than 65,536 bytes; write it as several shorter ones",
@@ -117,6 +118,18 @@ pub const CURES: [(&str, &str); 42] = [
     (
         "S11 TooLong",
         "the script has more than 67,108,864 bytes; use 'cycle' for what repeats, or cut it in two",
+    ),
+    (
+        "S12 NameTaken",
+        "'{}' is a node; give the vector another name",
+    ),
+    (
+        "S13 TooMany",
+        "a vector takes 65,536 nodes, all of them 4,194,304, and a word 16 ranges in one another",
+    ),
+    (
+        "S14 VectorValue",
+        "'{}' doesn't fit; write one letter, or one for each node, or a number that they can hold",
     ),
     (
         "S15 TooManySaves",

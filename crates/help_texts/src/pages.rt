@@ -15,6 +15,7 @@ Cosmos: a proved switch-level simulator for MOS circuits, by Bryant's model.
   cosmos groups NET               list the channel-connected groups
   cosmos compile NET              write the circuit as straight-line code
   cosmos lint NET                 find what a netlist most often has wrong
+  cosmos talk NET                 obey lines as they come, from standard input
   cosmos gen PART KIND SEED N     write a generated netlist or its script
   cosmos large KIND SEED N        run such a script, and sum it up in one line
   cosmos help [WORD]              this page, or one request or command in full
@@ -24,7 +25,8 @@ A script has a command on each line; a line that begins with | is a comment.
   input, store     make nodes inputs; make a node a storage node of a size
   set, charge      put 0, 1 or X on inputs; put it on storage nodes
   watch, expect    show nodes in each printed line; compare their states
-  show             print the states of nodes
+  vector           give a name to nodes, as a bus
+  show, look       print the states of nodes; print what there is at them
   save, back       keep all states under a name; give them back
   step, phase      one unit step; steps until nothing changes
   limit            how long a phase may be before what still moves becomes X
@@ -55,6 +57,7 @@ usage: cosmos sim NET SCRIPT
        cosmos groups NET
        cosmos compile NET
        cosmos lint NET
+       cosmos talk NET
        cosmos gen PART KIND SEED N
        cosmos large KIND SEED N
        cosmos version

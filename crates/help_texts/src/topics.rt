@@ -6,7 +6,7 @@ ghost use Rattle.help_texts.specs.Texts as spec;
 use crate::finding::text_of;
 
 /// Each request and each command of a script with its form, what it does, and what it is refused for.
-pub const TOPICS: [(&str, &str); 34] = [
+pub const TOPICS: [(&str, &str); 39] = [
     (
         "sim",
         "cosmos sim NET SCRIPT
@@ -47,6 +47,8 @@ the script before the phase that makes an X: an X at rest has itself for a
 reason.
 Lines of NET and SCRIPT are refused as in 'sim', and told alone. If NODE isn't
 in use at the end, E1 UnknownNode is told (status 2).
+In a talk 'why NAME' prints the two lines at that point.
+Refused there: S2 FewWords, S3 ManyWords; E1 UnknownNode.
 ",
     ),
     (
@@ -69,7 +71,7 @@ Runs SCRIPT in L columns at once, L from 1 to 64. In 'set' and 'charge' a value
 is one letter for all columns, or L letters, the first for the first column:
 with L = 3 'set a=01X'. Each line has the number of its column before it; the
 first lines of all columns come first, then the second ones.
-Refused are 'expect', 'show', 'save', 'back', 'report' and 'keep'
+Refused are 'expect', 'show', 'look', 'save', 'back', 'report' and 'keep'
 (S1 BadCommand), and a value of another number of letters (S4 BadValue); all
 else is as in 'sim'.
 ",
@@ -119,6 +121,20 @@ unused NAME        a node at which there is no transistor
 If the name NET ends in .sp, .spi, .spice, .cir or .ckt, it is a SPICE deck.
 A line of NET is refused as in 'sim', one of a deck as in 'sim-spice' (status
 3).
+",
+    ),
+    (
+        "talk",
+        "cosmos talk NET
+Reads the circuit, and then lines from standard input, each obeyed when it
+comes and answered before the next one is read. All commands of scripts, and:
+why NAME       why the node may be 1, and why it may be 0, at this point
+echo WORD..    prints 'echo' and the words
+quit           ends, as the end of the input does
+A refused line prints 'line L: ' and its code, changes nothing, and the talk
+goes on. The status is 1 if an expectation was not met. If the name NET ends
+in .sp, .spi, .spice, .cir or .ckt, it is a SPICE deck. NET is refused as in
+'sim', a deck as in 'sim-spice' (status 3).
 ",
     ),
     (
@@ -179,18 +195,21 @@ E1 UnknownNode, E3 Rail, E5 BadSize.
         "set",
         "set NAME=V..
 Gives input nodes their states, from left to right; V is 0, 1, X or x. The name
-ends at the last =.
-Refused: S2 FewWords, S4 BadValue for a word that is no assignment;
-E1 UnknownNode, E3 Rail, S6 NotInput for a storage node ('input NAME' first).
+ends at the last =. At a vector's name V is a letter for all of its nodes, or
+one for each, or %h and hexadecimal digits, or %d and a decimal, whose highest
+bit is the first node's: 'set bus=%h5'. 'batch' sets no vector.
+Refused: S2 FewWords, S4 BadValue for a word that is no assignment, or for more
+than a letter at a name of no vector; E1 UnknownNode, S14 VectorValue, E3 Rail,
+S6 NotInput for a storage node ('input NAME' first).
 ",
     ),
     (
         "charge",
         "charge NAME=V..
 Gives storage nodes their states, from left to right; V is 0, 1, X or x. The
-name ends at the last =.
-Refused: S2 FewWords, S4 BadValue for a word that is no assignment;
-E1 UnknownNode, E3 Rail, S7 NotStore for an input node ('set' is for these).
+name ends at the last =. At a vector's name V is as in 'set'.
+Refused: S2 FewWords, S4 BadValue as for 'set'; E1 UnknownNode,
+S14 VectorValue, E3 Rail, S7 NotStore for an input node ('set' is for these).
 ",
     ),
     (
@@ -252,20 +271,46 @@ and G2 GroupSwitches as for 'phase'.
     (
         "expect",
         "expect NAME=V..
-Compares nodes with states; V is 0, 1, X or x. Each that differs prints a line,
+Compares nodes with states; V is 0, 1, X or x, and at a vector's name as in
+'set', or with - for any state. Each name that differs prints a line,
 'expect out=1 got X after 3': after 3 lines of steps and phases. 'sim' and
 'sim-spice' then end with status 1. In 'why', 'faults' and 'large' it counts
 for nothing, and 'batch' has no 'expect'.
-Refused: S2 FewWords, S4 BadValue for a word that is no assignment;
-E1 UnknownNode.
+Refused: S2 FewWords, S4 BadValue as for 'set'; E1 UnknownNode,
+S14 VectorValue.
+",
+    ),
+    (
+        "vector",
+        "vector NAME WORD..
+Gives NAME to the nodes of the words, in order, in the place of those that it
+had. A word is a node's name; or a vector's; or it has a range, 'd{7:0}', and
+stands for the words with each number of it; or it has a *, and stands for all
+nodes but the rails with a name that it matches, a * being any bytes.
+'input', 'watch', 'show', 'set', 'charge' and 'expect' take NAME. A node that is
+called NAME later hides it.
+Refused: S2 FewWords; S12 NameTaken if a node is called so; E1 UnknownNode;
+S13 TooMany past 65536 nodes, 4194304 in all vectors or 16 ranges in a word.
 ",
     ),
     (
         "show",
         "show NAME..
-Prints a line for each name, 'show out 0': the present state of its node. It
+Prints a line for each name, 'show out 0': the present states of its nodes. It
 builds nothing and changes nothing. In 'why', 'faults' and 'large' its lines
 aren't printed, and 'batch' has no 'show'.
+Refused: S2 FewWords; E1 UnknownNode.
+",
+    ),
+    (
+        "look",
+        "look NAME..
+Prints what there is at each node: 'look out 0 size:1', with its state and what
+it is; 'at 1 p 2 open gate a 1 end Vdd 1' for each transistor with an end at
+it, with number, kind, strength, what its switch does, its gate and its other
+end; and 'gate 1 p 2 open ends Vdd 1 out 0' for each that it is the gate of. It
+builds nothing and changes nothing. In 'why', 'faults' and 'large' its lines
+aren't printed, and 'batch' has no 'look'.
 Refused: S2 FewWords; E1 UnknownNode.
 ",
     ),
@@ -351,6 +396,21 @@ Sets how many texts of groups at most have their analyses kept, from the next
 build on: N from 1 to 1000000, though all those of the present circuit stay. At
 the start there is no bound. No state depends on it. 'batch' has no 'keep'.
 Refused: S2 FewWords, S3 ManyWords, S5 BadNumber.
+",
+    ),
+    (
+        "echo",
+        "echo WORD..
+In a talk: prints 'echo' and the words, with single spaces, so that a program
+knows where an answer ends. No script has it.
+Refused: S2 FewWords.
+",
+    ),
+    (
+        "quit",
+        "quit
+In a talk: ends it, as the end of the input does. No script has it.
+Refused: S3 ManyWords.
 ",
     ),
 ];

@@ -52,6 +52,27 @@ size_caused c fault told = caused told.first.cause told.first.named told.first.t
     caused (text.GroupSwitches count) named is = (_, ap (size_cause c) named)
     caused text.NoMemory named is = absurd (sizes_named _ _ _ _ is)
 
+-- lack of memory is no size
+pub no_want : (c : CircuitData) → TellsTooLarge c.graph NoMemory → ⊥
+no_want c tells =
+    let caused = size_caused c NoMemory tells in
+    let none : None ≡ Some caused.0 = caused.1 in
+    absurd (cc)
+
+-- the cause tells the name of the group's least node, and the count
+abbrev cause_of : FaultCode → ℕ → Option (List ℕ) → Cause
+cause_of code count known = record { code = code; name = unwrap_or known []; count = count }
+
+pub nodes_named : (c : CircuitData) (size : BuildFault) (node count : ℕ) (name : List ℕ) → size ≡ GroupNodes node count → name_at c.names node ≡ Some name →
+    size_cause c size ≡ Some (record { code = G1GroupNodes; name = name; count = count })
+nodes_named c size node count name is found =
+    ap (size_cause c) is ∙ ap (λ (known : Option (List ℕ)). Some (cause_of G1GroupNodes count known)) found
+
+pub switches_named : (c : CircuitData) (size : BuildFault) (node count : ℕ) (name : List ℕ) → size ≡ GroupSwitches node count →
+    name_at c.names node ≡ Some name → size_cause c size ≡ Some (record { code = G2GroupSwitches; name = name; count = count })
+switches_named c size node count name is found =
+    ap (size_cause c) is ∙ ap (λ (known : Option (List ℕ)). Some (cause_of G2GroupSwitches count known)) found
+
 -- the line of the first group that is too large is a right answer
 told_size : (c : CircuitData) (place : FaultPlace) (ended : Status) (fault : BuildFault) (cause : Cause) (old new : Option (List ℕ)) (result : Result end.End Stop) →
     TellsTooLarge c.graph fault → size_cause c fault ≡ Some cause → IsTold (IsRefusalFor place cause ended) old new result →

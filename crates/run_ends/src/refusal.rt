@@ -74,7 +74,7 @@ fn note_at<S: Sink>(alloc: Global, place: FaultPlace, code: FaultCode, word: &[u
         FaultPlace::NetWhole => (NotedFile::Circuit, None),
         FaultPlace::Script(line) => (NotedFile::Script, Some(line)),
         FaultPlace::List(line) => (NotedFile::List, Some(line)),
-        FaultPlace::Node => return,
+        FaultPlace::Node | FaultPlace::Heard(_) => return,
     };
     note_cure(alloc, file, line, code.text(), word, out);
 }

@@ -17,5 +17,5 @@
 mod reasons;
 mod summary;
 
-pub use reasons::explain;
+pub use reasons::{explain, reasons_text};
 pub use summary::sum_up;

@@ -78,7 +78,10 @@ fn explain_at<S: Sink + Drop>(
 {
     match halt {
         Halt::End => explain_name(alloc, session, name, out),
-        _ => refuse_halt(alloc, session.circuit(), halt, text, 1, out),
+        _ => {
+            let vectors = session.vectors();
+            refuse_halt(alloc, session.circuit(), vectors, halt, text, 1, out)
+        }
     }
 }
 
@@ -126,9 +129,9 @@ fn write_reasons<S: Sink>(
     }
 }
 
-// The two lines that explain a node, by the groups that the session's machine has; if there is no machine,
-// they are found.
-fn reasons_text(alloc: Global, session: &Session, node: usize) -> Result<Vec<u8>, NoMemory>
+/// The two lines that explain a node, by the groups that the session's machine has; if there is no machine,
+/// they are found.
+pub fn reasons_text(alloc: Global, session: &Session, node: usize) -> Result<Vec<u8>, NoMemory>
     requires { node < nodes session.now.core.circuit.graph }
     ensures { IfOk result (λ text. ExplainsNode session.now.core.circuit session.now.core.state node text.items) }
 {

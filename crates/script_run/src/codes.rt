@@ -40,6 +40,10 @@ pub fn refusal_code(refusal: Refusal) -> FaultCode
         Refusal::ClockLength => FaultCode::S8ClockLength,
         Refusal::NoClock => FaultCode::S9NoClock,
         Refusal::TooManyWatched => FaultCode::S10TooManyWatched,
+        Refusal::BadValue => FaultCode::S4BadValue,
+        Refusal::NameTaken => FaultCode::S12NameTaken,
+        Refusal::TooMany => FaultCode::S13TooMany,
+        Refusal::VectorValue => FaultCode::S14VectorValue,
         Refusal::TooManySaves => FaultCode::S15TooManySaves,
         Refusal::NoSave => FaultCode::S16NoSave,
     }

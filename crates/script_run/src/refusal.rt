@@ -1,10 +1,12 @@
 //! The line of the refusal at which a script ended.
 
 ghost use Rattle.std.specs.Prelude.{◌≡◌, ◌≢◌, Some, IfErr};
-ghost use Rattle.script_run.specs.Words.{faults_written, size_cause, Cause, IsCutShort, IsRefusedOnce, TellsCutShort, TellsRefusal, TellsTooLarge};
+ghost use Rattle.run_ends.specs.Causes as spec;
+ghost use Rattle.script_run.specs.Words.{faults_written, IsCutShort, IsRefusedOnce, TellsCutShort, TellsRefusal, TellsTooLarge};
 
 use circuit_texts::BuildFault;
 use netlist::Circuit;
+use node_words::Vectors;
 use port_edge::NotedFile;
 use refusal_words::script_word;
 use run_ends::{End, Stop, cure_text};
@@ -15,11 +17,12 @@ use wave_print::{COLUMN_ROOM, FAULT_LINE_ROOM, FaultCode, FaultPlace};
 
 /// Tells the line of the refusal at which the lines of a script ended in a circuit, and ends the run so.
 ///
-/// The cure is noted besides, with a word of the refused line. For that alone the script's text is passed, and how
-/// many columns it is for.
+/// The cure is noted besides, with a word of the refused line. For that alone the vectors and the script's text are
+/// passed, and how many columns it is for.
 pub fn refuse_halt<L: Lines>(
     alloc: Global,
     circuit: &Circuit,
+    vectors: &Vectors,
     halt: Halt,
     text: &[u8],
     columns: usize,
@@ -34,44 +37,28 @@ pub fn refuse_halt<L: Lines>(
     match halt {
         Halt::End => unreachable!(),
         Halt::Refused(line, code) => {
-            let word = script_word(code, text, line, circuit, columns);
+            let word = script_word(code, text, line, circuit, vectors, columns);
             refuse_line(alloc, line, code, b"", 0, word, out)
         }
-        Halt::TooLarge(line, size) => refuse_size(alloc, line, circuit, size, out),
+        Halt::TooLarge(line, size) => {
+            let (code, name, count) = size_cause(circuit, size);
+            refuse_line(alloc, line, code, name, count, name, out)
+        }
     }
 }
 
-// Tells the line of a refusal for the first group of a circuit that is too large.
-fn refuse_size<L: Lines>(
-    alloc: Global,
-    line: u64,
-    circuit: &Circuit,
-    size: BuildFault,
-    out: &mut L,
-) -> Result<End, Stop>
+/// Why a line is refused since the first group of a circuit that is too large is this one: the code, the name of the
+/// group's least node, and the count of what it has too many of.
+pub fn size_cause(circuit: &Circuit, size: BuildFault) -> (FaultCode, &[u8], u64)
     requires { TellsTooLarge circuit.now.graph size }
-    ensures told { (cause : Cause) × (size_cause circuit.now size ≡ Some cause)
-        × TellsRefusal L.hear L.part (L.heard out.old) (L.heard out.new) (record { line = line; cause = cause }) result }
-    ensures no_read { IfErr result (λ stop. stop ≢ Stop.Read) }
-    ensures write { L.faults out.new ≡ faults_written (L.faults out.old) result }
-    ensures refused { IsRefusedOnce (L.refusals out.old) (L.refusals out.new) result }
+    ensures { spec.size_cause circuit.now size ≡ Some (record { code = result.0; name = result.1.now; count = result.2 }) }
 {
     match size {
         BuildFault::GroupNodes { node, count } => {
-            let name = circuit.name_of(node);
-            refuse_line(alloc, line, FaultCode::G1GroupNodes, name, count, name, out)
+            (FaultCode::G1GroupNodes, circuit.name_of(node), count)
         }
         BuildFault::GroupSwitches { node, count } => {
-            let name = circuit.name_of(node);
-            refuse_line(
-                alloc,
-                line,
-                FaultCode::G2GroupSwitches,
-                name,
-                count,
-                name,
-                out,
-            )
+            (FaultCode::G2GroupSwitches, circuit.name_of(node), count)
         }
         BuildFault::NoMemory => unreachable!(),
     }
@@ -103,15 +90,16 @@ fn refuse_line<L: Lines>(
     };
     match out.tell(0, refused) {
         Ok(()) => {
-            note_cure(alloc, line, code, word, out);
+            note_line(alloc, line, code, word, out);
             Ok(End::ScriptRefused)
         }
         Err(fault) => Err(Stop::of_write(fault)),
     }
 }
 
-// Notes the cure of a refused line with this word; for lack of memory it notes nothing.
-fn note_cure<L: Lines>(alloc: Global, line: u64, code: FaultCode, word: &[u8], out: &mut L)
+/// Notes the cure of a refused line of a script, by its number, with this word; for lack of memory it notes nothing.
+pub fn note_line<L: Lines>(alloc: Global, line: u64, code: FaultCode, word: &[u8], out: &mut L)
+    ensures room { L.room out.new ≡ L.room out.old }
     ensures heard { L.heard out.new ≡ L.heard out.old }
     ensures faults { L.faults out.new ≡ L.faults out.old }
     ensures refusals { L.refusals out.new ≡ L.refusals out.old }

@@ -37,7 +37,10 @@ pub fn run_lines<L: Lines, A: Analyst>(
     let halt = obey_lines(alloc, session, text, &Plain, out, analyst)?;
     match halt {
         Halt::End => Ok(end_of(session)),
-        _ => refuse_halt(alloc, session.circuit(), halt, text, 1, out),
+        _ => {
+            let vectors = session.vectors();
+            refuse_halt(alloc, session.circuit(), vectors, halt, text, 1, out)
+        }
     }
 }
 
@@ -70,8 +73,8 @@ pub fn obey_lines<R: LineReader, L: Lines, A: Analyst>(
     Ok(Halt::End)
 }
 
-// How a script ends that was obeyed to its end.
-fn end_of(session: &Session) -> End
+/// How a script ends that was obeyed to its end.
+pub fn end_of(session: &Session) -> End
     ensures { status_of result ≡ status_told session.now.core None }
 {
     if session.met() {
@@ -101,7 +104,7 @@ pub fn run_line<R: LineReader, L: Lines, A: Analyst>(
     if cut == Some(line.number) {
         return Ok(Turn::Refused(FaultCode::S11TooLong));
     }
-    match reader.read(alloc, line.bytes, session.circuit()) {
+    match reader.read(alloc, line.bytes, session.circuit(), session.vectors()) {
         Ok(Some(command)) => turn_of(session.apply(&command, analyst, out)),
         Ok(None) => Ok(Turn::Accepted),
         Err(fault) => match script_code(fault) {

@@ -12,12 +12,13 @@ use Rattle.line_words.specs.LineFaults.{is_comment, line_fault}
 use Rattle.talk_port.specs.Laws.{KeptIsWhole, KeptTellsFault}
 use Rattle.talk_port.specs.Talks.{kept_bytes}
 
--- a line loses one byte at most
+-- a line loses one byte at most, if it loses its last one or none
+length-shortened : (line : List ℕ) (returns : Bool) → length line ≤ length (if returns then take (length line - 1) line else line) + 1
+length-shortened line true = omega (arith, length-take (length line - 1) line)
+length-shortened line false = omega arith
+
 length-returned : (line : List ℕ) → length line ≤ length (without_return line) + 1
-length-returned line = by (slice_index line (length line - 1) == carriage_return) where
-  by : (returns : Bool) → length line ≤ length (if returns then take (length line - 1) line else line) + 1
-  by true = omega (arith, length-take (length line - 1) line)
-  by false = omega arith
+length-returned line = length-shortened line (slice_index line (length line - 1) == carriage_return)
 
 -- a line with too many bytes
 fault-too_long : (line : List ℕ) → LONGEST_LINE < length line → line_fault line ≡ Some TooLong

@@ -5,9 +5,11 @@
 //! by turns: what was said behind a line is the answer to it, whatever is heard after it.
 //!
 //! `LineTalk` is a talk over any reader and any outlet that can hand on what it took: its contract tells the talk by
-//! the bytes of these two, and holds no list of turns. `real_talk` is one over standard input and standard output, with
+//! the bytes of these two, and holds no list of turns. `real_talk` is one over standard input and any outlet, with
 //! a prompt if a terminal asks. `MemTalk` is a talk in memory, which tells its turns. Of a line no more than a prefix of
 //! `KEPT_BYTES` is kept; by the law `kept_prefix_tells_all` that serves.
+//!
+//! A talk may be given a note besides, for a human, which is nothing that is said.
 //!
 //! ```text
 //! converse(&mut MemTalk::new(alloc, ["a", "b"]), &mut line, &mut echo)   says "a" behind a, and then "b" behind b

@@ -8,7 +8,7 @@ ghost use Rattle.talk_port.specs.Talks.{Hears, SaysPart};
 use crate::ahead::Ahead;
 use crate::outlet::Flush;
 use crate::talks::{KEPT_BYTES, Talk};
-use port_edge::PortFault;
+use port_edge::{NotedFile, PortFault};
 use std::alloc::{AllocError, Global};
 use std::io;
 use std::io::{ErrorKind, Read};
@@ -70,29 +70,38 @@ impl<R: Read + Drop, W: Flush + Drop> LineTalk<R, W> {
         self.reason
     }
 
+    // The fault that an error is, kept as the reason and not counted yet.
+    fn reasoned(&mut self, error: io::Error) -> PortFault
+        ensures { self.new ≡ self.old }
+    {
+        self.reason = Some(error);
+        match error.kind() {
+            ErrorKind::OutOfMemory => PortFault::NoMemory,
+            _ => PortFault::Failed,
+        }
+    }
+
     // The fault that an error of the reader is, counted and kept.
     fn deaf(&mut self, error: io::Error) -> PortFault
         ensures { self.new ≡ unheard_counted self.old result }
     {
-        self.reason = Some(error);
-        if error.kind() == ErrorKind::OutOfMemory {
-            return PortFault::NoMemory;
+        let fault = self.reasoned(error);
+        if let PortFault::Failed = fault {
+            self.unheard = self.unheard.saturating_add(1);
         }
-        self.unheard = self.unheard.saturating_add(1);
-        PortFault::Failed
+        fault
     }
 
     // The fault that an error of the outlet is, counted and kept.
     fn fault(&mut self, error: io::Error) -> PortFault
         ensures { self.new ≡ talk_counted self.old result }
     {
-        self.reason = Some(error);
-        if error.kind() == ErrorKind::OutOfMemory {
-            self.refusals = self.refusals.saturating_add(1);
-            return PortFault::NoMemory;
+        let fault = self.reasoned(error);
+        match fault {
+            PortFault::Failed => self.faults = self.faults.saturating_add(1),
+            PortFault::NoMemory => self.refusals = self.refusals.saturating_add(1),
         }
-        self.faults = self.faults.saturating_add(1);
-        PortFault::Failed
+        fault
     }
 
     // Says the next bytes of a piece, from this place on, and answers how many they are.
@@ -213,6 +222,19 @@ impl<R: Read + Drop, W: Flush + Drop> Talk for LineTalk<R, W> {
             at += self.say_next(piece, at)?;
         }
         Ok(())
+    }
+
+    fn note(&mut self, file: NotedFile, text: &[u8])
+        ensures behind { self.new.behind ≡ self.old.behind }
+        ensures hearing { self.new.unheard ≡ self.old.unheard }
+        ensures cause { self.new.faults ≡ self.old.faults }
+        ensures memory { self.new.refusals ≡ self.old.refusals }
+
+        // A note is the outlet's, whose bytes stay, and the reader stays.
+        ensures contents { self.new.contents ≡ self.old.contents }
+        ensures left { self.new.left ≡ self.old.left }
+    {
+        self.outlet.note(file, text);
     }
 }
 

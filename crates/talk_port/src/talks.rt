@@ -3,7 +3,7 @@ ghost use Rattle.std.specs.Prelude.{◌≡◌, ℕ, Bool, List, Option, option_m
 ghost use Rattle.port_edge.specs.Ports.{faults_after, refusals_after};
 ghost use Rattle.talk_port.specs.Talks.{TalkData, Hears, SaysPart, said_next};
 
-use port_edge::PortFault;
+use port_edge::{NotedFile, PortFault};
 
 /// How many bytes of a line are kept, its LF not counted: as many as tell what is wrong with it.
 pub const KEPT_BYTES: usize = 65_538;
@@ -51,4 +51,15 @@ pub trait Talk {
         ensures hearing { unheard self.new ≡ unheard self.old }
         ensures cause { faults self.new ≡ faults_after (faults self.old) result }
         ensures memory { refusals self.new ≡ refusals_after (refusals self.old) result };
+
+    /// Notes for a human what a file has, by a text that follows the file's name.
+    ///
+    /// A note is nothing that is said, and may be passed over: nothing else is said of it.
+    fn note(&mut self, _file: NotedFile, _text: &[u8])
+        ensures talk { talk self.new ≡ talk self.old }
+        ensures behind { behind self.new ≡ behind self.old }
+        ensures hearing { unheard self.new ≡ unheard self.old }
+        ensures cause { faults self.new ≡ faults self.old }
+        ensures memory { refusals self.new ≡ refusals self.old }
+    {}
 }

@@ -3,11 +3,11 @@ use Rattle.std.proofs.Common.{Ok, Err, ap, inl, inr, ◌∙◌}
 use Rattle.port_edge.proofs.ResultLemmas.{at_ok}
 use Rattle.port_edge.proofs.TakenLemmas.{files_both}
 use Rattle.run_ends.specs.Stops.{faults_read}
-use Rattle.run_ends.proofs.EndLemmas.{read_none, untouched_none}
+use Rattle.run_ends.specs.Answers.{Answer}
 use Rattle.sim_read.specs.Meaning.{netlist_of}
 use Rattle.command_line.specs.Requests.{question_seen}
 use Rattle.circuit_files.proofs.FeedingLemmas.{at_each}
-use Rattle.circuit_reports.specs.Answers.{IsOver}
+use Rattle.circuit_reports.specs.Answers.{IsOver, IsNetRefusal}
 use Rattle.cosmos_app.specs.Answers.{IsAnswerIn}
 use Rattle.cosmos_app.proofs.NetLemmas.{means_as, told_of_meaning, told_refusal}
 use Rattle.cosmos_app.proofs.StartLemmas.{starts_beside}
@@ -21,7 +21,7 @@ returns-in-Ok-clause-told g c =
     c.args.out.now.page.written c.answer_in.new.out.page.written (g.A.Analyst.analysed c.args.analyst.now)
     (g.A.Analyst.analysed c.answer_in.new.analyst)
     c.answer_in.result
-    (means_as (g.F.Files.holds c.args.files.now) c.args.net.now _ (Ok c.in-Ok.circuit) c.in-Ok.is c.in_ok-circuit.ensures.means)
+    (means_as netlist_of (λ it. it) (g.F.Files.holds c.args.files.now) c.args.net.now _ (Ok c.in-Ok.circuit) c.in-Ok.is c.in_ok-circuit.ensures.means)
     c.in_ok-circuit.ensures.holds c.answer_in.ensures.told
 
 pub returns-in-Ok-clause-started : goal.returns-in-Ok-clause-started
@@ -29,7 +29,7 @@ returns-in-Ok-clause-started g c =
     starts_beside netlist_of (g.F.Files.holds c.args.files.now) c.args.net.now (question_seen c.args.question) c.in-Ok.circuit
     (g.F.Files.started c.args.files.now)
     (g.F.Files.started c.read_circuit.new.files) (g.F.Files.started c.answer_in.new.files)
-    (means_as (g.F.Files.holds c.args.files.now) c.args.net.now _ (Ok c.in-Ok.circuit) c.in-Ok.is c.in_ok-circuit.ensures.means)
+    (means_as netlist_of (λ it. it) (g.F.Files.holds c.args.files.now) c.args.net.now _ (Ok c.in-Ok.circuit) c.in-Ok.is c.in_ok-circuit.ensures.means)
     c.in_ok-circuit.ensures.started c.answer_in.ensures.started
 
 pub returns-in-Ok-clause-whole : goal.returns-in-Ok-clause-whole
@@ -38,16 +38,16 @@ returns-in-Ok-clause-whole g c =
     (λ ended after. whole_beside netlist_of (g.F.Files.holds c.args.files.now) (g.F.Files.holds c.read_circuit.new.files) c.args.net.now
     (question_seen c.args.question) c.in-Ok.circuit
     (g.F.Files.taken c.args.files.now) (g.F.Files.taken c.read_circuit.new.files) (g.F.Files.taken c.answer_in.new.files)
-    (means_as (g.F.Files.holds c.args.files.now) c.args.net.now _ (Ok c.in-Ok.circuit) c.in-Ok.is c.in_ok-circuit.ensures.means)
+    (means_as netlist_of (λ it. it) (g.F.Files.holds c.args.files.now) c.args.net.now _ (Ok c.in-Ok.circuit) c.in-Ok.is c.in_ok-circuit.ensures.means)
     c.in_ok-circuit.ensures.holds c.in_ok-circuit.ensures.whole after)
     c.answer_in.ensures.whole
 
 pub returns-clause-told : goal.returns-clause-told
 returns-clause-told g c =
-    told_refusal (g.F.Files.holds c.args.files.now) (question_seen c.args.question) c.args.net.now c.in-Err.refusal c.args.out.now.page.written
-    c.refuse_net.new.out.page.written
-    (g.A.Analyst.analysed c.args.analyst.now) c.refuse_net.result
-    (means_as (g.F.Files.holds c.args.files.now) c.args.net.now _ (Err c.in-Err.refusal) c.in-Err.is c.in_ok-circuit.ensures.means)
+    told_refusal (λ holds. IsOver (IsAnswerIn (question_seen c.args.question) holds)) netlist_of (g.F.Files.holds c.args.files.now) c.args.net.now
+    (Err c.in-Err.refusal) (IsNetRefusal c.in-Err.refusal) c.args.out.now.page.written c.refuse_net.new.out.page.written
+    (g.A.Analyst.analysed c.args.analyst.now) c.refuse_net.result (λ holds answer right. (right, ap (λ (told : Answer). told.texts) right))
+    (means_as netlist_of (λ it. it) (g.F.Files.holds c.args.files.now) c.args.net.now _ (Err c.in-Err.refusal) c.in-Err.is c.in_ok-circuit.ensures.means)
     c.refuse_net.ensures.told
 
 pub returns-clause-whole : goal.returns-clause-whole
@@ -55,7 +55,7 @@ returns-clause-whole g c =
     at_ok c.refuse_net.result
     (whole_refused netlist_of (g.F.Files.holds c.args.files.now) c.args.net.now (question_seen c.args.question) c.in-Err.refusal
     (g.F.Files.taken c.args.files.now) (g.F.Files.taken c.read_circuit.new.files)
-    (means_as (g.F.Files.holds c.args.files.now) c.args.net.now _ (Err c.in-Err.refusal) c.in-Err.is c.in_ok-circuit.ensures.means)
+    (means_as netlist_of (λ it. it) (g.F.Files.holds c.args.files.now) c.args.net.now _ (Err c.in-Err.refusal) c.in-Err.is c.in_ok-circuit.ensures.means)
     c.in_ok-circuit.ensures.whole)
 
 pub returns-in-Ok-clause-taken : goal.returns-in-Ok-clause-taken
@@ -70,11 +70,3 @@ returns-in-Ok-clause-read g c =
 pub returns-clause-started : goal.returns-clause-started
 returns-clause-started g c =
     inl (inr c.in_ok-circuit.ensures.started)
-
-pub returns-clause-read : goal.returns-clause-read
-returns-clause-read g c =
-    c.in_ok-circuit.ensures.read ∙ read_none (g.F.Files.faults c.args.files.now) c.refuse_net.result c.refuse_net.ensures.no_read
-
-pub returns-clause-untouched : goal.returns-clause-untouched
-returns-clause-untouched g c =
-    untouched_none c.args.out.now c.refuse_net.new.out c.refuse_net.result c.refuse_net.ensures.no_read

@@ -7,8 +7,8 @@ use Rattle.script_run.proofs.refusal.refuse_halt.Goals as goal
 pub unreachable-requires : goal.unreachable-requires
 unreachable-requires g c = subst (IsCutShort c.args.circuit.now) c.in-End.is c.requires
 
-pub refuse_size-requires : goal.refuse_size-requires
-refuse_size-requires g c = subst (IsCutShort c.args.circuit.now) c.in-TooLarge.is c.requires
+pub size_cause-code-requires : goal.size_cause-code-requires
+size_cause-code-requires g c = subst (IsCutShort c.args.circuit.now) c.in-TooLarge.is c.requires
 
 pub returns-in-Refused-clause-told : goal.returns-in-Refused-clause-told
 returns-in-Refused-clause-told g c =
@@ -18,4 +18,5 @@ returns-in-Refused-clause-told g c =
 pub returns-in-TooLarge-clause-told : goal.returns-in-TooLarge-clause-told
 returns-in-TooLarge-clause-told g c =
     subst (λ (halt : Halt). TellsCutShort g.L.Lines.hear g.L.Lines.part c.args.circuit.now halt (g.L.Lines.heard c.args.out.now)
-    (g.L.Lines.heard c.refuse_size.new.out) c.refuse_size.result) (sym c.in-TooLarge.is) c.refuse_size.ensures.told
+    (g.L.Lines.heard c.refuse_line-in-TooLarge.new.out) c.refuse_line-in-TooLarge.result) (sym c.in-TooLarge.is)
+    (_, c.size_cause-code.ensures, c.refuse_line-in-TooLarge.ensures.told)

@@ -1,0 +1,5 @@
+pub mod Telling
+pub mod Asking
+pub mod Answers
+pub mod Talking
+pub mod Words
