@@ -8,11 +8,8 @@ ghost use Rattle.netlist.specs.Circuits.{IsCircuit, HasVisibleNames};
 ghost use Rattle.sim_read.specs.Meaning.{netlist_of};
 ghost use Rattle.sim_read.specs.Standing.{StandsFor};
 ghost use Rattle.spice_read.specs.Making.{circuit_of};
-ghost use Rattle.circuit_files.specs.Feeding.{FeedsFile, FeedsFront, FeedsPiece};
 ghost use Rattle.run_ends.specs.Stops.{faults_read};
-ghost use Rattle.circuit_files.specs.Starts.{StartsFile};
-ghost use Rattle.circuit_files.specs.Wholes.{ReadsWhole};
-ghost use Rattle.circuit_files.specs.Decks.{deck_meant};
+ghost use Rattle.circuit_files.specs.Words.{deck_meant, FeedsFile, FeedsFront, FeedsPiece, ReadsWhole, StartsFile};
 
 use line_words::MOST_FILE_BYTES;
 use netlist::Circuit;

@@ -1,6 +1,5 @@
 pub mod ClosedLemmas
 pub mod RangeLemmas
-pub mod PositionLemmas
 pub mod TableLemmas
 pub mod NameLemmas
 pub mod LineLemmas

@@ -13,7 +13,7 @@ use Rattle.path_meaning.specs.Graphs.{GraphData, nodes, place_at}
 use Rattle.netlist.specs.Circuits.{CircuitData, IsCircuit}
 use Rattle.circuit_lint.specs.Nodes.{has_gate, has_end, AreGatesTo, AreEndsTo}
 use Rattle.circuit_lint.specs.Supplies.{is_supply_name, names_supply, AreFirstSupplies}
-use Rattle.circuit_lint.proofs.PositionLemmas.{position-yes, position-no}
+use Rattle.first_places.proofs.PlaceLemmas.{position-yes, position-no}
 
 -- the counts are those of the places so far, so they aren't more
 pub gates_within : (g : GraphData) (k : ℕ) (gates : List ℕ) (node : ℕ) → AreGatesTo g k gates → k < length g.places → node < nodes g → get_or gates node 0 ≤ k

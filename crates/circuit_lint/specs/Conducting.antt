@@ -7,17 +7,19 @@ use Rattle.path_meaning.specs.declared.TheConstants.{GND, VDD}
 use Rattle.path_meaning.specs.Graphs.{GraphData, place_at}
 use Rattle.path_meaning.specs.Path.{Joins}
 
+-- what holds of a depletion switch, and of an n-channel and of a p-channel one if its gate is this node
+abbrev pub is_kept : SwitchKind → ℕ → Bool → ℕ → ℕ → Bool
+is_kept Always gate always nchan pchan = always
+is_kept NChan gate always nchan pchan = gate == nchan
+is_kept PChan gate always nchan pchan = gate == pchan
+
 -- a depletion switch is closed always, an n-channel one by Vdd, and a p-channel one by Gnd
 abbrev pub closes_always : SwitchKind → ℕ → Bool
-closes_always Always gate = true
-closes_always NChan gate = gate == VDD
-closes_always PChan gate = gate == GND
+closes_always kind gate = is_kept kind gate true VDD GND
 
 -- an n-channel switch is never closed with Gnd as its gate, nor a p-channel one with Vdd
 abbrev pub closes_never : SwitchKind → ℕ → Bool
-closes_never Always gate = false
-closes_never NChan gate = gate == GND
-closes_never PChan gate = gate == VDD
+closes_never kind gate = is_kept kind gate false GND VDD
 
 -- a switch is always closed by its kind and its gate
 abbrev pub is_always_closed : Switch → Bool

@@ -1,6 +1,6 @@
 //! The always closed switches at each node.
 
-ghost use Rattle.std.specs.Prelude.{◌≡◌, ◌+◌, ◌<◌, [], ℕ, length, IfOk, OnOk};
+ghost use Rattle.std.specs.Prelude.{◌≡◌, ◌+◌, ◌<◌, length, IfOk, OnOk};
 ghost use Rattle.path_meaning.specs.Graphs.{nodes};
 ghost use Rattle.circuit_lint.specs.Closed.{AreClosedTo, AreClosed, HasPut, list_at};
 
@@ -12,21 +12,12 @@ use std::alloc::{AllocError, Global};
 pub(crate) fn closed_switches(alloc: Global, graph: &Graph) -> Result<Vec<Vec<usize>>, AllocError>
     ensures { IfOk result (λ lists. AreClosed graph.now lists.items) }
 {
-    let mut lists = no_lists(alloc, graph.nodes())?;
+    let mut lists = Vec::new(alloc);
+    for _ in 0..graph.nodes() {
+        lists.push(Vec::new(alloc))?;
+    }
     for place in 0..graph.places() {
         list_switch(graph, place, &mut lists)?;
-    }
-    Ok(lists)
-}
-
-// No places at each of so many nodes.
-fn no_lists(alloc: Global, count: usize) -> Result<Vec<Vec<usize>>, AllocError>
-    ensures count { IfOk result (λ lists. length lists.items ≡ count) }
-    ensures none { IfOk result (λ lists. (node : ℕ) → list_at lists.items node ≡ []) }
-{
-    let mut lists = Vec::new(alloc);
-    for _ in 0..count {
-        lists.push(Vec::new(alloc))?;
     }
     Ok(lists)
 }

@@ -10,21 +10,24 @@ use path_meaning::{GND, Graph, Switch, SwitchKind, VDD};
 pub(crate) fn is_always_closed(switch: Switch) -> bool
     ensures { result ≡ spec.is_always_closed switch }
 {
-    match switch.kind {
-        SwitchKind::Always => true,
-        SwitchKind::NChan => switch.gate == VDD,
-        SwitchKind::PChan => switch.gate == GND,
-    }
+    is_kept(switch, true, VDD, GND)
 }
 
 /// Whether a switch is closed in no state.
 pub(crate) fn is_never_closed(switch: Switch) -> bool
     ensures { result ≡ spec.is_never_closed switch }
 {
+    is_kept(switch, false, GND, VDD)
+}
+
+// What holds of a depletion switch, and of an n-channel and of a p-channel one if its gate is this node.
+fn is_kept(switch: Switch, always: bool, nchan: usize, pchan: usize) -> bool
+    ensures { result ≡ spec.is_kept switch.kind switch.gate always nchan pchan }
+{
     match switch.kind {
-        SwitchKind::Always => false,
-        SwitchKind::NChan => switch.gate == GND,
-        SwitchKind::PChan => switch.gate == VDD,
+        SwitchKind::Always => always,
+        SwitchKind::NChan => switch.gate == nchan,
+        SwitchKind::PChan => switch.gate == pchan,
     }
 }
 

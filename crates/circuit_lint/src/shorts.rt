@@ -1,16 +1,16 @@
 //! Lists of always closed switches that join the rails.
 
-ghost use Rattle.std.specs.Prelude.{◌≡◌, ◌+◌, ◌<◌, ◌≤◌, ℕ, length, map, Some, All, Contains, IfOk, IfSome, IfNone, OnOk};
+ghost use Rattle.std.specs.Prelude.{◌≡◌, ◌<◌, ◌≤◌, ℕ, length, map, Some, All, Contains, IfOk, IfSome, IfNone, OnOk};
 ghost use Rattle.std.specs.List.Sorted.{IsStrictlyIncreasing};
 ghost use Rattle.path_meaning.specs.Graphs.{nodes, IsStorage};
 ghost use Rattle.path_meaning.specs.declared.TheConstants.{RAILS, GND, VDD};
 ghost use Rattle.group_meaning.specs.Groups.{AreGroups, id_of};
 ghost use Rattle.channel_groups.specs.Grouping.{IsId};
 ghost use Rattle.circuit_lint.specs.Conducting.{IsClosedAcross};
-ghost use Rattle.circuit_lint.specs.Closed.{AreClosed, list_at};
+ghost use Rattle.circuit_lint.specs.Closed.{AreClosed};
 ghost use Rattle.circuit_lint.specs.Distances.{AreDistances, IsFound, distance_at};
 ghost use Rattle.circuit_lint.specs.Shorts.{AreShorts};
-ghost use Rattle.circuit_lint.specs.Ways.{lists_of, IsStep, IsFirstStep, GoesDown, IsWayFrom, AreWays};
+ghost use Rattle.circuit_lint.specs.Ways.{lists_of, IsStep, IsFirstStep, GoesDown, IsWayFrom};
 
 use crate::closed::{closed_at, closed_switches};
 use crate::conducting::across;
@@ -46,27 +46,9 @@ pub(crate) fn shorts_of(
         closed_at(&closed, VDD),
         &distance,
     )?;
-    let ways = ways_of(alloc, graph, &closed, &distance, &starts)?;
-    Ok(ways)
-}
-
-// The lists that begin at these places.
-fn ways_of(
-    alloc: Global,
-    graph: &Graph,
-    closed: &[Vec<usize>],
-    distance: &[Option<usize>],
-    starts: &[usize],
-) -> Result<Vec<Vec<usize>>, AllocError>
-    requires closed { AreClosed graph.now closed.now }
-    requires distance { AreDistances graph.now distance.now }
-    requires starts { (place : ℕ) → Contains starts.now place →
-        (node : ℕ) × IsClosedAcross graph.now place VDD node × IsFound distance.now node }
-    ensures { IfOk result (λ ways. AreWays graph.now starts.now (lists_of ways.items)) }
-{
     let mut ways = Vec::new(alloc);
-    for &place in starts {
-        ways.push(way_from(alloc, graph, closed, distance, place)?)?;
+    for &place in &starts {
+        ways.push(way_from(alloc, graph, &closed, &distance, place)?)?;
     }
     Ok(ways)
 }
@@ -123,7 +105,10 @@ fn go_down(
     let mut left = far_of(distance, from);
     while left > 0 {
         left -= 1;
-        let (place, next) = next_step(graph, closed, distance, node, left);
+        let places = closed_at(closed, node);
+        let Some((place, next)) = first_step(graph, places, distance, node, left) else {
+            unreachable!();
+        };
         way.push(place)?;
         node = next;
     }
@@ -140,25 +125,6 @@ fn far_of(distance: &[Option<usize>], node: usize) -> usize
     }
     match distance[node] {
         Some(far) => far,
-        None => unreachable!(),
-    }
-}
-
-// The first place that leads from a node to one that is one switch nearer, and that node.
-fn next_step(
-    graph: &Graph,
-    closed: &[Vec<usize>],
-    distance: &[Option<usize>],
-    node: usize,
-    left: usize,
-) -> (usize, usize)
-    requires closed { AreClosed graph.now closed.now }
-    requires distance { AreDistances graph.now distance.now }
-    requires far { distance_at distance.now node ≡ Some (left + 1) }
-    ensures { IsFirstStep graph.now distance.now (list_at closed.now node) node left result.0 result.1 }
-{
-    match first_step(graph, closed_at(closed, node), distance, node, left) {
-        Some(step) => step,
         None => unreachable!(),
     }
 }

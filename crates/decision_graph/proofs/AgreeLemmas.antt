@@ -78,24 +78,26 @@ holds-unseen variables vertices vars v b i reduced inside later =
 abbrev pub Agree : List Vertex → ℕ → ℕ → Type 0
 Agree vertices i j = (vars : ℕ → Bool) → holds vertices vars i ≡ holds vertices vars j
 
--- where a branch's variable is set, the branch is one of those to which it leads
+-- with a value for a branch's variable, the branch is one of those to which it leads
+branch-with : (variables : ℕ) (vertices : List Vertex) (vars : ℕ → Bool) (i v : ℕ) (high low : Function) (b : Bool) → IsReduced variables vertices
+    → i < length vertices → vertex_at vertices i ≡ Branch v high low → holds vertices (with_variable v b vars) i
+    ≡ (if b then holds vertices (with_variable v b vars) high.place else holds vertices (with_variable v b vars) low.place)
+branch-with variables vertices vars i v high low b reduced inside is =
+    let set = with_variable v b vars in
+    holds-branch variables vertices set i v high low reduced inside is
+    ∙ ap (λ t. if t then holds vertices set high.place else holds vertices set low.place) (with_variable-here v b vars)
+
 branch-high : (variables : ℕ) (vertices : List Vertex) (vars : ℕ → Bool) (i v : ℕ) (high low : Function) → IsReduced variables vertices → i < length vertices
     → vertex_at vertices i ≡ Branch v high low → high.place < length vertices → v < level_at variables vertices high.place
     → holds vertices (with_variable v true vars) i ≡ holds vertices vars high.place
 branch-high variables vertices vars i v high low reduced inside is high_inside later =
-    let set = with_variable v true vars in
-    holds-branch variables vertices set i v high low reduced inside is
-    ∙ ap (λ t. if t then holds vertices set high.place else holds vertices set low.place) (with_variable-here v true vars)
-    ∙ holds-unseen variables vertices vars v true high.place reduced high_inside later
+    branch-with variables vertices vars i v high low true reduced inside is ∙ holds-unseen variables vertices vars v true high.place reduced high_inside later
 
 branch-low : (variables : ℕ) (vertices : List Vertex) (vars : ℕ → Bool) (i v : ℕ) (high low : Function) → IsReduced variables vertices → i < length vertices
     → vertex_at vertices i ≡ Branch v high low → low.place < length vertices → v < level_at variables vertices low.place
     → holds vertices (with_variable v false vars) i ≡ holds vertices vars low.place
 branch-low variables vertices vars i v high low reduced inside is low_inside later =
-    let set = with_variable v false vars in
-    holds-branch variables vertices set i v high low reduced inside is
-    ∙ ap (λ t. if t then holds vertices set high.place else holds vertices set low.place) (with_variable-here v false vars)
-    ∙ holds-unseen variables vertices vars v false low.place reduced low_inside later
+    branch-with variables vertices vars i v high low false reduced inside is ∙ holds-unseen variables vertices vars v false low.place reduced low_inside later
 
 -- the places to which a branch leads are before it
 before_branch : (variables : ℕ) (vertices : List Vertex) (k v : ℕ) (high low : Function) → IsReduced variables vertices → vertex_at vertices k ≡ Branch v high low

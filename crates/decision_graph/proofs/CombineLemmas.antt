@@ -51,25 +51,25 @@ IsCombined-chosen variables first second third last kind v a b a_high a_low b_hi
     whole vars a' b' e f = same_kind kind a' b' (holds last vars a) (holds last vars b)
         (sym (holds-extends first last vars a to_end a_inside ∙ e)) (sym (holds-extends first last vars b to_end b_inside ∙ f))
 
+    -- what a side gives at the end is the operation on the parts of that side at the start
+    side : (vars : ℕ → Bool) (at : List Vertex) (x y made : ℕ) → Extends first at → Extends at last → x < length first → y < length first
+        → IsCombined variables at kind x y made → holds last vars made ≡ kind_value kind (holds first vars x) (holds first vars y)
+    side vars at x y made to_at at_last x_inside y_inside is =
+        holds-extends at last vars made at_last is.inside ∙ is.value_is vars
+        ∙ same_kind kind _ _ (holds first vars x) (holds first vars y)
+        (holds-extends first at vars x to_at x_inside) (holds-extends first at vars y to_at y_inside)
+
     by : (vars : ℕ → Bool) (t : Bool) → vars v ≡ t
         → holds last vars made ≡ kind_value kind (holds last vars a) (holds last vars b)
     by vars true e =
         chosen.value_is vars ∙ taken_high (vars v) (holds last vars high) (holds last vars low) e
-        ∙ holds-extends second last vars high second_last on_high.inside ∙ on_high.value_is vars
-        ∙ same_kind kind _ _ (holds first vars a_high) (holds first vars b_high)
-        (holds-extends first second vars a_high to_second part_a.high_inside)
-        (holds-extends first second vars b_high to_second part_b.high_inside)
-        ∙ whole vars (holds first vars a_high) (holds first vars b_high)
-        (part_a.value_is vars ∙ taken_high (vars v) (holds first vars a_high) (holds first vars a_low) e)
+        ∙ side vars second a_high b_high high to_second second_last part_a.high_inside part_b.high_inside on_high
+        ∙ whole vars _ _ (part_a.value_is vars ∙ taken_high (vars v) (holds first vars a_high) (holds first vars a_low) e)
         (part_b.value_is vars ∙ taken_high (vars v) (holds first vars b_high) (holds first vars b_low) e)
     by vars false e =
         chosen.value_is vars ∙ taken_low (vars v) (holds last vars high) (holds last vars low) e
-        ∙ holds-extends third last vars low to_last on_low.inside ∙ on_low.value_is vars
-        ∙ same_kind kind _ _ (holds first vars a_low) (holds first vars b_low)
-        (holds-extends first third vars a_low first_third part_a.low_inside)
-        (holds-extends first third vars b_low first_third part_b.low_inside)
-        ∙ whole vars (holds first vars a_low) (holds first vars b_low)
-        (part_a.value_is vars ∙ taken_low (vars v) (holds first vars a_high) (holds first vars a_low) e)
+        ∙ side vars third a_low b_low low first_third to_last part_a.low_inside part_b.low_inside on_low
+        ∙ whole vars _ _ (part_a.value_is vars ∙ taken_low (vars v) (holds first vars a_high) (holds first vars a_low) e)
         (part_b.value_is vars ∙ taken_low (vars v) (holds first vars b_high) (holds first vars b_low) e)
 
 -- what a combined function holds, by what both functions held before

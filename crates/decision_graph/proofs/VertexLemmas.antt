@@ -27,6 +27,10 @@ vertex_eq-true (Leaf a) (Branch v high low) e = search rules
 vertex_eq-true (Branch v high low) (Leaf b) e = search rules
 vertex_eq-true (Branch v high low) (Branch w more less) e = search rules
 
+-- a place is before another, at it or past it
+place_of : (m n : ℕ) → (m < n) ⊎ ((m ≡ n) ⊎ (n < m))
+place_of m n = grind arith
+
 -- equal vertices are not at two places
 equal_apart : (vertices : List Vertex) → IsDistinct eq.eq-value.it vertices → (i j : ℕ) → i < j → j < length vertices
     → vertex_at vertices i ≡ vertex_at vertices j → ⊥
@@ -37,15 +41,13 @@ equal_apart vertices distinct i j less inside same =
 -- keys that are apart are different vertices
 pub IsApart-from_distinct : (vertices : List Vertex) → IsDistinct eq.eq-value.it vertices → IsApart vertices
 IsApart-from_distinct vertices distinct i j inside_i inside_j same =
-    ⊎_elim (λ less. absurd (equal_apart vertices distinct i j less inside_j same))
-    (λ rest. ⊎_elim (λ less. absurd (equal_apart vertices distinct j i less inside_i (sym same))) (λ e. e) rest) (either i j)
-  where
-    either : (m n : ℕ) → (m < n) ⊎ ((n < m) ⊎ (m ≡ n))
-    either m n = grind arith
-
--- a place is before the end, at it or past it
-place_of : (m n : ℕ) → (m < n) ⊎ ((m ≡ n) ⊎ (n < m))
-place_of m n = grind arith
+    elim (place_of i j) [
+      | inl less ↦ absurd (equal_apart vertices distinct i j less inside_j same)
+      | inr rest ↦ elim rest [
+        | inl e ↦ e
+        | inr less ↦ absurd (equal_apart vertices distinct j i less inside_i (sym same))
+      ]
+    ]
 
 -- a list that has one more vertex extends it
 pub Extends-push : (vertices : List Vertex) (vertex : Vertex) → Extends vertices (vertices ++ vertex ∷ [])

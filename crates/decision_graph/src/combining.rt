@@ -98,35 +98,14 @@ impl DecisionGraph {
         leaves_are_first(self);
         let (no, yes) = (self.constant(false), self.constant(true));
         match kind {
-            Kind::And => {
-                if a == b || a == no || b == yes {
-                    Some(a)
-                } else if a == yes || b == no {
-                    Some(b)
-                } else {
-                    None
-                }
-            }
-            Kind::Or => {
-                if a == b || a == yes || b == no {
-                    Some(a)
-                } else if a == no || b == yes {
-                    Some(b)
-                } else {
-                    None
-                }
-            }
-            Kind::Differ => {
-                if a == b {
-                    Some(no)
-                } else if a == no {
-                    Some(b)
-                } else if b == no {
-                    Some(a)
-                } else {
-                    None
-                }
-            }
+            Kind::And if a == b || a == no || b == yes => Some(a),
+            Kind::And if a == yes || b == no => Some(b),
+            Kind::Or if a == b || a == yes || b == no => Some(a),
+            Kind::Or if a == no || b == yes => Some(b),
+            Kind::Differ if a == b => Some(no),
+            Kind::Differ if a == no => Some(b),
+            Kind::Differ if b == no => Some(a),
+            _ => None,
         }
     }
 

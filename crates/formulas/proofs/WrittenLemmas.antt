@@ -20,17 +20,23 @@ use Rattle.formulas.specs.Formulas.Spells.{a_name, brackets, negated, signed, hi
 use Rattle.formulas.specs.Reading.{ReaderData, release, start, with_name, with_name_byte, begun, gone_on, with_sign, close_by, closed, taken, taken_by, taken_all, if_none_waits, ended, finished, finished_by, formula_of}
 use Rattle.formulas.proofs.ReadLemmas.{IsBelow, release-stays, release-goes, sign-part, sign-no_part, sign-above}
 
--- what stands before a sign that waits: what was read before its first operand, and that operand
-record HasLeft (opened : List Part → List ℕ → Type 0) (waiting : List Waiting) (sign : Sign) (parts : List Part) (text : List ℕ) : Type 0 where
+-- the text ends with an operand of a rank, behind a text that is so opened
+record EndsWith (opened : List Part → List ℕ → Type 0) (rank : ℕ) (parts : List Part) (text : List ℕ) : Type 0 where
   pub first_parts : List Part
   pub first_text : List ℕ
   pub own : List ℕ
   pub formula : Formula
   pub begins : opened first_parts first_text
-  pub spelled : Spells (rank_of sign) own formula
-  pub below : IsBelow (rank_of sign) waiting
+  pub spelled : Spells rank own formula
   pub parts_are : parts ≡ first_parts ++ postfix formula
-  pub text_is : text ≡ first_text ++ (own ++ byte_of sign ∷ [])
+  pub text_is : text ≡ first_text ++ own
+
+-- what stands before a sign that waits: what was read before its first operand, and that operand
+record HasLeft (opened : List Part → List ℕ → Type 0) (waiting : List Waiting) (sign : Sign) (parts : List Part) (text : List ℕ) : Type 0 where
+  pub before : List ℕ
+  pub operand : EndsWith opened (rank_of sign) parts before
+  pub below : IsBelow (rank_of sign) waiting
+  pub sign_is : text ≡ before ++ byte_of sign ∷ []
 
 -- the text, up to where an operand is to come, has what waits and the parts
 abbrev IsOpened : List Waiting → List Part → List ℕ → Type 0
@@ -40,15 +46,8 @@ IsOpened (Not ∷ waiting) parts text = (first : List ℕ) × IsOpened waiting p
 IsOpened (Join sign ∷ waiting) parts text = HasLeft (IsOpened waiting) waiting sign parts text
 
 -- the text ends with an operand of a rank
-record HasOperand (rank : ℕ) (waiting : List Waiting) (parts : List Part) (text : List ℕ) : Type 0 where
-  pub first_parts : List Part
-  pub first_text : List ℕ
-  pub own : List ℕ
-  pub formula : Formula
-  pub begins : IsOpened waiting first_parts first_text
-  pub spelled : Spells rank own formula
-  pub parts_are : parts ≡ first_parts ++ postfix formula
-  pub text_is : text ≡ first_text ++ own
+abbrev HasOperand : ℕ → List Waiting → List Part → List ℕ → Type 0
+HasOperand rank waiting parts text = EndsWith (IsOpened waiting) rank parts text
 
 -- a formula of a rank is one of each lower rank
 lower-by : (count rank other : ℕ) (text : List ℕ) (f : Formula) → rank ≡ other + count → Spells rank text f → Spells other text f
@@ -96,7 +95,10 @@ HasOperand-negated rank waiting parts text high has =
 HasOperand-joined : (rank : ℕ) (sign : Sign) (waiting : List Waiting) (parts : List Part) (text : List ℕ) → rank_of sign < rank →
     HasOperand rank (Join sign ∷ waiting) parts text → HasOperand (rank_of sign) waiting (parts ++ part.Join sign ∷ []) text
 HasOperand-joined rank sign waiting parts text high has =
-    let left : HasLeft (IsOpened waiting) waiting sign has.first_parts has.first_text = has.begins in
+    let begun : HasLeft (IsOpened waiting) waiting sign has.first_parts has.first_text = has.begins in
+    let left = begun.operand in
+    let before : has.first_text ≡ left.first_text ++ (left.own ++ byte_of sign ∷ []) =
+    begun.sign_is ∙ ap (λ text. text ++ byte_of sign ∷ []) left.text_is ∙ append_assoc left.first_text left.own (byte_of sign ∷ []) in
     record {
       first_parts = left.first_parts;
       first_text = left.first_text;
@@ -110,7 +112,7 @@ HasOperand-joined rank sign waiting parts text high has =
           ∙ append_assoc (left.first_parts ++ postfix left.formula) (postfix has.formula) (part.Join sign ∷ [])
           ∙ append_assoc left.first_parts (postfix left.formula) (postfix has.formula ++ part.Join sign ∷ []);
       text_is =
-          has.text_is ∙ ap (λ first. first ++ has.own) left.text_is
+          has.text_is ∙ ap (λ first. first ++ has.own) before
           ∙ append_assoc left.first_text (left.own ++ byte_of sign ∷ []) has.own
           ∙ ap (λ all. left.first_text ++ all) (append_assoc left.own (byte_of sign ∷ []) has.own);
     }
@@ -174,21 +176,11 @@ begun-standing r s text byte opened at is =
       | inr other ↦
           let left = sym (ap (λ test. if test then Some (record r { next = next.Name; name = [] }) else others) other) ∙ is in
           elim (cases_Bool (byte == exclamation)) [
-            | inl same ↦
-                let made : record r { waiting = Not ∷ r.waiting } ≡ s =
-                some_same (sym (ap (λ test. if test then Some (record r { waiting = Not ∷ r.waiting }) else last) same) ∙ left) in
-                subst (λ t. IsStanding t (text ++ byte ∷ [])) made
-                (subst (λ n. IsStandingBy n r.name (Not ∷ r.waiting) r.parts (text ++ byte ∷ [])) (sym at)
-                (text, opened, ap (λ b. text ++ b ∷ []) (eqb-true byte exclamation same)))
+            | inl same ↦ mark_standing Not exclamation last same (λ way. way) left
             | inr more ↦
                 let rest = sym (ap (λ test. if test then Some (record r { waiting = Not ∷ r.waiting }) else last) more) ∙ left in
                 elim (cases_Bool (byte == opening)) [
-                  | inl same ↦
-                      let made : record r { waiting = Bracket ∷ r.waiting } ≡ s =
-                      some_same (sym (ap (λ test. if test then Some (record r { waiting = Bracket ∷ r.waiting }) else None) same) ∙ rest) in
-                      subst (λ t. IsStanding t (text ++ byte ∷ [])) made
-                      (subst (λ n. IsStandingBy n r.name (Bracket ∷ r.waiting) r.parts (text ++ byte ∷ [])) (sym at)
-                      (text, opened, ap (λ b. text ++ b ∷ []) (eqb-true byte opening same)))
+                  | inl same ↦ mark_standing Bracket opening None same (λ way. way) rest
                   | inr none ↦
                       absurd (let e : None ≡ Some s = sym (ap (λ test. if test then Some (record r { waiting = Bracket ∷ r.waiting }) else None) none) ∙ rest in cc)
                 ]
@@ -203,6 +195,17 @@ begun-standing r s text byte opened at is =
 
     some_same : {one other : ReaderData} → Some one ≡ Some other → one ≡ other
     some_same e = cc
+
+    -- a byte behind which an operand is wanted still, as what waits for it
+    mark_standing : (one : Waiting) (mark : ℕ) (more : Option ReaderData) → (byte == mark) ≡ true →
+        ((first : List ℕ) × IsOpened r.waiting r.parts first × (text ++ byte ∷ [] ≡ first ++ mark ∷ []) → IsOpened (one ∷ r.waiting) r.parts (text ++ byte ∷ [])) →
+        (if byte == mark then Some (record r { waiting = one ∷ r.waiting }) else more) ≡ Some s → IsStanding s (text ++ byte ∷ [])
+    mark_standing one mark more same opens made =
+        let now : record r { waiting = one ∷ r.waiting } ≡ s =
+        some_same (sym (ap (λ test. if test then Some (record r { waiting = one ∷ r.waiting }) else more) same) ∙ made) in
+        subst (λ t. IsStanding t (text ++ byte ∷ [])) now
+        (subst (λ n. IsStandingBy n r.name (one ∷ r.waiting) r.parts (text ++ byte ∷ [])) (sym at)
+        (opens (text, opened, ap (λ b. text ++ b ∷ []) (eqb-true byte mark same))))
 
 -- a byte of a sign
 sign_byte : (byte : ℕ) (sign : Sign) → sign_of byte ≡ Some sign → byte ≡ byte_of sign
@@ -260,19 +263,7 @@ closed-standing (Bracket ∷ waiting) name parts s text read is =
 -- a sign waits behind its first operand
 signed-standing : (sign : Sign) (pair : List Waiting × List Part) (text : List ℕ) → IsReleased (rank_of sign) text pair →
     IsOpened (Join sign ∷ pair.0) pair.1 (text ++ byte_of sign ∷ [])
-signed-standing sign pair text read =
-    let has = read.0 in
-    record {
-      first_parts = has.first_parts;
-      first_text = has.first_text;
-      own = has.own;
-      formula = has.formula;
-      begins = has.begins;
-      spelled = has.spelled;
-      below = read.1;
-      parts_are = has.parts_are;
-      text_is = ap (λ own. own ++ byte_of sign ∷ []) has.text_is ∙ append_assoc has.first_text has.own (byte_of sign ∷ []);
-    }
+signed-standing sign pair text read = record { before = text; operand = read.0; below = read.1; sign_is = refl }
 
 -- a byte that comes behind an operand
 gone_on-standing : (r s : ReaderData) (text : List ℕ) (byte : ℕ) → r.next ≡ next.Sign → HasOperand 4 r.waiting r.parts text → gone_on r byte ≡ Some s →

@@ -1,11 +1,11 @@
 -- The numbers of texts while the groups are passed: with each group its own text is noted, and no later group changes what is noted of it.
-use Rattle.std.proofs.Common.{◌≡◌, ℕ, ◌+◌, ◌<◌, ◌≤◌, Bool, true, false, cond, eqb, ltb, List, [], ◌∷◌, ◌++◌, length, get_or, take, drop, Option, None, Some, unwrap_or, option_map, position, is_none, not, inl, inr, refl, sym, ap, ◌∙◌, subst, arith, length-append, true≢false, if◌then◌else◌}
+use Rattle.std.proofs.Common.{◌≡◌, ℕ, ◌+◌, ◌<◌, Bool, true, false, cond, List, [], ◌∷◌, ◌++◌, length, get_or, take, drop, Option, None, Some, unwrap_or, option_map, position, is_none, inl, inr, refl, sym, ap, ◌∙◌, subst, arith, true≢false, if◌then◌else◌}
 use Rattle.std.specs.List.{position_or_len}
-use Rattle.std.proofs.lemmas.Bool.{and_from, cases_lt, cond-true, cond-false, lt-ltb, le-ltb, ne_eqb, eq-eqb}
+use Rattle.std.proofs.lemmas.Bool.{and_from, cases_lt, cond-true}
 use Rattle.std.proofs.lemmas.List.{take_more, take-append-drop, length-take-le, get_or-take}
-use Rattle.std.proofs.lemmas.List.Folds.{prefix_len-append, position_or_len_push}
-use Rattle.std.proofs.lemmas.List.Sums.{prefix_len-le-length, fails_before_first}
+use Rattle.std.proofs.lemmas.List.Sums.{fails_before_first}
 use Rattle.indexmap.specs.IndexMap.{Updates}
+use Rattle.first_places.proofs.PlaceLemmas.{position-front, position-push}
 use Rattle.path_meaning.specs.Graphs.{GraphData}
 use Rattle.group_meaning.specs.Groups.{Group}
 use Rattle.group_text.specs.Texts.{GroupTextData, size_fault, text_of_group}
@@ -43,57 +43,6 @@ pub noted_number-is : (g : GraphData) (noted : Noted) (group : Group) (text : Gr
 noted_number-is g noted group text first fits is known =
     sym (cond-true (has_text group) (number_at noted (text_of_group g group)) None (ap is_none fits)
     ∙ ap (number_at noted) (sym is) ∙ known)
-
-module _ {X : Type 0} (p : X → Bool) where
-  -- what passes in a prefix of a list is found there in the whole list too
-  position-front : (xs ys : List X) → position_or_len p xs < length xs → position p (xs ++ ys) ≡ position p xs
-  position-front xs ys low =
-      let first = position_or_len p xs in
-      let same : position_or_len p (xs ++ ys) ≡ first =
-      prefix_len-append (λ x. not (p x)) xs ys ∙ cond-false (eqb first (length xs)) _ _ (ne_eqb first (length xs) (λ e. omega arith)) in
-      ap (λ k. cond (ltb k (length (xs ++ ys))) (Some k) None) same
-      ∙ cond-true (ltb first (length (xs ++ ys))) (Some first) None (lt-ltb first (length (xs ++ ys)) (omega (arith, length-append xs ys)))
-      ∙ sym (cond-true (ltb first (length xs)) (Some first) None (lt-ltb first (length xs) low))
-
-  -- if none passes in it, it is found exactly if it passes itself behind it
-  position-behind : (xs : List X) (x : X) (passes : Bool) → p x ≡ passes → length xs ≤ position_or_len p xs →
-      position p (xs ++ x ∷ []) ≡ (if passes then Some (unwrap_or (position p xs) (length xs)) else position p xs)
-  position-behind xs x passes is past = by passes is
-    where
-      none : position p xs ≡ None
-      none = cond-false (ltb (position_or_len p xs) (length xs)) (Some (position_or_len p xs)) None (le-ltb (position_or_len p xs) (length xs) past)
-
-      last : position_or_len p (xs ++ x ∷ []) ≡ length xs + cond (p x) 0 1
-      last =
-          let all : position_or_len p xs ≡ length xs = omega (arith, prefix_len-le-length (λ y. not (p y)) xs) in
-          position_or_len_push p xs x ∙ cond-true (eqb (position_or_len p xs) (length xs)) _ _ (eq-eqb (position_or_len p xs) (length xs) all)
-
-      at : (k : ℕ) → position_or_len p (xs ++ x ∷ []) ≡ k → position p (xs ++ x ∷ []) ≡ cond (ltb k (length xs + 1)) (Some k) None
-      at k first = ap (λ n. cond (ltb (position_or_len p (xs ++ x ∷ [])) n) (Some (position_or_len p (xs ++ x ∷ []))) None) (length-append xs (x ∷ [])) ∙ ap (λ n. cond (ltb n (length xs + 1)) (Some n) None) first
-
-      by : (passes : Bool) → p x ≡ passes → position p (xs ++ x ∷ []) ≡ (if passes then Some (unwrap_or (position p xs) (length xs)) else position p xs)
-      by true is =
-          let here : position_or_len p (xs ++ x ∷ []) ≡ length xs = last ∙ ap (λ b. length xs + cond b 0 1) is ∙ omega arith in
-          at (length xs) here ∙ cond-true (ltb (length xs) (length xs + 1)) _ _ (lt-ltb (length xs) (length xs + 1) (omega arith))
-          ∙ ap (λ o. Some (unwrap_or o (length xs))) (sym none)
-      by false is =
-          let gone : position_or_len p (xs ++ x ∷ []) ≡ length xs + 1 = last ∙ ap (λ b. length xs + cond b 0 1) is in
-          at (length xs + 1) gone ∙ cond-false (ltb (length xs + 1) (length xs + 1)) _ _ (le-ltb (length xs + 1) (length xs + 1) (omega arith)) ∙ sym none
-
-  -- of one item more: what passes before it is found, else the item if it passes
-  position-push : (xs : List X) (x : X) →
-      position p (xs ++ x ∷ []) ≡ (if p x then Some (unwrap_or (position p xs) (length xs)) else position p xs)
-  position-push xs x =
-      elim (cases_lt (position_or_len p xs) (length xs)) [
-        | inl low ↦
-            let found : position p xs ≡ Some (position_or_len p xs) = cond-true (ltb (position_or_len p xs) (length xs)) _ _ (lt-ltb (position_or_len p xs) (length xs) low) in
-            position-front xs (x ∷ []) low ∙ either (p x) (position p xs) found
-        | inr past ↦ position-behind xs x (p x) refl past
-      ]
-    where
-      either : (b : Bool) (o : Option ℕ) → o ≡ Some (position_or_len p xs) → o ≡ (if b then Some (unwrap_or o (length xs)) else o)
-      either true o found = found ∙ ap (λ o. Some (unwrap_or o (length xs))) (sym found)
-      either false o found = refl
 
 -- of one group more: its texts have the numbers that they had, else its own text has the next number
 number_of_text-push : (g : GraphData) (groups : List Group) (group : Group) (text : GroupTextData) →

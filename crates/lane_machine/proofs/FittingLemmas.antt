@@ -20,7 +20,7 @@ use Rattle.machine_laws.specs.Machines.{MachineData, Places}
 use Rattle.machine_laws.specs.Columns.{AdvancesInColumn}
 use Rattle.machine_laws.specs.Fitting.{FitsGraph}
 use Rattle.machine_laws.proofs.FittingLemmas as unit
-use Rattle.machine_laws.proofs.PlacingLemmas.{placing_keeps_fit}
+use Rattle.machine_laws.proofs.PlacingLemmas.{placing_keeps_fit, Places-beside}
 use Rattle.lane_machine.specs.Columns.{LaneData, state_with, column, column_of, HasFit, FitsInLanes, HasSoundLane}
 use Rattle.lane_machine.specs.Running.{StepsTo, AreColumns}
 use Rattle.lane_machine.specs.Stepping.{StepsLanes}
@@ -40,15 +40,13 @@ module _ (g : GraphData) (wired : IsWired g) (parts : List HeldPart) (marks new_
       AdvancesInColumn joining (record fit.machine { parts = parts; marks = marks; state = state })
       (record fit.machine { parts = parts; marks = new_marks; state = next })
   advances joining steps = record {
-    moves = subst (λ (wide : Option WideData). MovesIn joining parts marks wide state next) (sym fit.without) (moves_without joining parts marks state next steps.moves);
+    step = record {
+      moves = subst (λ (wide : Option WideData). MovesIn joining parts marks wide state next) (sym fit.without) (moves_without joining parts marks state next steps.moves);
+      wide = subst (λ (wide : Option WideData). RetouchesIn joining wide wide state next) (sym fit.without) tt;
+      build = record { groups = refl; last = refl; spare = refl };
+      held = record { parts = refl; uses = refl; texts = refl };
+    };
     marks = steps.keeps;
-    wide = subst (λ (wide : Option WideData). RetouchesIn joining wide wide state next) (sym fit.without) tt;
-    groups = refl;
-    parts = refl;
-    uses = refl;
-    texts = refl;
-    last = refl;
-    spare = refl;
   }
 
   -- so it is the unit step, or the joining step
@@ -185,21 +183,9 @@ FitsInLanes-placed g wired node high low old new even inside no_rail places fits
     ap₂ (column lane) places.highs places.lows ∙ column-placed lane node high low old.hi old.lo even inside in
     let one : MachineData = record fit.machine { parts = old.parts; marks = old.marks; state = column_of old lane } in
     let two : MachineData = record fit.machine { parts = old.parts; marks = new.marks; state = column_of new lane } in
-    let placed : Places node value one two = record {
-      state = next;
-      count = places.marks.count;
-      stays = places.marks.stays;
-      concerns = places.marks.set;
-      only = places.marks.only;
-      wide = subst (λ (wide : Option WideData). PlacesIn wide wide (column_of old lane) (column_of new lane)) (sym fit.without) tt;
-      groups = refl;
-      parts = refl;
-      uses = refl;
-      texts = refl;
-      last = refl;
-      moves = refl;
-      spare = refl;
-    } in
+    let placed : Places node value one two =
+    Places-beside node value one new.marks (column_of new lane) one.placed one.wide next places.marks.count places.marks.stays places.marks.set places.marks.only
+    (subst (λ (wide : Option WideData). PlacesIn wide wide (column_of old lane) (column_of new lane)) (sym fit.without) tt) in
     record {
       machine = two;
       without = fit.without;

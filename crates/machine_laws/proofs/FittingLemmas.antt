@@ -248,15 +248,8 @@ FitsGraph-in_column g wired joining old new fits advances =
 -- a step sets the marks that it needs
 in_column : (joining : Bool) (old new : MachineData) → Advances joining old new → AdvancesInColumn joining old new
 in_column joining old new advances = record {
-  moves = advances.moves;
+  step = advances.step;
   marks = record { count = advances.marks.count; stays = advances.marks.stays; reads = advances.marks.reads };
-  wide = advances.wide;
-  groups = advances.groups;
-  parts = advances.parts;
-  uses = advances.uses;
-  texts = advances.texts;
-  last = advances.last;
-  spare = advances.spare;
 }
 
 -- a step is the unit step

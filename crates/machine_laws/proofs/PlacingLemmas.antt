@@ -1,6 +1,6 @@
 -- A machine covers or fits a graph after a node was placed: a part that isn't marked has the node neither as a member nor among what it
 -- reads, so its members stay and read no change.
-use Rattle.std.proofs.Common.{◌≡◌, ◌≢◌, ℕ, ◌<◌, inl, inr, length, take, sym, ap, subst, ◌∙◌, arith, Bool, List, Option, Some, None, refl}
+use Rattle.std.proofs.Common.{◌≡◌, ◌≢◌, ℕ, ◌<◌, ◌⊎◌, inl, inr, length, take, sym, ap, subst, ◌∙◌, arith, Bool, List, Option, Some, None, refl}
 use Rattle.std.specs.Prelude.{Contains, slice_index_or, slice_set}
 use Rattle.std.proofs.lemmas.Bool.{cases_lt}
 use Rattle.std.proofs.lemmas.List.{get_or-set_other, length-set}
@@ -21,6 +21,7 @@ use Rattle.wide_groups.proofs.WideCases.{placed_wide, none_placed}
 use Rattle.machine_parts.specs.Parts.{Stands, HasMember}
 use Rattle.machine_laws.specs.Machines.{MachineData, Places}
 use Rattle.machine_parts.specs.Marking.{IsMarked, MarksAll}
+use Rattle.machine_parts.specs.Stepping.{Concerns}
 use Rattle.machine_laws.specs.Fitting.{IsPartOf, IsHeldIn, Covers, FitsGraph}
 use Rattle.machine_laws.specs.Laws.{PlacingKeepsCover, PlacingKeepsFit}
 use Rattle.machine_parts.proofs.CaseLemmas.{something}
@@ -134,6 +135,23 @@ placing_keeps_fit g node value old new wired no_rail fits places =
     } in
     subst (FitsGraph g) (same_machine old new places.groups places.parts places.uses places.texts places.last places.spare) again
 
+-- a node is placed in a machine of which nothing else is another but the marks, the count of placed members and what is stepped by vicinities
+pub Places-beside : (node : ℕ) (value : Tern) (old : MachineData) (marks : List Bool) (state : List Tern) (placed : ℕ) (wide : Option WideData) →
+    state ≡ slice_set old.state node value → length marks ≡ length old.marks → ((k : ℕ) → IsMarked old.marks k → IsMarked marks k) →
+    ((k : ℕ) → Concerns old.parts k node → IsMarked marks k) → ((k : ℕ) → IsMarked marks k → IsMarked old.marks k ⊎ Concerns old.parts k node) →
+    PlacesIn old.wide wide old.state state → Places node value old (record old { marks = marks; state = state; placed = placed; wide = wide })
+Places-beside node value old marks state placed wide state_is count stays concerns only wide_placed = record {
+  wide = wide_placed;
+  state = state_is;
+  count = count;
+  stays = stays;
+  concerns = concerns;
+  only = only;
+  build = record { groups = refl; last = refl; spare = refl };
+  held = record { parts = refl; uses = refl; texts = refl };
+  moves = refl;
+}
+
 -- a node is placed where its owner and its readers are marked
 pub Places-marked : (node : ℕ) (value : Tern) (old : MachineData) (waiting : List Bool) (lists : List (SmallVec ℕ)) (owners numbers : List (Option ℕ)) (held most : ℕ)
     (room : Rooms) → IsMachine old.parts old.marks waiting (length old.state) lists owners numbers held most room → (owner : Option ℕ) →
@@ -141,30 +159,21 @@ pub Places-marked : (node : ℕ) (value : Tern) (old : MachineData) (waiting : L
     read ≡ readers_of lists node → MarksAll (Contains read) mid new → (placed : ℕ) (wide : Option WideData) →
     PlacesIn old.wide wide old.state (slice_set old.state node value) →
     Places node value old (record old { marks = new; state = slice_set old.state node value; placed = placed; wide = wide })
-Places-marked node value old waiting lists owners numbers held most room machine owner owner_is mid new first read read_is second placed wide wide_placed = record {
-  wide = wide_placed;
-  state = refl;
-  count = second.count ∙ first.count;
-  stays = λ k was. second.stays k (first.stays k was);
-  concerns = λ k concerned.
-      elim concerned [
-        | inl has ↦ second.stays k (first.set k (owner_is ∙ machine.own.owner node k has))
-        | inr reads ↦ second.set k (subst (λ xs. Contains xs k) (sym read_is) (machine.runs.readers node k reads))
-      ];
-  only = λ k marked.
-      elim (second.only k marked) [
-        | inl before ↦
-            elim (first.only k before) [
-              | inl was ↦ inl was
-              | inr is ↦ inr (inl (machine.own.member node k (sym owner_is ∙ is)))
-            ]
-        | inr there ↦ inr (inr (machine.runs.reads node k (subst (λ xs. Contains xs k) read_is there)))
-      ];
-  groups = refl;
-  parts = refl;
-  uses = refl;
-  texts = refl;
-  last = refl;
-  moves = refl;
-  spare = refl;
-}
+Places-marked node value old waiting lists owners numbers held most room machine owner owner_is mid new first read read_is second placed wide wide_placed =
+    Places-beside node value old new (slice_set old.state node value) placed wide refl (second.count ∙ first.count)
+    (λ k was. second.stays k (first.stays k was)) concerns only wide_placed
+  where
+    concerns : (k : ℕ) → Concerns old.parts k node → IsMarked new k
+    concerns k (inl has) = second.stays k (first.set k (owner_is ∙ machine.own.owner node k has))
+    concerns k (inr reads) = second.set k (subst (λ xs. Contains xs k) (sym read_is) (machine.runs.readers node k reads))
+
+    only : (k : ℕ) → IsMarked new k → IsMarked old.marks k ⊎ Concerns old.parts k node
+    only k marked =
+        elim (second.only k marked) [
+          | inl before ↦
+              elim (first.only k before) [
+                | inl was ↦ inl was
+                | inr is ↦ inr (inl (machine.own.member node k (sym owner_is ∙ is)))
+              ]
+          | inr there ↦ inr (inr (machine.runs.reads node k (subst (λ xs. Contains xs k) read_is there)))
+        ]

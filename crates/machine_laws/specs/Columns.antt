@@ -3,17 +3,16 @@
 -- After Bryant, Beatty, Brace, Cho and Sheffler, "COSMOS: A Compiled Simulator for MOS Circuits", 1987.
 use Rattle.std.specs.Prelude.{◌≡◌, ℕ, ◌<◌, None, Bool, true, false, List, length, All}
 use Rattle.ternary.specs.declared.tern.Tern.{Tern}
-use Rattle.path_meaning.specs.Graphs.{GraphData, IsWired, nodes}
+use Rattle.path_meaning.specs.Graphs.{GraphData, nodes}
 use Rattle.path_meaning.specs.Rails.{IsSound}
 use Rattle.path_meaning.specs.Step.{IsStep}
 use Rattle.oscillation_x.specs.Settling.{IsJoinStep}
 use Rattle.machine_parts.specs.declared.part.HeldPart.{HeldPart}
-use Rattle.machine_laws.specs.Machines.{MachineData}
+use Rattle.machine_laws.specs.Machines.{MachineData, Steps}
 use Rattle.machine_parts.specs.Marking.{IsMarked}
 use Rattle.machine_parts.specs.Stepping.{ReadsChange, StaysMarked}
-use Rattle.wide_groups.specs.Moving.{MovesIn, RetouchesIn}
 use Rattle.machine_parts.specs.Evaluating.{Rooms, IsSeated}
-use Rattle.machine_laws.specs.Fitting.{FitsGraph}
+use Rattle.machine_laws.specs.Fitting.{FitsGraph, LeadsToFitting}
 
 -- the parts whose marks stay are marked, and those that read a node that changed; others may be marked too
 pub record KeepsMarks (joining : Bool) (parts : List HeldPart) (old_marks : List Bool) (old new : List Tern) (marks : List Bool) : Type 0 where
@@ -23,27 +22,17 @@ pub record KeepsMarks (joining : Bool) (parts : List HeldPart) (old_marks : List
 
 -- a step, plain or joining, after which more parts may be marked than the step needs
 pub record AdvancesInColumn (joining : Bool) (old new : MachineData) : Type 0 where
-  pub moves : MovesIn joining old.parts old.marks old.wide old.state new.state
+  pub step : Steps joining old new
+  pub open step use *
   pub marks : KeepsMarks joining old.parts old.marks old.state new.state new.marks
-  pub wide : RetouchesIn joining old.wide new.wide old.state new.state
-  pub groups : new.groups ≡ old.groups
-  pub parts : new.parts ≡ old.parts
-  pub uses : new.uses ≡ old.uses
-  pub texts : new.texts ≡ old.texts
-  pub last : new.last ≡ old.last
-  pub spare : new.spare ≡ old.spare
 
 -- such a step of a machine that fits a graph is the graph's unit step, and the machine fits the graph afterwards
 abbrev pub ColumnsStepApart : Type 0
-ColumnsStepApart =
-    (g : GraphData) (old new : MachineData) → IsWired g → FitsGraph g old → AdvancesInColumn false old new →
-    IsStep g old.state new.state × FitsGraph g new
+ColumnsStepApart = LeadsToFitting (AdvancesInColumn false) IsStep
 
 -- and a joining one is the graph's joining step
 abbrev pub ColumnsJoinApart : Type 0
-ColumnsJoinApart =
-    (g : GraphData) (old new : MachineData) → IsWired g → FitsGraph g old → AdvancesInColumn true old new →
-    IsJoinStep g old.state new.state × FitsGraph g new
+ColumnsJoinApart = LeadsToFitting (AdvancesInColumn true) IsJoinStep
 
 -- a machine that fits a graph fits it with any sound state, if all its parts are marked and none is stepped by vicinities
 abbrev pub MarkedMachinesFit : Type 0

@@ -40,11 +40,8 @@ pub record Edits (g : GraphData) (change : Change) (old new : MachineData) : Typ
   pub placed : new.placed ≡ old.placed
   pub wide : new.wide ≡ None
 
--- the stale parts got their codes: the machine fits the graph, whose groups' texts are those of the last build from now on, and states,
--- marks, and the parts that had code stay
-pub record Finishes (g : GraphData) (old new : MachineData) : Type 0 where
-  pub fits : FitsGraph g new
-  pub last : HasLast g new.last
+-- the groups, the parts that had code, the marks, the states and the counts stay
+pub record KeepsCoded (old new : MachineData) : Type 0 where
   pub groups : new.groups ≡ old.groups
   pub parts : (k : ℕ) (part : HeldPart) → Stands old.parts k part → part.code ≢ None → Stands new.parts k part
   pub marks : new.marks ≡ old.marks
@@ -53,14 +50,17 @@ pub record Finishes (g : GraphData) (old new : MachineData) : Type 0 where
   pub placed : new.placed ≡ old.placed
   pub wide : new.wide ≡ old.wide
 
+-- the stale parts got their codes: the machine fits the graph, whose groups' texts are those of the last build from now on, and states,
+-- marks, and the parts that had code stay
+pub record Finishes (g : GraphData) (old new : MachineData) : Type 0 where
+  pub fits : FitsGraph g new
+  pub last : HasLast g new.last
+  pub still : KeepsCoded old new
+  pub open still use *
+
 -- the stale parts got their codes, and the texts of the last build are still those from before
 pub record Rouses (g : GraphData) (old new : MachineData) : Type 0 where
   pub fits : FitsGraph g new
   pub last : new.last ≡ old.last
-  pub groups : new.groups ≡ old.groups
-  pub parts : (k : ℕ) (part : HeldPart) → Stands old.parts k part → part.code ≢ None → Stands new.parts k part
-  pub marks : new.marks ≡ old.marks
-  pub state : new.state ≡ old.state
-  pub moves : new.moves ≡ old.moves
-  pub placed : new.placed ≡ old.placed
-  pub wide : new.wide ≡ old.wide
+  pub still : KeepsCoded old new
+  pub open still use *

@@ -92,6 +92,11 @@ pub record FitsGraph (g : GraphData) (m : MachineData) : Type 0 where
   pub sound : IsSound m.state
   pub texts : m.wide ≡ None → (groups : List Group) → AreGroups g groups → m.texts ≡ length (first_texts (map (text_of_group g) groups))
 
+-- what so leads from a machine that fits a graph to another one is this for their states, and the other one fits the graph
+abbrev pub LeadsToFitting : (MachineData → MachineData → Type 0) → (GraphData → List Tern → List Tern → Type 0) → Type 0
+LeadsToFitting Leads Is =
+    (g : GraphData) (old new : MachineData) → IsWired g → FitsGraph g old → Leads old new → Is g old.state new.state × FitsGraph g new
+
 -- every text whose code a part has is among these
 abbrev pub IsKeptBy : GraphData → List GroupTextData → MachineData → Type 0
 IsKeptBy g kept m =

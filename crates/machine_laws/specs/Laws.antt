@@ -14,20 +14,16 @@ use Rattle.group_text.specs.Texts.{GroupTextData}
 use Rattle.circuit_texts.specs.Building.{Builds}
 use Rattle.machine_parts.specs.declared.part.HeldPart.{HeldPart}
 use Rattle.machine_laws.specs.Machines.{MachineData, Advances, Places}
-use Rattle.machine_laws.specs.Fitting.{IsPartOf, Covers, FitsGraph, IsKeptBy}
+use Rattle.machine_laws.specs.Fitting.{IsPartOf, Covers, FitsGraph, LeadsToFitting, IsKeptBy}
 use Rattle.machine_laws.specs.Editing.{Edits}
 
 -- a step of a machine that fits a graph is the graph's unit step, and the machine fits the graph afterwards
 abbrev pub StepsAreUnitSteps : Type 0
-StepsAreUnitSteps =
-    (g : GraphData) (old new : MachineData) → IsWired g → FitsGraph g old → Advances false old new →
-    IsStep g old.state new.state × FitsGraph g new
+StepsAreUnitSteps = LeadsToFitting (Advances false) IsStep
 
 -- and a joining step is the graph's joining step
 abbrev pub JoiningStepsAreJoinSteps : Type 0
-JoiningStepsAreJoinSteps =
-    (g : GraphData) (old new : MachineData) → IsWired g → FitsGraph g old → Advances true old new →
-    IsJoinStep g old.state new.state × FitsGraph g new
+JoiningStepsAreJoinSteps = LeadsToFitting (Advances true) IsJoinStep
 
 -- a machine covers a graph after a node was placed if it did before
 abbrev pub PlacingKeepsCover : Type 0

@@ -33,18 +33,33 @@ abbrev pub groups_in : Option GroupsData → List Group
 groups_in None = []
 groups_in (Some held) = held.groups
 
--- a step, plain or joining: nodes move, marks follow, and all else stays but the count of moves
-pub record Advances (joining : Bool) (old new : MachineData) : Type 0 where
-  pub moves : MovesIn joining old.parts old.marks old.wide old.state new.state
-  pub marks : Remarks joining old.parts old.marks old.state new.state new.marks
-  pub wide : RetouchesIn joining old.wide new.wide old.state new.state
+-- the groups, the texts of the last build and the room stay
+pub record KeepsBuild (old new : MachineData) : Type 0 where
   pub groups : new.groups ≡ old.groups
+  pub last : new.last ≡ old.last
+  pub spare : new.spare ≡ old.spare
+
+-- the parts, their texts, and how many different ones these are, stay
+pub record KeepsParts (old new : MachineData) : Type 0 where
   pub parts : new.parts ≡ old.parts
   pub uses : new.uses ≡ old.uses
   pub texts : new.texts ≡ old.texts
-  pub last : new.last ≡ old.last
+
+-- a step, plain or joining, but for its marks: nodes move, and all else stays but the counts
+pub record Steps (joining : Bool) (old new : MachineData) : Type 0 where
+  pub moves : MovesIn joining old.parts old.marks old.wide old.state new.state
+  pub wide : RetouchesIn joining old.wide new.wide old.state new.state
+  pub build : KeepsBuild old new
+  pub open build use *
+  pub held : KeepsParts old new
+  pub open held use *
+
+-- a step, plain or joining: nodes move, marks follow, and all else stays but the count of moves
+pub record Advances (joining : Bool) (old new : MachineData) : Type 0 where
+  pub step : Steps joining old new
+  pub open step use *
+  pub marks : Remarks joining old.parts old.marks old.state new.state new.marks
   pub placed : new.placed ≡ old.placed
-  pub spare : new.spare ≡ old.spare
 
 -- a node is placed: it has the value, the parts that it concerns are marked, and all else stays but the count of placed members
 pub record Places (node : ℕ) (value : Tern) (old new : MachineData) : Type 0 where
@@ -54,10 +69,8 @@ pub record Places (node : ℕ) (value : Tern) (old new : MachineData) : Type 0 w
   pub concerns : (k : ℕ) → Concerns old.parts k node → IsMarked new.marks k
   pub only : (k : ℕ) → IsMarked new.marks k → IsMarked old.marks k ⊎ Concerns old.parts k node
   pub wide : PlacesIn old.wide new.wide old.state new.state
-  pub groups : new.groups ≡ old.groups
-  pub parts : new.parts ≡ old.parts
-  pub uses : new.uses ≡ old.uses
-  pub texts : new.texts ≡ old.texts
-  pub last : new.last ≡ old.last
+  pub build : KeepsBuild old new
+  pub open build use *
+  pub held : KeepsParts old new
+  pub open held use *
   pub moves : new.moves ≡ old.moves
-  pub spare : new.spare ≡ old.spare

@@ -5,40 +5,24 @@ use crate::drawn::{Drawn, drawn};
 use oscillation_x::{MOST_LIMIT, PlainStepper, Settled, Stepper, settle};
 use path_meaning::Graph;
 use path_meaning::SwitchKind::{NChan, PChan};
+use std::alloc::{AllocError, Global};
 use std::marker::Brand;
 use std::sync::ledger::{Blank, Ledger};
 use std::test::Fail;
 use ternary::{Steps, Tern};
 
-// the level of each node, Gnd and Vdd first, and the switches
-type Drawing = (&'static [u8], &'static [Drawn]);
+// the level of each node, Gnd and Vdd first, and the inverters, each by the node that it reads and the one
+// that it drives
+type Drawing = (&'static [u8], &'static [(usize, usize)]);
 
 // an inverter that feeds itself
-const RING: Drawing = (&[16, 16, 1], &[(PChan, 10, 2, 1, 2), (NChan, 10, 2, 0, 2)]);
+const RING: Drawing = (&[16, 16, 1], &[(2, 2)]);
 
 // two inverters in a row
-const ROW: Drawing = (
-    &[16, 16, 16, 1, 1],
-    &[
-        (PChan, 10, 2, 1, 3),
-        (NChan, 10, 2, 0, 3),
-        (PChan, 10, 3, 1, 4),
-        (NChan, 10, 3, 0, 4),
-    ],
-);
+const ROW: Drawing = (&[16, 16, 16, 1, 1], &[(2, 3), (3, 4)]);
 
 // an inverter that feeds itself, and two in a row that read it
-const READ_RING: Drawing = (
-    &[16, 16, 1, 1, 1],
-    &[
-        (PChan, 10, 2, 1, 2),
-        (NChan, 10, 2, 0, 2),
-        (PChan, 10, 2, 1, 3),
-        (NChan, 10, 2, 0, 3),
-        (PChan, 10, 3, 1, 4),
-        (NChan, 10, 3, 0, 4),
-    ],
-);
+const READ_RING: Drawing = (&[16, 16, 1, 1, 1], &[(2, 2), (2, 3), (3, 4)]);
 
 // a circuit, its states before, the limit, its states after, the number of steps, whether it joined
 type Row = (Drawing, &'static [u8], u64, &'static [u8], u64, bool);
@@ -58,8 +42,9 @@ const ROWS: [Row; 6] = [
 
 #[test]
 fn a_state_settles_or_becomes_x(rt: HostRuntime) -> Result<(), Fail> {
-    for ((levels, switches), before, limit, after, steps, joined) in &ROWS {
-        let graph = drawn(rt.alloc(), levels, switches)?;
+    for ((levels, inverters), before, limit, after, steps, joined) in &ROWS {
+        let switches = inverters_drawn(rt.alloc(), inverters)?;
+        let graph = drawn(rt.alloc(), levels, &switches)?;
         let state = vec![in rt.alloc(); Tern::Unk; graph.nodes()]?;
         let mut stepper = PlainStepper::new(rt.alloc(), &graph, &state)?;
         assert!(rt; before.len() == stepper.state().len() && after.len() == before.len());
@@ -76,6 +61,16 @@ fn a_state_settles_or_becomes_x(rt: HostRuntime) -> Result<(), Fail> {
         }
     }
     Ok(())
+}
+
+// The switches of inverters: of each one to Vdd and one to Gnd.
+fn inverters_drawn(alloc: Global, inverters: &[(usize, usize)]) -> Result<Vec<Drawn>, AllocError> {
+    let mut switches = Vec::new(alloc);
+    for &(read, driven) in inverters {
+        switches.push((PChan, 10, read, 1, driven))?;
+        switches.push((NChan, 10, read, 0, driven))?;
+    }
+    Ok(switches)
 }
 
 // What settling gives, with steps that nothing else counts.

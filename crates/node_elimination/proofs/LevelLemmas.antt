@@ -103,40 +103,38 @@ module _ (g : GraphData) (wired : IsWired g) (state : List Tern) where
       absurd (omega (arith, fits.high))
 
   module _ (rail : Tern → Bool) where
-    -- an unblocked path of strength at least s leads to the node, from a root that has the rail, stand by stand
-    record IsCarried (s n : ℕ) : Type 0 where
+    -- an unblocked path leads to the node, from a root that has the rail, stand by stand
+    record IsWay (n : ℕ) : Type 0 where
       from : ℕ
       in_range : from < nodes g
       hops : List ℕ
       there : Stand
       goes : Goes g state (at_root g from) hops there
       ends : there.node ≡ n
-      strong : s ≤ there.strength
       set : rail (state_at state from) ≡ true
+
+    -- and it has strength at least s
+    record IsCarried (s n : ℕ) : Type 0 where
+      way : IsWay n
+      open way use *
+      strong : s ≤ there.strength
 
     -- where U holds, an unblocked path leads
     carried-from_Driven : (s n : ℕ) → 1 ≤ s → Driven rail g state s n → IsCarried s n
     carried-from_Driven s n low (above driven) =
-        let way : IsCarried (s + 1) n = carried-from_Driven (s + 1) n (omega arith) driven in
-        record {
-          from = way.from;
-          in_range = way.in_range;
-          hops = way.hops;
-          there = way.there;
-          goes = way.goes;
-          ends = way.ends;
-          strong = omega (arith, way.strong);
-          set = way.set;
-        }
+        let has : IsCarried (s + 1) n = carried-from_Driven (s + 1) n (omega arith) driven in
+        record { way = has.way; strong = omega (arith, has.strong) }
     carried-from_Driven s n low (root clear level set) = record {
-      from = n;
-      in_range = in_range-from_level g wired state n (omega arith);
-      hops = [];
-      there = at_root g n;
-      goes = ((λ beaten. clear (reached-from_beaten s n (rw level at beaten))), refl);
-      ends = refl;
+      way = record {
+        from = n;
+        in_range = in_range-from_level g wired state n (omega arith);
+        hops = [];
+        there = at_root g n;
+        goes = ((λ beaten. clear (reached-from_beaten s n (rw level at beaten))), refl);
+        ends = refl;
+        set = set;
+      };
       strong = omega arith;
-      set = set;
     }
     carried-from_Driven s n low (onto m place switch stands joins live strong clear driven) =
         let way : IsCarried s m = carried-from_Driven s m low driven in
@@ -144,15 +142,17 @@ module _ (g : GraphData) (wired : IsWired g) (state : List Tern) where
         let hop : Hop g state way.there place next = Hop-over stands (rw way.ends joins) live in
         let enough : s ≤ next.strength = omega (arith, way.strong) in
         record {
-          from = way.from;
-          in_range = way.in_range;
-          hops = way.hops ++ place ∷ [];
-          there = next;
-          goes = Goes-more g state way.hops (at_root g way.from) way.there next place way.goes hop
-              (λ beaten. clear (reached-from_beaten s n (IsBeaten-lower beaten enough)));
-          ends = refl;
+          way = record {
+            from = way.from;
+            in_range = way.in_range;
+            hops = way.hops ++ place ∷ [];
+            there = next;
+            goes = Goes-more g state way.hops (at_root g way.from) way.there next place way.goes hop
+                (λ beaten. clear (reached-from_beaten s n (IsBeaten-lower beaten enough)));
+            ends = refl;
+            set = way.set;
+          };
           strong = enough;
-          set = way.set;
         }
 
     -- U goes down the levels

@@ -120,14 +120,15 @@ below-more deck (call ∷ calls) scope name =
     by (Some path) = append_assoc path (dot ∷ call.name.now) (dot ∷ name_below calls name)
 
 -- the node of a name that is no port
-pub own-node : (deck : DeckCards) (calls : List OpenCall) (call : OpenCall) (name node : List ℕ) → 1 ≤ length calls →
+pub own-node : (deck : DeckCards) (calls : List OpenCall) (call : OpenCall) (name node : List ℕ) (fixed : Bool) → 1 ≤ length calls →
     call ≡ get_or calls (length calls - 1) call → None ≡ last_named None (zip call.ports.ports call.ports.words) name →
-    node ≡ (if is_fixed deck name then fixed_node name else name_below calls name) →
+    fixed ≡ is_fixed deck name → node ≡ (if fixed then fixed_node name else name_below calls name) →
     node ≡ node_in deck (scope_from deck outside calls) name
-own-node deck calls call name node some is looked is_node =
+own-node deck calls call name node fixed some is looked stays is_node =
     let outer = take (length calls - 1) calls in
     let are = innermost calls call some is in
     is_node
+    ∙ ap (λ (same : Bool). if same then fixed_node name else name_below calls name) stays
     ∙ sym (ap (λ (own : List ℕ). if is_fixed deck name then fixed_node name else own) (below-more deck calls outside name))
     ∙ ap (λ (cs : List OpenCall). if is_fixed deck name then fixed_node name else below (scope_from deck outside cs).path name) are
     ∙ ap (λ (s : Scope). if is_fixed deck name then fixed_node name else below s.path name) (scope_from-more deck outer outside call)

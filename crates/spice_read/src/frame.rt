@@ -143,25 +143,9 @@ fn node_in(
         [] => Ok(fixed_node(name).to_vec(alloc)?),
         [outer @ .., call] => match call.ports.find(name) {
             Some(word) => node_in(alloc, deck, outer, word),
-            None => own_node(alloc, deck, calls, name),
+            None if is_fixed(deck, name) => Ok(fixed_node(name).to_vec(alloc)?),
+            None => below(alloc, calls, name),
         },
-    }
-}
-
-// The node in these calls of a name that is no port.
-fn own_node(
-    alloc: Global,
-    deck: &Deck,
-    calls: &[OpenCall<'_>],
-    name: &[u8],
-) -> Result<Vec<u8>, NoMemory>
-    ensures { IfOk result (λ node. node.items
-        ≡ (if spec.is_fixed deck.now name.now then spec.fixed_node name.now else name_below calls.now name.now)) }
-{
-    if is_fixed(deck, name) {
-        Ok(fixed_node(name).to_vec(alloc)?)
-    } else {
-        below(alloc, calls, name)
     }
 }
 

@@ -58,16 +58,22 @@ pub sends_counts : (old now : Option (List ℕ)) (c : CircuitData) (hads : List 
 sends_counts old now c hads node line end is sends =
     subst (Sends old now (cover_text c hads)) (text_last c hads node end ∙ (sym is ∙ sym (append-nil line))) sends
 
--- the last line is sent, or a part of it
-pub ends_ok : {T E : Type 0} (result : Result T E) (old now new : Option (List ℕ)) (text line : List ℕ) → Sends old now text (line ++ []) →
-    OnOk result (new ≡ append_known now line) → OnOk result (new ≡ append_known old text)
-ends_ok (Ok _) old now new text line sends grew = last_sent old new text (sends_more old now new text line [] sends grew)
-ends_ok (Err _) old now new text line sends grew = tt
+-- behind all nodes the line of the counts is sent, or a part of it
+module _ {T E : Type 0} (result : Result T E) (old now new : Option (List ℕ)) (c : CircuitData) (hads : List Had) (node : ℕ) (line : List ℕ)
+    (end : nodes c.graph ≤ node) (is : line ≡ counts_line_of (drop RAILS hads)) (sends : Sends old now (cover_text c hads) (text_from c hads node)) where
+  pub ends_ok : OnOk result (new ≡ append_known now line) → OnOk result (new ≡ append_known old (cover_text c hads))
+  ends_ok = by result
+    where
+      by : (result : Result T E) → OnOk result (new ≡ append_known now line) → OnOk result (new ≡ append_known old (cover_text c hads))
+      by (Ok _) grew = last_sent old new (cover_text c hads) (sends_more old now new (cover_text c hads) line [] (sends_counts old now c hads node line end is sends) grew)
+      by (Err _) grew = tt
 
-pub ends_part : {T E : Type 0} (result : Result T E) (old now new : Option (List ℕ)) (text line : List ℕ) → Sends old now text (line ++ []) →
-    OnErr result (WritesPart now new line) → OnErr result (WritesPart old new text)
-ends_part (Ok _) old now new text line sends part = tt
-ends_part (Err _) old now new text line sends part = sends_part old now new text line [] sends part
+  pub ends_part : OnErr result (WritesPart now new line) → OnErr result (WritesPart old new (cover_text c hads))
+  ends_part = by result
+    where
+      by : (result : Result T E) → OnErr result (WritesPart now new line) → OnErr result (WritesPart old new (cover_text c hads))
+      by (Ok _) part = tt
+      by (Err _) part = sends_part old now new (cover_text c hads) line [] (sends_counts old now c hads node line end is sends) part
 
 -- a text and a number behind what stands there
 behind : (start so_far text number first new : List ℕ) → first ≡ start ++ so_far → new ≡ (first ++ text) ++ number →

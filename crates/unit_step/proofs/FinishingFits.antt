@@ -177,11 +177,13 @@ module _ (g : GraphData) (m : MachineData) (covers : Covers g m) (coded : AllCod
   Rouses-coded counts railed sound = record {
     fits = FitsGraph-covered counts railed sound;
     last = refl;
-    groups = refl;
-    parts = λ k part stands some. stands;
-    marks = refl;
-    state = refl;
-    moves = refl;
-    placed = refl;
-    wide = refl;
+    still = record {
+      groups = refl;
+      parts = λ k part stands some. stands;
+      marks = refl;
+      state = refl;
+      moves = refl;
+      placed = refl;
+      wide = refl;
+    };
   }

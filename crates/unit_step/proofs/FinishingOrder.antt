@@ -127,11 +127,13 @@ Finishes-settled g old mid new none rouses same order =
     subst (Finishes g old) (sym same) (record {
       fits = FitsGraph-last g mid rouses.fits (rouses.wide ∙ none) new.last;
       last = HasLast-settled g old mid new none rouses same order;
-      groups = rouses.groups;
-      parts = rouses.parts;
-      marks = rouses.marks;
-      state = rouses.state;
-      moves = rouses.moves;
-      placed = rouses.placed;
-      wide = rouses.wide;
+      still = record {
+        groups = rouses.groups;
+        parts = rouses.parts;
+        marks = rouses.marks;
+        state = rouses.state;
+        moves = rouses.moves;
+        placed = rouses.placed;
+        wide = rouses.wide;
+      };
     })

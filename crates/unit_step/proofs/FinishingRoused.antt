@@ -188,11 +188,13 @@ module _ (g : GraphData) (m : MachineData) (covers : Covers g m) (groups some : 
           (record { part = part; stands = stands; some = has; none = none }))
           refl railed sound;
       last = refl;
-      groups = refl;
-      parts = parts_roused g m covers groups some slots waiting fresh are_made.fresh_are new puts now_used used_counted used_stay used_come fit (count_distinct now_used) no_wide;
-      marks = refl;
-      state = refl;
-      moves = refl;
-      placed = refl;
-      wide = refl;
+      still = record {
+        groups = refl;
+        parts = parts_roused g m covers groups some slots waiting fresh are_made.fresh_are new puts now_used used_counted used_stay used_come fit (count_distinct now_used) no_wide;
+        marks = refl;
+        state = refl;
+        moves = refl;
+        placed = refl;
+        wide = refl;
+      };
     }

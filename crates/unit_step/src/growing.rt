@@ -1,5 +1,5 @@
 //! Nodes that are added to a machine.
-ghost use Rattle.std.specs.Prelude.{◌≡◌, ◌+◌, ◌-◌, ◌++◌, ◌≤◌, None, length, replicate, vec_capacity, OnOk, OnErr};
+ghost use Rattle.std.specs.Prelude.{◌≡◌, ◌+◌, ◌-◌, ◌++◌, ◌≤◌, length, replicate, vec_capacity, OnOk, OnErr};
 ghost use Rattle.machine_laws.specs.Editing.{with_new_nodes};
 
 use crate::machine::Machine;
@@ -19,8 +19,8 @@ impl Machine {
         self.body.lasting.numbers.reserve(more)?;
         self.body.readers.grow(nodes)?;
         grow(&mut self.body.state, nodes);
-        grow_none(&mut self.body.owners, nodes);
-        grow_none(&mut self.body.lasting.numbers, nodes);
+        grow_by(&mut self.body.owners, nodes, None);
+        grow_by(&mut self.body.lasting.numbers, nodes, None);
         Ok(())
     }
 }
@@ -31,17 +31,16 @@ pub fn grow(state: &mut Vec<Tern>, nodes: usize)
     ensures state { state.new.items ≡ with_new_nodes state.old.items nodes }
     ensures capacity { vec_capacity state.new ≡ vec_capacity state.old }
 {
-    for _node in state.len()..nodes {
-        state.push_reserved(Tern::Unk);
-    }
+    grow_by(state, nodes, Tern::Unk);
 }
 
-// Adds nodes for which there is nothing, up to so many, in room that is there.
-fn grow_none(all: &mut Vec<Option<usize>>, nodes: usize)
+// Adds the same for each new node, up to so many nodes, in room that is there.
+fn grow_by<T: Copy>(all: &mut Vec<T>, nodes: usize, item: T)
     requires { nodes ≤ vec_capacity all.old }
-    ensures { all.new.items ≡ all.old.items ++ replicate (nodes - length all.old.items) None }
+    ensures items { all.new.items ≡ all.old.items ++ replicate (nodes - length all.old.items) item }
+    ensures capacity { vec_capacity all.new ≡ vec_capacity all.old }
 {
     for _node in all.len()..nodes {
-        all.push_reserved(None);
+        all.push_reserved(item);
     }
 }

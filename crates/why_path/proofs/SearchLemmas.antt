@@ -289,13 +289,6 @@ kept_back old new kept k entry inside at =
     let same : get_or old k entry ≡ entry = cc in
     was ∙ ap Some same
 
--- a list that keeps its entries is no shorter
-pub kept_inside : (old new : List Found) → Keeps old new → (k : ℕ) → k < length old → k < length new
-kept_inside (x ∷ old) new kept k inside =
-    let was = slice_get-get_or (x ∷ old) k x inside in
-    slice_get_within new k (get_or (x ∷ old) k x) (kept k (get_or (x ∷ old) k x) was)
-kept_inside [] new kept k inside = absurd (omega arith)
-
 -- one entry more is settled, and those before it stay so
 pub settled_more : (g : GraphData) (state : List Tern) (best : List ℕ) (least : ℕ) (old new : List Found) → Keeps old new →
     (from : ℕ) (entry : Found) → slice_get old from ≡ Some entry →

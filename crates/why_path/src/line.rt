@@ -39,8 +39,8 @@ fn no_reason_line(alloc: Global, one: bool) -> Result<Vec<u8>, NoMemory>
     ensures { IfOk result (λ line. line.items ≡ no_reason_line_of one) }
 {
     let mut line = Vec::new(alloc);
-    append(&mut line, rail_word(one))?;
-    append(&mut line, b" none\n")?;
+    line.extend_from_slice(rail_word(one))?;
+    line.extend_from_slice(b" none\n")?;
     Ok(line)
 }
 
@@ -60,15 +60,15 @@ fn walk_line(
         unreachable!();
     };
     let mut line = Vec::new(alloc);
-    append(&mut line, rail_word(one))?;
-    append(&mut line, b" ")?;
+    line.extend_from_slice(rail_word(one))?;
+    line.extend_from_slice(b" ")?;
     append_number(&mut line, u64::from(facts.strength))?;
-    append(&mut line, b" ")?;
-    append(&mut line, sort_word(facts.definite))?;
-    append(&mut line, b" ")?;
-    append(&mut line, circuit.name_of(walk.root))?;
+    line.extend_from_slice(b" ")?;
+    line.extend_from_slice(sort_word(facts.definite))?;
+    line.extend_from_slice(b" ")?;
+    line.extend_from_slice(circuit.name_of(walk.root))?;
     append_hops(&mut line, circuit, state, walk)?;
-    append(&mut line, b"\n")?;
+    line.extend_from_slice(b"\n")?;
     Ok(line)
 }
 
@@ -112,10 +112,10 @@ fn append_hop(
     requires node { node < nodes circuit.now.graph }
     ensures { OnOk result (line.new.items ≡ line.old.items ++ hop_text (place + 1, called circuit.now node)) }
 {
-    append(line, b" ")?;
+    line.extend_from_slice(b" ")?;
     append_number(line, number_of(circuit.graph(), place))?;
-    append(line, b" ")?;
-    append(line, circuit.name_of(node))?;
+    line.extend_from_slice(b" ")?;
+    line.extend_from_slice(circuit.name_of(node))?;
     Ok(())
 }
 
@@ -148,13 +148,6 @@ fn append_number(line: &mut Vec<u8>, number: u64) -> Result<(), NoMemory>
     ensures { OnOk result (line.new.items ≡ line.old.items ++ decimal number) }
 {
     let mut buffer = Buffer::new();
-    append(line, buffer.format(number).as_bytes())
-}
-
-// Appends these bytes.
-fn append(line: &mut Vec<u8>, piece: &[u8]) -> Result<(), NoMemory>
-    ensures { OnOk result (line.new.items ≡ line.old.items ++ piece.now) }
-{
-    line.extend_from_slice(piece)?;
+    line.extend_from_slice(buffer.format(number).as_bytes())?;
     Ok(())
 }

@@ -178,7 +178,7 @@ fn widen(
     Ok(())
 }
 
-// Adds what hops over these places lead to from an entry.
+// Adds what hops over these places lead to from an entry, if that isn't found yet.
 fn try_hops(
     graph: &Graph,
     state: &[Tern],
@@ -198,45 +198,23 @@ fn try_hops(
     ensures passed { OnOk result ((entry : Found) → slice_get progress.old.found.items from ≡ Some entry →
         (place : ℕ) → Contains places.now place → IsPassed graph.now state.now best.now strength progress.new.found.items entry place) }
 {
-    for &place in places {
-        try_hop(graph, state, best, place, strength, from, progress)?;
-    }
-    Ok(())
-}
-
-// Adds what a hop over this place leads to from an entry, if that isn't found yet.
-fn try_hop(
-    graph: &Graph,
-    state: &[Tern],
-    best: &[u8],
-    place: usize,
-    strength: u8,
-    from: usize,
-    progress: &mut Progress,
-) -> Result<(), NoMemory>
-    requires state { length state.now ≡ nodes graph.now }
-    requires best { length best.now ≡ nodes graph.now }
-    requires from { from < length progress.old.found.items }
-    requires sound { IsSearch (rail_of progress.old.one) graph.now state.now best.now strength progress.old.found.items progress.old.seen.items }
-    ensures one { progress.new.one ≡ progress.old.one }
-    ensures kept { OnOk result (Keeps progress.old.found.items progress.new.found.items) }
-    ensures sound { OnOk result (IsSearch (rail_of progress.old.one) graph.now state.now best.now strength progress.new.found.items progress.new.seen.items) }
-    ensures passed { OnOk result ((entry : Found) → slice_get progress.old.found.items from ≡ Some entry →
-        IsPassed graph.now state.now best.now strength progress.new.found.items entry place) }
-{
     let entry = progress.found[from];
-    if let Some(node) = node_after(graph, state, best, entry, place, strength) {
-        if !progress.seen[node] {
-            let last = Some(Last { place, from });
-            take(
-                progress,
-                Found {
-                    node,
-                    strength,
-                    last,
-                },
-            )?;
+    for &place in places {
+        let Some(node) = node_after(graph, state, best, entry, place, strength) else {
+            continue;
+        };
+        if progress.seen[node] {
+            continue;
         }
+        let last = Some(Last { place, from });
+        take(
+            progress,
+            Found {
+                node,
+                strength,
+                last,
+            },
+        )?;
     }
     Ok(())
 }

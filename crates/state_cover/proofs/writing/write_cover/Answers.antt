@@ -1,10 +1,10 @@
 -- Each line that is sent takes the text one node on; at each exit what was sent is a part of it.
-use Rattle.std.proofs.Common.{◌≡◌, ◌+◌, ◌<◌, ◌≤◌, ◌∙◌, ap, arith}
+use Rattle.std.proofs.Common.{◌≡◌, ◌+◌, ◌<◌, ◌∙◌, ap, arith}
 use Rattle.port_edge.proofs.ResultLemmas.{at_err}
 use Rattle.port_edge.proofs.SendingLemmas.{last_part, sends_more, sends_part}
 use Rattle.path_meaning.specs.Graphs.{nodes}
 use Rattle.state_cover.specs.Lines.{cover_text}
-use Rattle.state_cover.proofs.TextLemmas.{text_from, line_is, sends_line, sends_counts, ends_ok, ends_part, answered}
+use Rattle.state_cover.proofs.TextLemmas.{text_from, line_is, sends_line, ends_ok, ends_part, answered}
 use Rattle.state_cover.proofs.writing.write_cover.Goals as goal
 
 pub returns-in_err-map_err-clause-part : goal.returns-in_err-map_err-clause-part
@@ -42,16 +42,12 @@ returns-in_err-map_err-2-clause-part g c = at_err c.from_residual-in_err-map_err
 
 pub returns-clause-text : goal.returns-clause-text
 returns-clause-text g c =
-    let end : nodes c.args.circuit.now.graph ≤ c.loop-node.node =
-    omega (arith, c.loop-node-test.false, c.nodes-node-end.ensures, ap nodes c.graph.ensures.value) in
     let line = c.deref-2.ensures.value ∙ answered c.put_counts_line.result c.in_ok-map_err-2.ensures.variant c.put_counts_line.ensures in
-    ends_ok c.send-2.result _ (g.S.Sink.written c.loop-node.out) _ (cover_text c.args.circuit.now c.args.cover.now) c.deref-2.result.now
-    (sends_counts _ _ c.args.circuit.now c.args.cover.now c.loop-node.node c.deref-2.result.now end line c.loop-node.invariant.sent) c.send-2.ensures.ok
+    ends_ok c.send-2.result _ (g.S.Sink.written c.loop-node.out) _ c.args.circuit.now c.args.cover.now c.loop-node.node c.deref-2.result.now
+    (omega (arith, c.loop-node-test.false, c.nodes-node-end.ensures, ap nodes c.graph.ensures.value)) line c.loop-node.invariant.sent c.send-2.ensures.ok
 
 pub returns-clause-part : goal.returns-clause-part
 returns-clause-part g c =
-    let end : nodes c.args.circuit.now.graph ≤ c.loop-node.node =
-    omega (arith, c.loop-node-test.false, c.nodes-node-end.ensures, ap nodes c.graph.ensures.value) in
     let line = c.deref-2.ensures.value ∙ answered c.put_counts_line.result c.in_ok-map_err-2.ensures.variant c.put_counts_line.ensures in
-    ends_part c.send-2.result _ (g.S.Sink.written c.loop-node.out) _ (cover_text c.args.circuit.now c.args.cover.now) c.deref-2.result.now
-    (sends_counts _ _ c.args.circuit.now c.args.cover.now c.loop-node.node c.deref-2.result.now end line c.loop-node.invariant.sent) c.send-2.ensures.part
+    ends_part c.send-2.result _ (g.S.Sink.written c.loop-node.out) _ c.args.circuit.now c.args.cover.now c.loop-node.node c.deref-2.result.now
+    (omega (arith, c.loop-node-test.false, c.nodes-node-end.ensures, ap nodes c.graph.ensures.value)) line c.loop-node.invariant.sent c.send-2.ensures.part

@@ -1,5 +1,5 @@
 -- A listed node more is noted, and at the end all are.
-use Rattle.std.proofs.Common.{◌≡◌, ◌<◌, length, subst, sym, arith}
+use Rattle.std.proofs.Common.{◌≡◌, length, subst, sym, arith}
 use Rattle.std.proofs.lemmas.List.Elements.{Contains-get_or}
 use Rattle.state_cover.proofs.CoverLemmas.{SoFar, so_far-more, is_after, knows_after}
 use Rattle.state_cover.proofs.cover.CoverObserver.see.Goals as goal
@@ -7,17 +7,13 @@ use Rattle.state_cover.proofs.cover.CoverObserver.see.Goals as goal
 pub note-requires-clause-inside : goal.note-requires-clause-inside
 note-requires-clause-inside g c =
     let (old, knows, lists) = c.requires in
-    let nodes = g.M.Moved.changed c.args.moved.now in
-    let within : c.loop-at.at < length nodes = omega (arith, c.loop-at-test.true, c.loop-at.invariant.end) in
-    let below = lists.inside _ (Contains-get_or nodes c.loop-at.at 0 within) in
+    let below = lists.inside _ (Contains-get_or (g.M.Moved.changed c.args.moved.now) c.loop-at.at 0 (omega (arith, c.loop-at-test.true, c.loop-at.invariant.end))) in
     omega (arith, below, c.changed_node.ensures, knows.count, c.loop-at.invariant.so_far.count)
 
 pub note-requires-clause-there : goal.note-requires-clause-there
 note-requires-clause-there g c =
     let (old, knows, lists) = c.requires in
-    let nodes = g.M.Moved.changed c.args.moved.now in
-    let within : c.loop-at.at < length nodes = omega (arith, c.loop-at-test.true, c.loop-at.invariant.end) in
-    let below = lists.inside _ (Contains-get_or nodes c.loop-at.at 0 within) in
+    let below = lists.inside _ (Contains-get_or (g.M.Moved.changed c.args.moved.now) c.loop-at.at 0 (omega (arith, c.loop-at-test.true, c.loop-at.invariant.end))) in
     omega (arith, below, c.changed_node.ensures, lists.count)
 
 pub loop-at-preserved : goal.loop-at-preserved
@@ -30,17 +26,11 @@ loop-at-preserved g c = record {
 pub returns-clause-seen : goal.returns-clause-seen
 returns-clause-seen g c =
     let (old, knows, lists) = c.requires in
-    let nodes = g.M.Moved.changed c.args.moved.now in
-    let states = g.M.Moved.state c.args.moved.now in
-    let all : c.loop-at.at ≡ length nodes = omega (arith, c.loop-at.invariant.end) in
-    is_after nodes old states c.args.self.now c.loop-at.self lists knows
-    (subst (SoFar nodes states c.args.self.now c.loop-at.self) all c.loop-at.invariant.so_far)
+    let all : c.loop-at.at ≡ length (g.M.Moved.changed c.args.moved.now) = omega (arith, c.loop-at.invariant.end) in
+    is_after _ old _ _ _ lists knows (subst (SoFar _ _ _ _) all c.loop-at.invariant.so_far)
 
 pub returns-clause-knows : goal.returns-clause-knows
 returns-clause-knows g c =
     let (old, knows, lists) = c.requires in
-    let nodes = g.M.Moved.changed c.args.moved.now in
-    let states = g.M.Moved.state c.args.moved.now in
-    let all : c.loop-at.at ≡ length nodes = omega (arith, c.loop-at.invariant.end) in
-    knows_after nodes old states c.args.self.now c.loop-at.self lists knows
-    (subst (SoFar nodes states c.args.self.now c.loop-at.self) all c.loop-at.invariant.so_far)
+    let all : c.loop-at.at ≡ length (g.M.Moved.changed c.args.moved.now) = omega (arith, c.loop-at.invariant.end) in
+    knows_after _ old _ _ _ lists knows (subst (SoFar _ _ _ _) all c.loop-at.invariant.so_far)

@@ -42,22 +42,22 @@ invariant_of-self-2 c =
     let states : length c.grow-2.new.state.items ≡ count + (nodes - count) =
     ap length c.grow-2.ensures.state ∙ (length-append i.body.state.items (replicate (nodes - count) Unk) ∙ ap (λ n. count + n) (length-replicate (nodes - count) Unk)) in
     let before : c.reserve.new.self.items ≡ i.body.owners.items = c.reserve.ensures.items in
-    let owners_are : c.grow_none.new.all.items ≡ i.body.owners.items ++ replicate (nodes - count) None =
-    c.grow_none.ensures ∙ ap (λ (list : List (Option ℕ)). list ++ replicate (nodes - length list) None) before
+    let owners_are : c.grow_by.new.all.items ≡ i.body.owners.items ++ replicate (nodes - count) None =
+    c.grow_by.ensures.items ∙ ap (λ (list : List (Option ℕ)). list ++ replicate (nodes - length list) None) before
     ∙ ap (λ n. i.body.owners.items ++ replicate (nodes - n) None) own in
-    let owners_count : length c.grow_none.new.all.items ≡ length c.grow-2.new.state.items =
+    let owners_count : length c.grow_by.new.all.items ≡ length c.grow-2.new.state.items =
     ap length owners_are ∙ (length-append i.body.owners.items (replicate (nodes - count) None)
     ∙ omega (arith, length-replicate {A = Option ℕ} (nodes - count) None, own, states)) in
-    let lasting_are : c.grow_none-2.new.all.items ≡ i.body.lasting.numbers.items ++ replicate (nodes - count) None =
-    c.grow_none-2.ensures ∙ ap (λ (list : List (Option ℕ)). list ++ replicate (nodes - length list) None) c.reserve-2.ensures.items
+    let lasting_are : c.grow_by-2.new.all.items ≡ i.body.lasting.numbers.items ++ replicate (nodes - count) None =
+    c.grow_by-2.ensures.items ∙ ap (λ (list : List (Option ℕ)). list ++ replicate (nodes - length list) None) c.reserve-2.ensures.items
     ∙ ap (λ n. i.body.lasting.numbers.items ++ replicate (nodes - n) None) c.self.invariant.2.counted in
-    let lasting_count : length c.grow_none-2.new.all.items ≡ length c.grow-2.new.state.items =
+    let lasting_count : length c.grow_by-2.new.all.items ≡ length c.grow-2.new.state.items =
     ap length lasting_are ∙ (length-append i.body.lasting.numbers.items (replicate (nodes - count) None)
     ∙ omega (arith, length-replicate {A = Option ℕ} (nodes - count) None, c.self.invariant.2.counted, states)) in
     let lists_count : length c.grow.new.self ≡ length c.grow-2.new.state.items =
     omega (arith, c.in_ok-grow.ensures.count, read, states) in (
       IsMachine-grown i.body.parts.items i.body.agenda.marks i.body.agenda.waiting count (length c.grow-2.new.state.items) i.body.readers c.grow.new.self
-          i.body.owners.items c.grow_none.new.all.items i.body.uses.numbers i.body.held i.body.most (rooms i.body.desk) c.self.invariant.0 (omega (arith, states)) lists_count
+          i.body.owners.items c.grow_by.new.all.items i.body.uses.numbers i.body.held i.body.most (rooms i.body.desk) c.self.invariant.0 (omega (arith, states)) lists_count
           c.grow.ensures.same owners_count
           (λ node. ap (λ list. slice_index_or list node None) owners_are ∙ none_more i.body.owners.items (nodes - count) node),
       c.self.invariant.1,
@@ -72,7 +72,7 @@ returns-clause-ok c =
     let i = c.self.inside in
     let nodes = c.args.nodes in
     let count = length i.body.state.items in
-    let lasting_are : c.grow_none-2.new.all.items ≡ i.body.lasting.numbers.items ++ replicate (nodes - length i.body.lasting.numbers.items) None =
-    c.grow_none-2.ensures ∙ ap (λ (list : List (Option ℕ)). list ++ replicate (nodes - length list) None) c.reserve-2.ensures.items in
+    let lasting_are : c.grow_by-2.new.all.items ≡ i.body.lasting.numbers.items ++ replicate (nodes - length i.body.lasting.numbers.items) None =
+    c.grow_by-2.ensures.items ∙ ap (λ (list : List (Option ℕ)). list ++ replicate (nodes - length list) None) c.reserve-2.ensures.items in
     rw (← c.self.view_is, c.grow-2.ensures.state)
     (rw (lasting_are, texts_numbered-grown i.body.uses.known i.body.lasting.numbers.items (nodes - length i.body.lasting.numbers.items)) refl)

@@ -49,21 +49,19 @@ returns-clause-advances g c =
     let step = c.advance-changed.ensures in
     let final = with_items_is i.body.state n (omega (arith, c.advance-changed.auto.state, c.deref_mut.ensures.len)) in
     rw (← c.self.view_is) (record {
-      moves = subst (MovesIn joining i.body.parts.items marks i.body.wide i.body.state.items) (sym final)
-          (subst (λ state. MovesIn joining i.body.parts.items marks i.body.wide state n) c.deref_mut.ensures.value
-          (subst (λ list. MovesIn joining list marks i.body.wide old n) c.deref.ensures.value step.moves));
-      wide = subst (RetouchesIn joining i.body.wide c.advance-changed.new.wide i.body.state.items) (sym final)
-          (subst (λ state. RetouchesIn joining i.body.wide c.advance-changed.new.wide state n) c.deref_mut.ensures.value step.retouches);
+      step = record {
+        moves = subst (MovesIn joining i.body.parts.items marks i.body.wide i.body.state.items) (sym final)
+            (subst (λ state. MovesIn joining i.body.parts.items marks i.body.wide state n) c.deref_mut.ensures.value
+            (subst (λ list. MovesIn joining list marks i.body.wide old n) c.deref.ensures.value step.moves));
+        wide = subst (RetouchesIn joining i.body.wide c.advance-changed.new.wide i.body.state.items) (sym final)
+            (subst (λ state. RetouchesIn joining i.body.wide c.advance-changed.new.wide state n) c.deref_mut.ensures.value step.retouches);
+        build = record { groups = refl; last = refl; spare = refl };
+        held = record { parts = refl; uses = refl; texts = refl };
+      };
       marks = subst (λ state. Remarks joining i.body.parts.items marks i.body.state.items state new_marks) (sym final)
           (subst (λ state. Remarks joining i.body.parts.items marks state n new_marks) c.deref_mut.ensures.value
           (subst (λ list. Remarks joining list marks old n new_marks) c.deref.ensures.value step.marks));
-      groups = refl;
-      parts = refl;
-      uses = refl;
-      texts = refl;
-      last = refl;
       placed = refl;
-      spare = refl;
     })
 
 pub returns-clause-ticks : goal.returns-clause-ticks

@@ -8,7 +8,7 @@ use Rattle.std.proofs.lemmas.List.Sums.{prefix_len-le-length}
 
 module _ {X : Type 0} (p : X → Bool) where
   -- what passes in a prefix of a list is found there in the whole list too
-  position-front : (xs ys : List X) → position_or_len p xs < length xs → position p (xs ++ ys) ≡ position p xs
+  pub position-front : (xs ys : List X) → position_or_len p xs < length xs → position p (xs ++ ys) ≡ position p xs
   position-front xs ys low =
       let first = position_or_len p xs in
       let same : position_or_len p (xs ++ ys) ≡ first =
@@ -43,7 +43,7 @@ module _ {X : Type 0} (p : X → Bool) where
           at (length xs + 1) gone ∙ cond-false (ltb (length xs + 1) (length xs + 1)) _ _ (le-ltb (length xs + 1) (length xs + 1) (omega arith)) ∙ sym none
 
   -- of one item more: what passes before it is found, else the item if it passes
-  position-push : (xs : List X) (x : X) →
+  pub position-push : (xs : List X) (x : X) →
       position p (xs ++ x ∷ []) ≡ (if p x then Some (unwrap_or (position p xs) (length xs)) else position p xs)
   position-push xs x =
       elim (cases_lt (position_or_len p xs) (length xs)) [
