@@ -12,10 +12,12 @@ from cosmos.farm.batch import ColumnPiece, columns_in, cut_columns, cut_script
 
 PIECES = ("1", "3", "7")
 INVERTER = "p a Vdd out\nn a Gnd out\n"
+# Columns have no values of buses, of which the adder has several.
+OF_LETTERS = [name for name in EXAMPLES if name != "adder"]
 
 
 @pytest.mark.parametrize("piece", PIECES)
-@pytest.mark.parametrize("name", EXAMPLES)
+@pytest.mark.parametrize("name", OF_LETTERS)
 def test_rows_of_an_example_are_those_of_one_run(
     name: str, piece: str, tmp_path: Path, one_run: Farm, quick_farm: Farm
 ) -> None:
