@@ -74,14 +74,14 @@ module _ (g : GraphData) (wired : IsWired g) (state : List Tern) where
   -- a node that is beaten isn't clear
   reached-from_beaten : (s n : ℕ) → IsBeaten g state n s → Reached g state (s + 1) n
   reached-from_beaten s n beaten =
-      reached_by (s + 1) n beaten.root beaten.hops beaten.there beaten.path.leads beaten.ends beaten.definite (omega (arith, beaten.stronger))
+      reached_by (s + 1) n beaten.root beaten.hops beaten.there beaten.path.leads beaten.ends beaten.definite (omega (arith, beaten.strong))
 
   -- and a node that isn't beaten is clear
   clear-from_unbeaten : (s n : ℕ) → (¬ IsBeaten g state n s) → IsClear g state s n
   clear-from_unbeaten s n unbeaten reached =
       let way : HasDefinitePath g state (s + 1) n = path-from_Reached (s + 1) n (omega arith) reached in
       let stronger : s < way.there.strength = omega (arith, way.strong) in
-      unbeaten (record { root = way.root; hops = way.hops; there = way.there; path = way.path; ends = way.ends; definite = way.definite; stronger = stronger })
+      unbeaten (record { root = way.root; hops = way.hops; there = way.there; path = way.path; ends = way.ends; definite = way.definite; strong = stronger })
 
   -- no definite path is stronger than an input node
   pub never_reached : (t n : ℕ) → INPUT_LEVEL < t → Reached g state t n → ⊥

@@ -4,19 +4,13 @@ use Rattle.std.specs.Prelude.{◌≡◌, ℕ, ◌≤◌, ◌↔◌, Bool, true, 
 use Rattle.ternary.specs.declared.tern.Tern.{Tern}
 use Rattle.path_meaning.specs.Switching.{state_at}
 use Rattle.path_meaning.specs.Graphs.{GraphData, IsWired}
-use Rattle.path_meaning.specs.Path.{Stand, LivePath, IsBlocked}
+use Rattle.path_meaning.specs.Path.{Stand, LivePath, HasDefinite, IsBlocked}
 use Rattle.node_elimination.specs.Solution.{Sol, without, edge_past, right_past}
 use Rattle.node_elimination.specs.Levels.{Reached, Driven}
 
 -- a definite path of strength at least s leads to the node
-pub record HasDefinitePath (g : GraphData) (state : List Tern) (s node : ℕ) : Type 0 where
-  pub root : ℕ
-  pub hops : List ℕ
-  pub there : Stand
-  pub path : LivePath g state root hops there
-  pub ends : there.node ≡ node
-  pub definite : there.definite ≡ true
-  pub strong : s ≤ there.strength
+abbrev pub HasDefinitePath : GraphData → List Tern → ℕ → ℕ → Type 0
+HasDefinitePath g state s node = HasDefinite g state node (λ own. s ≤ own)
 
 -- an unblocked path of strength at least s leads to the node, from a root whose state has the rail
 pub record HasUnblockedPath (rail : Tern → Bool) (g : GraphData) (state : List Tern) (s node : ℕ) : Type 0 where

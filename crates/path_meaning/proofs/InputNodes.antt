@@ -18,7 +18,7 @@ module _ (g : GraphData) (wired : IsWired g) (state : List Tern) (node : ℕ) (i
   unbeaten beaten =
       let weaker = Leads-weaker g state beaten.hops (at_root g beaten.root) beaten.there beaten.path.leads in
       let level = level_fits g wired beaten.root beaten.path.in_range in
-      absurd (omega (arith, weaker, level.high, beaten.stronger))
+      absurd (omega (arith, weaker, level.high, beaten.strong))
 
   -- so its empty path reaches it
   reaches_itself : Reaches g state node node

@@ -17,13 +17,13 @@ use Rattle.path_meaning.specs.Path.{Stand, Joins, Hop, Leads, at_root, LivePath,
 abbrev pub IsBeaten-path : {g : GraphData} {state : List Tern} {node strength : ℕ} (root : ℕ) (hops : List ℕ) (there : Stand) →
     LivePath g state root hops there → there.node ≡ node → there.definite ≡ true → strength < there.strength → IsBeaten g state node strength
 IsBeaten-path root hops there path ends definite stronger =
-    record { root = root; hops = hops; there = there; path = path; ends = ends; definite = definite; stronger = stronger }
+    record { root = root; hops = hops; there = there; path = path; ends = ends; definite = definite; strong = stronger }
 
 -- what a definite path beats, it beats all the more at a lower strength
 pub IsBeaten-lower : {g : GraphData} {state : List Tern} {node low high : ℕ} →
     IsBeaten g state node high → low ≤ high → IsBeaten g state node low
 IsBeaten-lower beaten most =
-    IsBeaten-path beaten.root beaten.hops beaten.there beaten.path beaten.ends beaten.definite (omega (arith, beaten.stronger))
+    IsBeaten-path beaten.root beaten.hops beaten.there beaten.path beaten.ends beaten.definite (omega (arith, beaten.strong))
 
 -- stands with the same node, strength and definiteness are one stand
 pub same_stand : (x y : Stand) → x.node ≡ y.node → x.strength ≡ y.strength → x.definite ≡ y.definite → x ≡ y

@@ -101,4 +101,4 @@ pub unblocked : StrongestIsUnblocked
 unblocked g state root hops strongest blocked =
     let beaten = blocked.beaten in
     let most = strongest blocked.front blocked.back blocked.there blocked.splits blocked.prefix in
-    absurd (omega (arith, beaten.stronger, most beaten.root beaten.hops beaten.there beaten.path beaten.ends beaten.definite))
+    absurd (omega (arith, beaten.strong, most beaten.root beaten.hops beaten.there beaten.path beaten.ends beaten.definite))

@@ -51,7 +51,7 @@ module _ (g : GraphData) (a b : List Tern) (same : SameSwitches g a b) where
   IsBeaten-same : (node strength : ℕ) → IsBeaten g a node strength → IsBeaten g b node strength
   IsBeaten-same node strength beaten =
       IsBeaten-path beaten.root beaten.hops beaten.there (LivePath-same beaten.root beaten.hops beaten.there beaten.path)
-      beaten.ends beaten.definite beaten.stronger
+      beaten.ends beaten.definite beaten.strong
 
   -- and what is blocked is blocked
   IsBlocked-same : (root : ℕ) (hops : List ℕ) → IsBlocked g a root hops → IsBlocked g b root hops

@@ -138,7 +138,7 @@ pub unbeaten-from_best : (g : GraphData) (state : List Tern) (best : ℕ → ℕ
     (node strength : ℕ) → best node ≤ strength → ¬ IsBeaten g state node strength
 unbeaten-from_best g state best is_best node strength most beaten =
     let least = is_best.most beaten.root beaten.hops beaten.there beaten.path beaten.definite in
-    absurd (omega (arith, beaten.stronger, least, ap best beaten.ends))
+    absurd (omega (arith, beaten.strong, least, ap best beaten.ends))
 
 -- and what isn't beaten is at least as strong as every definite path
 pub best-from_unbeaten : (g : GraphData) (state : List Tern) (best : ℕ → ℕ) → IsBest g state best →

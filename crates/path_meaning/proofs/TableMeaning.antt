@@ -126,7 +126,7 @@ module _ (g : GraphData) (state : List Tern) (best : List ℕ) (are_strongest : 
   unbeaten node strength most beaten =
       absurd (omega (
         arith,
-        beaten.stronger,
+        beaten.strong,
         are_strongest.most beaten.root beaten.hops beaten.there beaten.path
             beaten.definite,
         ap (slice_index best) beaten.ends,

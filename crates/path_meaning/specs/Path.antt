@@ -42,15 +42,19 @@ pub record LivePath (g : GraphData) (state : List Tern) (root : ℕ) (hops : Lis
   pub in_range : root < nodes g
   pub leads : Leads g state (at_root g root) hops there
 
--- a definite path that is stronger than this strength leads to the node
-pub record IsBeaten (g : GraphData) (state : List Tern) (node strength : ℕ) : Type 0 where
+-- a definite path that is so strong leads to the node
+pub record HasDefinite (g : GraphData) (state : List Tern) (node : ℕ) (IsSo : ℕ → Type 0) : Type 0 where
   pub root : ℕ
   pub hops : List ℕ
   pub there : Stand
   pub path : LivePath g state root hops there
   pub ends : there.node ≡ node
   pub definite : there.definite ≡ true
-  pub stronger : strength < there.strength
+  pub strong : IsSo there.strength
+
+-- a definite path that is stronger than this strength leads to the node
+abbrev pub IsBeaten : GraphData → List Tern → ℕ → ℕ → Type 0
+IsBeaten g state node strength = HasDefinite g state node (λ own. strength < own)
 
 -- a path is blocked where some prefix of it, the empty one and the whole included, ends where a definite path
 -- leads that is stronger than that prefix

@@ -31,7 +31,7 @@ storage_or_input g wired node in_range =
 pub input_unbeaten : (g : GraphData) → IsWired g → (state : List Tern) (node strength : ℕ) → INPUT_LEVEL ≤ strength → ¬ IsBeaten g state node strength
 input_unbeaten g wired state node strength high beaten =
     let weaker = Leads-weaker g state beaten.hops (at_root g beaten.root) beaten.there beaten.path.leads in
-    absurd (omega (arith, weaker, beaten.stronger, (level_fits g wired beaten.root beaten.path.in_range).high))
+    absurd (omega (arith, weaker, beaten.strong, (level_fits g wired beaten.root beaten.path.in_range).high))
 
 -- a definite path that is at least as strong leads to the node
 pub record IsReachedSurely (g : GraphData) (state : List Tern) (node strength : ℕ) : Type 0 where
@@ -126,7 +126,7 @@ module _ (g : GraphData) (wired : IsWired g) (old new : List Tern) (In : ℕ →
       let way = surely_stays beaten.hops (at_root g root) beaten.there beaten.path.leads in_range level.high beaten.definite
       (subst In (sym beaten.ends) inside) itself in
       IsBeaten-path way.way.root way.way.hops (surely beaten.there.node way.most) way.way.path beaten.ends refl
-      (omega (arith, beaten.stronger, way.enough))
+      (omega (arith, beaten.strong, way.enough))
 
 -- where an unblocked path starts that leads into the set: in it, or at an input node that a switch joins with it which isn't open
 pub data StartsAt (g : GraphData) (state : List Tern) (In : ℕ → Type 0) (node : ℕ) : Type 0 where

@@ -69,7 +69,7 @@ module _ (g : GraphData) (wired : IsWired g) (state : List Tern) (inside : List 
           let there_in : IsIn inside beaten.there.node = subst (IsIn inside) (sym beaten.ends) at in
           let within = sure_within beaten.hops (at_root g root) beaten.there beaten.path.leads beaten.definite in_range
           (level_fits g wired root in_range).high own there_in in
-          absurd (omega (arith, within, beaten.stronger, most, ap (slice_index best) beaten.ends));
+          absurd (omega (arith, within, beaten.strong, most, ap (slice_index best) beaten.ends));
       most = λ node strength at free.
           elim (cases_lt strength (slice_index best node)) [
             | inl less ↦

@@ -89,7 +89,7 @@ module _ (levels : List ℕ) (one two : List (Option Switch)) (a b : List Tern)
         there = blocked.there;
         prefix = LivePath-over root blocked.front blocked.there blocked.prefix;
         beaten = IsBeaten-path beaten.root beaten.hops beaten.there (LivePath-over beaten.root beaten.hops beaten.there beaten.path)
-            beaten.ends beaten.definite beaten.stronger;
+            beaten.ends beaten.definite beaten.strong;
       }
 
 -- the hops of the two graphs

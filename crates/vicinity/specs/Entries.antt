@@ -9,7 +9,7 @@ use Rattle.path_meaning.specs.declared.switching.Switch.{Switch}
 use Rattle.path_meaning.specs.declared.switching.SwitchState.{SwitchState}
 use Rattle.path_meaning.specs.Switching.{is_closed, is_live, state_at, switch_state_at}
 use Rattle.path_meaning.specs.Graphs.{GraphData, level_of, place_at}
-use Rattle.path_meaning.specs.Path.{Stand, Joins, LivePath, IsBeaten, Reaches}
+use Rattle.path_meaning.specs.Path.{Joins, HasDefinite, IsBeaten, Reaches}
 use Rattle.vicinity.specs.NodeSets.{IsIn}
 use Rattle.vicinity.specs.declared.pass.Pass.{Pass}
 use Rattle.vicinity.specs.declared.pass.Pass.TheVariants.{Sure, One, Zero}
@@ -27,14 +27,8 @@ own_strength One state level = if may_one state then level else 0
 own_strength Zero state level = if may_zero state then level else 0
 
 -- a definite path of this strength leads to the node
-pub record SureWay (g : GraphData) (state : List Tern) (node strength : ℕ) : Type 0 where
-  pub root : ℕ
-  pub hops : List ℕ
-  pub there : Stand
-  pub path : LivePath g state root hops there
-  pub ends : there.node ≡ node
-  pub definite : there.definite ≡ true
-  pub strong : there.strength ≡ strength
+abbrev pub SureWay : GraphData → List Tern → ℕ → ℕ → Type 0
+SureWay g state node strength = HasDefinite g state node (λ own. own ≡ strength)
 
 -- an unblocked path of this strength leads to the node from a root whose state has the rail
 pub record RailWay (rail : Tern → Bool) (g : GraphData) (state : List Tern) (node strength : ℕ) : Type 0 where
