@@ -7,7 +7,7 @@ use Rattle.std.proofs.lemmas.List.{get_or_default, length-set, length_push, take
 use Rattle.std.proofs.lemmas.List.Sums.{sum_by-set, sum_by-cons, sum_by_push, count_by-le-length}
 use Rattle.std.proofs.lemmas.List.Elements.{All-push, Contains-push, Contains-push_cases, Contains-append_left}
 use Rattle.machine_parts.specs.declared.part.HeldPart.{HeldPart}
-use Rattle.machine_parts.specs.Marking.{IsMarked, count_marked, marked_sum, AreOnce, IsAgenda, MarksAll, IsReached}
+use Rattle.machine_parts.specs.Marking.{IsMarked, count_marked, marked_sum, AreOnce, ListsMarked, IsAgenda, MarksAll, IsReached}
 use Rattle.machine_parts.proofs.SetMarks.{marked_inside, marked-set, marked-cleared, marked-kept, marked-stays, marked-set_cases, marked-cleared_was, marked-cleared_cases}
 
 -- one mark more
@@ -76,6 +76,44 @@ AreOnce-last : (xs : List ℕ) (x : ℕ) → AreOnce (xs ++ x ∷ []) → ¬ Con
 AreOnce-last xs x once (i, inside, here) =
     once i (length xs) inside (omega (arith, length_push xs x))
     (get_or_append_left xs (x ∷ []) 0 i inside ∙ (get_or_default xs i 0 x inside ∙ (here ∙ sym (get_or_push xs x 0 (length xs) refl))))
+
+-- one number more is marked
+pub ListsMarked-more : (marks : List Bool) (list : List ℕ) (capacity k : ℕ) → k < length marks → ¬ IsMarked marks k →
+    ListsMarked marks list capacity → ListsMarked (slice_set marks k true) (list ++ k ∷ []) capacity
+ListsMarked-more marks list capacity k inside unmarked lists = record {
+  listed = λ l marked.
+      elim (marked-set_cases marks k l marked) [
+        | inl before ↦ Contains-append_left list (k ∷ []) l (lists.listed l before)
+        | inr same ↦ subst (Contains (list ++ k ∷ [])) (sym same) (Contains-push list k)
+      ];
+  only = λ l there.
+      elim (Contains-push_cases list k l there) [
+        | inl before ↦ marked-stays marks k l (lists.only l before)
+        | inr same ↦ subst (IsMarked (slice_set marks k true)) same (marked-set marks k inside)
+      ];
+  once = AreOnce-push list k lists.once (λ there. unmarked (lists.only k there));
+  number = omega (arith, lists.number, count_marked-set marks k inside unmarked, length_push list k);
+  room = omega (arith, lists.room, length-set marks k true);
+}
+
+-- the last listed number is taken out
+pub ListsMarked-less : (marks : List Bool) (list : List ℕ) (capacity k : ℕ) → ListsMarked marks (list ++ k ∷ []) capacity →
+    ListsMarked (slice_set marks k false) list capacity
+ListsMarked-less marks list capacity k lists =
+    let marked = lists.only k (Contains-push list k) in
+    record {
+      listed = λ l still.
+          elim (Contains-push_cases list k l (lists.listed l (marked-cleared_was marks k l still))) [
+            | inl there ↦ there
+            | inr same ↦ absurd (marked-cleared marks k (subst (IsMarked (slice_set marks k false)) (sym same) still))
+          ];
+      only = λ l there.
+          let differs : l ≢ k = λ same. AreOnce-last list k lists.once (subst (Contains list) same there) in
+          marked-kept marks k l false differs (lists.only l (Contains-append_left list (k ∷ []) l there));
+      once = AreOnce-front list k lists.once;
+      number = omega (arith, lists.number, count_marked-cleared marks k marked, length_push list k);
+      room = omega (arith, lists.room, length-set marks k false);
+    }
 
 -- one part more is marked
 pub IsAgenda-marked : (marks : List Bool) (waiting : List Bool) (work waiters : List ℕ) (stale capacity k : ℕ) → k < length marks → ¬ IsMarked marks k →

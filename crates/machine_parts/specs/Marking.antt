@@ -34,6 +34,14 @@ pub record AgendaData : Type 0 where
 abbrev pub AreOnce : List ℕ → Type 0
 AreOnce xs = (i j : ℕ) → i < j → j < length xs → slice_index xs i ≢ slice_index xs j
 
+-- each marked number stands in the list, once, and no other; and there is room for a list of all
+pub record ListsMarked (marks : List Bool) (list : List ℕ) (capacity : ℕ) : Type 0 where
+  pub listed : (k : ℕ) → IsMarked marks k → Contains list k
+  pub only : (k : ℕ) → Contains list k → IsMarked marks k
+  pub once : AreOnce list
+  pub number : length list ≡ count_marked marks
+  pub room : length marks ≤ capacity
+
 -- each marked part stands in the list of those that are to be evaluated, once, or waits; so many wait, and all of these are listed; and
 -- there is room for a list of all parts
 pub record IsAgenda (marks waiting : List Bool) (work waiters : List ℕ) (stale capacity : ℕ) : Type 0 where

@@ -3,7 +3,6 @@ pub mod CarriedPaths
 pub mod RestingVicinities
 pub mod SleepingNodes
 pub mod EntryLemmas
-pub mod NodeSetLemmas
 pub mod FloodLemmas
 pub mod WayLemmas
 pub mod SpreadLemmas

@@ -17,13 +17,14 @@ pub struct NodeSet {
 
 impl Model for NodeSet {
     ghost use Rattle.std.specs.Prelude.{vec_capacity};
-    ghost use Rattle.vicinity.specs.NodeSets.{NodeSetData, IsNodeSet};
+    ghost use Rattle.machine_parts.specs.Marking.{ListsMarked};
+    ghost use Rattle.vicinity.specs.NodeSets.{NodeSetData};
 
     ghost Value = { NodeSetData };
 
     ghost view = { λ set. record { inside = set.marks.items; list = set.list.items } };
 
-    ghost invariant = { λ set. IsNodeSet set.marks.items set.list.items (vec_capacity set.list) };
+    ghost invariant = { λ set. ListsMarked set.marks.items set.list.items (vec_capacity set.list) };
 }
 
 impl NodeSet {

@@ -1,8 +1,7 @@
 -- A node that isn't in the set comes to the list, in which there is room for it.
 use Rattle.std.proofs.Common.{◌<◌, length, ap, arith}
 use Rattle.vicinity.specs.NodeSets.{NodeSetData}
-use Rattle.machine_parts.proofs.MarkLemmas.{unmarked_read, count_marked-below}
-use Rattle.vicinity.proofs.NodeSetLemmas.{IsNodeSet-more}
+use Rattle.machine_parts.proofs.MarkLemmas.{unmarked_read, count_marked-below, ListsMarked-more}
 use Rattle.vicinity.proofs.node_set.NodeSet.insert.Goals as goal
 
 pub push_reserved-requires : goal.push_reserved-requires
@@ -18,4 +17,4 @@ invariant_of-self c =
     let within : c.args.node < length marks = omega (arith, c.requires, ap (λ (set : NodeSetData). length set.inside) c.self.view_is) in
     let absent = unmarked_read marks c.args.node _ within c.index.ensures c.if-index.false in
     rw (c.push_reserved.ensures.items, c.push_reserved.ensures.capacity)
-    (IsNodeSet-more marks c.self.inside.list.items _ c.args.node within absent c.self.invariant)
+    (ListsMarked-more marks c.self.inside.list.items _ c.args.node within absent c.self.invariant)
