@@ -1,5 +1,5 @@
 -- Tables while they spread: one entry that rises, rises one after the other, and what is owed yet.
-use Rattle.std.proofs.Common.{◌≡◌, ℕ, zero, suc, ◌+◌, ◌-◌, ◌*◌, ◌<◌, ◌≤◌, Bool, true, false, if◌then◌else◌, inl, inr, List, length, take, get_or, refl, sym, ap, ◌∙◌, subst, arith}
+use Rattle.std.proofs.Common.{◌≡◌, ℕ, zero, suc, ◌+◌, ◌-◌, ◌*◌, ◌<◌, ◌≤◌, Bool, true, false, if◌then◌else◌, inl, inr, List, length, take, get_or, sym, ap, ◌∙◌, subst, arith}
 use Rattle.std.specs.Prelude.{Contains, slice_index, slice_index_or, slice_set}
 use Rattle.std.proofs.Math.Nat.{mul-le-mul_left, mul-add}
 use Rattle.std.proofs.lemmas.Bool.{cases_eq}
@@ -104,19 +104,6 @@ owed-popped lists inside table left node is is_left =
     mul_zero n k = ap (λ m. n * m) (omega arith)
 
 module _ (pass : Pass) (g : GraphData) (state : List Tern) (inside : List Bool) where
-  -- nothing rises
-  pub Raises-none : (left : List Bool) (table : List ℕ) → AreWays pass g state inside table → ((node : ℕ) → IsIn left node → IsIn inside node) →
-      Raises pass g state inside left left table table
-  Raises-none left table ways within = record {
-    count = refl;
-    left_count = refl;
-    grows = λ node. omega arith;
-    ways = ways;
-    stays = λ node is. is;
-    within = within;
-    same = λ node. inr refl;
-  }
-
   -- one entry rises
   pub Raises-one : (left : List Bool) (table : List ℕ) (node value : ℕ) → AreWays pass g state inside table → ((node : ℕ) → IsIn left node → IsIn inside node) →
       node < length table → node < length left → IsIn inside node → slice_index table node < value → IsWay pass g state node value →

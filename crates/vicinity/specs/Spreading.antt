@@ -4,11 +4,28 @@ use Rattle.vicinity.specs.Lists.{LiveListData, places_of}
 use Rattle.ternary.specs.declared.tern.Tern.{Tern}
 use Rattle.path_meaning.specs.declared.switching.Switch.{Switch}
 use Rattle.path_meaning.specs.Switching.{switch_state_at}
-use Rattle.path_meaning.specs.Graphs.{GraphData, place_at}
+use Rattle.path_meaning.specs.Graphs.{GraphData, nodes, place_at}
 use Rattle.path_meaning.specs.Path.{Joins}
 use Rattle.vicinity.specs.declared.pass.Pass.{Pass}
+use Rattle.vicinity.specs.declared.pass.Sweep.{Sweep}
+use Rattle.vicinity.specs.Arms.{ListsLive}
 use Rattle.vicinity.specs.NodeSets.{IsIn}
-use Rattle.vicinity.specs.Entries.{crosses, HasAbove, AreWays, IsWay, HasSources}
+use Rattle.vicinity.specs.Entries.{crosses, HasAbove, IsFloorAt, AreWays, IsWay, HasSources}
+
+-- what a pass goes by is of one graph, and the floor is one for each node that is awake
+pub record IsSweep (sweep : Sweep) : Type 0 where
+  pub states : length sweep.state.now ≡ nodes sweep.graph.now
+  pub lists : ListsLive sweep.graph.now sweep.state.now sweep.lists.now
+  pub awake : length sweep.awake.now.inside ≡ nodes sweep.graph.now
+  pub floors : length sweep.floor.now ≡ nodes sweep.graph.now
+  pub floor : (node : ℕ) → IsIn sweep.awake.now.inside node → IsFloorAt sweep.pass sweep.graph.now sweep.state.now node (slice_index sweep.floor.now node)
+
+-- each entry of a node that is awake is what some path brings, and no other node is left to look from
+pub record GoesOn (sweep : Sweep) (left : List Bool) (table : List ℕ) : Type 0 where
+  pub lefts : length left ≡ nodes sweep.graph.now
+  pub entries : length table ≡ nodes sweep.graph.now
+  pub ways : AreWays sweep.pass sweep.graph.now sweep.state.now sweep.awake.now.inside table
+  pub within : (node : ℕ) → IsIn left node → IsIn sweep.awake.now.inside node
 
 -- entries rose, each to what some path brings, and each node whose entry rose is left to look from
 pub record Raises (pass : Pass) (g : GraphData) (state : List Tern) (inside : List Bool) (old_left new_left : List Bool) (old new : List ℕ) : Type 0 where

@@ -7,7 +7,7 @@ pub use Rattle.vicinity.specs.LiveLists.{AreListsOf, TurnsIn, TurnsAtNode, Turns
 pub use Rattle.vicinity.specs.Flooding.{Wakes}
 pub use Rattle.vicinity.specs.Entries.{own_strength, IsWay, HasAbove, IsFloorAt, AreWays, HasSources, IsSpreadOf, IsSpreadFrom, AreEntries}
 pub use Rattle.vicinity.specs.Sources.{is_crossed, HasEdge}
-pub use Rattle.vicinity.specs.Spreading.{Raises, Starts, IsSpreadOver, cost_at, size_of, owed}
+pub use Rattle.vicinity.specs.Spreading.{IsSweep, GoesOn, Raises, Starts, IsSpreadOver, cost_at, size_of, owed}
 pub use Rattle.vicinity.specs.Evaluating.{IsScratch, HasRails, NotesWhere, AreChanges, IsPaid}
 pub use Rattle.vicinity.specs.Stepping.{TurnsAt, IsTaken, Touches, StepsGroup, PlacesGroup}
 pub use Rattle.vicinity.specs.Wides.{Calms, Turned, PlacesWide}

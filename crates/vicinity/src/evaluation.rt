@@ -9,6 +9,7 @@ use crate::live_list::LiveList;
 use crate::live_lists::LiveLists;
 use crate::node_set::NodeSet;
 use crate::pass::Pass::{One, Sure, Zero};
+use crate::pass::Sweep;
 use crate::passes::run_pass;
 use part_words::Change;
 use path_meaning::{Graph, graphs_are_wired, response};
@@ -124,9 +125,23 @@ fn evaluate_in<L: Ledger>(
 {
     graphs_are_wired(graph);
     flood(graph, lists, state, touched, awake, steps);
-    run_pass(Sure, graph, lists, state, awake, floor, best, left, steps);
-    run_pass(One, graph, lists, state, awake, best, one, left, steps);
-    run_pass(Zero, graph, lists, state, awake, best, zero, left, steps);
+    let sure = Sweep {
+        pass: Sure,
+        graph,
+        lists,
+        state,
+        awake,
+        floor,
+    };
+    run_pass(&sure, best, left, steps);
+    let high = Sweep {
+        pass: One,
+        floor: best,
+        ..sure
+    };
+    run_pass(&high, one, left, steps);
+    let low = Sweep { pass: Zero, ..high };
+    run_pass(&low, zero, left, steps);
     note_all(joining, state, awake, one, zero, changes);
     awake.clear();
 }

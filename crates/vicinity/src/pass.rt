@@ -2,6 +2,9 @@
 ghost use Rattle.std.specs.Prelude.{◌≡◌};
 ghost use Rattle.vicinity.specs.Entries.{own_strength};
 
+use crate::live_list::LiveList;
+use crate::node_set::NodeSet;
+use path_meaning::Graph;
 use ternary::Tern;
 
 /// What a pass looks for.
@@ -13,6 +16,18 @@ pub enum Pass {
     One,
     /// The strongest unblocked path from a root that may be 0.
     Zero,
+}
+
+/// What a pass goes by: the graph, the places at its nodes, the state, the nodes that are awake, and for each of them a
+/// strength below which nothing counts there.
+#[derive(Clone, Copy)]
+pub struct Sweep<'a> {
+    pub pass: Pass,
+    pub graph: &'a Graph,
+    pub lists: &'a [LiveList],
+    pub state: &'a [Tern],
+    pub awake: &'a NodeSet,
+    pub floor: &'a [u8],
 }
 
 /// The strength with which a node of this state and level starts a path of its own.

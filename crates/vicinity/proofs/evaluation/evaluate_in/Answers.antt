@@ -1,4 +1,5 @@
 -- The first pass tells what is beaten; with it the other two tell the steady states.
+use Rattle.std.proofs.Common.{arith, rules}
 use Rattle.path_meaning.specs.Step.{IsResponse}
 use Rattle.vicinity.specs.NodeSets.{IsIn}
 use Rattle.vicinity.specs.Entries.{AreBest}
@@ -8,7 +9,7 @@ use Rattle.vicinity.proofs.CarriedPaths.{IsClosedSet}
 use Rattle.vicinity.proofs.EntryLemmas.{are_best}
 use Rattle.vicinity.proofs.EvaluationLemmas.{Notes-as, awake_closed, some_entry, rails_respond}
 use Rattle.vicinity.proofs.evaluation.evaluate_in.Given.{Over}
-use Rattle.vicinity.proofs.evaluation.evaluate_in.Goals.{After-run_pass, After-run_pass-3}
+use Rattle.vicinity.proofs.evaluation.evaluate_in.Goals.{After-run_pass}
 use Rattle.vicinity.proofs.evaluation.evaluate_in.Goals as goal
 
 -- what is awake is a closed set
@@ -21,13 +22,19 @@ best g c =
     are_best c.args.graph.now c.graphs_are_wired.ensures c.args.state.now c.flood.new.awake.inside (closed g c) c.args.floor.now c.run_pass.new.table
     (λ node is. c.requires.room.bottom node) c.run_pass.ensures.entries
 
-pub run_pass-requires-2-clause-floor : goal.run_pass-requires-2-clause-floor
-run_pass-requires-2-clause-floor g c = λ node is strength most.
-    (best g (goal.at.run_pass-requires-2-clause-floor g c).After-run_pass).unbeaten node strength is most
+pub run_pass-requires-2-clause-sweep : goal.run_pass-requires-2-clause-sweep
+run_pass-requires-2-clause-sweep g c =
+    let unbeaten = (best g (goal.at.run_pass-requires-2-clause-sweep g c).After-run_pass).unbeaten in
+    search (rules, unbeaten)
 
-pub run_pass-requires-3-clause-floor : goal.run_pass-requires-3-clause-floor
-run_pass-requires-3-clause-floor g c = λ node is strength most.
-    (best g (goal.at.run_pass-requires-3-clause-floor g c).After-run_pass).unbeaten node strength is most
+pub run_pass-requires-3-clause-sweep : goal.run_pass-requires-3-clause-sweep
+run_pass-requires-3-clause-sweep g c = record {
+  states = c.requires.counted;
+  lists = c.requires.lists;
+  awake = omega arith;
+  floors = omega arith;
+  floor = λ node is strength most. (best g (goal.at.run_pass-requires-3-clause-sweep g c).After-run_pass).unbeaten node strength is most;
+}
 
 pub note_all-requires-clause-some : goal.note_all-requires-clause-some
 note_all-requires-clause-some g c =
