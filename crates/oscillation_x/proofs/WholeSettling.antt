@@ -40,7 +40,7 @@ module _ {S : Type 0} (see : S → List Tern → S) (g : GraphData) (limit : ℕ
       StepsSeen see g limit old count new before after →
       IsSeen see g old limit new (record { steps = count; joined = false }) before after
   seen_steady count new after fewer first =
-      let steps = stepping_of g limit old first.passed first.stepping in
+      let steps = stepping_of g limit old first.passed first.passes in
       let few : length first.passed < limit = omega (arith, first.count_is) in
       let steady : IsStep g (last_state old first.passed) (last_state old first.passed) =
       Stepping-steady g limit old (length first.passed) (last_state old first.passed) steps few in
@@ -49,7 +49,7 @@ module _ {S : Type 0} (see : S → List Tern → S) (g : GraphData) (limit : ℕ
         settles = record {
           plain = first.passed;
           fading = [];
-          stepping = first.stepping;
+          stepping = first.passes;
           joining = (Joining-steady g (last_state old first.passed) steady).0;
           total = sym (append-nil first.passed);
           was_joined = ((λ yes. absurd cc), (λ more. absurd (omega (arith, more))));
@@ -68,8 +68,8 @@ module _ {S : Type 0} (see : S → List Tern → S) (g : GraphData) (limit : ℕ
     settles = record {
       plain = first.passed;
       fading = second.passed;
-      stepping = first.stepping;
-      joining = rw (← first.last) second.joining;
+      stepping = first.passes;
+      joining = rw (← first.last) second.passes;
       total = refl;
       was_joined = rw (← second.count_is) mark;
     };
@@ -117,7 +117,7 @@ module _ {O S F : Type 0} (see : S → List Tern → S) (seen : O → S) (fixed 
       let more = joins_on g wired new stopped.count in
       let fading = stopped.front ++ new ∷ more.0 in
       let joins = stopped.follow more.0 more.1 in
-      let whole = of_both g limit old first.passed fading first.stepping (rw (← first.last) joins) in
+      let whole = of_both g limit old first.passed fading first.passes (rw (← first.last) joins) in
       record {
         front = first.passed ++ stopped.front;
         rest = more.0;

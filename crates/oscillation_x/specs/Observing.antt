@@ -27,42 +27,41 @@ pub record IsStopped {O S F : Type 0} (see : S → List Tern → S) (seen : O �
   pub fixed_is : fixed mid ≡ fixed before
   pub part : Part mid new
 
--- the same of plain replacements alone
-pub record StepsSeen {S : Type 0} (see : S → List Tern → S) (g : GraphData) (limit : ℕ) (old : List Tern) (count : ℕ) (new : List Tern)
+-- states were passed through in this way, and the observer saw them: so many as were counted, and the last is the new state
+pub record PassesSeen {S : Type 0} (Passes : List (List Tern) → Type 0) (see : S → List Tern → S) (old : List Tern) (count : ℕ) (new : List Tern)
     (before after : S) : Type 0 where
   pub passed : List (List Tern)
-  pub stepping : SteppingThrough g limit old passed
+  pub passes : Passes passed
   pub last : new ≡ last_state old passed
   pub count_is : count ≡ length passed
   pub seen : after ≡ see_all see before passed
 
--- what is left of the limit, and whatever plain replacements follow belong to those so far
-pub record StepsStopped {O S F : Type 0} (see : S → List Tern → S) (seen : O → S) (fixed : O → F) (Part : O → List Tern → Type 0)
-    (g : GraphData) (limit : ℕ) (old new : List Tern) (before : O) : Type 0 where
+-- a look at a state on the way failed; with what is left of a limit, whatever follows it belongs to those so far
+pub record PassesStopped {O S F : Type 0} (Passes : List (List Tern) → Type 0) (Follows : ℕ → List (List Tern) → Type 0) (see : S → List Tern → S)
+    (seen : O → S) (fixed : O → F) (Part : O → List Tern → Type 0) (g : GraphData) (new : List Tern) (before : O) : Type 0 where
   pub front : List (List Tern)
   pub left : ℕ
-  pub follow : (more : List (List Tern)) → SteppingThrough g left new more → SteppingThrough g limit old (front ++ new ∷ more)
+  pub follow : (more : List (List Tern)) → Follows left more → Passes (front ++ new ∷ more)
   pub count : length new ≡ nodes g
   pub mid : O
   pub seen_is : seen mid ≡ see_all see (seen before) front
   pub fixed_is : fixed mid ≡ fixed before
   pub part : Part mid new
 
--- and of joining replacements alone
-pub record JoinsSeen {S : Type 0} (see : S → List Tern → S) (g : GraphData) (old : List Tern) (count : ℕ) (new : List Tern)
-    (before after : S) : Type 0 where
-  pub passed : List (List Tern)
-  pub joining : JoiningThrough g old passed
-  pub last : new ≡ last_state old passed
-  pub count_is : count ≡ length passed
-  pub seen : after ≡ see_all see before passed
+-- by plain replacements
+abbrev pub StepsSeen : {S : Type 0} → (S → List Tern → S) → GraphData → ℕ → List Tern → ℕ → List Tern → S → S → Type 0
+StepsSeen see g limit old count new before after = PassesSeen (SteppingThrough g limit old) see old count new before after
 
-pub record JoinsStopped {O S F : Type 0} (see : S → List Tern → S) (seen : O → S) (fixed : O → F) (Part : O → List Tern → Type 0)
-    (g : GraphData) (old new : List Tern) (before : O) : Type 0 where
-  pub front : List (List Tern)
-  pub follow : (more : List (List Tern)) → JoiningThrough g new more → JoiningThrough g old (front ++ new ∷ more)
-  pub count : length new ≡ nodes g
-  pub mid : O
-  pub seen_is : seen mid ≡ see_all see (seen before) front
-  pub fixed_is : fixed mid ≡ fixed before
-  pub part : Part mid new
+abbrev pub StepsStopped : {O S F : Type 0} → (S → List Tern → S) → (O → S) → (O → F) → (O → List Tern → Type 0) → GraphData → ℕ → List Tern → List Tern → O →
+    Type 0
+StepsStopped see seen fixed Part g limit old new before =
+    PassesStopped (SteppingThrough g limit old) (λ left. SteppingThrough g left new) see seen fixed Part g new before
+
+-- and by joining replacements, which have no limit
+abbrev pub JoinsSeen : {S : Type 0} → (S → List Tern → S) → GraphData → List Tern → ℕ → List Tern → S → S → Type 0
+JoinsSeen see g old count new before after = PassesSeen (JoiningThrough g old) see old count new before after
+
+abbrev pub JoinsStopped : {O S F : Type 0} → (S → List Tern → S) → (O → S) → (O → F) → (O → List Tern → Type 0) → GraphData → List Tern → List Tern → O →
+    Type 0
+JoinsStopped see seen fixed Part g old new before =
+    PassesStopped (JoiningThrough g old) (λ left. JoiningThrough g new) see seen fixed Part g new before

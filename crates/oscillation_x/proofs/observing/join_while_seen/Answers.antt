@@ -1,16 +1,17 @@
 -- One state more, and the step that changes nothing.
-use Rattle.std.proofs.Common.{true, ◌∙◌, refl, arith, ap, rules}
+use Rattle.std.proofs.Common.{true, [], ◌∙◌, refl, arith, ap, rules}
 use Rattle.std.proofs.lemmas.Bool.{OnTrue_at, OnFalse_at}
 use Rattle.ternary.specs.Counts.{raised}
 use Rattle.ternary.proofs.CountsLemmas.{raised-more, raised-none}
 use Rattle.oscillation_x.proofs.KnownStates.{known-all}
 use Rattle.oscillation_x.proofs.SettlingLemmas.{all-falls}
-use Rattle.oscillation_x.proofs.SeenSoFar.{joined_none, joined_more, joined_rests, joined_stopped}
+use Rattle.oscillation_x.specs.Passing.{JoiningThrough}
+use Rattle.oscillation_x.proofs.SeenSoFar.{one_more, ends_here, look_fails}
 use Rattle.oscillation_x.proofs.observing.join_while_seen.Goals as goal
 
 pub loop-count-init : goal.loop-count-init
 loop-count-init g c = record {
-  so_far = joined_none g.O.Observer.see c.args.graph.now 0 (g.M.Moved.state c.args.m.now) (g.O.Observer.seen c.args.observer.now);
+  so_far = record { passed = []; follow = λ more joins. joins; last = refl; count_is = refl; seen = refl };
   knows = c.requires.knows;
   observer = refl;
   fits = c.requires.fits;
@@ -33,9 +34,8 @@ loop-count-preserved g c =
     let changed = OnTrue_at c.loop-count-test.true c.join_step.ensures.changed in
     let step = c.join_step.ensures.step loop.invariant.fits in
     record {
-      so_far = joined_more g.O.Observer.see c.args.graph.now 0 (g.M.Moved.state c.args.m.now) (g.O.Observer.seen c.args.observer.now)
-          loop.count (g.M.Moved.state loop.m) (g.M.Moved.state c.join_step.new.self) (g.O.Observer.seen loop.observer)
-          (g.O.Observer.seen c.see.new.self) step changed c.in_ok-see.ensures.seen loop.invariant.so_far;
+      so_far = one_more (g.M.Moved.state c.join_step.new.self) loop.invariant.so_far c.in_ok-see.ensures.seen
+          (λ more joins. (step, changed, joins));
       knows = c.in_ok-see.ensures.knows;
       observer = c.in_ok-see.ensures.fixed ∙ loop.invariant.observer;
       fits = c.join_step.ensures.fits loop.invariant.fits;
@@ -55,16 +55,16 @@ loop-count-preserved g c =
 pub returns-in_err-see-clause-stopped : goal.returns-in_err-see-clause-stopped
 returns-in_err-see-clause-stopped g c =
     let loop = c.loop-count in
-    let stopped = joined_stopped g.O.Observer.see g.O.Observer.seen g.O.Observer.fixed
-    (λ mid state. g.O.Observer.part mid state c.in_err-see.field-0.0 c.see.new.self) c.args.graph.now 0 (g.M.Moved.state c.args.m.now)
-    c.args.observer.now loop.observer loop.invariant.observer loop.count (g.M.Moved.state loop.m) (g.M.Moved.state c.join_step.new.self)
-    (c.join_step.ensures.step loop.invariant.fits) (OnTrue_at c.loop-count-test.true c.join_step.ensures.changed)
-    c.in_err-see.ensures.part loop.invariant.so_far in
+    let next = g.M.Moved.state c.join_step.new.self in
+    let step = c.join_step.ensures.step loop.invariant.fits in
+    let changed = OnTrue_at c.loop-count-test.true c.join_step.ensures.changed in
+    let stopped = look_fails g.O.Observer.see g.O.Observer.seen g.O.Observer.fixed
+    (λ mid state. g.O.Observer.part mid state c.in_err-see.field-0.0 c.see.new.self) c.args.graph.now c.args.observer.now loop.observer
+    (λ left. JoiningThrough c.args.graph.now next) 0 next loop.invariant.so_far (step.joins.right ∙ step.step.count)
+    loop.invariant.observer c.in_err-see.ensures.part (λ more joins. (step, changed, joins)) in
     search rules
 
 pub returns-clause-seen : goal.returns-clause-seen
 returns-clause-seen g c =
-    joined_rests g.O.Observer.see c.args.graph.now 0 (g.M.Moved.state c.args.m.now) (g.O.Observer.seen c.args.observer.now)
-    c.loop-count.count (g.M.Moved.state c.loop-count.m) (g.M.Moved.state c.join_step.new.self) (g.O.Observer.seen c.loop-count.observer)
-    (c.join_step.ensures.step c.loop-count.invariant.fits) (OnFalse_at c.loop-count-test.false c.join_step.ensures.same)
-    c.loop-count.invariant.so_far
+    let same = OnFalse_at c.loop-count-test.false c.join_step.ensures.same in
+    ends_here c.loop-count.invariant.so_far same refl (rw same at (c.join_step.ensures.step c.loop-count.invariant.fits))
