@@ -1,5 +1,4 @@
 pub mod ColumnLemmas
-mod AgendaLemmas
 mod NotingLemmas
 mod EvaluationLemmas
 mod TakingLemmas

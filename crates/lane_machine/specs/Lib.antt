@@ -1,5 +1,4 @@
 pub mod Columns
-pub mod Marking
 pub mod Noting
 pub mod Evaluating
 pub mod Running

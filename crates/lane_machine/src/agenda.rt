@@ -16,13 +16,13 @@ pub(crate) struct Agenda {
 
 impl Model for Agenda {
     ghost use Rattle.std.specs.Prelude.{Bool, List, vec_capacity};
-    ghost use Rattle.lane_machine.specs.Marking.{IsAgenda};
+    ghost use Rattle.machine_parts.specs.Marking.{ListsMarked};
 
     ghost Value = { List Bool };
 
     ghost view = { λ agenda. agenda.marks.items };
 
-    ghost invariant = { λ agenda. IsAgenda agenda.marks.items agenda.work.items (vec_capacity agenda.work) };
+    ghost invariant = { λ agenda. ListsMarked agenda.marks.items agenda.work.items (vec_capacity agenda.work) };
 }
 
 impl Agenda {

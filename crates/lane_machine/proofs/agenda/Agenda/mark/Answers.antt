@@ -1,7 +1,6 @@
 -- A part that isn't marked comes to the list, in which there is room for it.
 use Rattle.std.proofs.Common.{◌<◌, length, ap, arith}
-use Rattle.machine_parts.proofs.MarkLemmas.{unmarked_read, count_marked-below}
-use Rattle.lane_machine.proofs.AgendaLemmas.{IsAgenda-marked}
+use Rattle.machine_parts.proofs.MarkLemmas.{unmarked_read, count_marked-below, ListsMarked-more}
 use Rattle.lane_machine.proofs.agenda.Agenda.mark.Goals as goal
 
 pub push_reserved-requires : goal.push_reserved-requires
@@ -17,4 +16,4 @@ invariant_of-self c =
     let inside : c.args.k < length marks = omega (arith, c.requires, ap length c.self.view_is) in
     let unmarked = unmarked_read marks c.args.k _ inside c.index.ensures c.if-not-index.true in
     rw (c.push_reserved.ensures.items, c.push_reserved.ensures.capacity)
-    (IsAgenda-marked marks c.self.inside.work.items _ c.args.k inside unmarked c.self.invariant)
+    (ListsMarked-more marks c.self.inside.work.items _ c.args.k inside unmarked c.self.invariant)
