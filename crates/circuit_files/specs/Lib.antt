@@ -1,5 +1,4 @@
 pub mod Starts
 pub mod Wholes
 pub mod Feeding
-pub mod Decks
 pub mod Words

@@ -2,4 +2,3 @@
 pub use Rattle.circuit_files.specs.Feeding.{FeedsFile, FeedsFront, FeedsPiece}
 pub use Rattle.circuit_files.specs.Starts.{StartsFile}
 pub use Rattle.circuit_files.specs.Wholes.{ReadsWhole}
-pub use Rattle.circuit_files.specs.Decks.{deck_meant}

@@ -18,4 +18,4 @@
 
 mod reading;
 
-pub use reading::{DeckRefusal, read_circuit, read_deck_file, read_file};
+pub use reading::{read_circuit, read_deck_file, read_file};

@@ -9,19 +9,19 @@ ghost use Rattle.sim_read.specs.Meaning.{netlist_of};
 ghost use Rattle.sim_read.specs.Standing.{StandsFor};
 ghost use Rattle.spice_read.specs.Making.{circuit_of};
 ghost use Rattle.run_ends.specs.Stops.{faults_read};
-ghost use Rattle.circuit_files.specs.Words.{deck_meant, FeedsFile, FeedsFront, FeedsPiece, ReadsWhole, StartsFile};
+ghost use Rattle.circuit_files.specs.Words.{FeedsFile, FeedsFront, FeedsPiece, ReadsWhole, StartsFile};
 
 use line_words::MOST_FILE_BYTES;
 use netlist::Circuit;
 use port_edge::{Files, read_front};
 use refusal_words::card_at;
 use run_ends::Stop;
-use sim_read::{NetFault, NetRefusal, Reader};
-use spice_cards::{DeckFault, DeckWhat};
+use sim_read::{NetRefusal, Reader};
+use spice_cards::DeckRefusal;
 use spice_read::read_deck;
 use std::alloc::Global;
 use table_keys::TableKeys;
-use ternary::NoMemory;
+use ternary::{NoMemory, Unmade};
 
 // How many bytes of a netlist are read at a time.
 const PIECE: usize = 65_536;
@@ -79,15 +79,6 @@ fn keep(line: &[u8], refused: &mut Vec<u8>) {
     let _ = refused.extend_from_slice(line);
 }
 
-/// Where a deck is refused, and why.
-#[derive(Clone, Copy)]
-pub struct DeckRefusal {
-    /// The number of the refused line, from 1; a card's line is its first one.
-    pub line: u64,
-    /// Why it is refused.
-    pub what: DeckWhat,
-}
-
 /// Reads the deck with this name: its circuit, or its first refusal.
 ///
 /// A refusal is answered after the file was read to its end, or to the first byte too many. The refused card is put
@@ -100,7 +91,7 @@ pub fn read_deck_file<F: Files>(
     refused: &mut Vec<u8>,
 ) -> Result<Result<Circuit, DeckRefusal>, Stop>
     ensures means { IfOk result (λ meaning.
-        IfSome (F.holds files.old) (λ holds. circuit_of (holds name.now) ≡ deck_meant meaning)) }
+        IfSome (F.holds files.old) (λ holds. circuit_of (holds name.now) ≡ meaning)) }
     ensures circuit { IfOk result (λ meaning. IfOk meaning IsCircuit) }
     ensures visible { IfOk result (λ meaning. IfOk meaning HasVisibleNames) }
     ensures holds { F.holds files.new ≡ F.holds files.old }
@@ -122,18 +113,18 @@ fn deck_in(
     text: &[u8],
     refused: &mut Vec<u8>,
 ) -> Result<Result<Circuit, DeckRefusal>, Stop>
-    ensures means { IfOk result (λ meaning. circuit_of text.now ≡ deck_meant meaning) }
+    ensures means { IfOk result (λ meaning. circuit_of text.now ≡ meaning) }
     ensures circuit { IfOk result (λ meaning. IfOk meaning IsCircuit) }
     ensures visible { IfOk result (λ meaning. IfOk meaning HasVisibleNames) }
     ensures memory { IfErr result (λ stop. stop ≡ Stop.Memory) }
 {
     match read_deck(alloc, keys, text) {
         Ok(circuit) => Ok(Ok(circuit)),
-        Err(DeckFault::At { line, what }) => {
-            keep_card(alloc, text, line, refused);
-            Ok(Err(DeckRefusal { line, what }))
+        Err(Unmade::Refused(refusal)) => {
+            keep_card(alloc, text, refusal.line, refused);
+            Ok(Err(refusal))
         }
-        Err(DeckFault::NoMemory) => Err(Stop::Memory),
+        Err(Unmade::NoMemory) => Err(Stop::Memory),
     }
 }
 
@@ -154,8 +145,8 @@ fn finish(reader: Reader) -> Result<Result<Circuit, NetRefusal>, Stop>
 {
     match reader.finish() {
         Ok(circuit) => Ok(Ok(circuit)),
-        Err(NetFault::Refused(refusal)) => Ok(Err(refusal)),
-        Err(NetFault::NoMemory) => Err(Stop::Memory),
+        Err(Unmade::Refused(refusal)) => Ok(Err(refusal)),
+        Err(Unmade::NoMemory) => Err(Stop::Memory),
     }
 }
 

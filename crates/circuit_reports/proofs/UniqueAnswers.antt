@@ -3,8 +3,7 @@ use Rattle.std.proofs.Common.{◌≡◌, Result, Ok, Err, inl, inr, sym, ap, ◌
 use Rattle.path_meaning.specs.Graphs.{GraphData}
 use Rattle.netlist.specs.Circuits.{CircuitData}
 use Rattle.sim_read.specs.declared.fault.NetRefusal.{NetRefusal}
-use Rattle.spice_cards.specs.declared.fault.DeckFault.{DeckFault}
-use Rattle.spice_cards.specs.declared.fault.DeckFault.TheVariants as deck_fault
+use Rattle.spice_cards.specs.declared.fault.DeckRefusal.{DeckRefusal}
 use Rattle.group_meaning.proofs.UniqueGroups.{unique}
 use Rattle.group_report.proofs.ReportLemmas.{report_unique}
 use Rattle.circuit_lint.specs.Findings.{FindingsData}
@@ -39,17 +38,15 @@ over_alike IsRight right (Err refusal) answer other one two = alike answer other
 -- over a deck likewise
 pub over_deck_unique : (IsRight : CircuitData → Answer → Type 0) →
     ((circuit : CircuitData) (answer other : Answer) → IsRight circuit answer → IsRight circuit other → answer ≡ other) →
-    (meaning : Result CircuitData DeckFault) (answer other : Answer) → IsOverDeck IsRight meaning answer → IsOverDeck IsRight meaning other → answer ≡ other
+    (meaning : Result CircuitData DeckRefusal) (answer other : Answer) → IsOverDeck IsRight meaning answer → IsOverDeck IsRight meaning other → answer ≡ other
 over_deck_unique IsRight right (Ok circuit) answer other one two = right circuit answer other one two
-over_deck_unique IsRight right (Err (deck_fault.At line what)) answer other one two = one ∙ sym two
-over_deck_unique IsRight right (Err deck_fault.NoMemory) answer other one two = absurd one
+over_deck_unique IsRight right (Err refusal) answer other one two = one ∙ sym two
 
 pub over_deck_alike : (IsRight : CircuitData → Answer → Type 0) →
     ((circuit : CircuitData) (answer other : Answer) → IsRight circuit answer → IsRight circuit other → AreAlike answer other) →
-    (meaning : Result CircuitData DeckFault) (answer other : Answer) → IsOverDeck IsRight meaning answer → IsOverDeck IsRight meaning other → AreAlike answer other
+    (meaning : Result CircuitData DeckRefusal) (answer other : Answer) → IsOverDeck IsRight meaning answer → IsOverDeck IsRight meaning other → AreAlike answer other
 over_deck_alike IsRight right (Ok circuit) answer other one two = right circuit answer other one two
-over_deck_alike IsRight right (Err (deck_fault.At line what)) answer other one two = alike answer other (one ∙ sym two)
-over_deck_alike IsRight right (Err deck_fault.NoMemory) answer other one two = absurd one
+over_deck_alike IsRight right (Err refusal) answer other one two = alike answer other (one ∙ sym two)
 
 -- the report of a circuit's groups is one
 pub groups_unique : (circuit : CircuitData) (answer other : Answer) → IsGroups circuit answer → IsGroups circuit other → answer ≡ other

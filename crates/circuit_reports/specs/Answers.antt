@@ -3,8 +3,7 @@ use Rattle.std.specs.Prelude.{◌≡◌, ◌⊎◌, ℕ, List, map, length, coun
 use Rattle.path_meaning.specs.Graphs.{nodes}
 use Rattle.netlist.specs.Circuits.{CircuitData}
 use Rattle.sim_read.specs.declared.fault.NetRefusal.{NetRefusal}
-use Rattle.spice_cards.specs.declared.fault.DeckFault.{DeckFault}
-use Rattle.spice_cards.specs.declared.fault.DeckFault.TheVariants as deck_fault
+use Rattle.spice_cards.specs.declared.fault.DeckRefusal.{DeckRefusal}
 use Rattle.spice_cards.specs.declared.fault.DeckWhat.{DeckWhat}
 use Rattle.spice_cards.specs.Reports.{deck_line_of}
 use Rattle.wave_print.specs.Lines.{check_line_of}
@@ -43,11 +42,10 @@ abbrev pub IsOver : (CircuitData → Answer → Type 0) → Result CircuitData N
 IsOver IsRight (Ok circuit) answer = IsRight circuit answer
 IsOver IsRight (Err refusal) answer = IsNetRefusal refusal answer
 
--- the answer over a deck: that in its circuit, or its refusal; lack of memory is no meaning of a deck
-abbrev pub IsOverDeck : (CircuitData → Answer → Type 0) → Result CircuitData DeckFault → Answer → Type 0
+-- the answer over a deck: that in its circuit, or its refusal
+abbrev pub IsOverDeck : (CircuitData → Answer → Type 0) → Result CircuitData DeckRefusal → Answer → Type 0
 IsOverDeck IsRight (Ok circuit) answer = IsRight circuit answer
-IsOverDeck IsRight (Err (deck_fault.At line what)) answer = IsDeckRefusal line what answer
-IsOverDeck IsRight (Err deck_fault.NoMemory) answer = ⊥
+IsOverDeck IsRight (Err refusal) answer = IsDeckRefusal refusal.line refusal.what answer
 
 -- the answer of a check: how many nodes the circuit has, the rails among them, how many transistors, and how many names
 abbrev pub IsCheck : CircuitData → Answer → Type 0

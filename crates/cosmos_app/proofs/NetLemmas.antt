@@ -9,10 +9,10 @@ use Rattle.run_ends.specs.Ends.{IsTold, IsToldBy}
 use Rattle.run_ends.proofs.EndLemmas.{told_by_none}
 
 -- a file has the meaning that it is found to have
-pub means_as : {M N : Type 0} (meaning_of : List ℕ → M) (meant : N → M) (known : Option (List ℕ → List ℕ)) (file : List ℕ) (found what : N) → found ≡ what →
-    IfSome known (λ holds. meaning_of (holds file) ≡ meant found) → IfSome known (λ holds. meaning_of (holds file) ≡ meant what)
-means_as {M} {N} meaning_of meant known file found what is means =
-    subst (λ (other : N). IfSome known (λ holds. meaning_of (holds file) ≡ meant other)) is means
+pub means_as : {M : Type 0} (meaning_of : List ℕ → M) (known : Option (List ℕ → List ℕ)) (file : List ℕ) (found what : M) → found ≡ what →
+    IfSome known (λ holds. meaning_of (holds file) ≡ found) → IfSome known (λ holds. meaning_of (holds file) ≡ what)
+means_as {M} meaning_of known file found what is means =
+    subst (λ (other : M). IfSome known (λ holds. meaning_of (holds file) ≡ other)) is means
 
 -- what was told of a meaning that a file has is told of the file
 pub told_of_meaning : {M : Type 0} (IsOverMeaning : (List ℕ → List ℕ) → M → Answer → Type 0) (meaning_of : List ℕ → M) (known later : Option (List ℕ → List ℕ)) (file : List ℕ) (meaning : M) (old new : Option (List ℕ)) (before after : List GroupTextData) (result : Result end.End Stop) →

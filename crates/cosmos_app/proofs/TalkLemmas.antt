@@ -1,13 +1,11 @@
 -- What was said of a refusal, and what a talk that was stopped comes to.
-use Rattle.std.proofs.Common.{◌≡◌, ◌≢◌, ℕ, inl, inr, Bool, true, false, List, [], ◌++◌, Option, None, Some, IfSome, Result, Ok, Err, OnOk, refl, sym, ap, subst, ◌∙◌, arith, append-nil}
+use Rattle.std.proofs.Common.{◌≡◌, ℕ, inl, inr, Bool, true, false, List, [], ◌++◌, Option, None, Some, IfSome, Result, Ok, Err, OnOk, refl, sym, ap, subst, ◌∙◌, arith, append-nil}
 use Rattle.std.specs.Prelude.{option_map, unwrap_or}
 use Rattle.netlist.specs.Circuits.{CircuitData}
 use Rattle.sim_read.specs.declared.fault.NetRefusal.{NetRefusal}
 use Rattle.sim_read.specs.Meaning.{netlist_of}
-use Rattle.spice_cards.specs.declared.fault.DeckFault.{DeckFault}
-use Rattle.spice_cards.specs.declared.fault.DeckFault.TheVariants as deck_fault
+use Rattle.spice_cards.specs.declared.fault.DeckRefusal.{DeckRefusal}
 use Rattle.spice_read.specs.Making.{circuit_of}
-use Rattle.spice_read.proofs.RefusalLemmas.{circuit_of-no_memory}
 use Rattle.group_text.specs.Texts.{GroupTextData}
 use Rattle.talk_port.specs.Talks.{TalkData, SaysPart, said_next}
 use Rattle.run_ends.specs.declared.stop.End as end
@@ -40,14 +38,13 @@ said_refusal IsRefusal old new before after ending ended empty written says = by
   )
   by (Err stop) part = inr (written.answer, written.right, subst (SaysPart before after) text part)
 
--- a talk that was stopped before it began: lack of memory is no meaning of a deck
+-- a talk that was stopped before it began
 untalked_by : (deck : Bool) (text : List ℕ) (asked : List GroupTextData) (talk : Option TalkData) (stop : Stop) →
     IsTalkBy deck text asked talk talk (Err stop)
-untalked_by true text asked talk stop = of_deck (circuit_of text) (circuit_of-no_memory text) where
-  of_deck : (meaning : Result CircuitData DeckFault) → meaning ≢ Err deck_fault.NoMemory → IsTalkOverDeck meaning asked talk talk (Err stop)
-  of_deck (Ok circuit) some = inl refl
-  of_deck (Err (deck_fault.At line what)) some = inl refl
-  of_deck (Err deck_fault.NoMemory) some = absurd (some refl)
+untalked_by true text asked talk stop = of_deck (circuit_of text) where
+  of_deck : (meaning : Result CircuitData DeckRefusal) → IsTalkOverDeck meaning asked talk talk (Err stop)
+  of_deck (Ok circuit) = inl refl
+  of_deck (Err refusal) = inl refl
 untalked_by false text asked talk stop = of_net (netlist_of text) where
   of_net : (meaning : Result CircuitData NetRefusal) → IsTalkOver meaning asked talk talk (Err stop)
   of_net (Ok circuit) = inl refl

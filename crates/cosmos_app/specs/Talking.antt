@@ -3,8 +3,7 @@ use Rattle.std.specs.Prelude.{◌≡◌, ◌⊎◌, ℕ, Bool, true, false, List
 use Rattle.netlist.specs.Circuits.{CircuitData}
 use Rattle.sim_read.specs.Meaning.{netlist_of}
 use Rattle.sim_read.specs.declared.fault.NetRefusal.{NetRefusal}
-use Rattle.spice_cards.specs.declared.fault.DeckFault.{DeckFault}
-use Rattle.spice_cards.specs.declared.fault.DeckFault.TheVariants as deck_fault
+use Rattle.spice_cards.specs.declared.fault.DeckRefusal.{DeckRefusal}
 use Rattle.spice_read.specs.Making.{circuit_of}
 use Rattle.group_text.specs.Texts.{GroupTextData}
 use Rattle.talk_port.specs.Talks.{TalkData, SaysPart, said_next}
@@ -42,11 +41,10 @@ abbrev pub IsTalkOver : Result CircuitData NetRefusal → List GroupTextData →
 IsTalkOver (Ok circuit) asked before after ended = TalksIn circuit asked before after ended
 IsTalkOver (Err refusal) asked before after ended = SaysRefusal (IsNetRefusal refusal) before after ended
 
--- the talk about a deck of this meaning; lack of memory is no meaning of a deck
-abbrev pub IsTalkOverDeck : Result CircuitData DeckFault → List GroupTextData → Option TalkData → Option TalkData → Result end.End Stop → Type 0
+-- the talk about a deck of this meaning
+abbrev pub IsTalkOverDeck : Result CircuitData DeckRefusal → List GroupTextData → Option TalkData → Option TalkData → Result end.End Stop → Type 0
 IsTalkOverDeck (Ok circuit) asked before after ended = TalksIn circuit asked before after ended
-IsTalkOverDeck (Err (deck_fault.At line what)) asked before after ended = SaysRefusal (IsDeckRefusal line what) before after ended
-IsTalkOverDeck (Err deck_fault.NoMemory) asked before after ended = ⊥
+IsTalkOverDeck (Err refusal) asked before after ended = SaysRefusal (IsDeckRefusal refusal.line refusal.what) before after ended
 
 -- the talk about a text, a deck's or a netlist's
 abbrev pub IsTalkBy : Bool → List ℕ → List GroupTextData → Option TalkData → Option TalkData → Result end.End Stop → Type 0

@@ -17,9 +17,10 @@ use port_edge::{Sink, send};
 use run_ends::{End, Stop, refuse, refuse_size};
 use script_meaning::Halt;
 use script_run::{Plain, obey_lines};
-use sim_read::{NetFault, NetRefusal, read_netlist};
+use sim_read::{NetRefusal, read_netlist};
 use std::alloc::Global;
 use table_keys::TableKeys;
+use ternary::Unmade;
 use told_lines::Sums;
 use wave_print::{FaultPlace, LineBuf, SUMMARY_LINE_ROOM, Summary, summary_line};
 
@@ -56,8 +57,8 @@ fn sample_circuit(
     let text = generate(alloc, sample.kind, GenPart::Net, sample.seed, sample.rows)?;
     match read_netlist(alloc, keys, &text) {
         Ok(circuit) => Ok(Ok(circuit)),
-        Err(NetFault::Refused(refusal)) => Ok(Err(refusal)),
-        Err(NetFault::NoMemory) => Err(Stop::Memory),
+        Err(Unmade::Refused(refusal)) => Ok(Err(refusal)),
+        Err(Unmade::NoMemory) => Err(Stop::Memory),
     }
 }
 

@@ -14,13 +14,13 @@ use Rattle.line_words.specs.Lines.{without_return, HasNoFeed}
 use Rattle.line_words.specs.Pieces.{AreEnded, EndsLine}
 use Rattle.line_words.specs.Pieces.AreEnded.{no_line}
 use Rattle.line_words.proofs.PieceLemmas.{AreEnded-push}
-use Rattle.sim_read.specs.declared.fault.NetFault.{NetFault}
-use Rattle.sim_read.specs.declared.fault.NetFault.TheVariants.{Refused, NoMemory}
+use Rattle.ternary.specs.declared.unmade.Unmade.{Unmade}
+use Rattle.ternary.specs.declared.unmade.Unmade.TheVariants.{Refused, NoMemory}
 use Rattle.sim_read.specs.declared.fault.NetRefusal.{NetRefusal}
 use Rattle.sim_read.specs.declared.pieces.TheConstants.{MOST_HELD}
 use Rattle.sim_read.specs.Drafts.{DraftData, circuit_of, rails_draft, sized}
 use Rattle.sim_read.specs.Meaning.{line_meaning, lines_meaning, netlist_of}
-use Rattle.sim_read.specs.Reading.{IsFault}
+use Rattle.ternary.specs.Unmade.{IsFault}
 use Rattle.sim_read.specs.Standing.{counted, too_far, GoesOn, IsOpen, IsRead, IsRefused, ReaderData, StandsBy, StandsFor}
 use Rattle.sim_read.proofs.MeaningLemmas.{onward}
 use Rattle.sim_read.proofs.FrontLemmas.{and_lines, enumerate_from-append, lines_meaning-append, meaning_last, meaning_whole, refused_after, refused_too_far}
@@ -50,7 +50,7 @@ starts r is = subst (λ reader. StandsFor reader []) (sym is) (record {
 refused_on : (refusal : NetRefusal) (text piece : List ℕ) → IsRefused refusal text → IsRefused refusal (text ++ piece)
 refused_on refusal text piece refused = λ more. ap netlist_of (append_assoc text piece more) ∙ refused (piece ++ more)
 
-pub stays_refused : (old new : ReaderData) (piece : List ℕ) (fault : NetFault) → old.fault ≡ Some fault
+pub stays_refused : (old new : ReaderData) (piece : List ℕ) (fault : Unmade NetRefusal) → old.fault ≡ Some fault
     → new ≡ record old { bytes = counted old.bytes (length piece) } → GoesOn old new piece
 stays_refused old new piece fault is same = λ text stood.
     subst (λ reader. StandsFor reader (text ++ piece)) (sym same) (record {
@@ -58,7 +58,7 @@ stays_refused old new piece fault is same = λ text stood.
       stands = subst (StandsBy (record old { bytes = counted old.bytes (length piece) }) (text ++ piece)) (sym is)
           (by fault text (subst (StandsBy old text) is stood.stands));
     }) where
-      by : (fault : NetFault) (text : List ℕ) → StandsBy old text (Some fault)
+      by : (fault : Unmade NetRefusal) (text : List ℕ) → StandsBy old text (Some fault)
           → StandsBy (record old { bytes = counted old.bytes (length piece) }) (text ++ piece) (Some fault)
       by (Refused refusal) text refused = refused_on refusal text piece refused
       by NoMemory text none = absurd none
@@ -160,7 +160,7 @@ module _ (old : ReaderData) (part text : List ℕ) (stood : StandsFor old text) 
       ∙ ap (λ n. onward None (n, without_return whole) [] (line_meaning None old.draft (n, without_return whole))) at
       ∙ ap (λ m. onward None (old.ended + 1, without_return whole) [] m) (sym meaning)
 
-  ended_by : (draft : DraftData) (bytes : ℕ) (fault : Option NetFault)
+  ended_by : (draft : DraftData) (bytes : ℕ) (fault : Option (Unmade NetRefusal))
       → IsRead (line_meaning None old.draft (old.ended + 1, without_return (take MOST_HELD (old.held ++ part)))) (old.ended + 1) draft fault
       → StandsBy (record { draft = draft; ended = old.ended + 1; bytes = bytes; held = []; fault = fault }) (text ++ (part ++ line_feed ∷ [])) fault
   ended_by draft bytes None made = record {
@@ -183,7 +183,7 @@ module _ (old : ReaderData) (part text : List ℕ) (stood : StandsFor old text) 
       ap (λ start. netlist_of (start ++ more)) parts ∙ refused_after front more lines are few refusal first
   ended_by draft bytes (Some NoMemory) nothing = absurd nothing
 
-pub ends_line : (old new : ReaderData) (part : List ℕ) (draft : DraftData) (fault : Option NetFault) → old.fault ≡ None → HasNoFeed part
+pub ends_line : (old new : ReaderData) (part : List ℕ) (draft : DraftData) (fault : Option (Unmade NetRefusal)) → old.fault ≡ None → HasNoFeed part
     → counted old.bytes (length (part ++ line_feed ∷ [])) ≤ MOST_FILE_BYTES
     → IsRead (line_meaning None old.draft (old.ended + 1, without_return (take MOST_HELD (old.held ++ part)))) (old.ended + 1) draft fault
     → new ≡ record { draft = draft; ended = old.ended + 1; bytes = counted old.bytes (length (part ++ line_feed ∷ [])); held = []; fault = fault }
@@ -257,7 +257,7 @@ steps_on old mid new part none unended counts within same =
     (same ∙ ap (λ (r : ReaderData). record r { held = take MOST_HELD (r.held ++ part) }) counts)
 
 -- a line ends, that is held by then
-pub steps_past : (old mid late : ReaderData) (part seen held : List ℕ) (draft : DraftData) (fault : Option NetFault) → old.fault ≡ None → HasNoFeed part
+pub steps_past : (old mid late : ReaderData) (part seen held : List ℕ) (draft : DraftData) (fault : Option (Unmade NetRefusal)) → old.fault ≡ None → HasNoFeed part
     → mid ≡ record old { bytes = counted old.bytes (length part + 1) } → mid.bytes ≤ MOST_FILE_BYTES
     → late ≡ record mid { held = take MOST_HELD (mid.held ++ part) } → seen ≡ late.held → held ≡ []
     → IsRead (line_meaning None late.draft (late.ended + 1, without_return seen)) (late.ended + 1) draft fault
@@ -328,7 +328,7 @@ pub finishes_last : (r : ReaderData) (draft : DraftData) → r.fault ≡ None �
 finishes_last r draft none some made = λ text stood.
     last_line r none some text stood ∙ ap (λ m. circuit_of (onward None (r.ended + 1, []) [] m)) made
 
-pub refuses_last : (r : ReaderData) (draft : DraftData) (fault : NetFault) → r.fault ≡ None → 0 < length r.held
+pub refuses_last : (r : ReaderData) (draft : DraftData) (fault : Unmade NetRefusal) → r.fault ≡ None → 0 < length r.held
     → IsRead (line_meaning None r.draft (r.ended + 1, without_return r.held)) (r.ended + 1) draft (Some fault)
     → (text : List ℕ) → StandsFor r text → IsFault (netlist_of text) fault
 refuses_last r draft (Refused refusal) none some (refused, at) = λ text stood.
@@ -337,7 +337,7 @@ refuses_last r draft (Refused refusal) none some (refused, at) = λ text stood.
 refuses_last r draft NoMemory none some nothing = absurd nothing
 
 -- a refusal was met
-pub finishes_refused : (r : ReaderData) (fault : NetFault) → r.fault ≡ Some fault → (text : List ℕ) → StandsFor r text → IsFault (netlist_of text) fault
+pub finishes_refused : (r : ReaderData) (fault : Unmade NetRefusal) → r.fault ≡ Some fault → (text : List ℕ) → StandsFor r text → IsFault (netlist_of text) fault
 finishes_refused r (Refused refusal) is = λ text stood.
     let refused : IsRefused refusal text = subst (StandsBy r text) is stood.stands in
     ap netlist_of (sym (append-nil text)) ∙ refused []

@@ -4,8 +4,8 @@ use Rattle.std.specs.List.{enumerate_from}
 use Rattle.line_words.specs.declared.files.TheConstants.{MOST_FILE_BYTES}
 use Rattle.line_words.specs.Lines.{HasNoFeed}
 use Rattle.line_words.specs.Pieces.{AreEnded}
-use Rattle.sim_read.specs.declared.fault.NetFault.{NetFault}
-use Rattle.sim_read.specs.declared.fault.NetFault.TheVariants.{Refused, NoMemory}
+use Rattle.ternary.specs.declared.unmade.Unmade.{Unmade}
+use Rattle.ternary.specs.declared.unmade.Unmade.TheVariants.{Refused, NoMemory}
 use Rattle.sim_read.specs.declared.fault.NetRefusal.{NetRefusal}
 use Rattle.sim_read.specs.declared.fault.NetWhat.{NetWhat}
 use Rattle.sim_read.specs.declared.fault.NetWhat.TheVariants.{TooLong}
@@ -19,7 +19,7 @@ pub record ReaderData : Type 0 where
   pub ended : ℕ
   pub bytes : ℕ
   pub held : List ℕ
-  pub fault : Option NetFault
+  pub fault : Option (Unmade NetRefusal)
 
 -- so many bytes and some more, counted up to the first byte too many
 abbrev pub counted : ℕ → ℕ → ℕ
@@ -44,7 +44,7 @@ abbrev pub IsRefused : NetRefusal → List ℕ → Type 0
 IsRefused refusal text = (more : List ℕ) → netlist_of (text ++ more) ≡ Err refusal
 
 -- what the reader holds is so of the text: it met no refusal, or it holds one; after memory ran out it stands for no text
-abbrev pub StandsBy : ReaderData → List ℕ → Option NetFault → Type 0
+abbrev pub StandsBy : ReaderData → List ℕ → Option (Unmade NetRefusal) → Type 0
 StandsBy r text None = IsOpen r text
 StandsBy r text (Some (Refused refusal)) = IsRefused refusal text
 StandsBy r text (Some NoMemory) = ⊥
@@ -67,7 +67,7 @@ abbrev pub too_far : ℕ → NetRefusal
 too_far ended = record { line = ended + 1; what = TooLong }
 
 -- the line with this number has its effect and makes this draft, or has this refusal
-abbrev pub IsRead : Result DraftData NetWhat → ℕ → DraftData → Option NetFault → Type 0
+abbrev pub IsRead : Result DraftData NetWhat → ℕ → DraftData → Option (Unmade NetRefusal) → Type 0
 IsRead meaning number draft None = meaning ≡ Ok draft
 IsRead meaning number draft (Some (Refused refusal)) = (meaning ≡ Err refusal.what) × (refusal.line ≡ number)
 IsRead meaning number draft (Some NoMemory) = ⊥

@@ -2,22 +2,14 @@
 
 ghost use Rattle.std.specs.Prelude.{Option};
 ghost use Rattle.netlist.specs.Words.{CircuitData, IsAnswered, MakingFault};
-ghost use Rattle.sim_read.specs.Words.{edited, IsStop};
+ghost use Rattle.sim_read.specs.Words.{edited, IsFault};
 
 use netlist::EditFault;
-use ternary::NoMemory;
+use ternary::Unmade;
 use thiserror::Error;
 
 /// Why a netlist gives no circuit.
-#[derive(Clone, Copy, Debug, Drop, Error, PartialEq, Eq)]
-pub enum NetFault {
-    /// A line is refused.
-    #[error("{0}")]
-    Refused(NetRefusal),
-    /// Memory ran out.
-    #[error("out of memory")]
-    NoMemory,
-}
+pub type NetFault = Unmade<NetRefusal>;
 
 /// The refusal of a netlist: the first line that is refused, and its cause.
 #[derive(Clone, Copy, Debug, Drop, Error, PartialEq, Eq)]
@@ -71,49 +63,21 @@ pub enum NetWhat {
     TooManySwitches,
 }
 
-impl From<NoMemory> for NetFault {
-    ghost use Rattle.std.specs.Prelude.{◌≡◌};
-    ghost use Rattle.sim_read.specs.declared.fault.NetFault.TheVariants.{NoMemory};
-
-    ghost from_gives = { λ _ fault. fault ≡ NoMemory };
-
-    fn from(_want: NoMemory) -> NetFault {
-        NetFault::NoMemory
-    }
-}
-
 /// Why the reading stops at a line.
-#[derive(Clone, Copy, PartialEq, Eq)]
-pub(crate) enum LineStop {
-    /// The line is refused for this cause.
-    Refused(NetWhat),
-    /// Memory ran out.
-    NoMemory,
-}
-
-impl From<NoMemory> for LineStop {
-    ghost use Rattle.std.specs.Prelude.{◌≡◌};
-    ghost use Rattle.sim_read.specs.declared.fault.LineStop.TheVariants.{NoMemory};
-
-    ghost from_gives = { λ _ stop. stop ≡ NoMemory };
-
-    fn from(_want: NoMemory) -> LineStop {
-        LineStop::NoMemory
-    }
-}
+pub(crate) type LineStop = Unmade<NetWhat>;
 
 /// Why the reading stops at a line whose edit answers this fault.
 pub(crate) fn edit_stop(fault: EditFault) -> LineStop
     requires { (refusal : Option MakingFault) × IsAnswered refusal fault }
     ensures { (refusal : Option MakingFault) (made : CircuitData)
-        → IsAnswered refusal fault → IsStop (edited refusal made) result }
+        → IsAnswered refusal fault → IsFault (edited refusal made) result }
 {
     match fault {
-        EditFault::BadStrength => LineStop::Refused(NetWhat::BadStrength),
-        EditFault::AliasTaken => LineStop::Refused(NetWhat::AliasTaken),
-        EditFault::TooManyNodes => LineStop::Refused(NetWhat::TooManyNodes),
-        EditFault::TooManySwitches => LineStop::Refused(NetWhat::TooManySwitches),
-        EditFault::NoMemory => LineStop::NoMemory,
+        EditFault::BadStrength => Unmade::Refused(NetWhat::BadStrength),
+        EditFault::AliasTaken => Unmade::Refused(NetWhat::AliasTaken),
+        EditFault::TooManyNodes => Unmade::Refused(NetWhat::TooManyNodes),
+        EditFault::TooManySwitches => Unmade::Refused(NetWhat::TooManySwitches),
+        EditFault::NoMemory => Unmade::NoMemory,
         EditFault::NoSuchSwitch | EditFault::Rail | EditFault::BadSize => unreachable!(),
     }
 }

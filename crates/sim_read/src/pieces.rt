@@ -6,14 +6,14 @@ ghost use Rattle.line_words.specs.Lines.{HasNoFeed, without_return};
 ghost use Rattle.netlist.specs.Circuits.{HasVisibleNames};
 ghost use Rattle.sim_read.specs.Words.{all_added, sized, line_meaning, netlist_of, IsFault, counted, too_far, GoesOn, IsRead, LacksMemory, StandsFor};
 
-use crate::fault::{LineStop, NetFault, NetRefusal, NetWhat};
+use crate::fault::{NetFault, NetRefusal, NetWhat};
 use crate::reader::{Draft, read_line};
 use line_words::{MOST_FILE_BYTES, MOST_THOUSANDTHS, line_end};
 use netlist::Circuit;
 use std::alloc::{AllocError, Global};
 use std::marker::Model;
 use table_keys::TableKeys;
-use ternary::NoMemory;
+use ternary::{NoMemory, Unmade};
 
 /// The most bytes that a reader holds of a line that hasn't ended: those of the longest line, a CR,
 /// and one byte too many.
@@ -87,12 +87,12 @@ impl Reader {
         ensures err { OnErr result (LacksMemory self.new) }
         ensures stays { LacksMemory self.old → IsErr result }
     {
-        if self.fault == Some(NetFault::NoMemory) {
+        if self.fault == Some(Unmade::NoMemory) {
             return Err(NoMemory);
         }
         let taken = self.take(piece);
         if taken.is_err() {
-            self.fault = Some(NetFault::NoMemory);
+            self.fault = Some(Unmade::NoMemory);
         }
         taken
     }
@@ -106,7 +106,7 @@ impl Reader {
             (text : List ℕ) → StandsFor self text → IsFault (netlist_of text) fault) }
         ensures visible { IfOk result (λ circuit.
             (text : List ℕ) → StandsFor self text → HasVisibleNames circuit) }
-        ensures lacks { LacksMemory self → result ≡ Err NetFault.NoMemory }
+        ensures lacks { LacksMemory self → result ≡ Err Unmade.NoMemory }
     {
         if let Some(fault) = self.fault {
             return Err(fault);
@@ -213,9 +213,9 @@ impl Reader {
 
     // Refuses the text at the line that hasn't ended, which holds the first byte too many.
     fn refuse_rest(&mut self)
-        ensures { self.new ≡ record self.old { fault = Some (NetFault.Refused (too_far self.old.ended)) } }
+        ensures { self.new ≡ record self.old { fault = Some (Unmade.Refused (too_far self.old.ended)) } }
     {
-        self.fault = Some(NetFault::Refused(NetRefusal {
+        self.fault = Some(Unmade::Refused(NetRefusal {
             line: self.ended + 1,
             what: NetWhat::TooLong,
         }));
@@ -248,11 +248,11 @@ fn read_held(
 {
     match read_line(draft, number, line_words::without_return(held)) {
         Ok(()) => Ok(None),
-        Err(LineStop::Refused(what)) => {
+        Err(Unmade::Refused(what)) => {
             let _ = refused.extend_from_slice(held);
-            Ok(Some(NetFault::Refused(NetRefusal { line: number, what })))
+            Ok(Some(Unmade::Refused(NetRefusal { line: number, what })))
         }
-        Err(LineStop::NoMemory) => Err(NoMemory),
+        Err(Unmade::NoMemory) => Err(NoMemory),
     }
 }
 
@@ -260,7 +260,7 @@ fn read_held(
 fn finish_draft(draft: Draft) -> Result<Circuit, NetFault>
     requires { all_added draft.sums < 2 ^ 64 }
     ensures ok { IfOk result (λ circuit. circuit ≡ sized draft) }
-    ensures err { IfErr result (λ fault. fault ≡ NetFault.NoMemory) }
+    ensures err { IfErr result (λ fault. fault ≡ Unmade.NoMemory) }
 {
     Ok(draft.into_circuit()?)
 }

@@ -3,7 +3,7 @@
 ghost use Rattle.std.specs.Prelude.{◌≡◌, ◌<◌, ◌≤◌, ◌+◌, ◌*◌, ◌^◌, false, length, Ok, Err, Some, None, IfOk, IfErr, IfSome, OnOk};
 ghost use Rattle.path_meaning.specs.Graphs.{nodes};
 ghost use Rattle.netlist.specs.Words.{rails_alone, node_named, with_node};
-ghost use Rattle.sim_read.specs.Words.{all_added, with_line, rails_draft, sized, with_mark, IsAccepted, IsStop};
+ghost use Rattle.sim_read.specs.Words.{all_added, with_line, rails_draft, sized, with_mark, IsAccepted, IsFault};
 ghost use Rattle.sim_read.specs.Header as header;
 ghost use Rattle.sim_read.specs.Meaning as spec;
 
@@ -20,7 +20,7 @@ use std::alloc::Global;
 use std::marker::Model;
 use strength_order::Profile;
 use table_keys::TableKeys;
-use ternary::NoMemory;
+use ternary::{NoMemory, Unmade};
 
 /// What the lines of a netlist gave so far.
 #[derive(Drop)]
@@ -140,7 +140,7 @@ impl Draft {
 pub(crate) fn read_line(draft: &mut Draft, number: u64, line: &[u8]) -> Result<(), LineStop>
     requires { all_added draft.old.sums + 2 * MOST_THOUSANDTHS < 2 ^ 64 }
     ensures ok { OnOk result (spec.line_meaning None draft.old (number, line.now) ≡ Ok draft.new) }
-    ensures refused { IfErr result (IsStop (spec.line_meaning None draft.old (number, line.now))) }
+    ensures refused { IfErr result (IsFault (spec.line_meaning None draft.old (number, line.now))) }
 
     // What a line adds is bounded by its bytes, and an LF.
     ensures bound { 4 * all_added draft.new.sums ≤ 4 * all_added draft.old.sums + MOST_THOUSANDTHS * (1 + length line.now) }
@@ -157,7 +157,7 @@ fn read_checked(draft: &mut Draft, number: u64, line: &[u8]) -> Result<(), LineS
     requires { all_added draft.old.sums + 2 * MOST_THOUSANDTHS < 2 ^ 64 }
     ensures ok { OnOk result
         (spec.checked_meaning draft.old (number, line.now) None ≡ Ok draft.new) }
-    ensures refused { IfErr result (IsStop (spec.checked_meaning draft.old (number, line.now) None)) }
+    ensures refused { IfErr result (IsFault (spec.checked_meaning draft.old (number, line.now) None)) }
     ensures bound { 4 * all_added draft.new.sums ≤ 4 * all_added draft.old.sums + MOST_THOUSANDTHS * (1 + length line.now) }
 {
     if !is_comment(line) {
@@ -172,7 +172,7 @@ fn read_checked(draft: &mut Draft, number: u64, line: &[u8]) -> Result<(), LineS
 // Reads the header.
 fn read_header(draft: &mut Draft, line: &[u8]) -> Result<(), LineStop>
     ensures ok { OnOk result (spec.comment_meaning draft.old (HEADER_LINE, line.now) ≡ Ok draft.new) }
-    ensures refused { IfErr result (IsStop (spec.comment_meaning draft.old (HEADER_LINE, line.now))) }
+    ensures refused { IfErr result (IsFault (spec.comment_meaning draft.old (HEADER_LINE, line.now))) }
     ensures sums { draft.new.sums ≡ draft.old.sums }
 {
     if !is_header(line) {
@@ -189,7 +189,7 @@ fn read_second(draft: &mut Draft, line: &[u8]) -> Result<(), LineStop>
     ensures ok { OnOk result
         (spec.second_meaning draft.old (header.thresholds_of (header.comment_words line.now)) ≡ Ok draft.new) }
     ensures refused { IfErr result
-        (IsStop (spec.second_meaning draft.old (header.thresholds_of (header.comment_words line.now)))) }
+        (IsFault (spec.second_meaning draft.old (header.thresholds_of (header.comment_words line.now)))) }
     ensures sums { draft.new.sums ≡ draft.old.sums }
 {
     match thresholds_of(*draft.thresholds.allocator(), line)? {
@@ -202,7 +202,7 @@ fn read_second(draft: &mut Draft, line: &[u8]) -> Result<(), LineStop>
 fn read_words(draft: &mut Draft, mut words: Words<'_>) -> Result<(), LineStop>
     requires { all_added draft.old.sums + 2 * MOST_THOUSANDTHS < 2 ^ 64 }
     ensures ok { OnOk result (spec.words_meaning draft.old words.entry ≡ Ok draft.new) }
-    ensures refused { IfErr result (IsStop (spec.words_meaning draft.old words.entry)) }
+    ensures refused { IfErr result (IsFault (spec.words_meaning draft.old words.entry)) }
     ensures bound { 4 * all_added draft.new.sums ≤ 4 * all_added draft.old.sums + 2 * MOST_THOUSANDTHS * length words.entry }
 {
     let Some(first) = words.next() else {
@@ -218,7 +218,7 @@ fn read_words(draft: &mut Draft, mut words: Words<'_>) -> Result<(), LineStop>
 fn read_record(draft: &mut Draft, begun: Record, words: Words<'_>) -> Result<(), LineStop>
     requires { all_added draft.old.sums + 2 * MOST_THOUSANDTHS < 2 ^ 64 }
     ensures ok { OnOk result (spec.known_meaning draft.old (Some begun) words.entry ≡ Ok draft.new) }
-    ensures refused { IfErr result (IsStop (spec.known_meaning draft.old (Some begun) words.entry)) }
+    ensures refused { IfErr result (IsFault (spec.known_meaning draft.old (Some begun) words.entry)) }
     ensures bound { 4 * all_added draft.new.sums ≤ 4 * all_added draft.old.sums + 2 * MOST_THOUSANDTHS * (1 + length words.entry) }
 {
     match begun {
@@ -236,7 +236,7 @@ fn read_capacitance(draft: &mut Draft, words: Words<'_>) -> Result<(), LineStop>
     ensures ok { OnOk result (draft.new ≡ record draft.old {
       sums = spec.with_capacitance draft.old.circuit.profile draft.old.sums words.entry;
     }) }
-    ensures refused { IfErr result (λ stop. stop ≡ LineStop.NoMemory) }
+    ensures refused { IfErr result (λ stop. stop ≡ Unmade.NoMemory) }
     ensures bound { 4 * all_added draft.new.sums ≤ 4 * all_added draft.old.sums + 2 * MOST_THOUSANDTHS * (1 + length words.entry) }
 {
     match draft.circuit.profile() {
@@ -249,7 +249,7 @@ fn read_capacitance(draft: &mut Draft, words: Words<'_>) -> Result<(), LineStop>
 fn read_set(draft: &mut Draft, words: Words<'_>) -> Result<(), LineStop>
     ensures ok { OnOk result (spec.known_meaning draft.old (Some Record.Attributes) words.entry ≡ Ok draft.new) }
     ensures refused { IfErr result
-        (IsStop (spec.known_meaning draft.old (Some Record.Attributes) words.entry)) }
+        (IsFault (spec.known_meaning draft.old (Some Record.Attributes) words.entry)) }
     ensures sums { draft.new.sums ≡ draft.old.sums }
 {
     match read_attributes(&mut draft.circuit, words)? {
@@ -267,7 +267,7 @@ fn read_transistor(
     ensures ok { OnOk result
         (spec.record_meaning circuit.old (Record.Transistor kind) words.entry ≡ Ok circuit.new) }
     ensures refused { IfErr result
-        (IsStop (spec.record_meaning circuit.old (Record.Transistor kind) words.entry)) }
+        (IsFault (spec.record_meaning circuit.old (Record.Transistor kind) words.entry)) }
 {
     let (Some(gate), Some(source), Some(drain)) = (words.next(), words.next(), words.next()) else {
         return refuse(NetWhat::FewWords);
@@ -290,7 +290,7 @@ fn add_transistor(
     ensures ok { OnOk result
         (spec.transistor_meaning circuit.old kind gate.now source.now drain.now (Some strength) ≡ Ok circuit.new) }
     ensures refused { IfErr result
-        (IsStop (spec.transistor_meaning circuit.old kind gate.now source.now drain.now (Some strength))) }
+        (IsFault (spec.transistor_meaning circuit.old kind gate.now source.now drain.now (Some strength))) }
 {
     match circuit.add_switch(kind, strength, gate, source, drain) {
         Ok(_) => Ok(()),
@@ -301,7 +301,7 @@ fn add_transistor(
 // Reads an alias, by the words after its first.
 fn read_alias(circuit: &mut Circuit, mut words: Words<'_>) -> Result<(), LineStop>
     ensures ok { OnOk result (spec.record_meaning circuit.old Record.Alias words.entry ≡ Ok circuit.new) }
-    ensures refused { IfErr result (IsStop (spec.record_meaning circuit.old Record.Alias words.entry)) }
+    ensures refused { IfErr result (IsFault (spec.record_meaning circuit.old Record.Alias words.entry)) }
 {
     let (Some(first), Some(second)) = (words.next(), words.next()) else {
         return refuse(NetWhat::FewWords);
@@ -312,7 +312,7 @@ fn read_alias(circuit: &mut Circuit, mut words: Words<'_>) -> Result<(), LineSto
 // Makes two names names of one node.
 fn add_alias(circuit: &mut Circuit, first: &[u8], second: &[u8]) -> Result<(), LineStop>
     ensures ok { OnOk result (spec.alias_meaning circuit.old first.now second.now ≡ Ok circuit.new) }
-    ensures refused { IfErr result (IsStop (spec.alias_meaning circuit.old first.now second.now)) }
+    ensures refused { IfErr result (IsFault (spec.alias_meaning circuit.old first.now second.now)) }
 {
     match circuit.alias(first, second) {
         Ok(()) => Ok(()),
@@ -327,17 +327,17 @@ fn read_attributes(circuit: &mut Circuit, mut words: Words<'_>) -> Result<Option
     ensures set { IfOk result (λ set. set ≡ spec.node_set circuit.old words.entry) }
     ensures within { IfOk result (λ set. IfSome set (λ node. node < nodes circuit.new.graph)) }
     ensures refused { IfErr result
-        (IsStop (spec.record_meaning circuit.old Record.Attributes words.entry)) }
+        (IsFault (spec.record_meaning circuit.old Record.Attributes words.entry)) }
 {
     let Some(name) = words.next() else {
-        return Err(LineStop::Refused(NetWhat::FewWords));
+        return Err(Unmade::Refused(NetWhat::FewWords));
     };
     if is_rail(circuit, name) {
         return Ok(None);
     }
     match setting_by_words(circuit.profile(), words) {
         Some(setting) => add_attributes(circuit, name, setting),
-        None => Err(LineStop::Refused(NetWhat::BadSize)),
+        None => Err(Unmade::Refused(NetWhat::BadSize)),
     }
 }
 
@@ -356,7 +356,7 @@ fn add_attributes(
         set ≡ spec.set_at (node_named (with_node circuit.old name.now) name.now) (Some setting)) }
     ensures within { IfOk result (λ set. IfSome set (λ node. node < nodes circuit.new.graph)) }
     ensures refused { IfErr result
-        (IsStop (spec.attributes_meaning circuit.old name.now (Some setting))) }
+        (IsFault (spec.attributes_meaning circuit.old name.now (Some setting))) }
 {
     match circuit.node_or_new(name) {
         Ok(node) => Ok(put_setting(circuit, node, setting)),
@@ -390,7 +390,7 @@ fn is_rail(circuit: &Circuit, name: &[u8]) -> bool
 
 // Refuses a line.
 fn refuse(what: NetWhat) -> Result<(), LineStop>
-    ensures { result ≡ Err (LineStop.Refused what) }
+    ensures { result ≡ Err (Unmade.Refused what) }
 {
-    Err(LineStop::Refused(what))
+    Err(Unmade::Refused(what))
 }

@@ -4,7 +4,6 @@ pub mod LineLemmas
 pub mod PlaceLemmas
 pub mod PoolLemmas
 pub mod ReadingLemmas
-pub mod RefusalLemmas
 pub mod TableLemmas
 pub mod VisibleLemmas
 pub mod Worked

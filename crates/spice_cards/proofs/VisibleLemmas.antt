@@ -15,7 +15,7 @@ use Rattle.line_words.specs.Visible.{IsVisibleName}
 use Rattle.line_words.specs.Words.{words_of}
 use Rattle.line_words.proofs.VisibleLemmas.{plain_words-visible}
 use Rattle.spice_cards.specs.declared.cards.TheConstants.{TRANSISTOR_WORDS}
-use Rattle.spice_cards.specs.declared.fault.DeckFault.{DeckFault}
+use Rattle.spice_cards.specs.declared.fault.DeckRefusal.{DeckRefusal}
 use Rattle.spice_cards.specs.declared.fault.DeckWhat.{DeckWhat}
 use Rattle.spice_cards.specs.declared.fault.DeckWhat.TheVariants.{BadByte, BadCard, BadNesting, FewWords, LineTooLong, Redefined, TooLong}
 use Rattle.spice_cards.specs.declared.sorts.CardSort.{CardSort}
@@ -287,7 +287,7 @@ end-gives r line word words ended same is =
 lines-visible : (cut : Option ℕ) (lines : List (ℕ × List ℕ)) (r : ReadSoFar) (deck : DeckCards) → IsVisibleRead r → lines_meaning cut r lines ≡ Ok deck →
     IsVisibleDeck deck
 unfolding lines_meaning
-lines-visible cut [] r deck is same = subst (λ (g : Result DeckCards DeckFault). IfOk g IsVisibleDeck) same is.deck
+lines-visible cut [] r deck is same = subst (λ (g : Result DeckCards DeckRefusal). IfOk g IsVisibleDeck) same is.deck
 lines-visible cut (line ∷ lines) r deck is same =
     by (line_meaning cut r line lines) refl same (λ next visible rest. lines-visible cut lines next deck visible rest)
   where
@@ -306,8 +306,8 @@ lines-visible cut (line ∷ lines) r deck is same =
         (All-append IsVisibleName (kept_words line.1) (continued lines) (begins-visible line.1 sound begins)
         (continued-visible lines (lines-sound cut lines next deck same)))
 
-    last : (next : ReadSoFar) (fault : Option DeckFault) → IsVisibleDeck next.deck → unless fault (Ok next.deck) ≡ Ok deck → IsVisibleDeck deck
-    last next None visible same = subst (λ (g : Result DeckCards DeckFault). IfOk g IsVisibleDeck) same visible
+    last : (next : ReadSoFar) (fault : Option DeckRefusal) → IsVisibleDeck next.deck → unless fault (Ok next.deck) ≡ Ok deck → IsVisibleDeck deck
+    last next None visible same = subst (λ (g : Result DeckCards DeckRefusal). IfOk g IsVisibleDeck) same visible
     last next (Some fault) visible same = absurd (cc)
 
     onward : (next : ReadSoFar) (ends : Bool) → IsVisibleRead next →
@@ -332,10 +332,10 @@ none-visible = record { outside = All-nil IsVisiblePart; inside = All-nil (λ (e
 -- the words of the deck of a text are visible names
 titled-visible : (cut : Option ℕ) (lines : List (ℕ × List ℕ)) (deck : DeckCards) → titled_meaning cut lines ≡ Ok deck → IsVisibleDeck deck
 unfolding titled_meaning
-titled-visible cut [] deck same = subst (λ (g : Result DeckCards DeckFault). IfOk g IsVisibleDeck) same none-visible
+titled-visible cut [] deck same = subst (λ (g : Result DeckCards DeckRefusal). IfOk g IsVisibleDeck) same none-visible
 titled-visible cut (title ∷ lines) deck same = by (unread_fault cut title) same
   where
-    by : (fault : Option DeckFault) → unless fault (lines_meaning cut nothing_read lines) ≡ Ok deck → IsVisibleDeck deck
+    by : (fault : Option DeckRefusal) → unless fault (lines_meaning cut nothing_read lines) ≡ Ok deck → IsVisibleDeck deck
     by (Some fault) same = absurd (cc)
     by None same = lines-visible cut lines nothing_read deck (record { deck = none-visible; begun = tt }) same
 

@@ -1,16 +1,15 @@
 -- Worked decks, computed from the definitions.
 use Rattle.std.proofs.Common.{◌≡◌, ℕ, List, [], ◌∷◌, ◌++◌, codes, Ok, Err, refl, None}
 use Rattle.path_meaning.specs.declared.switching.SwitchKind.TheVariants.{NChan}
-use Rattle.spice_cards.specs.declared.fault.DeckFault.TheVariants.{At}
 use Rattle.spice_cards.specs.declared.fault.DeckWhat.TheVariants.{BadCard, BadNesting}
 use Rattle.spice_cards.specs.declared.sorts.PartSort.TheVariants.{Transistor, Call}
 use Rattle.spice_cards.specs.declared.sorts.Strength.TheVariants.{Usual}
 use Rattle.spice_cards.specs.CardLines.{line_sort}
 use Rattle.spice_cards.specs.Decks.{DeckCards}
-use Rattle.spice_cards.specs.Reading.{cards_of, line_meaning, lines_meaning, titled_meaning}
+use Rattle.spice_cards.specs.Reading.{cards_of, line_meaning, lines_meaning, refusal_at, titled_meaning}
 
 -- a letter that begins no card
-no_such_card : cards_of (codes "t" ++ 10 ∷ codes "q1 a b c m" ++ 10 ∷ []) ≡ Err (At 2 BadCard)
+no_such_card : cards_of (codes "t" ++ 10 ∷ codes "q1 a b c m" ++ 10 ∷ []) ≡ Err (refusal_at 2 BadCard)
 unfolding cards_of titled_meaning lines_meaning line_meaning line_sort
 no_such_card = refl
 
@@ -46,6 +45,6 @@ unfolding cards_of titled_meaning lines_meaning line_meaning line_sort two_inver
 are_two_inverters = refl
 
 -- a subcircuit that nothing ends
-never_ended : cards_of (codes "t" ++ 10 ∷ codes ".subckt s a" ++ 10 ∷ codes "x1 a s" ++ 10 ∷ []) ≡ Err (At 2 BadNesting)
+never_ended : cards_of (codes "t" ++ 10 ∷ codes ".subckt s a" ++ 10 ∷ codes "x1 a s" ++ 10 ∷ []) ≡ Err (refusal_at 2 BadNesting)
 unfolding cards_of titled_meaning lines_meaning line_meaning line_sort
 never_ended = refl

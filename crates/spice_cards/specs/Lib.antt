@@ -6,5 +6,4 @@ pub mod Pools
 pub mod Reading
 pub mod Readings
 pub mod Reports
-pub mod Stops
 pub mod Tables

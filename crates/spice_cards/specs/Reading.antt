@@ -5,9 +5,10 @@ use Rattle.std.specs.List.{enumerate_from}
 use Rattle.line_words.specs.declared.line_check.TheConstants.{LONGEST_LINE}
 use Rattle.line_words.specs.Lines.{lines_of}
 use Rattle.line_words.specs.Files.{front_of, cut_line, is_cut}
+use Rattle.ternary.specs.declared.unmade.Unmade.{Unmade}
+use Rattle.ternary.specs.declared.unmade.Unmade.TheVariants.{Refused, NoMemory}
 use Rattle.path_meaning.specs.declared.switching.SwitchKind.{SwitchKind}
-use Rattle.spice_cards.specs.declared.fault.DeckFault.{DeckFault}
-use Rattle.spice_cards.specs.declared.fault.DeckFault.TheVariants.{At}
+use Rattle.spice_cards.specs.declared.fault.DeckRefusal.{DeckRefusal}
 use Rattle.spice_cards.specs.declared.fault.DeckWhat.{DeckWhat}
 use Rattle.spice_cards.specs.declared.fault.DeckWhat.TheVariants.{TooLong, LineTooLong, BadCard, FewWords, BadNesting, Redefined}
 use Rattle.spice_cards.specs.declared.cards.TheConstants.{TRANSISTOR_WORDS}
@@ -116,40 +117,49 @@ unfoldable pub line_meaning : Option ℕ → ReadSoFar → (ℕ × List ℕ) →
 line_meaning cut r line later =
     if is_cut cut line.0 then Err TooLong else checked_meaning r line (line_fault line.1) later
 
+-- the refusal of this line for this cause
+abbrev pub refusal_at : ℕ → DeckWhat → DeckRefusal
+refusal_at line what = record { line = line; what = what }
+
+-- the fault of a card of this line at which the reading stops
+abbrev pub fault_at : ℕ → Unmade DeckWhat → Unmade DeckRefusal
+fault_at line (Refused what) = Refused (refusal_at line what)
+fault_at line NoMemory = NoMemory
+
 -- the fault of a line that isn't read: the title, or one after `.end`
-abbrev pub unread_fault : Option ℕ → (ℕ × List ℕ) → Option DeckFault
+abbrev pub unread_fault : Option ℕ → (ℕ × List ℕ) → Option DeckRefusal
 unread_fault cut line =
-    if is_cut cut line.0 then Some (At line.0 TooLong)
-    else (if nat_lt LONGEST_LINE (length line.1) then Some (At line.0 LineTooLong) else None)
+    if is_cut cut line.0 then Some (refusal_at line.0 TooLong)
+    else (if nat_lt LONGEST_LINE (length line.1) then Some (refusal_at line.0 LineTooLong) else None)
 
 -- the first of these faults, if there are two
-abbrev pub first_fault : Option DeckFault → Option DeckFault → Option DeckFault
+abbrev pub first_fault : Option DeckRefusal → Option DeckRefusal → Option DeckRefusal
 first_fault (Some fault) later = Some fault
 first_fault None later = later
 
 -- the fault of the first line after `.end` that has one
-abbrev pub tail_fault : Option ℕ → List (ℕ × List ℕ) → Option DeckFault
+abbrev pub tail_fault : Option ℕ → List (ℕ × List ℕ) → Option DeckRefusal
 tail_fault cut [] = None
 tail_fault cut (line ∷ lines) = first_fault (unread_fault cut line) (tail_fault cut lines)
 
 -- this, unless there is a fault
-abbrev pub unless : {T : Type 0} → Option DeckFault → Result T DeckFault → Result T DeckFault
+abbrev pub unless : {T : Type 0} → Option DeckRefusal → Result T DeckRefusal → Result T DeckRefusal
 unless (Some fault) meaning = Err fault
 unless None meaning = meaning
 
 -- the cards of lines, by what a first one of them gave and what the others then give; a line that is refused ends all
-abbrev pub going_on : ℕ → Result ReadSoFar DeckWhat → (ReadSoFar → Result DeckCards DeckFault) → Result DeckCards DeckFault
-going_on line (Err what) others = Err (At line what)
+abbrev pub going_on : ℕ → Result ReadSoFar DeckWhat → (ReadSoFar → Result DeckCards DeckRefusal) → Result DeckCards DeckRefusal
+going_on line (Err what) others = Err (refusal_at line what)
 going_on line (Ok next) others = others next
 
 -- the cards that the lines give after what was read: up to `.end`, behind which lines have no meaning and few faults
-unfoldable pub lines_meaning : Option ℕ → ReadSoFar → List (ℕ × List ℕ) → Result DeckCards DeckFault
+unfoldable pub lines_meaning : Option ℕ → ReadSoFar → List (ℕ × List ℕ) → Result DeckCards DeckRefusal
 lines_meaning cut r [] = Ok r.deck
 lines_meaning cut r (line ∷ lines) = going_on line.0 (line_meaning cut r line lines)
     (λ next. if is_end line.1 then unless (tail_fault cut lines) (Ok next.deck) else lines_meaning cut next lines)
 
 -- the cards of a text whose first line is the title
-unfoldable pub titled_meaning : Option ℕ → List (ℕ × List ℕ) → Result DeckCards DeckFault
+unfoldable pub titled_meaning : Option ℕ → List (ℕ × List ℕ) → Result DeckCards DeckRefusal
 titled_meaning cut [] = Ok no_cards
 titled_meaning cut (title ∷ lines) = unless (unread_fault cut title) (lines_meaning cut nothing_read lines)
 
@@ -158,5 +168,5 @@ abbrev pub deck_lines : List ℕ → List (ℕ × List ℕ)
 deck_lines text = enumerate_from 1 (lines_of (map to_ascii_lowercase (front_of text)))
 
 -- the cards of a deck, or the refusal of its first line that has one
-unfoldable pub cards_of : List ℕ → Result DeckCards DeckFault
+unfoldable pub cards_of : List ℕ → Result DeckCards DeckRefusal
 cards_of text = titled_meaning (cut_line text) (deck_lines text)

@@ -7,7 +7,7 @@ ghost use Rattle.spice_cards.specs.CardLines as lines;
 ghost use Rattle.spice_cards.specs.CardLines.{card_words, first_word, line_fault, line_sort};
 ghost use Rattle.spice_cards.specs.CardSorts as sorts;
 ghost use Rattle.spice_cards.specs.Reading as spec;
-ghost use Rattle.spice_cards.specs.Stops.{IsStop};
+ghost use Rattle.ternary.specs.Unmade.{IsFault};
 
 use crate::fault::{CardStop, DeckWhat};
 use crate::reading::Reading;
@@ -17,6 +17,7 @@ use crate::sorts::{
 };
 use crate::words::Words;
 use line_words::{Line, Lines};
+use ternary::Unmade;
 
 /// How many words of a transistor's card count: its name, drain, gate, source, bulk and model.
 pub const TRANSISTOR_WORDS: usize = 6;
@@ -36,7 +37,7 @@ pub(crate) fn read_line(
     ensures ok { OnOk result
         (spec.line_meaning cut reading.old.so_far (line.entry.number, line.entry.bytes.now) later.now ≡ Ok reading.new.so_far) }
     ensures refused { IfErr result
-        (IsStop (spec.line_meaning cut reading.old.so_far (line.entry.number, line.entry.bytes.now) later.now)) }
+        (IsFault (spec.line_meaning cut reading.old.so_far (line.entry.number, line.entry.bytes.now) later.now)) }
 {
     if is_cut(cut, line.number) {
         return refuse(DeckWhat::TooLong);
@@ -56,9 +57,9 @@ pub(crate) fn is_cut(cut: Option<u64>, number: u64) -> bool
 
 // Refuses a card for this cause.
 fn refuse(what: DeckWhat) -> Result<(), CardStop>
-    ensures { result ≡ Err (CardStop.Refused what) }
+    ensures { result ≡ Err (Unmade.Refused what) }
 {
-    Err(CardStop::Refused(what))
+    Err(Unmade::Refused(what))
 }
 
 // Reads a line that has no fault as a line.
@@ -66,7 +67,7 @@ fn read_sorted(reading: &mut Reading, line: Line<'_>, later: &Lines<'_>) -> Resu
     ensures ok { OnOk result
         (spec.sorted_meaning reading.old.so_far (line.entry.number, line.entry.bytes.now) (line_sort line.entry.bytes.now) later.now ≡ Ok reading.new.so_far) }
     ensures refused { IfErr result
-        (IsStop (spec.sorted_meaning reading.old.so_far (line.entry.number, line.entry.bytes.now) (line_sort line.entry.bytes.now) later.now)) }
+        (IsFault (spec.sorted_meaning reading.old.so_far (line.entry.number, line.entry.bytes.now) (line_sort line.entry.bytes.now) later.now)) }
 {
     match line_sort(line.bytes) {
         LineSort::Passed => Ok(()),
@@ -88,7 +89,7 @@ fn read_sorted(reading: &mut Reading, line: Line<'_>, later: &Lines<'_>) -> Resu
 fn read_card(reading: &mut Reading, line: Line<'_>, later: &Lines<'_>) -> Result<(), CardStop>
     ensures ok { OnOk result (spec.card_meaning reading.old.so_far line.entry.number (sorts.card_sort (first_word line.entry.bytes.now))
         (card_words line.entry.bytes.now later.now) (lines.is_ended later.now) ≡ Ok reading.new.so_far) }
-    ensures refused { IfErr result (IsStop (spec.card_meaning reading.old.so_far line.entry.number (sorts.card_sort (first_word line.entry.bytes.now))
+    ensures refused { IfErr result (IsFault (spec.card_meaning reading.old.so_far line.entry.number (sorts.card_sort (first_word line.entry.bytes.now))
         (card_words line.entry.bytes.now later.now) (lines.is_ended later.now))) }
 {
     match card_sort(first_word(line.bytes)) {
@@ -123,7 +124,7 @@ fn read_transistor(reading: &mut Reading, number: u64) -> Result<(), CardStop>
     ensures ok { OnOk result
         (spec.transistor_meaning reading.old.so_far number reading.old.pending ≡ Ok reading.new.so_far) }
     ensures refused { IfErr result
-        (IsStop (spec.transistor_meaning reading.old.so_far number reading.old.pending)) }
+        (IsFault (spec.transistor_meaning reading.old.so_far number reading.old.pending)) }
 {
     if reading.words().len() < TRANSISTOR_WORDS {
         return refuse(DeckWhat::FewWords);
@@ -149,7 +150,7 @@ fn read_call(reading: &mut Reading, number: u64) -> Result<(), CardStop>
     ensures ok { OnOk result
         (spec.call_meaning reading.old.so_far number (sorts.call_words reading.old.pending) ≡ Ok reading.new.so_far) }
     ensures refused { IfErr result
-        (IsStop (spec.call_meaning reading.old.so_far number (sorts.call_words reading.old.pending))) }
+        (IsFault (spec.call_meaning reading.old.so_far number (sorts.call_words reading.old.pending))) }
 {
     let count = call_count(reading.words());
     if count < 2 {
@@ -196,7 +197,7 @@ fn ends_names(settings: bool, word: &[u8]) -> bool
 fn read_opening(reading: &mut Reading, number: u64, later: &Lines<'_>) -> Result<(), CardStop>
     ensures ok { OnOk result (spec.opening_meaning reading.old.so_far number
         (before_first sorts.is_params reading.old.pending) (lines.is_ended later.now) ≡ Ok reading.new.so_far) }
-    ensures refused { IfErr result (IsStop (spec.opening_meaning reading.old.so_far number
+    ensures refused { IfErr result (IsFault (spec.opening_meaning reading.old.so_far number
         (before_first sorts.is_params reading.old.pending) (lines.is_ended later.now))) }
 {
     let count = count_before(reading.words(), false);
@@ -232,7 +233,7 @@ fn is_ended(later: Lines<'_>) -> bool
 fn read_model(reading: &mut Reading) -> Result<(), CardStop>
     ensures ok { OnOk result
         (spec.model_meaning reading.old.so_far reading.old.pending ≡ Ok reading.new.so_far) }
-    ensures refused { IfErr result (IsStop (spec.model_meaning reading.old.so_far reading.old.pending)) }
+    ensures refused { IfErr result (IsFault (spec.model_meaning reading.old.so_far reading.old.pending)) }
 {
     if reading.words().len() < 3 {
         return refuse(DeckWhat::FewWords);

@@ -6,12 +6,11 @@ ghost use Rattle.std.specs.List.{enumerate_from};
 ghost use Rattle.line_words.specs.Lines.{lines_of};
 ghost use Rattle.line_words.specs.Files.{front_of};
 ghost use Rattle.spice_cards.specs.Reading as spec;
-ghost use Rattle.spice_cards.specs.Stops as stops;
-ghost use Rattle.spice_cards.specs.Stops.{IsFault};
+ghost use Rattle.ternary.specs.Unmade.{IsFault};
 ghost use Rattle.spice_cards.specs.Tables.{named};
 
 use crate::cards::{is_cut, read_line};
-use crate::fault::{CardStop, DeckFault, DeckWhat};
+use crate::fault::{CardStop, DeckFault, DeckRefusal, DeckWhat};
 use crate::parts::Parts;
 use crate::reading::Reading;
 use crate::sorts::is_end;
@@ -21,7 +20,7 @@ use path_meaning::SwitchKind;
 use std::alloc::Global;
 use std::marker::Model;
 use table_keys::TableKeys;
-use ternary::NoMemory;
+use ternary::{NoMemory, Unmade};
 
 /// The cards of a deck.
 #[derive(Drop)]
@@ -122,8 +121,8 @@ pub fn read_cards(
     let Some(title) = lines.next() else {
         return Ok(Deck { reading });
     };
-    if let Some(fault) = unread_fault(cut, title.number, title.bytes) {
-        return Err(fault);
+    if let Some(refusal) = unread_fault(cut, title.number, title.bytes) {
+        return Err(Unmade::Refused(refusal));
     }
     read_lines(reading, cut, lines)
 }
@@ -151,37 +150,38 @@ fn read_lines(
     Ok(Deck { reading })
 }
 
-// The deck, unless there is a fault.
-fn unless(fault: Option<DeckFault>, deck: Deck) -> Result<Deck, DeckFault>
-    ensures { result ≡ spec.unless fault (Ok deck) }
+// The deck, unless a line is refused.
+fn unless(refusal: Option<DeckRefusal>, deck: Deck) -> Result<Deck, DeckFault>
+    ensures ok { IfOk result (λ made. spec.unless refusal (Ok deck) ≡ Ok made) }
+    ensures refused { IfErr result (IsFault (spec.unless refusal (Ok deck))) }
 {
-    match fault {
-        Some(fault) => Err(fault),
+    match refusal {
+        Some(refusal) => Err(Unmade::Refused(refusal)),
         None => Ok(deck),
     }
 }
 
 // The fault of a card of this line at which the reading stops.
 fn fault_at(line: u64, stop: CardStop) -> DeckFault
-    ensures { result ≡ stops.fault_at line stop }
+    ensures { result ≡ spec.fault_at line stop }
 {
     match stop {
-        CardStop::Refused(what) => DeckFault::At { line, what },
-        CardStop::NoMemory => DeckFault::NoMemory,
+        Unmade::Refused(what) => Unmade::Refused(DeckRefusal { line, what }),
+        Unmade::NoMemory => Unmade::NoMemory,
     }
 }
 
 // The fault of a line that isn't read: the title, or one after `.end`.
-fn unread_fault(cut: Option<u64>, line: u64, bytes: &[u8]) -> Option<DeckFault>
+fn unread_fault(cut: Option<u64>, line: u64, bytes: &[u8]) -> Option<DeckRefusal>
     ensures { result ≡ spec.unread_fault cut (line, bytes.now) }
 {
     if is_cut(cut, line) {
-        Some(DeckFault::At {
+        Some(DeckRefusal {
             line,
             what: DeckWhat::TooLong,
         })
     } else if bytes.len() > LONGEST_LINE {
-        Some(DeckFault::At {
+        Some(DeckRefusal {
             line,
             what: DeckWhat::LineTooLong,
         })
@@ -191,12 +191,12 @@ fn unread_fault(cut: Option<u64>, line: u64, bytes: &[u8]) -> Option<DeckFault>
 }
 
 // The fault of the first line after `.end` that has one.
-fn tail_fault(cut: Option<u64>, lines: Lines<'_>) -> Option<DeckFault>
+fn tail_fault(cut: Option<u64>, lines: Lines<'_>) -> Option<DeckRefusal>
     ensures { result ≡ spec.tail_fault cut lines.entry }
 {
     for line in lines {
-        if let Some(fault) = unread_fault(cut, line.number, line.bytes) {
-            return Some(fault);
+        if let Some(refusal) = unread_fault(cut, line.number, line.bytes) {
+            return Some(refusal);
         }
     }
     None

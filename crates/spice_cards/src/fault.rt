@@ -1,22 +1,19 @@
 //! What a deck is refused for.
 
-use ternary::NoMemory;
+use ternary::Unmade;
 use thiserror::Error;
 
 /// Why a deck gives no circuit.
+pub type DeckFault = Unmade<DeckRefusal>;
+
+/// The refusal of a deck: its first refused line, and the cause.
 #[derive(Clone, Copy, Debug, Drop, Error, PartialEq, Eq)]
-pub enum DeckFault {
-    /// A line is refused.
-    #[error("line {line}: {what}")]
-    At {
-        /// The number of the line, from 1; a card's line is its first one.
-        line: u64,
-        /// Why it is refused.
-        what: DeckWhat,
-    },
-    /// Memory ran out.
-    #[error("out of memory")]
-    NoMemory,
+#[error("line {line}: {what}")]
+pub struct DeckRefusal {
+    /// The number of the line, from 1; a card's line is its first one.
+    pub line: u64,
+    /// Why it is refused.
+    pub what: DeckWhat,
 }
 
 /// Why a line of a deck is refused. If several causes stand together at a line, the first one in
@@ -73,33 +70,5 @@ pub enum DeckWhat {
     TooManySwitches,
 }
 
-impl From<NoMemory> for DeckFault {
-    ghost use Rattle.std.specs.Prelude.{◌≡◌};
-    ghost use Rattle.spice_cards.specs.declared.fault.DeckFault.TheVariants.{NoMemory};
-
-    ghost from_gives = { λ _ fault. fault ≡ NoMemory };
-
-    fn from(_want: NoMemory) -> DeckFault {
-        DeckFault::NoMemory
-    }
-}
-
 /// Why the reading stops at a card.
-#[derive(Clone, Copy)]
-pub(crate) enum CardStop {
-    /// The card is refused for this cause.
-    Refused(DeckWhat),
-    /// Memory ran out.
-    NoMemory,
-}
-
-impl From<NoMemory> for CardStop {
-    ghost use Rattle.std.specs.Prelude.{◌≡◌};
-    ghost use Rattle.spice_cards.specs.declared.fault.CardStop.TheVariants.{NoMemory};
-
-    ghost from_gives = { λ _ stop. stop ≡ NoMemory };
-
-    fn from(_want: NoMemory) -> CardStop {
-        CardStop::NoMemory
-    }
-}
+pub(crate) type CardStop = Unmade<DeckWhat>;

@@ -21,8 +21,8 @@
 //! For the proofs of crates above: `VisibleLemmas` says that the words of the parts of a deck that
 //! isn't refused are visible names, and that each part has those that it needs; `ReadingLemmas` that
 //! what a name stands for is as all entries of its table are; `FrontLemmas` that the cards of a text
-//! are those of its front; `RefusalLemmas` that a refusal tells of a line. `Worked` has the text of a
-//! worked deck. They cite `PlaceLemmas` too, whose head says what it is of.
+//! are those of its front. `Worked` has the text of a worked deck. They cite `PlaceLemmas` too, whose
+//! head says what it is of.
 //!
 //! The cards are those of Nagel and Pederson, "SPICE (Simulation Program with Integrated Circuit
 //! Emphasis)", 1973, in this project's profile: docs/FORMATS.md has it whole.
@@ -43,7 +43,7 @@ mod words;
 
 pub use cards::TRANSISTOR_WORDS;
 pub use deck::{Deck, Subcircuit, folded, read_cards};
-pub use fault::{DeckFault, DeckWhat};
+pub use fault::{DeckFault, DeckRefusal, DeckWhat};
 pub use laws::limits_are_as_stated;
 pub use parts::{Part, Parts};
 pub use report::{cause_text, deck_line};

@@ -6,7 +6,7 @@ ghost use Rattle.spice_cards.specs.CardSorts.{is_plain};
 ghost use Rattle.spice_cards.specs.Reading.{closing_meaning, globals_meaning, nothing_read, with_globals, with_model, with_part, word_at};
 ghost use Rattle.spice_cards.specs.Readings.{with_words_of};
 ghost use Rattle.spice_cards.specs.Readings as spec;
-ghost use Rattle.spice_cards.specs.Stops.{IsStop};
+ghost use Rattle.ternary.specs.Unmade.{IsFault};
 ghost use Rattle.spice_cards.specs.Tables.{named, with_first};
 
 use crate::fault::{CardStop, DeckWhat};
@@ -21,7 +21,7 @@ use path_meaning::SwitchKind;
 use std::alloc::Global;
 use std::marker::Model;
 use table_keys::TableKeys;
-use ternary::NoMemory;
+use ternary::{NoMemory, Unmade};
 
 /// What was read of a deck so far, and the words of the card that is being read.
 #[derive(Drop)]
@@ -145,10 +145,10 @@ impl Reading {
         ensures ok { OnOk result
             (closing_meaning self.old.so_far self.old.so_far.begun ≡ Ok self.new.so_far) }
         ensures refused { IfErr result
-            (IsStop (closing_meaning self.old.so_far self.old.so_far.begun)) }
+            (IsFault (closing_meaning self.old.so_far self.old.so_far.begun)) }
     {
         let Some(opening) = self.begun else {
-            return Err(CardStop::Refused(DeckWhat::BadNesting));
+            return Err(Unmade::Refused(DeckWhat::BadNesting));
         };
         let end = self.pool.inside();
         let place = SubcircuitPlace {

@@ -4,10 +4,9 @@ use Rattle.std.proofs.lemmas.List.Elements.{All-nil, All-cons}
 use Rattle.netlist.specs.Circuits.{CircuitData}
 use Rattle.netlist.specs.Edits.{add_fault, with_transistor}
 use Rattle.netlist.specs.Faults.{MakingFault}
-use Rattle.spice_cards.specs.declared.fault.DeckFault.TheVariants.{At}
 use Rattle.spice_cards.specs.declared.fault.DeckWhat.TheVariants.{TooManyCalls}
 use Rattle.spice_cards.specs.Decks.{DeckCards}
-use Rattle.spice_cards.specs.Reading.{cards_of}
+use Rattle.spice_cards.specs.Reading.{cards_of, refusal_at}
 use Rattle.spice_read.specs.declared.expansion.TheConstants.{MOST_CALLS}
 use Rattle.spice_read.specs.Expansions.{IsDone, IsExpanded, with_placed}
 use Rattle.spice_read.specs.Making.{MadeData, after, circuit_of, edited, nothing_made, onward}
@@ -41,7 +40,7 @@ after-placed (opened line ∷ steps) made last same =
     by (nat_le MOST_CALLS made.calls) same (λ next rest. after-placed steps next last rest)
   where
     by : (many : Bool) →
-        onward (if many then Err (At line TooManyCalls) else Ok (record made { calls = made.calls + 1 })) (λ next. after next steps) ≡ Ok last →
+        onward (if many then Err (refusal_at line TooManyCalls) else Ok (record made { calls = made.calls + 1 })) (λ next. after next steps) ≡ Ok last →
         ((next : MadeData) → after next steps ≡ Ok last → IsPlaced next.circuit steps last.circuit) →
         IsPlaced made.circuit (opened line ∷ steps) last.circuit
     by true same later = absurd (cc)

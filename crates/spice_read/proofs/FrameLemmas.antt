@@ -2,7 +2,7 @@
 use Rattle.std.proofs.Common.{◌≡◌, ℕ, ◌+◌, ◌-◌, ◌≤◌, length, get_or, take, take-append-drop, Result, Ok, Err, IfOk, arith, Bool, true, false, List, [], ◌∷◌, ◌++◌, Option, Some, None, option_map, append_assoc, if◌then◌else◌, refl, sym, ◌∙◌, ap, bytes_eq, eq-eqb, not, ◌==◌, ◌||◌, append-nil, map}
 use Rattle.std.specs.List.{list_any, zip}
 use Rattle.std.proofs.lemmas.List.{at_drop_more, drop_all}
-use Rattle.spice_cards.specs.declared.fault.DeckFault.{DeckFault}
+use Rattle.spice_cards.specs.declared.fault.DeckRefusal.{DeckRefusal}
 use Rattle.spice_cards.specs.declared.fault.DeckWhat.{DeckWhat}
 use Rattle.spice_cards.specs.declared.fault.DeckWhat.TheVariants.{PortCount, Recursion}
 use Rattle.spice_cards.specs.Decks.{DeckCards, PartCard, SubcircuitCards}
@@ -50,7 +50,7 @@ closed-frame frame opened inner closed depth counted decks outer stays closes =
     ∙ same_frame (record opened { calls = take depth opened.calls }) frame decks (ap (λ (d : ℕ). take d opened.calls) counted ∙ outer)
 
 -- what is made in one of two frames that are the same
-pub same-after : (made : MadeData) (room : ℕ) (one other : FrameData) (parts : List PartCard) (whole : Result MadeData DeckFault) → one ≡ other →
+pub same-after : (made : MadeData) (room : ℕ) (one other : FrameData) (parts : List PartCard) (whole : Result MadeData DeckRefusal) → one ≡ other →
     after made (expand room other.deck (scope_of other) parts) ≡ whole → after made (expand room one.deck (scope_of one) parts) ≡ whole
 same-after made room one other parts whole same is =
     ap (λ (f : FrameData). after made (expand room f.deck (scope_of f) parts)) same ∙ is

@@ -3,7 +3,6 @@ pub mod FrameLemmas
 pub mod LookupLemmas
 pub mod PortsLemmas
 pub mod ReaderLemmas
-pub mod RefusalLemmas
 pub mod StepLemmas
 pub mod VisibleLemmas
 mod Worked

@@ -5,11 +5,12 @@ use Rattle.std.specs.List.{enumerate_from}
 use Rattle.line_words.specs.Files.{cut_line, front_of}
 use Rattle.line_words.specs.Lines.{lines_of}
 use Rattle.netlist.specs.Circuits.{CircuitData, HasVisibleNames, IsCircuit}
-use Rattle.spice_cards.specs.declared.fault.DeckFault.{DeckFault}
-use Rattle.spice_cards.specs.declared.fault.DeckFault.TheVariants as fault
+use Rattle.ternary.specs.declared.unmade.Unmade.{Unmade}
+use Rattle.ternary.specs.declared.unmade.Unmade.TheVariants.{Refused, NoMemory}
+use Rattle.ternary.specs.Unmade.{IsFault}
+use Rattle.spice_cards.specs.declared.fault.DeckRefusal.{DeckRefusal}
 use Rattle.spice_cards.specs.Decks.{DeckCards}
 use Rattle.spice_cards.specs.Reading.{cards_of, titled_meaning}
-use Rattle.spice_cards.specs.Stops.{IsFault}
 use Rattle.spice_cards.proofs.FrontLemmas.{cards_of-front_of}
 use Rattle.spice_read.specs.Making.{circuit_by, circuit_of}
 use Rattle.spice_read.proofs.VisibleLemmas.{circuit_of-circuit, circuit_of-visible}
@@ -28,18 +29,18 @@ unfolding circuit_of
 circuit-read text deck same = ap circuit_by (sym same)
 
 -- and their refusal
-pub fault-read : (text : List ℕ) (told : DeckFault) → IsFault (cards_of text) told → IsFault (circuit_of text) told
+pub fault-read : (text : List ℕ) (told : Unmade DeckRefusal) → IsFault (cards_of text) told → IsFault (circuit_of text) told
 unfolding circuit_of
-fault-read text (fault.At line what) tells = ap circuit_by tells
-fault-read text fault.NoMemory tells = tt
+fault-read text (Refused refusal) tells = ap circuit_by tells
+fault-read text NoMemory tells = tt
 
 -- what is read is a circuit
-pub circuit-is : (answer : Result CircuitData DeckFault) (text : List ℕ) → IfOk answer (λ c. circuit_of text ≡ Ok c) → IfOk answer IsCircuit
+pub circuit-is : (answer : Result CircuitData (Unmade DeckRefusal)) (text : List ℕ) → IfOk answer (λ c. circuit_of text ≡ Ok c) → IfOk answer IsCircuit
 circuit-is (Ok c) text same = circuit_of-circuit text c same
 circuit-is (Err told) text same = tt
 
 -- with visible names
-pub circuit-visible : (answer : Result CircuitData DeckFault) (text : List ℕ) → IfOk answer (λ c. circuit_of text ≡ Ok c) → IfOk answer HasVisibleNames
+pub circuit-visible : (answer : Result CircuitData (Unmade DeckRefusal)) (text : List ℕ) → IfOk answer (λ c. circuit_of text ≡ Ok c) → IfOk answer HasVisibleNames
 circuit-visible (Ok c) text same = circuit_of-visible text c same
 circuit-visible (Err told) text same = tt
 

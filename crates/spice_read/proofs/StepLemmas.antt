@@ -2,8 +2,10 @@
 use Rattle.std.proofs.Common.{◌≡◌, ℕ, zero, suc, ◌-◌, List, [], ◌∷◌, ◌++◌, Some, Result, Ok, Err, refl, sym, ◌∙◌, ap, arith}
 use Rattle.std.specs.List.{flat_map}
 use Rattle.path_meaning.specs.declared.switching.SwitchKind.{SwitchKind}
-use Rattle.spice_cards.specs.declared.fault.DeckFault.{DeckFault}
-use Rattle.spice_cards.specs.declared.fault.DeckFault.TheVariants as fault
+use Rattle.ternary.specs.declared.unmade.Unmade.{Unmade}
+use Rattle.ternary.specs.declared.unmade.Unmade.TheVariants.{Refused, NoMemory}
+use Rattle.ternary.specs.Unmade.{IsFault}
+use Rattle.spice_cards.specs.declared.fault.DeckRefusal.{DeckRefusal}
 use Rattle.spice_cards.specs.declared.fault.DeckWhat.{DeckWhat}
 use Rattle.spice_cards.specs.declared.fault.DeckWhat.TheVariants.{TooDeep}
 use Rattle.spice_cards.specs.declared.sorts.PartSort.{PartSort}
@@ -11,7 +13,6 @@ use Rattle.spice_cards.specs.declared.sorts.PartSort.TheVariants.{Transistor, Ca
 use Rattle.spice_cards.specs.declared.sorts.Strength.{Strength}
 use Rattle.spice_cards.specs.Decks.{DeckCards, PartCard, SubcircuitCards}
 use Rattle.spice_cards.specs.Reading.{word_at}
-use Rattle.spice_cards.specs.Stops.{IsFault}
 use Rattle.spice_read.specs.Frames.{FrameData, scope_of}
 use Rattle.spice_read.specs.Making.{MadeData, after, onward, step_meaning}
 use Rattle.spice_read.specs.Scopes.{Scope, called, node_in}
@@ -25,34 +26,34 @@ pub after-append : (steps more : List Step) (made : MadeData) → after made (st
 after-append [] more made = refl
 after-append (step ∷ steps) more made = by (step_meaning made step) (λ next. after-append steps more next)
   where
-    by : (given : Result MadeData DeckFault) →
+    by : (given : Result MadeData DeckRefusal) →
         ((next : MadeData) → after next (steps ++ more) ≡ onward (after next steps) (λ last. after last more)) →
         onward given (λ next. after next (steps ++ more)) ≡ onward (onward given (λ next. after next steps)) (λ last. after last more)
     by (Err fault) each = refl
     by (Ok next) each = each next
 
 -- of a step that is refused, and of whatever comes behind it
-pub onward-fault : {T : Type 0} (given : Result MadeData DeckFault) (more : MadeData → Result T DeckFault) (told : DeckFault) →
+pub onward-fault : {T : Type 0} (given : Result MadeData DeckRefusal) (more : MadeData → Result T DeckRefusal) (told : Unmade DeckRefusal) →
     IsFault given told → IsFault (onward given more) told
-onward-fault given more (fault.At line what) tells = ap (λ (m : Result MadeData DeckFault). onward m more) tells
-onward-fault given more fault.NoMemory tells = tt
+onward-fault given more (Refused refusal) tells = ap (λ (m : Result MadeData DeckRefusal). onward m more) tells
+onward-fault given more NoMemory tells = tt
 
 -- the fault of one meaning is that of another that is the same
-pub same-fault : {T : Type 0} {one other : Result T DeckFault} → one ≡ other → (told : DeckFault) → IsFault one told → IsFault other told
-same-fault same (fault.At line what) tells = sym same ∙ tells
-same-fault same fault.NoMemory tells = tt
+pub same-fault : {T : Type 0} {one other : Result T DeckRefusal} → one ≡ other → (told : Unmade DeckRefusal) → IsFault one told → IsFault other told
+same-fault same (Refused refusal) tells = sym same ∙ tells
+same-fault same NoMemory tells = tt
 
 -- of one step
 pub after-one : (made next : MadeData) (step : Step) → step_meaning made step ≡ Ok next → after made (step ∷ []) ≡ Ok next
-after-one made next step makes = ap (λ (m : Result MadeData DeckFault). onward m (λ last. Ok last)) makes
+after-one made next step makes = ap (λ (m : Result MadeData DeckRefusal). onward m (λ last. Ok last)) makes
 
-pub after-one_fault : (made : MadeData) (step : Step) (told : DeckFault) → IsFault (step_meaning made step) told → IsFault (after made (step ∷ [])) told
+pub after-one_fault : (made : MadeData) (step : Step) (told : Unmade DeckRefusal) → IsFault (step_meaning made step) told → IsFault (after made (step ∷ [])) told
 after-one_fault made step told tells = onward-fault (step_meaning made step) (λ last. Ok last) told tells
 
 -- of a call that opens, and of what stands inside
 pub after-opened : (made mid : MadeData) (line : ℕ) (steps : List Step) → step_meaning made (opened line) ≡ Ok mid →
     after made (opened line ∷ steps) ≡ after mid steps
-after-opened made mid line steps opens = ap (λ (m : Result MadeData DeckFault). onward m (λ next. after next steps)) opens
+after-opened made mid line steps opens = ap (λ (m : Result MadeData DeckRefusal). onward m (λ next. after next steps)) opens
 
 -- ---- what a part comes to
 
@@ -149,7 +150,7 @@ call-steps room frame entered line sort words s inner is enters some opens stays
 
 -- what the first part gives, and the others then
 by_first : (made : MadeData) (room : ℕ) (deck : DeckCards) (scope : Scope) (all : List PartCard) (part : PartCard) (later : List PartCard)
-    (steps : List Step) (whole : Result MadeData DeckFault) →
+    (steps : List Step) (whole : Result MadeData DeckRefusal) →
     all ≡ part ∷ later → part_at room deck scope part ≡ steps → after made (expand room deck scope all) ≡ whole →
     onward (after made steps) (λ next. after next (expand room deck scope later)) ≡ whole
 by_first made room deck scope all part later steps whole first comes_to seen =
@@ -161,7 +162,7 @@ by_first made room deck scope all part later steps whole first comes_to seen =
 
 -- a part that is refused
 pub part-refused : (made : MadeData) (room : ℕ) (deck : DeckCards) (scope : Scope) (all : List PartCard) (part : PartCard) (later : List PartCard)
-    (steps : List Step) (whole : Result MadeData DeckFault) (told : DeckFault) →
+    (steps : List Step) (whole : Result MadeData DeckRefusal) (told : Unmade DeckRefusal) →
     all ≡ part ∷ later → part_at room deck scope part ≡ steps → after made (expand room deck scope all) ≡ whole →
     IsFault (after made steps) told → IsFault whole told
 part-refused made room deck scope all part later steps whole told first comes_to seen tells =
@@ -170,15 +171,15 @@ part-refused made room deck scope all part later steps whole told first comes_to
 
 -- a part with others behind it
 pub part-made : (made next : MadeData) (room : ℕ) (deck : DeckCards) (scope : Scope) (all : List PartCard) (part : PartCard) (later : List PartCard)
-    (steps : List Step) (whole : Result MadeData DeckFault) →
+    (steps : List Step) (whole : Result MadeData DeckRefusal) →
     all ≡ part ∷ later → part_at room deck scope part ≡ steps → after made (expand room deck scope all) ≡ whole → after made steps ≡ Ok next →
     after next (expand room deck scope later) ≡ whole
 part-made made next room deck scope all part later steps whole first comes_to seen makes =
-    sym (ap (λ (m : Result MadeData DeckFault). onward m (λ last. after last (expand room deck scope later))) makes)
+    sym (ap (λ (m : Result MadeData DeckRefusal). onward m (λ last. after last (expand room deck scope later))) makes)
     ∙ by_first made room deck scope all part later steps whole first comes_to seen
 
 -- no part is left
-pub parts-none : (made : MadeData) (room : ℕ) (deck : DeckCards) (scope : Scope) (all : List PartCard) (whole : Result MadeData DeckFault) →
+pub parts-none : (made : MadeData) (room : ℕ) (deck : DeckCards) (scope : Scope) (all : List PartCard) (whole : Result MadeData DeckRefusal) →
     all ≡ [] → after made (expand room deck scope all) ≡ whole → whole ≡ Ok made
 parts-none made room deck scope all whole none seen =
     sym seen ∙ ap (λ (parts : List PartCard). after made (expand room deck scope parts)) none ∙ ap (after made) (expand-none room deck scope)

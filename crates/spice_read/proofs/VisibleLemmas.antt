@@ -15,8 +15,7 @@ use Rattle.netlist.specs.Names.{first_name}
 use Rattle.netlist.specs.Faults.{MakingFault}
 use Rattle.netlist.proofs.EditLemmas.{HasVisibleNames-with_transistor}
 use Rattle.netlist.proofs.KeptLemmas.{IsCircuit-rails_alone, IsCircuit-with_transistor}
-use Rattle.spice_cards.specs.declared.fault.DeckFault.{DeckFault}
-use Rattle.spice_cards.specs.declared.fault.DeckFault.TheVariants.{At}
+use Rattle.spice_cards.specs.declared.fault.DeckRefusal.{DeckRefusal}
 use Rattle.spice_cards.specs.declared.fault.DeckWhat.{DeckWhat}
 use Rattle.spice_cards.specs.declared.fault.DeckWhat.TheVariants.{PortCount, Recursion, TooDeep, TooManyCalls}
 use Rattle.spice_cards.specs.declared.sorts.PartSort.{PartSort}
@@ -24,7 +23,7 @@ use Rattle.spice_cards.specs.declared.sorts.PartSort.TheVariants.{Transistor, Ca
 use Rattle.spice_cards.specs.declared.sorts.Strength.{Strength}
 use Rattle.spice_cards.specs.CardLines.{head_of}
 use Rattle.spice_cards.specs.Decks.{DeckCards, PartCard, SubcircuitCards}
-use Rattle.spice_cards.specs.Reading.{word_at}
+use Rattle.spice_cards.specs.Reading.{refusal_at, word_at}
 use Rattle.spice_cards.specs.Tables.{named}
 use Rattle.spice_cards.proofs.ReadingLemmas.{named-All}
 use Rattle.spice_read.specs.declared.expansion.TheConstants.{MOST_CALLS}
@@ -257,13 +256,13 @@ rails-named = record { circuit = IsCircuit-rails_alone One; names = rails-visibl
 
 -- what steps with visible names make
 after-named : (steps : List Step) (made last : MadeData) → IsNamed made.circuit → All IsVisibleStep steps → after made steps ≡ Ok last → IsNamed last.circuit
-after-named [] made last is visible same = subst (λ (g : Result MadeData DeckFault). IfOk g (λ m. IsNamed m.circuit)) same is
+after-named [] made last is visible same = subst (λ (g : Result MadeData DeckRefusal). IfOk g (λ m. IsNamed m.circuit)) same is
 after-named (opened line ∷ steps) made last is visible same =
     by (nat_le MOST_CALLS made.calls) same
     (λ next same_circuit rest. after-named steps next last (subst IsNamed (sym same_circuit) is) (All-tail IsVisibleStep (opened line) steps visible) rest)
   where
     by : (many : Bool) →
-        onward (if many then Err (At line TooManyCalls) else Ok (record made { calls = made.calls + 1 })) (λ next. after next steps) ≡ Ok last →
+        onward (if many then Err (refusal_at line TooManyCalls) else Ok (record made { calls = made.calls + 1 })) (λ next. after next steps) ≡ Ok last →
         ((next : MadeData) → next.circuit ≡ made.circuit → after next steps ≡ Ok last → IsNamed last.circuit) → IsNamed last.circuit
     by true same later = absurd (cc)
     by false same later = later (record made { calls = made.calls + 1 }) refl same

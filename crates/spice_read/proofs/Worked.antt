@@ -1,37 +1,36 @@
 -- Worked decks, computed from the definitions.
 use Rattle.std.proofs.Common.{◌≡◌, ℕ, List, [], ◌∷◌, ◌++◌, codes, Result, Ok, Err, refl}
 use Rattle.path_meaning.specs.declared.switching.SwitchKind.TheVariants.{NChan, PChan}
-use Rattle.spice_cards.specs.declared.fault.DeckFault.{DeckFault}
-use Rattle.spice_cards.specs.declared.fault.DeckFault.TheVariants.{At}
+use Rattle.spice_cards.specs.declared.fault.DeckRefusal.{DeckRefusal}
 use Rattle.spice_cards.specs.declared.fault.DeckWhat.TheVariants.{BadCard, BadModel, NoSubckt, Recursion}
 use Rattle.spice_cards.specs.CardLines.{line_sort}
-use Rattle.spice_cards.specs.Reading.{cards_of, line_meaning, lines_meaning, titled_meaning}
+use Rattle.spice_cards.specs.Reading.{cards_of, line_meaning, lines_meaning, refusal_at, titled_meaning}
 use Rattle.spice_cards.proofs.Worked.{two_inverters}
 use Rattle.spice_read.specs.Making.{circuit_of, onward}
 use Rattle.spice_read.specs.Steps.{Step, expand, steps_of}
 use Rattle.spice_read.specs.Steps.Step.{opened, placed}
 
 -- the expansion of a text that is read
-expansion_of : List ℕ → Result (List Step) DeckFault
+expansion_of : List ℕ → Result (List Step) DeckRefusal
 expansion_of text = onward (cards_of text) (λ deck. Ok (steps_of deck))
 
 -- a subcircuit that calls itself
-recursion : circuit_of (codes "t" ++ 10 ∷ codes ".subckt s a" ++ 10 ∷ codes "x1 a s" ++ 10 ∷ codes ".ends" ++ 10 ∷ codes "x1 b s" ++ 10 ∷ []) ≡ Err (At 3 Recursion)
+recursion : circuit_of (codes "t" ++ 10 ∷ codes ".subckt s a" ++ 10 ∷ codes "x1 a s" ++ 10 ∷ codes ".ends" ++ 10 ∷ codes "x1 b s" ++ 10 ∷ []) ≡ Err (refusal_at 3 Recursion)
 unfolding circuit_of cards_of titled_meaning lines_meaning line_meaning line_sort expand
 recursion = refl
 
 -- a call of no subcircuit
-no_subcircuit : circuit_of (codes "t" ++ 10 ∷ codes "x1 a b s" ++ 10 ∷ []) ≡ Err (At 2 NoSubckt)
+no_subcircuit : circuit_of (codes "t" ++ 10 ∷ codes "x1 a b s" ++ 10 ∷ []) ≡ Err (refusal_at 2 NoSubckt)
 unfolding circuit_of cards_of titled_meaning lines_meaning line_meaning line_sort expand
 no_subcircuit = refl
 
 -- a model that has no kind
-no_model : circuit_of (codes "t" ++ 10 ∷ codes "m1 o i 0 0 cmosn" ++ 10 ∷ []) ≡ Err (At 2 BadModel)
+no_model : circuit_of (codes "t" ++ 10 ∷ codes "m1 o i 0 0 cmosn" ++ 10 ∷ []) ≡ Err (refusal_at 2 BadModel)
 unfolding circuit_of cards_of titled_meaning lines_meaning line_meaning line_sort expand
 no_model = refl
 
 -- a letter that begins no card
-no_such_card : circuit_of (codes "t" ++ 10 ∷ codes "q1 a b c m" ++ 10 ∷ []) ≡ Err (At 2 BadCard)
+no_such_card : circuit_of (codes "t" ++ 10 ∷ codes "q1 a b c m" ++ 10 ∷ []) ≡ Err (refusal_at 2 BadCard)
 unfolding circuit_of cards_of titled_meaning lines_meaning line_meaning line_sort expand
 no_such_card = refl
 

@@ -1,7 +1,7 @@
 //! The expansion of a deck's parts.
 
 ghost use Rattle.std.specs.Prelude.{◌≡◌, length, IfOk, IfErr, OnOk, Ok, Err, MatchResult};
-ghost use Rattle.spice_cards.specs.Stops.{IsFault};
+ghost use Rattle.ternary.specs.Unmade.{IsFault};
 ghost use Rattle.spice_read.specs.Frames.{scope_of};
 ghost use Rattle.spice_read.specs.Making.{after, step_meaning};
 ghost use Rattle.spice_read.specs.Scopes as scopes;
@@ -10,7 +10,8 @@ ghost use Rattle.spice_read.specs.Steps as spec;
 use crate::frame::Frame;
 use crate::making::Made;
 use crate::names::{kind_of, nodes_of, strength_number, subcircuit_named};
-use spice_cards::{DeckFault, DeckWhat, PartSort, Parts, Strength, Subcircuit, Words};
+use spice_cards::{DeckFault, DeckRefusal, DeckWhat, PartSort, Parts, Strength, Subcircuit, Words};
+use ternary::Unmade;
 
 /// The most calls that are open inside one another.
 pub const MOST_OPEN: usize = 32;
@@ -50,17 +51,17 @@ pub(crate) fn expand<'d>(
                 let subcircuit = match entry(frame, part.line, &part.words) {
                     Ok(subcircuit) => subcircuit,
                     Err(what) => {
-                        return Err(DeckFault::At {
+                        return Err(Unmade::Refused(DeckRefusal {
                             line: part.line,
                             what,
-                        });
+                        }));
                     }
                 };
                 if room == 0 {
-                    return Err(DeckFault::At {
+                    return Err(Unmade::Refused(DeckRefusal {
                         line: part.line,
                         what: DeckWhat::TooDeep,
-                    });
+                    }));
                 }
                 match made.open(part.line) {
                     Ok(()) => {}
@@ -69,7 +70,7 @@ pub(crate) fn expand<'d>(
                 let depth = frame.depth();
                 match frame.open(&part.words, subcircuit.line, subcircuit.ports) {
                     Ok(()) => {}
-                    Err(_) => return Err(DeckFault::NoMemory),
+                    Err(_) => return Err(Unmade::NoMemory),
                 }
                 match expand(made, room - 1, frame, subcircuit.parts) {
                     Ok(()) => {}
@@ -97,10 +98,10 @@ fn place(
         (IsFault (step_meaning made.old (spec.transistor_step frame.now.deck (scope_of frame.now) line set words.now))) }
 {
     let Some(kind) = kind_of(frame.deck(), words.at(5)) else {
-        return Err(DeckFault::At {
+        return Err(Unmade::Refused(DeckRefusal {
             line,
             what: DeckWhat::BadModel,
-        });
+        }));
     };
     let gate = frame.node_of(words.at(2))?;
     let source = frame.node_of(words.at(3))?;

@@ -1,9 +1,8 @@
 //! Laws of the circuit of a deck.
 
-ghost use Rattle.std.specs.Prelude.{◌≡◌, ◌≢◌, ℕ, List, [], Ok, Err, None};
+ghost use Rattle.std.specs.Prelude.{◌≡◌, ℕ, List, [], Ok, None};
 ghost use Rattle.line_words.specs.Files.{front_of};
 ghost use Rattle.netlist.specs.Circuits.{CircuitData, HasVisibleNames, IsCircuit};
-ghost use Rattle.spice_cards.specs.declared.fault.DeckFault.TheVariants.{NoMemory};
 ghost use Rattle.spice_cards.specs.Tables.{named};
 ghost use Rattle.spice_read.specs.Expansions.{last_named, IsExpanded};
 ghost use Rattle.spice_read.specs.Making.{circuit_of};
@@ -26,9 +25,6 @@ pub fn decks_are_expanded()
 
     // What stands behind the first byte too many has no meaning.
     ensures front { (text : List ℕ) → circuit_of (front_of text) ≡ circuit_of text }
-
-    // What is refused is refused at a line: no text means lack of memory.
-    ensures memory { (text : List ℕ) → circuit_of text ≢ Err NoMemory }
 {}
 
 /// A law: up to 32 calls are open inside one another, and up to 1,000,000 are made.

@@ -2,7 +2,7 @@
 
 ghost use Rattle.std.specs.Prelude.{◌≡◌, Option, IfOk, IfErr, OnOk, Ok};
 ghost use Rattle.netlist.specs.Faults.{IsAnswered, MakingFault};
-ghost use Rattle.spice_cards.specs.Stops.{IsFault};
+ghost use Rattle.ternary.specs.Unmade.{IsFault};
 ghost use Rattle.spice_read.specs.Making as spec;
 ghost use Rattle.spice_read.specs.Making.{edited, step_meaning, MadeData};
 ghost use Rattle.spice_read.specs.Steps.{Step};
@@ -10,12 +10,12 @@ ghost use Rattle.spice_read.specs.Steps.{Step};
 use crate::expansion::MOST_CALLS;
 use netlist::{Circuit, EditFault};
 use path_meaning::SwitchKind;
-use spice_cards::{DeckFault, DeckWhat};
+use spice_cards::{DeckFault, DeckRefusal, DeckWhat};
 use std::alloc::Global;
 use std::marker::Model;
 use strength_order::Profile;
 use table_keys::TableKeys;
-use ternary::NoMemory;
+use ternary::{NoMemory, Unmade};
 
 /// What was made of a deck so far: the circuit, and how many calls were opened.
 #[derive(Drop)]
@@ -56,10 +56,10 @@ impl Made {
         ensures refused { IfErr result (IsFault (step_meaning self.old (Step.opened line))) }
     {
         if self.calls >= MOST_CALLS {
-            return Err(DeckFault::At {
+            return Err(Unmade::Refused(DeckRefusal {
                 line,
                 what: DeckWhat::TooManyCalls,
-            });
+            }));
         }
         self.calls += 1;
         Ok(())
@@ -97,8 +97,8 @@ fn edit_fault(line: u64, fault: EditFault) -> DeckFault
         EditFault::BadStrength => DeckWhat::BadStrength,
         EditFault::AliasTaken | EditFault::TooManyNodes => DeckWhat::TooManyNodes,
         EditFault::TooManySwitches => DeckWhat::TooManySwitches,
-        EditFault::NoMemory => return DeckFault::NoMemory,
+        EditFault::NoMemory => return Unmade::NoMemory,
         EditFault::NoSuchSwitch | EditFault::Rail | EditFault::BadSize => unreachable!(),
     };
-    DeckFault::At { line, what }
+    Unmade::Refused(DeckRefusal { line, what })
 }

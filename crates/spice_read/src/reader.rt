@@ -3,7 +3,7 @@
 ghost use Rattle.std.specs.Prelude.{◌≡◌, IfOk, IfErr, Ok};
 ghost use Rattle.netlist.specs.Circuits.{HasVisibleNames, IsCircuit};
 ghost use Rattle.spice_cards.specs.Reading as cards;
-ghost use Rattle.spice_cards.specs.Stops.{IsFault};
+ghost use Rattle.ternary.specs.Unmade.{IsFault};
 ghost use Rattle.spice_read.specs.Making as spec;
 ghost use Rattle.spice_read.specs.Making.{circuit_of};
 

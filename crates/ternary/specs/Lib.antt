@@ -1,2 +1,3 @@
 pub mod Tern
 pub mod Counts
+pub mod Unmade

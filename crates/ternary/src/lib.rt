@@ -1,4 +1,5 @@
-//! The three states of a node, their two rails, lack of memory, and a counter of steps.
+//! The three states of a node, their two rails, lack of memory alone or in the place of a refusal, and a
+//! counter of steps.
 //!
 //! The main type is `Tern`: 0, 1, or X for what is unknown or between. A state is known by its two
 //! rails, "may be 1" and "may be 0". The layers above use that the join of two states has each
@@ -19,7 +20,9 @@
 mod memory;
 mod steps;
 mod tern;
+mod unmade;
 
 pub use memory::NoMemory;
 pub use steps::Steps;
 pub use tern::Tern;
+pub use unmade::Unmade;

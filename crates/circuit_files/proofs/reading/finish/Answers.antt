@@ -1,6 +1,6 @@
 use Rattle.std.proofs.Common.{subst}
 use Rattle.sim_read.specs.Meaning.{netlist_of}
-use Rattle.sim_read.specs.Reading.{IsFault}
+use Rattle.ternary.specs.Unmade.{IsFault}
 use Rattle.circuit_files.proofs.reading.finish.Goals as goal
 
 pub returns-in-Ok-clause-means : goal.returns-in-Ok-clause-means

@@ -1,9 +1,11 @@
 -- What was read of a netlist, piece by piece, has the netlist's meaning.
 use Rattle.std.proofs.Common.{refl}
 use Rattle.port_edge.proofs.ResultLemmas.{at_ok}
+use Rattle.sim_read.specs.Meaning.{netlist_of}
 use Rattle.sim_read.specs.Standing.{StandsFor}
 use Rattle.circuit_files.proofs.FeedingLemmas.{at_each, fed_stands, meaning-circuit, memory_no_write, read_whole, started_whole}
-use Rattle.circuit_files.proofs.MeaningLemmas.{means_netlist}
+use Rattle.circuit_files.proofs.LowerLemmas.{netlist_of-front_of}
+use Rattle.circuit_files.proofs.MeaningLemmas.{means_read}
 use Rattle.circuit_files.proofs.WholeLemmas.{whole_file}
 use Rattle.circuit_files.proofs.reading.read_circuit.Goals as goal
 
@@ -13,7 +15,8 @@ returns-clause-means g c =
     let stands : StandsFor c.feed_file.new.reader fed.bytes =
     fed_stands c.in_ok-reader.reader c.feed_file.new.reader fed.bytes c.in_ok-reader.ensures fed.goes_on in
     at_each c.finish.result
-    (λ meaning each. means_netlist (g.F.Files.holds c.args.files.now) c.args.name.now fed.bytes fed.bytes meaning fed.front refl (each fed.bytes stands))
+    (λ meaning each. means_read netlist_of netlist_of-front_of (g.F.Files.holds c.args.files.now) c.args.name.now fed.bytes fed.bytes meaning fed.front refl
+    (each fed.bytes stands))
     c.finish.ensures.means
 
 pub returns-clause-circuit : goal.returns-clause-circuit

@@ -1,14 +1,16 @@
 -- What was read of a deck has the deck's meaning, and was read whole.
 use Rattle.port_edge.proofs.ResultLemmas.{at_ok}
+use Rattle.spice_read.specs.Making.{circuit_of}
+use Rattle.spice_read.proofs.ReaderLemmas.{circuit_of-front_of}
 use Rattle.circuit_files.proofs.FeedingLemmas.{at_each}
-use Rattle.circuit_files.proofs.MeaningLemmas.{means_deck}
+use Rattle.circuit_files.proofs.MeaningLemmas.{means_read}
 use Rattle.circuit_files.proofs.WholeLemmas.{whole_file}
 use Rattle.circuit_files.proofs.reading.read_deck_file.Goals as goal
 
 pub returns-clause-means : goal.returns-clause-means
 returns-clause-means g c =
     at_each c.deck_in.result
-    (λ meaning means. means_deck (g.F.Files.holds c.args.files.now) c.args.name.now c.in_ok-text.text.items c.deref.result.now meaning
+    (λ meaning means. means_read circuit_of circuit_of-front_of (g.F.Files.holds c.args.files.now) c.args.name.now c.in_ok-text.text.items c.deref.result.now meaning
     c.in_ok-text.ensures.bytes c.deref.ensures.value means)
     c.deck_in.ensures.means
 

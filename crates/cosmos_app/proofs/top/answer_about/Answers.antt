@@ -21,7 +21,7 @@ returns-in-Ok-clause-told g c =
     c.args.out.now.page.written c.answer_in.new.out.page.written (g.A.Analyst.analysed c.args.analyst.now)
     (g.A.Analyst.analysed c.answer_in.new.analyst)
     c.answer_in.result
-    (means_as netlist_of (λ it. it) (g.F.Files.holds c.args.files.now) c.args.net.now _ (Ok c.in-Ok.circuit) c.in-Ok.is c.in_ok-circuit.ensures.means)
+    (means_as netlist_of (g.F.Files.holds c.args.files.now) c.args.net.now _ (Ok c.in-Ok.circuit) c.in-Ok.is c.in_ok-circuit.ensures.means)
     c.in_ok-circuit.ensures.holds c.answer_in.ensures.told
 
 pub returns-in-Ok-clause-started : goal.returns-in-Ok-clause-started
@@ -29,7 +29,7 @@ returns-in-Ok-clause-started g c =
     starts_beside netlist_of (g.F.Files.holds c.args.files.now) c.args.net.now (question_seen c.args.question) c.in-Ok.circuit
     (g.F.Files.started c.args.files.now)
     (g.F.Files.started c.read_circuit.new.files) (g.F.Files.started c.answer_in.new.files)
-    (means_as netlist_of (λ it. it) (g.F.Files.holds c.args.files.now) c.args.net.now _ (Ok c.in-Ok.circuit) c.in-Ok.is c.in_ok-circuit.ensures.means)
+    (means_as netlist_of (g.F.Files.holds c.args.files.now) c.args.net.now _ (Ok c.in-Ok.circuit) c.in-Ok.is c.in_ok-circuit.ensures.means)
     c.in_ok-circuit.ensures.started c.answer_in.ensures.started
 
 pub returns-in-Ok-clause-whole : goal.returns-in-Ok-clause-whole
@@ -38,7 +38,7 @@ returns-in-Ok-clause-whole g c =
     (λ ended after. whole_beside netlist_of (g.F.Files.holds c.args.files.now) (g.F.Files.holds c.read_circuit.new.files) c.args.net.now
     (question_seen c.args.question) c.in-Ok.circuit
     (g.F.Files.taken c.args.files.now) (g.F.Files.taken c.read_circuit.new.files) (g.F.Files.taken c.answer_in.new.files)
-    (means_as netlist_of (λ it. it) (g.F.Files.holds c.args.files.now) c.args.net.now _ (Ok c.in-Ok.circuit) c.in-Ok.is c.in_ok-circuit.ensures.means)
+    (means_as netlist_of (g.F.Files.holds c.args.files.now) c.args.net.now _ (Ok c.in-Ok.circuit) c.in-Ok.is c.in_ok-circuit.ensures.means)
     c.in_ok-circuit.ensures.holds c.in_ok-circuit.ensures.whole after)
     c.answer_in.ensures.whole
 
@@ -47,7 +47,7 @@ returns-clause-told g c =
     told_refusal (λ holds. IsOver (IsAnswerIn (question_seen c.args.question) holds)) netlist_of (g.F.Files.holds c.args.files.now) c.args.net.now
     (Err c.in-Err.refusal) (IsNetRefusal c.in-Err.refusal) c.args.out.now.page.written c.refuse_net.new.out.page.written
     (g.A.Analyst.analysed c.args.analyst.now) c.refuse_net.result (λ holds answer right. (right, ap (λ (told : Answer). told.texts) right))
-    (means_as netlist_of (λ it. it) (g.F.Files.holds c.args.files.now) c.args.net.now _ (Err c.in-Err.refusal) c.in-Err.is c.in_ok-circuit.ensures.means)
+    (means_as netlist_of (g.F.Files.holds c.args.files.now) c.args.net.now _ (Err c.in-Err.refusal) c.in-Err.is c.in_ok-circuit.ensures.means)
     c.refuse_net.ensures.told
 
 pub returns-clause-whole : goal.returns-clause-whole
@@ -55,7 +55,7 @@ returns-clause-whole g c =
     at_ok c.refuse_net.result
     (whole_refused netlist_of (g.F.Files.holds c.args.files.now) c.args.net.now (question_seen c.args.question) c.in-Err.refusal
     (g.F.Files.taken c.args.files.now) (g.F.Files.taken c.read_circuit.new.files)
-    (means_as netlist_of (λ it. it) (g.F.Files.holds c.args.files.now) c.args.net.now _ (Err c.in-Err.refusal) c.in-Err.is c.in_ok-circuit.ensures.means)
+    (means_as netlist_of (g.F.Files.holds c.args.files.now) c.args.net.now _ (Err c.in-Err.refusal) c.in-Err.is c.in_ok-circuit.ensures.means)
     c.in_ok-circuit.ensures.whole)
 
 pub returns-in-Ok-clause-taken : goal.returns-in-Ok-clause-taken

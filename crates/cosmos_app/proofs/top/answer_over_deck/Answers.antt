@@ -2,12 +2,10 @@
 use Rattle.std.proofs.Common.{Ok, Err, ap, inl, inr, ◌∙◌}
 use Rattle.port_edge.proofs.ResultLemmas.{at_ok}
 use Rattle.port_edge.proofs.TakenLemmas.{files_both}
-use Rattle.spice_cards.specs.declared.fault.DeckFault.TheVariants.{At}
 use Rattle.spice_read.specs.Making.{circuit_of}
 use Rattle.run_ends.specs.Answers.{Answer}
 use Rattle.run_ends.specs.Stops.{faults_read}
 use Rattle.command_line.specs.Requests.{question_seen}
-use Rattle.circuit_files.specs.Decks.{deck_meant}
 use Rattle.circuit_files.proofs.FeedingLemmas.{at_each}
 use Rattle.circuit_reports.specs.Answers.{IsOverDeck, IsDeckRefusal}
 use Rattle.cosmos_app.specs.Answers.{IsAnswerIn}
@@ -22,14 +20,14 @@ returns-in-Ok-clause-told g c =
     (g.F.Files.holds c.read_deck_file.new.files) c.args.deck.now (Ok c.in-Ok.circuit)
     c.args.out.now.page.written c.answer_in.new.out.page.written (g.A.Analyst.analysed c.args.analyst.now)
     (g.A.Analyst.analysed c.answer_in.new.analyst) c.answer_in.result
-    (means_as circuit_of deck_meant (g.F.Files.holds c.args.files.now) c.args.deck.now _ (Ok c.in-Ok.circuit) c.in-Ok.is c.in_ok-circuit.ensures.means)
+    (means_as circuit_of (g.F.Files.holds c.args.files.now) c.args.deck.now _ (Ok c.in-Ok.circuit) c.in-Ok.is c.in_ok-circuit.ensures.means)
     c.in_ok-circuit.ensures.holds c.answer_in.ensures.told
 
 pub returns-in-Ok-clause-started : goal.returns-in-Ok-clause-started
 returns-in-Ok-clause-started g c =
     starts_beside circuit_of (g.F.Files.holds c.args.files.now) c.args.deck.now (question_seen c.args.question) c.in-Ok.circuit
     (g.F.Files.started c.args.files.now) (g.F.Files.started c.read_deck_file.new.files) (g.F.Files.started c.answer_in.new.files)
-    (means_as circuit_of deck_meant (g.F.Files.holds c.args.files.now) c.args.deck.now _ (Ok c.in-Ok.circuit) c.in-Ok.is c.in_ok-circuit.ensures.means)
+    (means_as circuit_of (g.F.Files.holds c.args.files.now) c.args.deck.now _ (Ok c.in-Ok.circuit) c.in-Ok.is c.in_ok-circuit.ensures.means)
     c.in_ok-circuit.ensures.started c.answer_in.ensures.started
 
 pub returns-in-Ok-clause-whole : goal.returns-in-Ok-clause-whole
@@ -38,7 +36,7 @@ returns-in-Ok-clause-whole g c =
     (λ ended after. whole_beside circuit_of (g.F.Files.holds c.args.files.now) (g.F.Files.holds c.read_deck_file.new.files) c.args.deck.now
     (question_seen c.args.question) c.in-Ok.circuit
     (g.F.Files.taken c.args.files.now) (g.F.Files.taken c.read_deck_file.new.files) (g.F.Files.taken c.answer_in.new.files)
-    (means_as circuit_of deck_meant (g.F.Files.holds c.args.files.now) c.args.deck.now _ (Ok c.in-Ok.circuit) c.in-Ok.is c.in_ok-circuit.ensures.means)
+    (means_as circuit_of (g.F.Files.holds c.args.files.now) c.args.deck.now _ (Ok c.in-Ok.circuit) c.in-Ok.is c.in_ok-circuit.ensures.means)
     c.in_ok-circuit.ensures.holds c.in_ok-circuit.ensures.whole after)
     c.answer_in.ensures.whole
 
@@ -54,18 +52,18 @@ returns-in-Ok-clause-read g c =
 pub returns-clause-told : goal.returns-clause-told
 returns-clause-told g c =
     told_refusal (λ holds. IsOverDeck (IsAnswerIn (question_seen c.args.question) holds)) circuit_of (g.F.Files.holds c.args.files.now) c.args.deck.now
-    (Err (At c.in-Err.refusal.line c.in-Err.refusal.what)) (IsDeckRefusal c.in-Err.refusal.line c.in-Err.refusal.what)
+    (Err c.in-Err.refusal) (IsDeckRefusal c.in-Err.refusal.line c.in-Err.refusal.what)
     c.args.out.now.page.written c.refuse_deck.new.out.page.written
     (g.A.Analyst.analysed c.args.analyst.now) c.refuse_deck.result (λ holds answer right. (right, ap (λ (told : Answer). told.texts) right))
-    (means_as circuit_of deck_meant (g.F.Files.holds c.args.files.now) c.args.deck.now _ (Err c.in-Err.refusal) c.in-Err.is c.in_ok-circuit.ensures.means)
+    (means_as circuit_of (g.F.Files.holds c.args.files.now) c.args.deck.now _ (Err c.in-Err.refusal) c.in-Err.is c.in_ok-circuit.ensures.means)
     c.refuse_deck.ensures.told
 
 pub returns-clause-whole : goal.returns-clause-whole
 returns-clause-whole g c =
     at_ok c.refuse_deck.result
     (whole_refused circuit_of (g.F.Files.holds c.args.files.now) c.args.deck.now (question_seen c.args.question)
-    (At c.in-Err.refusal.line c.in-Err.refusal.what) (g.F.Files.taken c.args.files.now) (g.F.Files.taken c.read_deck_file.new.files)
-    (means_as circuit_of deck_meant (g.F.Files.holds c.args.files.now) c.args.deck.now _ (Err c.in-Err.refusal) c.in-Err.is c.in_ok-circuit.ensures.means)
+    c.in-Err.refusal (g.F.Files.taken c.args.files.now) (g.F.Files.taken c.read_deck_file.new.files)
+    (means_as circuit_of (g.F.Files.holds c.args.files.now) c.args.deck.now _ (Err c.in-Err.refusal) c.in-Err.is c.in_ok-circuit.ensures.means)
     c.in_ok-circuit.ensures.whole)
 
 pub returns-clause-started : goal.returns-clause-started

@@ -1,7 +1,7 @@
 -- What is read of the text that was made is told of the text.
 use Rattle.std.proofs.Common.{ap, sym, ◌∙◌, subst}
 use Rattle.sim_read.specs.Meaning.{netlist_of}
-use Rattle.sim_read.specs.Reading.{IsFault}
+use Rattle.ternary.specs.Unmade.{IsFault}
 use Rattle.sim_read.proofs.CircuitLemmas.{netlist_of-netlist}
 use Rattle.script_reports.proofs.summary.sample_circuit.Goals as goal
 

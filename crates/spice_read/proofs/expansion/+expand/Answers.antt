@@ -1,7 +1,8 @@
 use Rattle.std.proofs.Common.{◌-◌, List, [], ◌∷◌, refl, sym, ◌∙◌, ap}
-use Rattle.spice_cards.specs.declared.fault.DeckFault.TheVariants.{At}
+use Rattle.ternary.specs.declared.unmade.Unmade.TheVariants.{Refused}
 use Rattle.spice_cards.specs.declared.fault.DeckWhat.TheVariants.{TooDeep}
 use Rattle.spice_cards.specs.Decks.{DeckCards}
+use Rattle.spice_cards.specs.Reading.{refusal_at}
 use Rattle.spice_read.specs.Frames.{FrameData, scope_of}
 use Rattle.spice_read.specs.Making.{after, step_meaning}
 use Rattle.spice_read.specs.Scopes.{Scope, called}
@@ -34,14 +35,14 @@ returns-in-Err-entry-clause-refused t c =
     let line = c.in-Some.part.line in
     let what = c.in-Err-entry.what in
     part-refused c.loop-part.made c.args.room c.loop-part.frame.deck (scope_of c.loop-part.frame) c.loop-part.part-iterator _ c.next.new.self
-    (refused line what ∷ []) _ (At line what) c.in-Some.ensures.steps
+    (refused line what ∷ []) _ (Refused (refusal_at line what)) c.in-Some.ensures.steps
     (refused-steps c.args.room c.loop-part.frame.deck (scope_of c.loop-part.frame) line c.in-Some.part.sort c.in-Some.part.words what c.in-Call.is c.in-Err-entry.ensures.value)
     c.loop-part.invariant.0 refl
 
 pub returns-then-room-eq0-clause-refused : goal.returns-then-room-eq0-clause-refused
 returns-then-room-eq0-clause-refused t c =
     part-refused c.loop-part.made c.args.room c.loop-part.frame.deck (scope_of c.loop-part.frame) c.loop-part.part-iterator _ c.next.new.self
-    (refused c.in-Some.part.line TooDeep ∷ []) _ (At c.in-Some.part.line TooDeep) c.in-Some.ensures.steps
+    (refused c.in-Some.part.line TooDeep ∷ []) _ (Refused (refusal_at c.in-Some.part.line TooDeep)) c.in-Some.ensures.steps
     (deep-steps c.args.room c.loop-part.frame.deck (scope_of c.loop-part.frame) c.in-Some.part.line c.in-Some.part.sort c.in-Some.part.words _ c.in-Call.is c.in-Ok-entry.ensures.value c.if-room-eq0.true)
     c.loop-part.invariant.0 refl
 

@@ -1,6 +1,6 @@
 use Rattle.std.proofs.Common.{◌≡◌, List, ℕ, OnOk, IfErr, Ok, sym, ap, ◌∙◌, subst}
 use Rattle.spice_cards.specs.Decks.{DeckCards}
-use Rattle.spice_cards.specs.Stops.{IsFault}
+use Rattle.ternary.specs.Unmade.{IsFault}
 use Rattle.spice_read.specs.Frames.{scope_of}
 use Rattle.spice_read.specs.Making.{step_meaning}
 use Rattle.spice_read.specs.Scopes.{node_in}

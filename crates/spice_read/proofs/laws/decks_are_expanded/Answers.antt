@@ -1,6 +1,5 @@
 use Rattle.spice_read.proofs.ExpansionLemmas.{circuit_of-expanded}
 use Rattle.spice_read.proofs.ReaderLemmas.{circuit_of-front_of}
-use Rattle.spice_read.proofs.RefusalLemmas.{circuit_of-no_memory}
 use Rattle.spice_read.proofs.VisibleLemmas.{circuit_of-circuit, circuit_of-visible}
 use Rattle.spice_read.proofs.laws.decks_are_expanded.Goals as goal
 
@@ -15,6 +14,3 @@ returns-clause-visible c = circuit_of-visible
 
 pub returns-clause-front : goal.returns-clause-front
 returns-clause-front c = circuit_of-front_of
-
-pub returns-clause-memory : goal.returns-clause-memory
-returns-clause-memory c = circuit_of-no_memory

@@ -1,7 +1,7 @@
 use Rattle.std.proofs.Common.{◌≡◌, Result, Ok, IfOk, IfErr, subst}
 use Rattle.netlist.specs.Circuits.{CircuitData}
-use Rattle.spice_cards.specs.declared.fault.DeckFault.{DeckFault}
-use Rattle.spice_cards.specs.Stops.{IsFault}
+use Rattle.spice_cards.specs.declared.fault.DeckRefusal.{DeckRefusal}
+use Rattle.ternary.specs.Unmade.{IsFault}
 use Rattle.spice_read.proofs.ReaderLemmas.{circuit-is, circuit-read, circuit-visible, fault-read}
 use Rattle.spice_read.proofs.reader.read_deck.Goals as goal
 
@@ -11,13 +11,13 @@ returns-in-Err-clause-refused c =
 
 pub returns-clause-ok : goal.returns-clause-ok
 returns-clause-ok c =
-    subst (λ (m : Result CircuitData DeckFault). IfOk c.read_parts.result (λ circuit. m ≡ Ok circuit))
+    subst (λ (m : Result CircuitData DeckRefusal). IfOk c.read_parts.result (λ circuit. m ≡ Ok circuit))
     (circuit-read c.args.text.now c.in-Ok.deck c.in-Ok.ensures.ok)
     c.read_parts.ensures.ok
 
 pub returns-clause-refused : goal.returns-clause-refused
 returns-clause-refused c =
-    subst (λ (m : Result CircuitData DeckFault). IfErr c.read_parts.result (IsFault m))
+    subst (λ (m : Result CircuitData DeckRefusal). IfErr c.read_parts.result (IsFault m))
     (circuit-read c.args.text.now c.in-Ok.deck c.in-Ok.ensures.ok)
     c.read_parts.ensures.refused
 

@@ -2,7 +2,7 @@
 use Rattle.std.proofs.Common.{◌≡◌, ◌∙◌, ◌+◌, ◌<◌, ℕ, List, [], length, Ok, None, Some, IfOk, sym, ap, subst, arith}
 use Rattle.line_words.specs.Lines.{without_return}
 use Rattle.sim_read.specs.Meaning.{line_meaning, netlist_of}
-use Rattle.sim_read.specs.Reading.{IsFault}
+use Rattle.ternary.specs.Unmade.{IsFault}
 use Rattle.sim_read.specs.Standing.{IsRead, ReaderData, StandsFor}
 use Rattle.sim_read.proofs.CircuitLemmas.{netlist_of-visible}
 use Rattle.sim_read.proofs.StandingLemmas.{finishes_ended, finishes_last, refuses_last, finishes_refused, if_err, if_ok, no_bytes, none_left, some_bytes}

@@ -1,6 +1,6 @@
 use Rattle.std.proofs.Common.{subst}
 use Rattle.netlist.specs.Edits.{add_fault, with_transistor}
-use Rattle.spice_cards.specs.Stops.{IsFault}
+use Rattle.ternary.specs.Unmade.{IsFault}
 use Rattle.spice_read.specs.Making.{MadeData, edited}
 use Rattle.spice_read.proofs.making.Made.place.Goals as goal
 use Rattle.spice_read.proofs.making.Made.place.Goals.{in-Ok, in-Err}
