@@ -1,9 +1,10 @@
 -- The states of all columns in words, and the machine that moves them, if there is one: what calls inside the session do to both.
 use Rattle.std.specs.Io.KnownBytes.{append_known}
-use Rattle.std.specs.Prelude.{◌≡◌, ℕ, ◌+◌, ◌-◌, ◌*◌, ◌<◌, ◌≤◌, Bool, List, [], ◌++◌, length, map, min, slice_index_or, Option, None, Some, Result, Ok, Err, IfSome, IfNone, is_some, true, false, vec_len, vec_capacity}
+use Rattle.std.specs.Prelude.{◌≡◌, ℕ, ◌+◌, ◌-◌, ◌*◌, ◌<◌, ◌≤◌, Bool, List, [], ◌++◌, length, map, min, slice_index_or, All, Option, None, Some, Result, Ok, Err, IfSome, IfNone, is_some, true, false, vec_len, vec_capacity}
 use Rattle.ternary.specs.declared.tern.Tern.{Tern}
 use Rattle.ternary.specs.Tern.{may_one, may_zero}
-use Rattle.path_meaning.specs.Graphs.{GraphData, nodes}
+use Rattle.strength_order.specs.declared.TheConstants.{INPUT_LEVEL}
+use Rattle.path_meaning.specs.Graphs.{GraphData, level_of, nodes}
 use Rattle.path_meaning.specs.Rails.{IsSound}
 use Rattle.path_meaning.specs.Step.{IsStep}
 use Rattle.path_meaning.specs.Switching.{state_at}
@@ -32,7 +33,7 @@ use Rattle.lane_script.specs.Commands.{in_column}
 use Rattle.port_edge.specs.Sending.{WritesPart}
 use Rattle.session_meaning.specs.declared.fault.ApplyFault.{ApplyFault}
 use Rattle.session_meaning.specs.declared.fault.ApplyFault.TheVariants.{Refused, GroupNodes, GroupSwitches, WriteFault, NoMemory}
-use Rattle.session_meaning.specs.Sessions.{SessionData, ClockData}
+use Rattle.session_meaning.specs.Sessions.{SessionData, ClockData, IsReady}
 use Rattle.session_meaning.specs.Refusals.{refusal_of}
 use Rattle.told_lines.specs.Lines.{Line, Wave}
 use Rattle.session_meaning.specs.Effects.{Effect, AreBeats, one_more, states_with, wave_by}
@@ -233,6 +234,14 @@ QuietlyTogether old command new (Err WriteFault) = ⊥
 -- the session has a machine, which fits its circuit
 abbrev pub IsBuilt : HeldLanes → Type 0
 IsBuilt session = FitsIn session.core.circuit.graph session.machine
+
+-- the clocks can run: the circuit is built, their nodes are input nodes, each column is ready, and there is a count for each and room for a row
+pub record MayRunClocks (session : HeldLanes) (settled : List Settled) (row : RowData) : Type 0 where
+  pub built : IsBuilt session
+  pub inputs : All (λ clock. level_of session.core.circuit.graph clock.node ≡ INPUT_LEVEL) session.core.clocks
+  pub ready : (lane : ℕ) → lane < session.core.lanes → IsReady (session_in session.core lane)
+  pub counts : length settled ≡ session.core.lanes
+  pub room : IsRoomFor session.core.lanes (length session.core.watched) row
 
 -- the circuit was built: what was not kept was analysed, all texts of the circuit's groups were used, and there is a machine
 pub record ReadiedTogether (old new : HeldLanes) (asked told : List GroupTextData) : Type 0 where

@@ -9,13 +9,13 @@ ghost use Rattle.script_lang.specs.declared.command.Run.TheVariants as asked;
 ghost use Rattle.script_lang.specs.Forms.{IsFormedRun, IsTimes};
 ghost use Rattle.lane_script.specs.declared.command.LaneCommand.TheVariants.{Shared};
 ghost use Rattle.lane_script.specs.Commands.{IsSharedRun};
-ghost use Rattle.session_meaning.specs.Sessions.{IsReady, places_of};
+ghost use Rattle.session_meaning.specs.Sessions.{places_of};
 ghost use Rattle.session_meaning.specs.Effects.{places_in, states_with};
 ghost use Rattle.session_meaning.specs.Sinks.{IsSinkFault, faults_applied, refusals_sent};
 ghost use Rattle.lane_session.specs.LaneSessions.{session_in};
 ghost use Rattle.lane_session.specs.Rows.{row_text};
 ghost use Rattle.lane_session.specs.Outcomes.{ObeysTogether};
-ghost use Rattle.lane_session.specs.Stages.{AreSettled, AreSound, BeatPut, IsBuilt, IsRoomFor, KeepsFit, PhasesSent, ReadiedTogether, ReadiesTogether, SentText, SharesAll, StepTaken, TakesBeatsTogether, states_in, wave_in};
+ghost use Rattle.lane_session.specs.Stages.{AreSettled, AreSound, BeatPut, IsBuilt, IsRoomFor, KeepsFit, MayRunClocks, PhasesSent, ReadiedTogether, ReadiesTogether, SentText, SharesAll, StepTaken, TakesBeatsTogether, states_in, wave_in};
 
 use crate::rows::RowRoom;
 use crate::session::LaneSession;
@@ -156,11 +156,7 @@ impl LaneSession {
         room: &mut RowRoom,
         out: &mut S,
     ) -> Result<(), ApplyFault>
-        requires built { IsBuilt self.old }
-        requires inputs { All (λ clock. level_of self.old.core.circuit.graph clock.node ≡ INPUT_LEVEL) self.old.core.clocks }
-        requires ready { (lane : ℕ) → lane < self.old.core.lanes → IsReady (session_in self.old.core lane) }
-        requires counts { length counts.old ≡ self.old.core.lanes }
-        requires room { IsRoomFor self.old.core.lanes (length self.old.core.watched) room.old }
+        requires { MayRunClocks self.old counts.old room.old }
         ensures beats { TakesBeatsTogether self.old.core.lanes (places_in (places_of self.old.core.clocks) times)
             (session_in self.old.core) (session_in self.new.core) (S.written out.old) (S.written out.new) result }
         ensures lanes { self.new.core.lanes ≡ self.old.core.lanes }
@@ -181,11 +177,7 @@ impl LaneSession {
         room: &mut RowRoom,
         out: &mut S,
     ) -> Result<(), ApplyFault>
-        requires built { IsBuilt self.old }
-        requires inputs { All (λ clock. level_of self.old.core.circuit.graph clock.node ≡ INPUT_LEVEL) self.old.core.clocks }
-        requires ready { (lane : ℕ) → lane < self.old.core.lanes → IsReady (session_in self.old.core lane) }
-        requires counts { length counts.old ≡ self.old.core.lanes }
-        requires room { IsRoomFor self.old.core.lanes (length self.old.core.watched) room.old }
+        requires { MayRunClocks self.old counts.old room.old }
         ensures beats { TakesBeatsTogether self.old.core.lanes (range_with_len 0 (places_of self.old.core.clocks))
             (session_in self.old.core) (session_in self.new.core) (S.written out.old) (S.written out.new) result }
         ensures built { IsBuilt self.new }

@@ -25,24 +25,21 @@ returns-in-Some-clause-obeys g c =
     let told = subst (λ (s : HeldLanes). Some c.in-Some.refusal ≡ cycle_refusal s.core.circuit s.core.clocks) c.self.view_is here in
     refused_obeys c.args.self.now.core (Shared (family.Run (asked.Cycle c.args.times))) c.in-Some.refusal _ _ _ (λ lane inside. sym told)
 
-pub run_cycles-requires-clause-built : goal.run_cycles-requires-clause-built
-run_cycles-requires-clause-built g c = c.in_ok-counts.ensures.ready.built
-
-pub run_cycles-requires-clause-inputs : goal.run_cycles-requires-clause-inputs
-run_cycles-requires-clause-inputs g c =
+pub run_cycles-requires : goal.run_cycles-requires
+run_cycles-requires g c =
+    let i = c.self.inside in
+    let ready = c.in_ok-counts.ensures.ready in
     let here = rw (c.in_default.is, c.circuit.ensures.value, c.deref.ensures.value, c.self.invariant.0.clocks_are) at c.cycle_refusal.ensures in
     let none = subst (λ (s : HeldLanes). None ≡ cycle_refusal s.core.circuit s.core.clocks) c.self.view_is here in
-    inputs_readied c.args.self.now c.begin.new.self _ _ c.in_ok-counts.ensures.ready (cycle_inputs c.args.self.now.core.circuit c.args.self.now.core.clocks (sym none))
-
-pub run_cycles-requires-clause-ready : goal.run_cycles-requires-clause-ready
-run_cycles-requires-clause-ready g c =
-    let i = c.self.inside in
-    columns_readied c.args.self.now c.begin.new.self _ _ c.in_ok-counts.ensures.ready
-    (subst (λ (s : HeldLanes). (lane : ℕ) → lane < s.core.lanes → IsReady (session_in s.core lane)) c.self.view_is
-    (column_ready i.plain.core c.circuit.ensures.session.core i.stage i.clocks.items i.limit (texts_of i.kept) i.count c.self.invariant.0))
-
-pub run_cycles-requires-clause-counts : goal.run_cycles-requires-clause-counts
-run_cycles-requires-clause-counts g c = rw c.deref_mut.ensures.value c.in_ok-counts.ensures.counted
+    record {
+      built = ready.built;
+      inputs = inputs_readied c.args.self.now c.begin.new.self _ _ ready (cycle_inputs c.args.self.now.core.circuit c.args.self.now.core.clocks (sym none));
+      ready = columns_readied c.args.self.now c.begin.new.self _ _ ready
+          (subst (λ (s : HeldLanes). (lane : ℕ) → lane < s.core.lanes → IsReady (session_in s.core lane)) c.self.view_is
+          (column_ready i.plain.core c.circuit.ensures.session.core i.stage i.clocks.items i.limit (texts_of i.kept) i.count c.self.invariant.0));
+      counts = rw c.deref_mut.ensures.value c.in_ok-counts.ensures.counted;
+      room = c.in_ok-counts.ensures.room;
+    }
 
 pub returns-in_err-counts-clause-obeys : goal.returns-in_err-counts-clause-obeys
 returns-in_err-counts-clause-obeys g c =

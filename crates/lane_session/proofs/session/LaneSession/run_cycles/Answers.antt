@@ -21,23 +21,19 @@ loop-cycle-init g c =
       refusals = refl;
     }
 
-pub run_cycle-requires-clause-inputs : goal.run_cycle-requires-clause-inputs
-run_cycle-requires-clause-inputs g c = inputs_shared c.args.self.now.core c.loop-cycle.self.core c.loop-cycle.invariant.shares c.requires.inputs
-
-pub run_cycle-requires-clause-ready : goal.run_cycle-requires-clause-ready
-run_cycle-requires-clause-ready g c =
+pub run_cycle-requires : goal.run_cycle-requires
+run_cycle-requires g c =
     let start = c.args.self.now.core in
     let now = c.loop-cycle.self.core in
-    ready_later start now (places_in (places_of start.clocks) c.loop-cycle._cycle) (g.S.Sink.written c.args.out.now) (g.S.Sink.written c.loop-cycle.out)
-    (lanes_shared start now c.loop-cycle.invariant.shares) c.loop-cycle.invariant.done c.requires.ready
-
-pub run_cycle-requires-clause-counts : goal.run_cycle-requires-clause-counts
-run_cycle-requires-clause-counts g c =
-    c.loop-cycle.auto.counts ∙ c.requires.counts ∙ sym (lanes_shared c.args.self.now.core c.loop-cycle.self.core c.loop-cycle.invariant.shares)
-
-pub run_cycle-requires-clause-room : goal.run_cycle-requires-clause-room
-run_cycle-requires-clause-room g c =
-    room_shared c.args.self.now.core c.loop-cycle.self.core c.args.room.now c.loop-cycle.room c.loop-cycle.invariant.shares c.loop-cycle.invariant.room c.requires.room
+    let so_far = c.loop-cycle.invariant in
+    record {
+      built = so_far.built;
+      inputs = inputs_shared start now so_far.shares c.requires.inputs;
+      ready = ready_later start now (places_in (places_of start.clocks) c.loop-cycle._cycle) (g.S.Sink.written c.args.out.now)
+          (g.S.Sink.written c.loop-cycle.out) (lanes_shared start now so_far.shares) so_far.done c.requires.ready;
+      counts = c.loop-cycle.auto.counts ∙ c.requires.counts ∙ sym (lanes_shared start now so_far.shares);
+      room = room_shared start now c.args.room.now c.loop-cycle.room so_far.shares so_far.room c.requires.room;
+    }
 
 pub returns-in_err-run_cycle-clause-beats : goal.returns-in_err-run_cycle-clause-beats
 returns-in_err-run_cycle-clause-beats g c =
