@@ -3,6 +3,7 @@ pub mod SettlingLemmas
 pub mod SettlingExists
 pub mod UniqueSettling
 pub mod PassingLemmas
+pub mod PassesLemmas
 pub mod SeenSoFar
 pub mod NumbersLemmas
 pub mod WholeSettling

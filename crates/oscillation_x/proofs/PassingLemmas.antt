@@ -88,7 +88,7 @@ settling_passes g old limit new steps joined settles =
     )
 
 -- plain replacements pass through one list of states
-stepping_unique : (g : GraphData) (limit : ℕ) (old : List Tern) (states other : List (List Tern)) →
+pub stepping_unique : (g : GraphData) (limit : ℕ) (old : List Tern) (states other : List (List Tern)) →
     SteppingThrough g limit old states → SteppingThrough g limit old other → states ≡ other
 stepping_unique g zero old states other one two = one ∙ sym two
 stepping_unique g (suc left) old [] [] one two = refl

@@ -5,3 +5,4 @@ pub mod Passing
 pub mod PassingLaws
 pub mod Moved
 pub mod Observing
+pub mod Passes

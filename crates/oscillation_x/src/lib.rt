@@ -8,7 +8,8 @@
 //!
 //! `settle_seen` settles under the eyes of an `Observer`, who is shown each state that is passed
 //! through (`SettlesThrough`), by a `SeenStepper`: one that lists the nodes which a step changed, so
-//! that who looks need look at these alone.
+//! that who looks need look at these alone. An `Onlooker` is shown a whole run: where steps and phases
+//! begin and end, and states between them.
 //!
 //! ```text
 //! an inverter that feeds itself, at 0, with the limit 4: four steps change it, and 1 joining step
@@ -26,6 +27,7 @@ mod laws;
 mod moved;
 mod observer;
 mod observing;
+mod onlooker;
 mod plain_stepping;
 mod seen_stepping;
 mod settling;
@@ -38,6 +40,7 @@ pub use laws::{
 pub use moved::Moved;
 pub use observer::{Blind, Never, Observer};
 pub use observing::settle_seen;
+pub use onlooker::{Onlooker, unfailing};
 pub use plain_stepping::PlainStepper;
 pub use seen_stepping::SeenStepper;
 pub use settling::{MOST_LIMIT, Settled, settle};

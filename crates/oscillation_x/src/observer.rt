@@ -1,5 +1,5 @@
 //! Who is shown the states that settling passes through.
-ghost use Rattle.std.specs.Prelude.{◌≡◌, List, OnOk, IfErr};
+ghost use Rattle.std.specs.Prelude.{◌≡◌, ℕ, List, OnOk, IfErr};
 ghost use Rattle.ternary.specs.declared.tern.Tern.{Tern};
 ghost use Rattle.oscillation_x.specs.Moved.{ListsChanges};
 
@@ -9,7 +9,9 @@ use crate::moved::Moved;
 ///
 /// Contracts see five meanings: what was seen so far; what a state more does to it; the states that
 /// the observer knows, against which it may compare the next one at the listed nodes alone; what
-/// no look changes; and what a look does that fails.
+/// no look changes; and what a look does that fails. Two more matter to an `Onlooker`, who is shown
+/// them: what the beginning of a step or a phase in a state does to what was seen, and what its end does,
+/// with the number of its unit steps.
 pub trait Observer {
     /// Why a look fails.
     type Fault: Drop;
@@ -19,6 +21,10 @@ pub trait Observer {
     ghost seen: { Self → Self.Seen };
 
     ghost see: { Self.Seen → List Tern → Self.Seen };
+
+    ghost begin: { Self.Seen → List Tern → Self.Seen };
+
+    ghost rest: { Self.Seen → ℕ → Self.Seen };
 
     ghost knows: { Self → List Tern → Type 0 };
 
@@ -53,6 +59,10 @@ impl Observer for Blind {
     ghost seen = { λ _. tt };
 
     ghost see = { λ _ _. tt };
+
+    ghost begin = { λ _ _. tt };
+
+    ghost rest = { λ _ _. tt };
 
     ghost knows = { λ _ _. Unit {0} };
 

@@ -1,7 +1,6 @@
 -- What a step does, from what was noted of it: which nodes take which values, which parts are marked, and whether the state changed.
-use Rattle.std.proofs.Common.{◌≡◌, ◌≢◌, ℕ, zero, suc, ◌<◌, Bool, true, false, inl, inr, ◌⊎◌, List, [], ◌∷◌, ◌++◌, length, Global, Vec, refl, sym, ap, subst, ◌∙◌, arith}
+use Rattle.std.proofs.Common.{◌≡◌, ◌≢◌, ℕ, ◌<◌, Bool, true, false, inl, inr, ◌⊎◌, List, ◌++◌, length, Global, Vec, refl, sym, ap, subst, ◌∙◌, arith}
 use Rattle.std.specs.Prelude.{Contains, vec_capacity, Option, None, Some}
-use Rattle.std.proofs.lemmas.Bool.{cases_eq}
 use Rattle.std.proofs.lemmas.List.{ext_get_or}
 use Rattle.std.proofs.lemmas.List.Elements.{Contains-append_left, Contains-append_right, Contains-append_cases}
 use Rattle.smallvec.specs.SmallVec.{SmallVec}
@@ -10,6 +9,7 @@ use Rattle.ternary.specs.declared.tern.Tern.TheVariants.{Zero, Unk}
 use Rattle.path_meaning.specs.Switching.{state_at}
 use Rattle.path_meaning.specs.Step.{IsResponse}
 use Rattle.path_meaning.proofs.UniqueSteps.{response_is_unique}
+use Rattle.oscillation_x.specs.Moved.{ListsChanges}
 use Rattle.oscillation_x.specs.Settling.{StaysOrBecomesX}
 use Rattle.machine_parts.specs.declared.part.HeldPart.{HeldPart}
 use Rattle.part_words.specs.declared.change.Change.{Change}
@@ -23,10 +23,10 @@ use Rattle.wide_groups.specs.Awake.{HoldsWide, NotesIn}
 use Rattle.wide_groups.proofs.WideCases.{awake_stale, awake_inside, stale_only_in, none_awake}
 use Rattle.part_words.specs.Noting.{after}
 use Rattle.machine_parts.specs.Evaluating.{Rooms, IsSeated, IsChange, Evaluated}
-use Rattle.part_steps.specs.Desks.{rooms}
+use Rattle.part_steps.specs.Desks.{rooms, nodes_noted}
 use Rattle.machine_parts.specs.Running.{IsRunnable, AreAgreed, IsTaken, ReadsAny}
 use Rattle.machine_parts.specs.Readers.{readers_of}
-use Rattle.part_steps.proofs.TakingLemmas.{change_of}
+use Rattle.part_steps.proofs.TakingLemmas.{change_of, node_noted, noted_node}
 use Rattle.machine_parts.proofs.CaseLemmas.{same_or_not, after-differs}
 use Rattle.machine_parts.proofs.PartLemmas.{same_part, given_once, HasMember-from_Gives}
 
@@ -253,6 +253,20 @@ module _ (joining : Bool) (parts : List HeldPart) (marks : List Bool) (waiting :
       no_change none =
           ext_get_or Zero new old taken.count
           (λ node inside. taken.stays node (λ change (k, within, here). absurd (omega (arith, within, none))))
+
+      -- the nodes of the changes are those at which the state changes
+      pub lists_changes : ListsChanges (nodes_noted changes) old new
+      lists_changes = record {
+        count = taken.count;
+        each = λ node inside changed.
+            elim (change_of changes node) [
+              | inl (change, there, same) ↦ subst (Contains (nodes_noted changes)) same (node_noted changes change there)
+              | inr none ↦ absurd (changed (taken.stays node none))
+            ];
+        inside = λ node there.
+            let (change, noted, same) = noted_node changes node there in
+            subst (λ n. n < length old) same (changes_inside change noted);
+      }
 
       -- in a joining step a node stays or becomes X
       pub becomes_x : joining ≡ true → StaysOrBecomesX old new

@@ -11,6 +11,7 @@ use Rattle.path_meaning.specs.Switching.{state_at}
 use Rattle.part_words.specs.declared.change.Change.{Change}
 use Rattle.machine_parts.specs.Running.{AreAgreed, IsTaken}
 use Rattle.machine_parts.specs.Readers.{readers_of}
+use Rattle.part_steps.specs.Desks.{nodes_noted}
 
 -- some change is of this node, or none is
 pub change_of : (changes : List Change) (node : ℕ) →
@@ -30,6 +31,23 @@ change_of (first ∷ changes) node =
         ((change : Change) → Contains changes change → change.node ≢ node) → (change : Change) → Contains (first ∷ changes) change → change.node ≢ node
     later first changes node differs none change (zero, inside, here) same = differs (ap (λ (c : Change). c.node) here ∙ same)
     later first changes node differs none change (suc k, inside, here) same = none change (k, omega (arith, inside), here) same
+
+-- the node of a change is noted with it
+pub node_noted : (changes : List Change) (change : Change) → Contains changes change → Contains (nodes_noted changes) change.node
+node_noted [] change (k, inside, here) = absurd (omega (arith, inside))
+node_noted (first ∷ changes) change (zero, inside, here) = (0, omega arith, ap (λ (c : Change). c.node) here)
+node_noted (first ∷ changes) change (suc k, inside, here) =
+    let (at, within, is) = node_noted changes change (k, omega (arith, inside), here) in
+    (suc at, omega (arith, within), is)
+
+-- and a noted node is that of a change
+pub noted_node : (changes : List Change) (node : ℕ) → Contains (nodes_noted changes) node →
+    (change : Change) × Contains changes change × (change.node ≡ node)
+noted_node [] node (k, inside, here) = absurd (omega (arith, inside))
+noted_node (first ∷ changes) node (zero, inside, here) = (first, (0, omega arith, refl), here)
+noted_node (first ∷ changes) node (suc k, inside, here) =
+    let (change, (at, within, is), same) = noted_node changes node (k, omega (arith, inside), here) in
+    (change, (suc at, omega (arith, within), is), same)
 
 -- what stands at the front stands in the list
 pub Contains-from_take : {X : Type 0} (n : ℕ) (xs : List X) (x : X) → Contains (take n xs) x → Contains xs x

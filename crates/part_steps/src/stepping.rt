@@ -1,12 +1,13 @@
 //! One step: all marked parts, and what is awake, are evaluated under the old state; then the changes are taken over.
-ghost use Rattle.std.specs.Prelude.{◌≡◌, ◌≢◌, ℕ, ◌+◌, ◌<◌, ◌≤◌, ◌⊎◌, true, length, Contains, vec_capacity};
+ghost use Rattle.std.specs.Prelude.{◌≡◌, ◌≢◌, ℕ, ◌+◌, ◌<◌, ◌≤◌, ◌⊎◌, ◌++◌, true, length, Contains, vec_capacity};
 ghost use Rattle.std.specs.Bool.{OnTrue, OnFalse};
 ghost use Rattle.oscillation_x.specs.Settling.{StaysOrBecomesX};
+ghost use Rattle.oscillation_x.specs.Moved.{ListsChanges};
 ghost use Rattle.part_words.specs.declared.change.Change.{Change};
 ghost use Rattle.machine_parts.specs.Words.{marked_sum, instructions_of, MarksAll, Remarks, IsRunnable, AreAgreed, IsTaken, ReadsAny, readers_of};
 ghost use Rattle.wide_groups.specs.Moving.{MovesIn, RetouchesIn};
 ghost use Rattle.wide_groups.specs.Awake.{HoldsWide, IsListedIn, TurnedIn, IsWorked};
-ghost use Rattle.part_steps.specs.Desks.{rooms};
+ghost use Rattle.part_steps.specs.Desks.{rooms, nodes_noted};
 ghost use Rattle.part_steps.specs.Dense.{AreDense};
 
 use crate::agenda::{Agenda, mark_all};
@@ -24,7 +25,8 @@ use wide_groups::{calm, evaluate_awake, touched_is_listed, write};
 ///
 /// Its work is that of the marked parts, of the nodes that are awake in groups that are stepped by vicinities, if such
 /// are known, and of the parts that read a node that changes. It takes no memory: there is room for a change of each
-/// member of the marked parts, since each evaluation clears a mark, and in `noted` for one of each node.
+/// member of the marked parts, since each evaluation clears a mark, and in `noted` for one of each node. The nodes
+/// that change are those that the desk and `noted` list afterwards.
 pub fn advance<L: Ledger>(
     joining: bool,
     parts: &[HeldPart],
@@ -51,6 +53,7 @@ pub fn advance<L: Ledger>(
     ensures changed { OnTrue result (state.new ≢ state.old) }
     ensures same { OnFalse result (state.new ≡ state.old) }
     ensures unknown { joining ≡ true → StaysOrBecomesX state.old state.new }
+    ensures listed { ListsChanges (nodes_noted (desk.new.changes.items ++ noted.new.items)) state.old state.new }
 {
     desk.changes.clear();
     desk.done.clear();

@@ -2,6 +2,7 @@ pub mod BuildLemmas
 pub mod FinishingFits
 pub mod FinishingParts
 pub mod LeavingLemmas
+pub mod ListingLemmas
 pub mod FinishingRoused
 pub mod LastingEdits
 pub mod LastingLemmas

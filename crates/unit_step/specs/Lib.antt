@@ -2,3 +2,4 @@ pub mod Planning
 pub mod Lasting
 pub mod Bodies
 pub mod Waking
+pub mod Listing

@@ -2,10 +2,10 @@
 //!
 //! The main type is `Machine`: parts, for each of them the nodes that it reads and whether it is marked,
 //! and a state. `Machine::build` makes one that fits a graph: each distinct text of a group that isn't kept
-//! is analysed, once. It is a `Stepper`. The layer above uses that on a graph that the machine fits a step is
-//! the unit step of the graph, and that the machine fits the graph again: in each part that isn't marked
-//! every member's state is its steady state, so such a part needs no evaluation until a node that it
-//! reads changes.
+//! is analysed, once. It is a `Stepper`; `Watched` is a `SeenStepper`, whose steps an observer is shown. The layer
+//! above uses that on a graph that the machine fits a step is the unit step of the graph, and that the machine
+//! fits the graph again: in each part that isn't marked every member's state is its steady state, so such a part
+//! needs no evaluation until a node that it reads changes.
 //!
 //! Groups without code can be stepped by vicinities, beside the parts that have some; no machine is built with such
 //! groups yet.
@@ -28,11 +28,13 @@ mod finishing;
 mod growing;
 mod lasting;
 mod laws;
+mod listing;
 mod machine;
 mod planning;
 mod rousing;
 mod seating;
 mod waking;
+mod watching;
 
 pub use editing::{EditRefused, NEW_NODES};
 pub use growing::grow;
@@ -44,3 +46,4 @@ pub use machine_laws::{
 };
 pub use machine_parts::HeldPart;
 pub use part_steps::{Needs, needs_of, numbers_below};
+pub use watching::Watched;

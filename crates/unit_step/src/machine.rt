@@ -1,9 +1,10 @@
 //! The machine.
-ghost use Rattle.std.specs.Prelude.{◌≡◌, ◌≢◌, ℕ, Bool, List, ◌-◌, vec_len, vec_capacity, ◌+◌, ◌^◌, ◌<◌, ◌≤◌, ◌⊎◌, true, false, length, count_by, option_map, All, None, Some, Err, IsTrue, IfSome, IfNone, IfOk, IfErr, OnOk, OnErr};
+ghost use Rattle.std.specs.Prelude.{◌≡◌, ◌≢◌, ℕ, Bool, List, [], ◌-◌, vec_len, vec_capacity, ◌+◌, ◌^◌, ◌<◌, ◌≤◌, ◌⊎◌, true, false, length, count_by, option_map, All, None, Some, Err, IsTrue, IfSome, IfNone, IfOk, IfErr, OnOk, OnErr, if◌then◌else◌};
 ghost use Rattle.std.specs.Bool.{OnTrue, OnFalse};
 ghost use Rattle.ternary.specs.Counts.{raised};
 ghost use Rattle.path_meaning.specs.declared.TheConstants.{RAILS};
 ghost use Rattle.path_meaning.specs.Words.{nodes, IsRailed, IsSound, IsStep};
+ghost use Rattle.oscillation_x.specs.Moved.{ListsChanges};
 ghost use Rattle.oscillation_x.specs.Settling.{IsJoinStep, StaysOrBecomesX};
 ghost use Rattle.analysis_cache.specs.Words.{texts_of, IsGrown, HoldsKept, HoldsNearlyKept};
 ghost use Rattle.group_text.specs.Words.{GroupTextData, is_among};
@@ -12,10 +13,12 @@ ghost use Rattle.machine_laws.specs.Words.{HasLast, AreSeated, Advances, Places,
 ghost use Rattle.circuit_texts.specs.Words.{TellsTooLarge, Builds, IsCutOff};
 ghost use Rattle.machine_parts.specs.Words.{HasMember, ReadsAt, AreApart, has_members, count_marked, marked_sum, instructions_of, MarksAll};
 ghost use Rattle.unit_step.specs.Bodies.{CanStart, of_body, fixed_of};
+ghost use Rattle.unit_step.specs.Listing.{nodes_told};
 ghost use Rattle.wide_groups.specs.Awake.{IsWorked};
 
 use crate::body::Body;
 use crate::lasting::Lasting;
+use crate::listing::list;
 use crate::planning::plan_of;
 use analysis_cache::{Analyst, Kept};
 use channel_groups::Groups;
@@ -256,18 +259,92 @@ impl Machine {
         self.placed = placed_after(self.placed, owner);
     }
 
-    // Takes a step, plain or joining, and answers whether it changes the state.
-    fn take<L: Ledger>(&mut self, joining: bool, steps: &mut Steps<L>) -> bool
+    /// An empty list for the nodes that steps change, if someone looks at them. It takes no memory.
+    pub fn listing(&self, is_looked_at: bool) -> Option<Vec<usize>>
+        ensures { option_map (λ nodes. nodes.items) result ≡ (if is_looked_at then Some [] else None) }
+    {
+        if is_looked_at {
+            Some(Vec::new(*self.body.state.allocator()))
+        } else {
+            None
+        }
+    }
+
+    /// Takes a unit step as `Stepper::step` does, and lists the nodes at which it changes the state, if there is a list.
+    ///
+    /// Out of memory for the list there is none any more, and any node may have changed.
+    pub fn step_listed<L: Ledger>(
+        &mut self,
+        graph: &Graph,
+        steps: &mut Steps<L>,
+        changed: &mut Option<Vec<usize>>,
+    ) -> bool
+        ensures advances { Advances false self.old self.new }
+        ensures ticks { IsWorked (marked_sum instructions_of self.old.parts self.old.marks) self.old.wide self.old.state steps.old steps.new }
+        ensures step { FitsGraph graph.now self.old → IsStep graph.now self.old.state self.new.state }
+        ensures fits { FitsGraph graph.now self.old → FitsGraph graph.now self.new }
+        ensures nodes { length self.new.state ≡ length self.old.state }
+        ensures few { length self.new.state < 2 ^ 63 }
+        ensures changed { OnTrue result (self.new.state ≢ self.old.state) }
+        ensures same { OnFalse result (self.new.state ≡ self.old.state) }
+        ensures listed { ListsChanges (nodes_told changed.new (length self.new.state)) self.old.state self.new.state }
+        ensures none { changed.old ≡ None → changed.new ≡ None }
+        ensures moved { OnTrue result (self.new.moves ≡ raised self.old.moves 1) }
+        ensures rested { OnFalse result (self.new.moves ≡ self.old.moves) }
+        ensures placed { self.new.placed ≡ self.old.placed }
+        ensures fixed { fixed_of self.new ≡ fixed_of self.old }
+    {
+        graphs_are_wired(graph);
+        self.take(false, steps, changed)
+    }
+
+    /// Takes a joining step as `Stepper::join_step` does, and lists the nodes as `step_listed` does.
+    pub fn join_step_listed<L: Ledger>(
+        &mut self,
+        graph: &Graph,
+        steps: &mut Steps<L>,
+        changed: &mut Option<Vec<usize>>,
+    ) -> bool
+        ensures advances { Advances true self.old self.new }
+        ensures ticks { IsWorked (marked_sum instructions_of self.old.parts self.old.marks) self.old.wide self.old.state steps.old steps.new }
+        ensures step { FitsGraph graph.now self.old → IsJoinStep graph.now self.old.state self.new.state }
+        ensures fits { FitsGraph graph.now self.old → FitsGraph graph.now self.new }
+        ensures unknown { StaysOrBecomesX self.old.state self.new.state }
+        ensures nodes { length self.new.state ≡ length self.old.state }
+        ensures few { length self.new.state < 2 ^ 63 }
+        ensures changed { OnTrue result (self.new.state ≢ self.old.state) }
+        ensures same { OnFalse result (self.new.state ≡ self.old.state) }
+        ensures listed { ListsChanges (nodes_told changed.new (length self.new.state)) self.old.state self.new.state }
+        ensures none { changed.old ≡ None → changed.new ≡ None }
+        ensures moved { OnTrue result (self.new.moves ≡ raised self.old.moves 1) }
+        ensures rested { OnFalse result (self.new.moves ≡ self.old.moves) }
+        ensures placed { self.new.placed ≡ self.old.placed }
+        ensures fixed { fixed_of self.new ≡ fixed_of self.old }
+    {
+        graphs_are_wired(graph);
+        self.take(true, steps, changed)
+    }
+
+    // Takes a step, plain or joining, lists the nodes at which it changes the state, if there is a list, and answers
+    // whether it does.
+    fn take<L: Ledger>(
+        &mut self,
+        joining: bool,
+        steps: &mut Steps<L>,
+        changed: &mut Option<Vec<usize>>,
+    ) -> bool
         ensures advances { Advances joining self.old self.new }
         ensures ticks { IsWorked (marked_sum instructions_of self.old.parts self.old.marks) self.old.wide self.old.state steps.old steps.new }
         ensures unknown { joining ≡ true → StaysOrBecomesX self.old.state self.new.state }
         ensures few { length self.new.state < 2 ^ 63 }
         ensures changed { OnTrue result (self.new.state ≢ self.old.state) }
         ensures same { OnFalse result (self.new.state ≡ self.old.state) }
+        ensures listed { ListsChanges (nodes_told changed.new (length self.new.state)) self.old.state self.new.state }
+        ensures none { changed.old ≡ None → changed.new ≡ None }
         ensures moved { OnTrue result (self.new.moves ≡ raised self.old.moves 1) }
         ensures rested { OnFalse result (self.new.moves ≡ self.old.moves) }
     {
-        let changed = advance(
+        let moved = advance(
             joining,
             &self.body.parts,
             &self.body.dense,
@@ -279,8 +356,9 @@ impl Machine {
             &mut self.body.noted,
             steps,
         );
-        self.moves = moves_after(self.moves, changed);
-        changed
+        self.moves = moves_after(self.moves, moved);
+        list(&self.body.desk.changes, &self.body.noted, changed);
+        moved
     }
 }
 
@@ -318,8 +396,7 @@ impl Stepper for Machine {
         ensures placed { self.new.placed ≡ self.old.placed }
         ensures fixed { fixed_of self.new ≡ fixed_of self.old }
     {
-        graphs_are_wired(graph);
-        self.take(false, steps)
+        self.step_listed(graph, steps, &mut None)
     }
 
     fn join_step<L: Ledger>(&mut self, graph: &Graph, steps: &mut Steps<L>) -> bool
@@ -337,8 +414,7 @@ impl Stepper for Machine {
         ensures placed { self.new.placed ≡ self.old.placed }
         ensures fixed { fixed_of self.new ≡ fixed_of self.old }
     {
-        graphs_are_wired(graph);
-        self.take(true, steps)
+        self.join_step_listed(graph, steps, &mut None)
     }
 }
 

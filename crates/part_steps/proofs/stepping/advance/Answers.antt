@@ -19,7 +19,7 @@ use Rattle.wide_groups.specs.Awake.{IsListedIn, CalmsIn, TurnedIn, ListsIn}
 use Rattle.wide_groups.specs.Moving.{RetouchesIn}
 use Rattle.wide_groups.proofs.WideCases.{listed_in, enough_in, listed_calm, listed_turned, holds_turned, TurnedIn-then, RetouchesIn-from}
 use Rattle.part_steps.proofs.TakingLemmas.{IsTaken-then}
-use Rattle.part_steps.proofs.AdvanceLemmas.{AreChanges, AreChanges-from_Evaluated, MarksAll-both, agreed_left, agreed_right, changes_inside, changes_agree, Moves-taken, some_change, no_change, becomes_x, Remarks-taken, cleared_rooms}
+use Rattle.part_steps.proofs.AdvanceLemmas.{AreChanges, AreChanges-from_Evaluated, MarksAll-both, agreed_left, agreed_right, changes_inside, changes_agree, Moves-taken, some_change, no_change, lists_changes, becomes_x, Remarks-taken, cleared_rooms}
 use Rattle.part_steps.proofs.stepping.advance.Given.{Over}
 use Rattle.part_steps.proofs.stepping.advance.Goals.{After-evaluate_awake, After-calm, After-take_over, After-take_over-2}
 use Rattle.part_steps.proofs.stepping.advance.Goals as goal
@@ -229,3 +229,10 @@ returns-clause-unknown g c = λ is.
     let noted = at_end.After-evaluate_awake in
     becomes_x c.args.joining _ _ _ _ _ _ c.requires.runnable _ _ c.requires.wide _ (are_changes g noted) _
     (all_taken g at_end.After-take_over-2 (agreed_all g noted) (first_taken g at_end.After-take_over)) is
+
+pub returns-clause-listed : goal.returns-clause-listed
+returns-clause-listed g c =
+    let at_end = goal.at.returns-clause-listed g c in
+    let noted = at_end.After-evaluate_awake in
+    lists_changes c.args.joining _ _ _ _ _ _ c.requires.runnable _ _ c.requires.wide _ (are_changes g noted) _
+    (all_taken g at_end.After-take_over-2 (agreed_all g noted) (first_taken g at_end.After-take_over))
