@@ -57,8 +57,12 @@ impl Session {
         Ok(())
     }
 
-    // The states that these assignments give nodes, from left to right.
-    fn states_for(&self, list: &ValueList, target: Target) -> Result<Vec<(usize, Tern)>, ApplyFault>
+    /// The states that these assignments give nodes, from left to right.
+    pub(crate) fn states_for(
+        &self,
+        list: &ValueList,
+        target: Target,
+    ) -> Result<Vec<(usize, Tern)>, ApplyFault>
         ensures allowed { OnOk result (values_refusal (target_at target self.now.core.circuit) self.now.core.circuit self.now.core.vectors list.now ≡ None) }
         ensures states { IfOk result (λ states. states.items ≡ effect.states_by self.now.core.circuit self.now.core.vectors list.now) }
         ensures within { IfOk result (λ states. All (λ pair. pair.0 < nodes self.now.core.circuit.graph) states.items) }

@@ -5,6 +5,8 @@
 //! contract, in the words of `session_meaning`: an accepted command has its effect, `Effect`, its lines were
 //! heard, and the analyst's list grew by the texts of groups that were new; a refused one has the first
 //! refusal of its command, `refusal_of`, or else a group that is too large, and changes nothing.
+//! `Session::apply_seen` does the same under the eyes of an onlooker, who is shown the steps and phases of the
+//! command, and `Session::show_behind` shows it the state behind the command.
 //!
 //! Unit steps are the compiled machine's. It is built at the first command that needs it, over the
 //! analyses that are kept. An edit makes the parts of the groups that it touches stale, and the next
@@ -27,12 +29,14 @@ mod looking;
 mod moving;
 mod naming;
 mod preparing;
+mod putting;
 mod refusals;
 mod regrouping;
 mod reporting;
 mod saving;
 mod session;
 mod setting;
+mod showing;
 mod stage;
 mod stepping;
 mod telling;

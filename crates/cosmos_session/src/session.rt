@@ -3,6 +3,7 @@
 ghost use Rattle.std.specs.Prelude.{◌≡◌, not, None, option_map, IfOk, IfErr, IfSome, OnOk};
 ghost use Rattle.script_lang.specs.Forms.{IsFormed};
 ghost use Rattle.session_meaning.specs.Sessions.{start_of, HeldSession};
+ghost use Rattle.session_meaning.specs.Passing.{IsUnseen, KnowsBehind, PassesThrough, Sees};
 ghost use Rattle.session_meaning.specs.Preparing.{NamesNode};
 ghost use Rattle.session_meaning.specs.Machines.{IsMachineOf, IsHeldSession, IsMachineAfter, without_room};
 ghost use Rattle.session_meaning.specs.Sinks.{faults_applied};
@@ -12,6 +13,7 @@ use crate::stage::Stage;
 use analysis_cache::{Analyst, Kept};
 use netlist::Circuit;
 use node_words::Vectors;
+use oscillation_x::{Blind, Onlooker};
 use script_lang::{Command, Name, StateList};
 use session_meaning::{ApplyFault, Clock, FIRST_LIMIT};
 use std::alloc::Global;
@@ -189,7 +191,37 @@ impl Session {
         ensures named { IfErr result (NamesNode self.new.core.circuit.graph) }
         ensures session { IsHeldSession self.new }
     {
-        let outcome = self.obey(command, analyst, out);
+        self.apply_seen(command, analyst, out, &mut Blind {})
+    }
+
+    /// Does a command as `apply` does, under the eyes of an onlooker, who knows the session's state.
+    ///
+    /// The onlooker is shown each step or phase of the command, in order: the state in which it begins, which for a
+    /// `cycle` is the one behind the placing of the letters; the one behind each unit step of either sort that changes
+    /// something; and its end, with the number of unit steps that its waveform line tells. A command that ends with a fault
+    /// of its own shows it nothing; what it sees if the hearer's fault ends the command isn't told. The state behind the
+    /// command is shown by `show_behind`.
+    pub fn apply_seen<A: Analyst, L: Lines, O: Onlooker>(
+        &mut self,
+        command: &Command,
+        analyst: &mut A,
+        out: &mut L,
+        onlooker: &mut O,
+    ) -> Result<(), ApplyFault>
+        requires formed { IsFormed command.now }
+        requires knows { O.knows onlooker.old self.old.core.state }
+        ensures obeys { Obeys L.hear L.part self.old command.now self.new (L.heard out.old) (L.heard out.new)
+            (A.analysed analyst.old) (A.analysed analyst.new) (L.refusals out.old) (L.refusals out.new) result }
+        ensures faults { L.faults out.new ≡ faults_applied (L.faults out.old) result }
+        ensures machine { OnOk result (IsMachineAfter self.old command.now self.new) }
+        ensures named { IfErr result (NamesNode self.new.core.circuit.graph) }
+        ensures session { IsHeldSession self.new }
+        ensures seen { OnOk result (Sees O.begin O.see O.rest (PassesThrough self.old.core command.now) (O.seen onlooker.old) (O.seen onlooker.new)) }
+        ensures knows { OnOk result (KnowsBehind O.knows onlooker.new self.old.core command.now self.new.core) }
+        ensures unseen { IsUnseen onlooker.old onlooker.new (L.faults out.old) (L.faults out.new) (L.refusals out.old) (L.refusals out.new) result }
+    {
+        self.is_well_formed();
+        let outcome = self.obey(command, analyst, out, onlooker);
         self.is_well_formed();
         outcome
     }
@@ -202,23 +234,29 @@ impl Session {
     }
 
     // Does a command, and tells its lines.
-    fn obey<A: Analyst, L: Lines>(
+    fn obey<A: Analyst, L: Lines, O: Onlooker>(
         &mut self,
         command: &Command,
         analyst: &mut A,
         out: &mut L,
+        onlooker: &mut O,
     ) -> Result<(), ApplyFault>
-        requires { IsFormed command.now }
+        requires formed { IsFormed command.now }
+        requires knows { O.knows onlooker.old self.old.core.state }
+        requires session { IsHeldSession self.old }
         ensures obeys { Obeys L.hear L.part self.old command.now self.new (L.heard out.old) (L.heard out.new)
             (A.analysed analyst.old) (A.analysed analyst.new) (L.refusals out.old) (L.refusals out.new) result }
         ensures faults { L.faults out.new ≡ faults_applied (L.faults out.old) result }
         ensures machine { OnOk result (IsMachineAfter self.old command.now self.new) }
+        ensures seen { OnOk result (Sees O.begin O.see O.rest (PassesThrough self.old.core command.now) (O.seen onlooker.old) (O.seen onlooker.new)) }
+        ensures knows { OnOk result (KnowsBehind O.knows onlooker.new self.old.core command.now self.new.core) }
+        ensures unseen { IsUnseen onlooker.old onlooker.new (L.faults out.old) (L.faults out.new) (L.refusals out.old) (L.refusals out.new) result }
     {
         match command {
             Command::Edit(edit) => self.edit(edit),
             Command::Give(give) => self.give(give),
             Command::Setup(setup) => self.set_up(setup),
-            Command::Run(run) => self.run(run, analyst, out),
+            Command::Run(run) => self.run(run, analyst, out, onlooker),
             Command::Tell(tell) => self.tell(tell, out),
         }
     }

@@ -4,6 +4,7 @@ ghost use Rattle.std.specs.Prelude.{◌≡◌, ◌+◌, ◌<◌, ◌≤◌, ◌�
 ghost use Rattle.path_meaning.specs.declared.TheConstants.{RAILS};
 ghost use Rattle.path_meaning.specs.Graphs.{nodes, IsWired};
 ghost use Rattle.path_meaning.specs.Rails.{IsRailed, IsSound};
+ghost use Rattle.oscillation_x.specs.Passing.{SteppingThrough};
 ghost use Rattle.channel_groups.specs.Changes.{undo};
 ghost use Rattle.analysis_cache.specs.Keeping.{texts_of, IsGrown};
 ghost use Rattle.circuit_texts.specs.Sizes.{TellsTooLarge};
@@ -13,6 +14,7 @@ ghost use Rattle.machine_parts.specs.Parts.{has_members};
 ghost use Rattle.machine_laws.specs.Fitting.{Covers};
 ghost use Rattle.machine_laws.specs.Editing.{with_new_nodes};
 ghost use Rattle.session_meaning.specs.Machines.{Serves, FitsIn, AreAmong, kept_in, last_in, without_room};
+ghost use Rattle.session_meaning.specs.Passing.{PhaseThrough, SeesStates};
 ghost use Rattle.session_meaning.specs.Stages.{PutsIn, MovesBy, TakesStep, TakesPhase, EditsFrom, BuiltFrom};
 
 use crate::moving::{place, settle_to_rest, take_step};
@@ -20,7 +22,7 @@ use crate::regrouping::regrouped;
 use analysis_cache::{Analyst, Kept};
 use channel_groups::Change;
 use circuit_texts::BuildFault;
-use oscillation_x::{MOST_LIMIT, Settled};
+use oscillation_x::{MOST_LIMIT, Onlooker, Settled};
 use path_meaning::{Graph, RAILS};
 use std::alloc::Global;
 use std::marker::Model;
@@ -193,27 +195,39 @@ impl Stage {
         }
     }
 
-    /// Has the machine, which fits the graph, take a unit step.
+    /// Has the machine, which fits the graph, take a unit step, and shows the state behind it if it changed.
     #[tactic(auto, using(session_meaning::proofs::RoomLemmas::fits_inside))]
-    pub(crate) fn step(&mut self, graph: &Graph)
-        requires { FitsIn graph.now self.old.machine }
-        ensures { MovesBy (TakesStep graph.now) self.old self.new }
+    pub(crate) fn step<O: Onlooker>(&mut self, graph: &Graph, onlooker: &mut O)
+        requires fits { FitsIn graph.now self.old.machine }
+        requires knows { O.knows onlooker.old self.old.state }
+        ensures moves { MovesBy (TakesStep graph.now) self.old self.new }
+        ensures seen { SeesStates O.see (SteppingThrough graph.now 1 self.old.state) self.old.state self.new.state (O.seen onlooker.old) (O.seen onlooker.new) }
+        ensures knows { O.knows onlooker.new self.new.state }
     {
-        if let Held::Built(machine) = &mut self.held {
-            take_step(machine, graph);
+        match &mut self.held {
+            Held::Built(machine) => take_step(machine, graph, onlooker),
+            Held::Still(_) => {}
         }
     }
 
-    /// Has the machine, which fits the graph, settle.
+    /// Has the machine, which fits the graph, settle, and shows each state that it passes through.
     #[tactic(auto, using(session_meaning::proofs::RoomLemmas::fits_inside))]
-    pub(crate) fn settle(&mut self, graph: &Graph, limit: u64) -> Settled
+    pub(crate) fn settle<O: Onlooker>(
+        &mut self,
+        graph: &Graph,
+        limit: u64,
+        onlooker: &mut O,
+    ) -> Settled
         requires fits { FitsIn graph.now self.old.machine }
         requires low { 1 ≤ limit }
         requires high { limit ≤ MOST_LIMIT }
-        ensures { MovesBy (λ before after. TakesPhase graph.now limit before after result.steps result.joined) self.old self.new }
+        requires knows { O.knows onlooker.old self.old.state }
+        ensures moves { MovesBy (λ before after. TakesPhase graph.now limit before after result.steps result.joined) self.old self.new }
+        ensures seen { SeesStates O.see (PhaseThrough graph.now limit self.old.state result.steps) self.old.state self.new.state (O.seen onlooker.old) (O.seen onlooker.new) }
+        ensures knows { O.knows onlooker.new self.new.state }
     {
         match &mut self.held {
-            Held::Built(machine) => settle_to_rest(machine, graph, limit),
+            Held::Built(machine) => settle_to_rest(machine, graph, limit, onlooker),
             Held::Still(_) => Settled {
                 steps: 0,
                 joined: false,

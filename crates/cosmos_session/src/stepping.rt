@@ -13,16 +13,18 @@ ghost use Rattle.session_meaning.specs.Sessions.{places_of, IsReady};
 ghost use Rattle.session_meaning.specs.Effects as effect;
 ghost use Rattle.session_meaning.specs.Effects.{IsPhase};
 ghost use Rattle.session_meaning.specs.Machines.{IsBuilt, RunsMachine, StepsMachine, SettlesMachine};
+ghost use Rattle.session_meaning.specs.Passing.{IsPhasePass, IsStepPass, IsUnseen, KnowsButClocks, RunThrough, Sees, SeesBeats, SeesPass};
 ghost use Rattle.session_meaning.specs.Stages.{IsUnitStepDone, IsSettled, PhaseMoves, BeatsMove, BeatsMoveOn, PutsIn, TicksIn, StaysPut, SameSetup};
 ghost use Rattle.session_meaning.specs.Sinks.{IsSinkFault, faults_applied, refusals_sent};
 ghost use Rattle.session_meaning.specs.Outcomes.{Obeys, TakesBeats, IsDoneAndSent, Sent};
 
+use crate::putting::begin_at;
 use crate::refusals;
 use crate::session::Session;
 use crate::stage::Stage;
 use crate::waves::WaveRoom;
 use analysis_cache::Analyst;
-use oscillation_x::Settled;
+use oscillation_x::{Onlooker, Settled};
 use path_meaning::{Graph, graphs_are_wired};
 use script_lang::Run;
 use session_meaning::{ApplyFault, Clock, places_of};
@@ -31,72 +33,96 @@ use told_lines::Lines;
 use wave_print::{COLUMN_ROOM, WAVE_LINE_ROOM};
 
 impl Session {
-    /// Has the circuit built, and does what the command says.
-    pub(crate) fn run<A: Analyst, L: Lines>(
+    /// Has the circuit built, and does what the command says, under the eyes of an onlooker.
+    pub(crate) fn run<A: Analyst, L: Lines, O: Onlooker>(
         &mut self,
         run: &Run,
         analyst: &mut A,
         out: &mut L,
+        onlooker: &mut O,
     ) -> Result<(), ApplyFault>
-        requires { IsFormedRun run.now }
+        requires formed { IsFormedRun run.now }
+        requires knows { O.knows onlooker.old self.old.core.state }
         ensures obeys { Obeys L.hear L.part self.old (family.Run run.now) self.new (L.heard out.old) (L.heard out.new)
             (A.analysed analyst.old) (A.analysed analyst.new) (L.refusals out.old) (L.refusals out.new) result }
         ensures faults { L.faults out.new ≡ faults_applied (L.faults out.old) result }
         ensures machine { OnOk result (RunsMachine self.old run.now self.new) }
+        ensures seen { OnOk result (Sees O.begin O.see O.rest (RunThrough self.old.core run.now) (O.seen onlooker.old) (O.seen onlooker.new)) }
+        ensures knows { OnOk result (O.knows onlooker.new self.new.core.state) }
+        ensures unseen { IsUnseen onlooker.old onlooker.new (L.faults out.old) (L.faults out.new) (L.refusals out.old) (L.refusals out.new) result }
     {
         match run {
-            Run::Step => self.step(analyst, out),
-            Run::Phase => self.phase(analyst, out),
-            Run::Cycle(times) => self.cycle(*times, analyst, out),
+            Run::Step => self.step(analyst, out, onlooker),
+            Run::Phase => self.phase(analyst, out, onlooker),
+            Run::Cycle(times) => self.cycle(*times, analyst, out, onlooker),
             Run::Report => self.report(analyst, out),
         }
     }
 
     // `step`: one unit step, and its waveform line.
-    fn step<A: Analyst, L: Lines>(&mut self, analyst: &mut A, out: &mut L) -> Result<(), ApplyFault>
+    fn step<A: Analyst, L: Lines, O: Onlooker>(
+        &mut self,
+        analyst: &mut A,
+        out: &mut L,
+        onlooker: &mut O,
+    ) -> Result<(), ApplyFault>
+        requires knows { O.knows onlooker.old self.old.core.state }
         ensures obeys { Obeys L.hear L.part self.old (family.Run asked.Step) self.new (L.heard out.old) (L.heard out.new)
             (A.analysed analyst.old) (A.analysed analyst.new) (L.refusals out.old) (L.refusals out.new) result }
         ensures faults { L.faults out.new ≡ faults_applied (L.faults out.old) result }
         ensures machine { OnOk result (StepsMachine self.old self.new) }
+        ensures seen { OnOk result (Sees O.begin O.see O.rest (RunThrough self.old.core asked.Step) (O.seen onlooker.old) (O.seen onlooker.new)) }
+        ensures knows { OnOk result (O.knows onlooker.new self.new.core.state) }
+        ensures unseen { IsUnseen onlooker.old onlooker.new (L.faults out.old) (L.faults out.new) (L.refusals out.old) (L.refusals out.new) result }
     {
         let mut room = WaveRoom::new(self.alloc, self.watched.len())?;
         out.reserve(COLUMN_ROOM + WAVE_LINE_ROOM)?;
         self.prepare(analyst)?;
-        self.take_step();
+        self.take_step(onlooker);
         self.tell_wave(1, false, &mut room, out)
     }
 
     // `phase`: unit steps until nothing changes, past the limit joining ones, and a waveform line.
     #[tactic(auto, using(session_meaning::proofs::OutcomeLemmas::on_ok, session_meaning::proofs::MoveLemmas::phase_readied))]
-    fn phase<A: Analyst, L: Lines>(
+    fn phase<A: Analyst, L: Lines, O: Onlooker>(
         &mut self,
         analyst: &mut A,
         out: &mut L,
+        onlooker: &mut O,
     ) -> Result<(), ApplyFault>
+        requires knows { O.knows onlooker.old self.old.core.state }
         ensures obeys { Obeys L.hear L.part self.old (family.Run asked.Phase) self.new (L.heard out.old) (L.heard out.new)
             (A.analysed analyst.old) (A.analysed analyst.new) (L.refusals out.old) (L.refusals out.new) result }
         ensures faults { L.faults out.new ≡ faults_applied (L.faults out.old) result }
         ensures machine { OnOk result (SettlesMachine self.old asked.Phase self.new) }
+        ensures seen { OnOk result (Sees O.begin O.see O.rest (RunThrough self.old.core asked.Phase) (O.seen onlooker.old) (O.seen onlooker.new)) }
+        ensures knows { OnOk result (O.knows onlooker.new self.new.core.state) }
+        ensures unseen { IsUnseen onlooker.old onlooker.new (L.faults out.old) (L.faults out.new) (L.refusals out.old) (L.refusals out.new) result }
     {
         let mut room = WaveRoom::new(self.alloc, self.watched.len())?;
         out.reserve(COLUMN_ROOM + WAVE_LINE_ROOM)?;
         self.prepare(analyst)?;
-        self.settle_and_tell(&mut room, out)
+        self.settle_and_tell(&mut room, out, onlooker)
     }
 
     // `cycle`: so many times, for each place of the clocks in order, sets their nodes and does what
     // a phase does.
-    fn cycle<A: Analyst, L: Lines>(
+    fn cycle<A: Analyst, L: Lines, O: Onlooker>(
         &mut self,
         times: u64,
         analyst: &mut A,
         out: &mut L,
+        onlooker: &mut O,
     ) -> Result<(), ApplyFault>
-        requires { IsTimes times }
+        requires times { IsTimes times }
+        requires knows { O.knows onlooker.old self.old.core.state }
         ensures obeys { Obeys L.hear L.part self.old (family.Run (asked.Cycle times)) self.new (L.heard out.old) (L.heard out.new)
             (A.analysed analyst.old) (A.analysed analyst.new) (L.refusals out.old) (L.refusals out.new) result }
         ensures faults { L.faults out.new ≡ faults_applied (L.faults out.old) result }
         ensures machine { OnOk result (SettlesMachine self.old (asked.Cycle times) self.new) }
+        ensures seen { OnOk result (Sees O.begin O.see O.rest (RunThrough self.old.core (asked.Cycle times)) (O.seen onlooker.old) (O.seen onlooker.new)) }
+        ensures knows { OnOk result (O.knows onlooker.new self.new.core.state) }
+        ensures unseen { IsUnseen onlooker.old onlooker.new (L.faults out.old) (L.faults out.new) (L.refusals out.old) (L.refusals out.new) result }
     {
         if let Some(refusal) = refusals::cycle_refusal(&self.circuit, &self.clocks) {
             return Err(ApplyFault::Refused(refusal));
@@ -104,17 +130,19 @@ impl Session {
         let mut room = WaveRoom::new(self.alloc, self.watched.len())?;
         out.reserve(COLUMN_ROOM + WAVE_LINE_ROOM)?;
         self.prepare(analyst)?;
-        self.run_cycles(times, &mut room, out)
+        self.run_cycles(times, &mut room, out, onlooker)
     }
 
     // Runs the clocks through all their places, so many times. The machine fits, and the clocks' nodes
     // are input nodes.
-    fn run_cycles<L: Lines>(
+    fn run_cycles<L: Lines, O: Onlooker>(
         &mut self,
         times: u64,
         room: &mut WaveRoom,
         out: &mut L,
+        onlooker: &mut O,
     ) -> Result<(), ApplyFault>
+        requires knows { O.knows onlooker.old self.old.core.state }
         requires built { IsBuilt self.old }
         requires inputs { All (λ clock. level_of self.old.core.circuit.graph clock.node ≡ INPUT_LEVEL) self.old.core.clocks }
         requires ready { IsReady self.old.core }
@@ -126,16 +154,24 @@ impl Session {
         ensures cause { IfErr result IsSinkFault }
         ensures faults { L.faults out.new ≡ faults_applied (L.faults out.old) result }
         ensures refusals { L.refusals out.new ≡ refusals_sent (L.refusals out.old) result }
+        ensures seen { OnOk result (SeesBeats O.begin O.see O.rest (effect.places_in (places_of self.old.core.clocks) times) self.old.core self.new.core (O.seen onlooker.old) (O.seen onlooker.new)) }
+        ensures knows { OnOk result (O.knows onlooker.new self.new.core.state) }
     {
         for _cycle in 0..times {
-            self.run_cycle(room, out)?;
+            self.run_cycle(room, out, onlooker)?;
         }
         Ok(())
     }
 
     // Runs the clocks through all their places once. The machine fits, and the clocks' nodes are input
     // nodes.
-    fn run_cycle<L: Lines>(&mut self, room: &mut WaveRoom, out: &mut L) -> Result<(), ApplyFault>
+    fn run_cycle<L: Lines, O: Onlooker>(
+        &mut self,
+        room: &mut WaveRoom,
+        out: &mut L,
+        onlooker: &mut O,
+    ) -> Result<(), ApplyFault>
+        requires knows { O.knows onlooker.old self.old.core.state }
         requires built { IsBuilt self.old }
         requires inputs { All (λ clock. level_of self.old.core.circuit.graph clock.node ≡ INPUT_LEVEL) self.old.core.clocks }
         requires room { length self.old.core.watched ≤ room.old }
@@ -149,10 +185,12 @@ impl Session {
         ensures cause { IfErr result IsSinkFault }
         ensures faults { L.faults out.new ≡ faults_applied (L.faults out.old) result }
         ensures refusals { L.refusals out.new ≡ refusals_sent (L.refusals out.old) result }
+        ensures seen { OnOk result (SeesBeats O.begin O.see O.rest (range_with_len 0 (places_of self.old.core.clocks)) self.old.core self.new.core (O.seen onlooker.old) (O.seen onlooker.new)) }
+        ensures knows { OnOk result (O.knows onlooker.new self.new.core.state) }
     {
         for place in 0..places_of(&self.clocks) {
             self.put_clocks(place);
-            self.settle_and_tell(room, out)?;
+            self.settle_and_tell(room, out, onlooker)?;
         }
         Ok(())
     }
@@ -169,22 +207,39 @@ impl Session {
         put_states(&self.clocks, place, self.circuit.graph(), &mut self.stage);
     }
 
-    // Takes a unit step, and counts its waveform line. The machine fits.
-    fn take_step(&mut self)
-        requires { IsBuilt self.old }
+    // Shows that a step or a phase begins.
+    fn begin<O: Onlooker>(&self, onlooker: &mut O)
+        requires { KnowsButClocks O.knows onlooker.old self.now.core.clocks self.now.core.state }
+        ensures seen { O.seen onlooker.new ≡ O.begin (O.seen onlooker.old) self.now.core.state }
+        ensures knows { O.knows onlooker.new self.now.core.state }
+    {
+        begin_at(self.stage.state(), &self.clocks, onlooker);
+    }
+
+    // Takes a unit step under the eyes of an onlooker, and counts its waveform line. The machine fits.
+    fn take_step<O: Onlooker>(&mut self, onlooker: &mut O)
+        requires built { IsBuilt self.old }
+        requires knows { KnowsButClocks O.knows onlooker.old self.old.core.clocks self.old.core.state }
         ensures step { IsUnitStepDone self.old.core self.new.core }
         ensures machine { StepsMachine self.old self.new }
+        ensures seen { SeesPass O.begin O.see O.rest (IsStepPass self.old.core.circuit.graph self.old.core.state)
+            self.new.core.state (O.seen onlooker.old) (O.seen onlooker.new) }
+        ensures knows { O.knows onlooker.new self.new.core.state }
     {
-        self.stage.step(self.circuit.graph());
+        self.begin(onlooker);
+        self.stage.step(self.circuit.graph(), onlooker);
         self.count = self.count.saturating_add(1);
+        onlooker.rest(1);
     }
 
     // Does what a phase does, and tells its waveform line. The machine fits.
-    fn settle_and_tell<L: Lines>(
+    fn settle_and_tell<L: Lines, O: Onlooker>(
         &mut self,
         room: &mut WaveRoom,
         out: &mut L,
+        onlooker: &mut O,
     ) -> Result<(), ApplyFault>
+        requires knows { KnowsButClocks O.knows onlooker.old self.old.core.clocks self.old.core.state }
         requires built { IsBuilt self.old }
         requires room { length self.old.core.watched ≤ room.old }
         requires line { COLUMN_ROOM + WAVE_LINE_ROOM ≤ L.room out.old }
@@ -197,19 +252,29 @@ impl Session {
         ensures cause { IfErr result IsSinkFault }
         ensures faults { L.faults out.new ≡ faults_applied (L.faults out.old) result }
         ensures refusals { L.refusals out.new ≡ refusals_sent (L.refusals out.old) result }
+        ensures seen { SeesPass O.begin O.see O.rest (IsPhasePass self.old.core.circuit.graph self.old.core.limit self.old.core.state)
+            self.new.core.state (O.seen onlooker.old) (O.seen onlooker.new) }
+        ensures knows { O.knows onlooker.new self.new.core.state }
     {
-        let settled = self.settle();
+        let settled = self.settle(onlooker);
         self.tell_wave(settled.steps, settled.joined, room, out)
     }
 
-    // Settles, and counts the waveform line. The machine fits.
-    fn settle(&mut self) -> Settled
-        requires { IsBuilt self.old }
+    // Settles under the eyes of an onlooker, and counts the waveform line. The machine fits.
+    fn settle<O: Onlooker>(&mut self, onlooker: &mut O) -> Settled
+        requires built { IsBuilt self.old }
+        requires knows { KnowsButClocks O.knows onlooker.old self.old.core.clocks self.old.core.state }
         ensures settled { IsSettled self.old self.new result.steps result.joined }
         ensures built { IsBuilt self.new }
+        ensures seen { SeesPass O.begin O.see O.rest (IsPhasePass self.old.core.circuit.graph self.old.core.limit self.old.core.state)
+            self.new.core.state (O.seen onlooker.old) (O.seen onlooker.new) }
+        ensures knows { O.knows onlooker.new self.new.core.state }
     {
-        let settled = self.stage.settle(self.circuit.graph(), self.limit);
+        self.begin(onlooker);
+        let graph = self.circuit.graph();
+        let settled = self.stage.settle(graph, self.limit, onlooker);
         self.count = self.count.saturating_add(1);
+        onlooker.rest(settled.steps);
         settled
     }
 

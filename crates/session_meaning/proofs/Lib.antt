@@ -25,3 +25,5 @@ pub mod MoveLemmas
 pub mod ReportLemmas
 pub mod UniqueBuilds
 pub mod UniqueEffects
+pub mod PassingLemmas
+pub mod PassExistence

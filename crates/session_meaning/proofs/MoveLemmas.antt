@@ -121,18 +121,19 @@ phase-moves old new steps joined settled =
 
 -- as many times as one likes
 pub setup-same : (session : SessionData) → SameSetup session session
-setup-same session = record { circuit = refl; clocks = refl; watched = refl }
+setup-same session = record { circuit = refl; clocks = refl; limit = refl; watched = refl }
 
 pub setup-more : (start now next : SessionData) → SameSetup start now → SameSetup now next → SameSetup start next
 setup-more start now next first more = record {
   circuit = more.circuit ∙ first.circuit;
   clocks = more.clocks ∙ first.clocks;
+  limit = more.limit ∙ first.limit;
   watched = more.watched ∙ first.watched;
 }
 
 -- what gives states alone, and counts lines
 pub setup-stated : (session new : SessionData) (state : List Tern) (count : ℕ) → new ≡ record session { state = state; count = count } → SameSetup session new
-setup-stated session new state count is = subst (SameSetup session) (sym is) (record { circuit = refl; clocks = refl; watched = refl })
+setup-stated session new state count is = subst (SameSetup session) (sym is) (record { circuit = refl; clocks = refl; limit = refl; watched = refl })
 
 -- clocks that are put, and a phase behind them
 pub setup-put : (start now put : SessionData) (place : ℕ) → SameSetup start now → put ≡ with_beat now place → SameSetup start put

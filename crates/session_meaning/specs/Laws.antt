@@ -8,6 +8,8 @@ use Rattle.session_meaning.specs.Sessions.{SessionData}
 use Rattle.told_lines.specs.Lines.{Line}
 use Rattle.session_meaning.specs.Effects.{Effect}
 use Rattle.session_meaning.specs.Outcomes.{Performs}
+use Rattle.oscillation_x.specs.Passes.{Pass}
+use Rattle.session_meaning.specs.Passing.{PassesThrough}
 
 -- a command has one effect on some data: one outcome, and one list of lines
 abbrev pub EffectsAreUnique : Type 0
@@ -26,3 +28,9 @@ abbrev pub CommandsPerformOneThing : Type 0
 CommandsPerformOneThing =
     (old new other : SessionData) (command : Command) (lines more : List Line) (texts others : List GroupTextData) →
     Performs old command new lines texts → Performs old command other more others → (new ≡ other) × (lines ≡ more) × (texts ≡ others)
+
+-- a command has one list of steps and phases
+abbrev pub CommandsPassThroughOneList : Type 0
+CommandsPassThroughOneList =
+    (old : SessionData) (command : Command) (passes other : List Pass) → PassesThrough old command passes → PassesThrough old command other →
+    passes ≡ other

@@ -3,6 +3,7 @@ pub mod Sessions
 pub mod Refusals
 pub mod Preparing
 pub mod Effects
+pub mod Passing
 pub mod Sinks
 pub mod Switches
 pub mod Machines

@@ -1,5 +1,5 @@
 -- The state of a session's nodes, and the machine that moves it, if there is one: what calls inside the session do to both.
-use Rattle.std.specs.Prelude.{◌≡◌, ◌≢◌, ℕ, ◌+◌, ◌<◌, ◌≤◌, ◌⊎◌, Bool, false, List, length, ◌++◌, All, Option, None, Some, Result, Ok, Err}
+use Rattle.std.specs.Prelude.{◌≡◌, ◌≢◌, ℕ, ◌<◌, ◌≤◌, ◌⊎◌, Bool, false, List, length, ◌++◌, All, Option, None, Some, Result, Ok, Err}
 use Rattle.ternary.specs.declared.tern.Tern.{Tern}
 use Rattle.ternary.specs.Counts.{raised}
 use Rattle.strength_order.specs.declared.TheConstants.{INPUT_LEVEL}
@@ -190,10 +190,11 @@ pub record StaysPut (old new : Option MachineData) : Type 0 where
   pub moves : moves_of new ≡ moves_of old
   pub placed : placed_of new ≡ placed_of old
 
--- what steps leave alone: the circuit, the clocks and the watch list
+-- what steps leave alone: the circuit, the clocks, the limit and the watch list
 pub record SameSetup (old new : SessionData) : Type 0 where
   pub circuit : new.circuit ≡ old.circuit
   pub clocks : new.clocks ≡ old.clocks
+  pub limit : new.limit ≡ old.limit
   pub watched : new.watched ≡ old.watched
 
 -- a unit step was done

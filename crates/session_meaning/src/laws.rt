@@ -1,7 +1,7 @@
 //! What holds of a session's machine and of its commands, whatever they are.
 
 ghost use Rattle.std.specs.Prelude.{◌≡◌};
-ghost use Rattle.session_meaning.specs.Laws.{CommandsPerformOneThing, EffectsAreUnique, SavesComeBack};
+ghost use Rattle.session_meaning.specs.Laws.{CommandsPassThroughOneList, CommandsPerformOneThing, EffectsAreUnique, SavesComeBack};
 ghost use Rattle.session_meaning.specs.Machines.{OnlyEditsLoseMachines};
 ghost use Rattle.session_meaning.specs.declared.TheConstants.{MOST_WATCHED, MOST_SAVES, FIRST_LIMIT};
 
@@ -27,4 +27,9 @@ pub fn saves_come_back()
 pub fn commands_have_one_effect()
     ensures effect { EffectsAreUnique }
     ensures performed { CommandsPerformOneThing }
+{}
+
+/// A law: the steps and phases of a command, and the states that they pass through, are determined.
+pub fn commands_pass_through_one_list()
+    ensures { CommandsPassThroughOneList }
 {}

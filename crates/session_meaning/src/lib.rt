@@ -7,7 +7,8 @@
 //! does, and the lines that it tells; `Obeys` is what a call comes to, to the data, to what is heard of the
 //! lines and to the texts that are analysed. `IsMachineAfter` is what each command does to the machine, and
 //! the law `only_edits_lose_the_machine` says that no others end without the one that was there. By the law
-//! `commands_have_one_effect` what a command does is determined.
+//! `commands_have_one_effect` what a command does is determined. `PassesThrough` is what an onlooker sees of a
+//! command, and by `commands_pass_through_one_list` that is determined too.
 //!
 //! ```text
 //! `set a=1` at a node that is no input node has the refusal NotInput; at an input node its effect is a state
@@ -16,8 +17,8 @@
 //!
 //! For the proofs of crates above: `EffectLemmas`, how each formed command ends, and that what is
 //! done keeps the data ready. They cite `BeatLemmas`, `ClockLemmas`, `EditLemmas`, `LeavingLemmas`, `LineLemmas`, `MachineLemmas`,
-//! `OutcomeLemmas`, `RefusalLemmas`, `SizeLemmas`, `StateLemmas`, `UniqueBuilds` and `UniqueEffects` too,
-//! whose heads say what they are of. `cosmos_session` cites the others: `BackLemmas`, `BuildLemmas`, `LastLemmas`,
+//! `OutcomeLemmas`, `PassExistence`, `PassingLemmas`, `RefusalLemmas`, `SizeLemmas`, `StateLemmas`, `UniqueBuilds` and
+//! `UniqueEffects` too, whose heads say what they are of. `cosmos_session` cites the others: `BackLemmas`, `BuildLemmas`, `LastLemmas`,
 //! `MoveLemmas`, `ReportLemmas`, `RestLemmas`, `RoomLemmas`, `SaveLemmas`, `StayingLemmas`, `TickLemmas` and `UndoLemmas`.
 //!
 //! After Bryant, "A Switch-Level Model and Simulator for MOS Digital Systems", 1984, and Bryant, Beatty,
@@ -32,7 +33,8 @@ mod switches;
 pub use clock::{Clock, places_of};
 pub use fault::{ApplyFault, Refusal};
 pub use laws::{
-    commands_have_one_effect, limits_are_as_stated, only_edits_lose_the_machine, saves_come_back,
+    commands_have_one_effect, commands_pass_through_one_list, limits_are_as_stated,
+    only_edits_lose_the_machine, saves_come_back,
 };
 pub use switches::SwitchEdit;
 

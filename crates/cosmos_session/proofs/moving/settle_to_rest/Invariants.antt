@@ -2,7 +2,7 @@
 use Rattle.cosmos_session.proofs.moving.settle_to_rest.Given as goal
 
 abbrev pub ghosts-settle_uncounted : goal.ghosts-settle_uncounted
-ghosts-settle_uncounted a = record { name = a.blank.name; parts = a.blank.parts }
+ghosts-settle_uncounted g a = record { name = a.blank.name; parts = a.blank.parts }
 
 abbrev pub ghosts-rest_uncounted : goal.ghosts-rest_uncounted
-ghosts-rest_uncounted a = record { name = a.blank.name; parts = a.blank.parts }
+ghosts-rest_uncounted g a = record { name = a.blank.name; parts = a.blank.parts }

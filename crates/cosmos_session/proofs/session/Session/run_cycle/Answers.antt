@@ -4,6 +4,9 @@ use Rattle.std.specs.List.{range_with_len}
 use Rattle.std.proofs.lemmas.Result.{err_from_is_err_and}
 use Rattle.session_meaning.specs.Sessions.{SessionData, HeldSession, IsReady, places_of}
 use Rattle.session_meaning.specs.Effects.{with_beat}
+use Rattle.session_meaning.specs.Machines.{IsHeldSession}
+use Rattle.session_meaning.proofs.EffectLemmas.{beats-ready}
+use Rattle.session_meaning.proofs.PassingLemmas.{beat_seen, known-put}
 use Rattle.session_meaning.proofs.BeatLemmas.{beat_done, beat_stopped, places-next, places-split}
 use Rattle.session_meaning.proofs.MoveLemmas.{beats_on-more, setup-put, setup-phase}
 use Rattle.cosmos_session.proofs.session.Session.run_cycle.Goals as goal
@@ -19,6 +22,16 @@ settle_and_tell-requires-clause-room g c =
     let setup = setup-put c.args.self.now.core c.loop-place.self.core c.put_clocks.new.self.core c.loop-place.place c.loop-place.invariant.setup
     c.put_clocks.ensures.beat in
     omega (arith, ap length setup.watched, c.loop-place.invariant.room, c.requires.room)
+
+pub settle_and_tell-requires-clause-knows : goal.settle_and_tell-requires-clause-knows
+settle_and_tell-requires-clause-knows g c =
+    let start = c.args.self.now.core in
+    let now = c.loop-place.self.core in
+    let session = subst IsHeldSession c.self.view_is c.self.invariant.0 in
+    let ready = beats-ready (range_with_len 0 c.loop-place.place) start now c.loop-place.invariant.done.lines c.loop-place.invariant.done.beats
+    session.core.ready in
+    known-put g.O.Observer.knows c.loop-place.onlooker start now c.put_clocks.new.self.core c.loop-place.place session.core c.loop-place.invariant.setup
+    ready.states c.put_clocks.ensures.beat c.loop-place.invariant.knows
 
 pub returns-in_err-settle_and_tell-clause-beats : goal.returns-in_err-settle_and_tell-clause-beats
 returns-in_err-settle_and_tell-clause-beats g c =
@@ -60,6 +73,11 @@ loop-place-preserved g c =
       setup = setup-phase start.core now.core put.core next.core place c.loop-place.invariant.setup c.put_clocks.ensures.beat c.settle_and_tell.ensures.setup;
       room = c.settle_and_tell.ensures.room ∙ c.loop-place.invariant.room;
       line = c.settle_and_tell.ensures.line ∙ c.loop-place.invariant.line;
+      seen = rw (places-next place) (beat_seen g.O.Observer.begin g.O.Observer.see g.O.Observer.rest start.core now.core put.core next.core
+          (range_with_len 0 place) place (g.O.Observer.seen c.args.onlooker.now) (g.O.Observer.seen c.loop-place.onlooker)
+          (g.O.Observer.seen c.settle_and_tell.new.onlooker) c.loop-place.invariant.setup c.put_clocks.ensures.beat c.loop-place.invariant.seen
+          c.settle_and_tell.ensures.seen);
+      knows = c.settle_and_tell.ensures.knows;
       faults = c.in_ok-settle_and_tell.ensures.faults ∙ c.loop-place.invariant.faults;
       refusals = c.in_ok-settle_and_tell.ensures.refusals ∙ c.loop-place.invariant.refusals;
     }

@@ -4,6 +4,7 @@ use Rattle.std.proofs.lemmas.Result.{err_from_is_err_and}
 use Rattle.session_meaning.specs.Sessions.{places_of}
 use Rattle.session_meaning.specs.Stages.{BeatsMove}
 use Rattle.session_meaning.proofs.BeatLemmas.{beats_done-none, no_cycle, cycle_done, cycle_stopped}
+use Rattle.session_meaning.proofs.PassingLemmas.{cycles_seen, cycles_seen-first}
 use Rattle.session_meaning.proofs.MoveLemmas.{beats_move-none, cycle_moves, setup-same, setup-more}
 use Rattle.cosmos_session.proofs.session.Session.run_cycles.Goals as goal
 
@@ -16,6 +17,8 @@ loop-cycle-init g c =
           (beats_move-none start c.requires.built);
       built = c.requires.built;
       setup = setup-same start.core;
+      seen = cycles_seen-first g.O.Observer.begin g.O.Observer.see g.O.Observer.rest start.core (g.O.Observer.seen c.args.onlooker.now);
+      knows = c.requires.knows;
       room = refl;
       line = refl;
       faults = refl;
@@ -47,6 +50,11 @@ loop-cycle-preserved g c = record {
   setup = setup-more c.args.self.now.core c.loop-cycle.self.core c.run_cycle.new.self.core c.loop-cycle.invariant.setup c.run_cycle.ensures.setup;
   room = c.run_cycle.ensures.room ∙ c.loop-cycle.invariant.room;
   line = c.run_cycle.ensures.line ∙ c.loop-cycle.invariant.line;
+  seen = cycles_seen g.O.Observer.begin g.O.Observer.see g.O.Observer.rest c.args.self.now.core c.loop-cycle.self.core c.run_cycle.new.self.core
+      c.loop-cycle._cycle
+      (g.O.Observer.seen c.args.onlooker.now) (g.O.Observer.seen c.loop-cycle.onlooker) (g.O.Observer.seen c.run_cycle.new.onlooker)
+      c.loop-cycle.invariant.setup c.loop-cycle.invariant.seen c.in_ok-run_cycle.ensures.seen;
+  knows = c.in_ok-run_cycle.ensures.knows;
   faults = c.in_ok-run_cycle.ensures.faults ∙ c.loop-cycle.invariant.faults;
   refusals = c.in_ok-run_cycle.ensures.refusals ∙ c.loop-cycle.invariant.refusals;
 }

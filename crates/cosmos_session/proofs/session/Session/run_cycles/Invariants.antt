@@ -3,6 +3,7 @@ use Rattle.std.proofs.Common.{◌≡◌}
 use Rattle.session_meaning.specs.Sessions.{places_of}
 use Rattle.session_meaning.specs.Effects.{places_in}
 use Rattle.session_meaning.specs.Machines.{IsBuilt}
+use Rattle.session_meaning.specs.Passing.{SeesBeats}
 use Rattle.session_meaning.specs.Stages.{BeatsMove, SameSetup}
 use Rattle.session_meaning.proofs.BeatLemmas.{BeatsDone}
 use Rattle.cosmos_session.proofs.session.Session.run_cycles.Given as goal
@@ -15,6 +16,9 @@ invariant-loop-cycle g l = record {
   setup : SameSetup l.fn.self.core l.self.core;
   room : l.room ≡ l.fn.room;
   line : g.L.Lines.room l.out ≡ g.L.Lines.room l.fn.out;
+  seen : SeesBeats g.O.Observer.begin g.O.Observer.see g.O.Observer.rest (places_in (places_of l.fn.self.core.clocks) l._cycle) l.fn.self.core
+      l.self.core (g.O.Observer.seen l.fn.onlooker) (g.O.Observer.seen l.onlooker);
+  knows : g.O.Observer.knows l.onlooker l.self.core.state;
   faults : g.L.Lines.faults l.out ≡ g.L.Lines.faults l.fn.out;
   refusals : g.L.Lines.refusals l.out ≡ g.L.Lines.refusals l.fn.out;
 }

@@ -1,5 +1,5 @@
 use Rattle.session_meaning.proofs.OutcomeLemmas.{names_node}
-use Rattle.cosmos_session.proofs.session.Session.apply.Goals as goal
+use Rattle.cosmos_session.proofs.session.Session.apply_seen.Goals as goal
 
 pub returns-clause-named : goal.returns-clause-named
 returns-clause-named g c =
