@@ -7,3 +7,4 @@ pub mod RunLemmas
 pub mod HaltLemmas
 pub mod PrintedLemmas
 pub mod UniqueRuns
+pub mod ShownLemmas

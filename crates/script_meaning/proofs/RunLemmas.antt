@@ -125,6 +125,23 @@ module _ {H : Type 0} {hear : H → Told → H} where
         analysed = come.analysed ∙ ap (λ (texts : List GroupTextData). asked ++ texts) (sym (append-nil come.texts));
       })
 
+-- where it stopped between two lines, all was heard that those before it tell
+pub stops_here : {H : Type 0} {hear : H → Told → H} (part : H → Told → H → Type 0) {reading : Reading} {cut cuts : Option ℕ} {start now : SessionData}
+    {all left : List (ℕ × List ℕ)} {before after : H} {asked told : List GroupTextData} →
+    HasCome hear reading cut start all before asked now left after told → IsSound reading → cut ≡ cuts →
+    BreaksOff hear part reading cuts start all before after
+stops_here {hear = hear} part {reading} {cut} {cuts} {start} {now} {all} {left} {before} {after} come sound same =
+    let rest = outcome_exists reading sound cut left now come.ready in
+    subst (λ at. BreaksOff hear part reading at start all before after) same
+    (record {
+      outcome = after_command come.lines come.texts rest.0;
+      runs = come.goes_on rest.0 rest.1;
+      heard = inl (
+        of_column 0 rest.0.lines,
+        record { done = of_column 0 come.lines; split = of_column-append 0 come.lines rest.0.lines; heard = come.heard },
+      );
+    })
+
 -- at a line, after those before it; what is told of the whole is told where the line that is too far is known in other words
 module _ {H : Type 0} {hear : H → Told → H} (part : H → Told → H → Type 0) {reading : Reading} {cut : Option ℕ} {start : SessionData}
     {all : List (ℕ × List ℕ)} {before : H} {asked : List GroupTextData} (now : HeldSession) {line : ℕ × List ℕ} {left : List (ℕ × List ℕ)} {after : H}

@@ -1,5 +1,5 @@
 -- What a line comes to, by what its command comes to or by how it is refused.
-use Rattle.std.proofs.Common.{◌≡◌, ℕ, ◌⊎◌, inl, inr, Bool, false, nat_eq, List, Option, None, Some, Result, Ok, Err, refl, sym, ap, ◌∙◌}
+use Rattle.std.proofs.Common.{◌≡◌, ℕ, ◌⊎◌, inl, inr, Bool, false, nat_eq, List, Option, None, Some, Result, Ok, Err, OnOk, refl, sym, ap, ◌∙◌}
 use Rattle.std.specs.Option.{option_eq}
 use Rattle.line_words.specs.Files.{is_cut}
 use Rattle.script_lang.specs.declared.command.Command.{Command}
@@ -16,6 +16,7 @@ use Rattle.run_ends.specs.Causes.{plain_cause}
 use Rattle.script_meaning.specs.Codes.{script_code}
 use Rattle.script_meaning.specs.Runs.{Reading, Asks, IsRefused, unread, refused}
 use Rattle.run_ends.specs.Stops.{IsRefusedOnce}
+use Rattle.script_meaning.specs.declared.turn.Turn.TheVariants.{Accepted}
 use Rattle.script_meaning.specs.Turns.{TakesTurn, turn_after}
 
 -- a line that asks for a command comes to what the command comes to, and the hearer lacked memory once at the most
@@ -51,3 +52,12 @@ is_unread reading cut session line fault code inside (inr is) coded = unread fau
 pub is_inside : (cut : Option ℕ) (number : ℕ) (same : Bool) → same ≡ option_eq nat_eq cut (Some number) → same ≡ false → is_cut cut number ≡ false
 is_inside None number same tested is = refl
 is_inside (Some line) number same tested is = sym tested ∙ is
+
+-- what holds behind a command that was accepted
+pub accepted_ok : {P : Type 0} (ended : Result (Unit {0}) ApplyFault) → turn_after ended ≡ Ok Accepted → OnOk ended P → P
+accepted_ok (Ok _) is holds = holds
+accepted_ok (Err (Refused refusal)) is holds = absurd (cc)
+accepted_ok (Err (GroupNodes node count)) is holds = absurd (cc)
+accepted_ok (Err (GroupSwitches node count)) is holds = absurd (cc)
+accepted_ok (Err WriteFault) is holds = absurd (cc)
+accepted_ok (Err NoMemory) is holds = absurd (cc)

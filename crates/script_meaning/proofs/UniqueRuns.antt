@@ -16,12 +16,12 @@ use Rattle.script_meaning.specs.Laws.{RunsAreUnique, ScriptAnswersAreUnique}
 use Rattle.script_meaning.proofs.FirstRefusedLemmas.{not_refused}
 
 -- a line asks for one command
-same_command : {reading : Reading} {cut : Option ℕ} {session : SessionData} {line : ℕ × List ℕ} {command other : Command} →
+pub same_command : {reading : Reading} {cut : Option ℕ} {session : SessionData} {line : ℕ × List ℕ} {command other : Command} →
     Asks reading cut session line command → Asks reading cut session line other → command ≡ other
 same_command one two = cc (one.asked, two.asked)
 
 -- and is refused for one cause
-cause_unique : {reading : Reading} {cut : Option ℕ} {session : SessionData} {line : ℕ × List ℕ} {cause other : Cause} →
+pub cause_unique : {reading : Reading} {cut : Option ℕ} {session : SessionData} {line : ℕ × List ℕ} {cause other : Cause} →
     IsRefused reading cut session line cause → IsRefused reading cut session line other → cause ≡ other
 cause_unique (too_long past is) (too_long again also) = is ∙ sym also
 cause_unique (too_long past is) (unread fault code inside read coded also) = absurd (true≢false (sym past ∙ inside))

@@ -1,7 +1,7 @@
 //! Laws of what a script tells.
 
 ghost use Rattle.script_meaning.specs.FirstRefused.{ObeyedIsNotRefused, RunsEndAtTheFirst};
-ghost use Rattle.script_meaning.specs.Laws.{RunsAreUnique, ScriptAnswersAreUnique};
+ghost use Rattle.script_meaning.specs.Laws.{RunsAreUnique, ScriptAnswersAreUnique, ScriptsShowOneList};
 
 /// A law: a script tells what its lines tell one after the other, to its end or to its first refused
 /// line, which has no refused line before it.
@@ -15,4 +15,9 @@ pub fn scripts_end_at_their_first_refused_line()
 pub fn scripts_have_one_answer()
     ensures runs { RunsAreUnique }
     ensures answers { ScriptAnswersAreUnique }
+{}
+
+/// A law: what an onlooker is shown of lines that are obeyed is determined.
+pub fn scripts_show_one_list()
+    ensures { ScriptsShowOneList }
 {}

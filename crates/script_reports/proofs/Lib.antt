@@ -1,5 +1,7 @@
 mod UnfailingLemmas
 mod SizeLemmas
 mod SummedLemmas
+mod HaltedLemmas
 mod ReasonedLemmas
+mod CoveredLemmas
 pub mod UniqueAnswers

@@ -28,8 +28,14 @@ TellsSize graph End = Unit {0}
 TellsSize graph (Refused number code) = Unit {0}
 TellsSize graph (TooLarge number fault) = TellsTooLarge graph fault
 
+-- the answer is the line of the refusal that ended the lines
+abbrev pub IsHaltRefused : SessionData → Halt → Answer → Type 0
+IsHaltRefused end End = λ answer. ⊥
+IsHaltRefused end (Refused number code) = IsRefusal (Script number) code ScriptRefused
+IsHaltRefused end (TooLarge number fault) = IsTooLarge end.circuit (Script number) ScriptRefused
+
 -- the answer explains the node of this name in these data, if all lines were obeyed; else it is the line of the refusal that ended them
 abbrev pub IsHaltExplained : List ℕ → SessionData → Halt → Answer → Type 0
 IsHaltExplained name end End = λ answer. IsExplained end (node_of end.circuit.names name) answer.status answer.text
-IsHaltExplained name end (Refused number code) = IsRefusal (Script number) code ScriptRefused
-IsHaltExplained name end (TooLarge number fault) = IsTooLarge end.circuit (Script number) ScriptRefused
+IsHaltExplained name end (Refused number code) = IsHaltRefused end (Refused number code)
+IsHaltExplained name end (TooLarge number fault) = IsHaltRefused end (TooLarge number fault)

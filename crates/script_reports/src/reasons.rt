@@ -1,21 +1,21 @@
 //! What `why` writes: the reasons of a node at the end of a script.
 
 ghost use Rattle.std.specs.Prelude.{◌≡◌, ◌≢◌, ◌<◌, IfOk, IfErr, IfSome};
-ghost use Rattle.script_reports.specs.Words.{faults_written, hear_nothing, node_of, nodes, plain_reading, AreGroupsOf, ExplainsNode, ExplainsRail, HaltsAt, IsCircuit, IsExplained, IsHaltExplained, IsReady, IsReasoned, IsRefusedOnce, IsTold, IsToldBy, TellsSize};
-ghost use Rattle.line_words.specs.Files as file;
+ghost use Rattle.script_reports.specs.Words.{faults_written, node_of, nodes, AreGroupsOf, ExplainsNode, ExplainsRail, IsCircuit, IsExplained, IsHaltExplained, IsReasoned, IsRefusedOnce, IsTold, IsToldBy, TellsSize};
 ghost use Rattle.run_ends.specs.declared.status.Status.TheVariants as status;
 
+use crate::unwritten::{refuse_at, run_unwritten};
 use channel_groups::Groups;
 use cosmos_session::Session;
 use group_analysis::Analyst;
 use netlist::Circuit;
+use oscillation_x::Blind;
 use port_edge::{Sink, send};
 use run_ends::{End, Stop, refuse};
 use script_meaning::Halt;
-use script_run::{Plain, obey_lines, refuse_halt};
 use std::alloc::Global;
 use ternary::NoMemory;
-use told_lines::{Printer, Silence};
+use told_lines::Printer;
 use wave_print::{FaultCode, FaultPlace};
 use why_path::{group_reason, reason_line};
 
@@ -37,26 +37,8 @@ pub fn explain<S: Sink + Drop, A: Analyst>(
     ensures refused { IsRefusedOnce out.old.refusals out.new.refusals result }
 {
     let mut session = Session::new(alloc, circuit)?;
-    let halt = run_unwritten(alloc, &mut session, text, analyst)?;
+    let halt = run_unwritten(alloc, &mut session, text, analyst, &mut Blind {})?;
     explain_at(alloc, &session, halt, text, name, out)
-}
-
-// Obeys the lines of a script, which nobody hears.
-#[tactic(auto, using(crate::proofs::UnfailingLemmas::memory_alone))]
-fn run_unwritten<A: Analyst>(
-    alloc: Global,
-    session: &mut Session,
-    text: &[u8],
-    analyst: &mut A,
-) -> Result<Halt, Stop>
-    requires { IsReady session.old.core }
-    ensures halts { IfOk result (HaltsAt hear_nothing plain_reading
-        (file.cut_line text.now) session.old.core (file.lines_in text.now) session.new.core
-        tt tt (A.analysed analyst.old) (A.analysed analyst.new)) }
-    ensures memory { IfErr result (λ stop. stop ≡ Stop.Memory) }
-{
-    let mut nobody = Silence::new();
-    obey_lines(alloc, session, text, &Plain, &mut nobody, analyst)
 }
 
 // Explains the node of this name where the lines of a script ended, or writes the line of the refusal that
@@ -78,10 +60,7 @@ fn explain_at<S: Sink + Drop>(
 {
     match halt {
         Halt::End => explain_name(alloc, session, name, out),
-        _ => {
-            let vectors = session.vectors();
-            refuse_halt(alloc, session.circuit(), vectors, halt, text, 1, out)
-        }
+        _ => refuse_at(alloc, session, halt, text, out),
     }
 }
 

@@ -1,8 +1,8 @@
 //! Running the lines of a script.
 
-ghost use Rattle.std.specs.Prelude.{◌≡◌, ◌≢◌, ℕ, None, IfErr};
+ghost use Rattle.std.specs.Prelude.{◌≡◌, ◌≢◌, ℕ, List, Option, None, Ok, IfErr};
 ghost use Rattle.line_words.specs.Files as file;
-ghost use Rattle.script_run.specs.Words.{faults_applied, faults_written, plain_reading, status_of, status_told, turn_after, IsReady, IsRefusedOnce, TakesTurn, TellsHalt, TellsRun};
+ghost use Rattle.script_run.specs.Words.{faults_applied, faults_written, plain_reading, status_of, status_told, turn_after, Asks, IsFormed, IsReady, IsRefusedOnce, PassesThrough, Reading, SeesAll, SeesBehind, SeesLine, TakesTurn, TellsHalt, TellsRun};
 
 use crate::codes::{refusal_code, script_code};
 use crate::reader::{LineReader, Plain};
@@ -11,7 +11,9 @@ use circuit_texts::BuildFault;
 use cosmos_session::{ApplyFault, Session};
 use group_analysis::Analyst;
 use line_words::{Line, cut_line, front, lines};
+use oscillation_x::{Blind, Onlooker};
 use run_ends::{End, Stop};
+use script_lang::Command;
 use script_meaning::{Halt, Turn};
 use std::alloc::Global;
 use told_lines::Lines;
@@ -62,9 +64,36 @@ pub fn obey_lines<R: LineReader, L: Lines, A: Analyst>(
     ensures write { L.faults out.new ≡ faults_written (L.faults out.old) result }
     ensures refused { IsRefusedOnce (L.refusals out.old) (L.refusals out.new) result }
 {
+    obey_seen(alloc, session, text, reader, out, analyst, &mut Blind {})
+}
+
+/// Obeys the lines of a script as `obey_lines` does, under the eyes of an onlooker, who knows the session's state.
+///
+/// If all lines are obeyed the onlooker was shown the steps and phases of each of them, and the state behind it.
+pub fn obey_seen<R: LineReader, L: Lines, A: Analyst, O: Onlooker>(
+    alloc: Global,
+    session: &mut Session,
+    text: &[u8],
+    reader: &R,
+    out: &mut L,
+    analyst: &mut A,
+    onlooker: &mut O,
+) -> Result<Halt, Stop>
+    requires ready { IsReady session.old.core }
+    requires knows { O.knows onlooker.old session.old.core.state }
+    ensures told { TellsHalt L.hear L.part (R.reading reader.now)
+        (file.cut_line text.now) session.old.core (file.lines_in text.now) session.new.core
+        (L.heard out.old) (L.heard out.new) (A.analysed analyst.old) (A.analysed analyst.new) result }
+    ensures no_read { IfErr result (λ stop. stop ≢ Stop.Read) }
+    ensures write { L.faults out.new ≡ faults_written (L.faults out.old) result }
+    ensures refused { IsRefusedOnce (L.refusals out.old) (L.refusals out.new) result }
+    ensures seen { result ≡ Ok Halt.End → SeesAll O.begin O.see O.rest (R.reading reader.now)
+        (file.cut_line text.now) session.old.core (file.lines_in text.now) session.new.core (O.seen onlooker.old) (O.seen onlooker.new) }
+    ensures knows { result ≡ Ok Halt.End → O.knows onlooker.new session.new.core.state }
+{
     let cut = cut_line(text);
     for line in lines(front(text)) {
-        match run_line(alloc, session, cut, line, reader, out, analyst)? {
+        match run_seen(alloc, session, cut, line, reader, out, analyst, onlooker)? {
             Turn::Accepted => {}
             Turn::Refused(code) => return Ok(Halt::Refused(line.number, code)),
             Turn::TooLarge(fault) => return Ok(Halt::TooLarge(line.number, fault)),
@@ -101,16 +130,82 @@ pub fn run_line<R: LineReader, L: Lines, A: Analyst>(
     ensures write { L.faults out.new ≡ faults_written (L.faults out.old) result }
     ensures refused { IsRefusedOnce (L.refusals out.old) (L.refusals out.new) result }
 {
+    run_seen(
+        alloc,
+        session,
+        cut,
+        line,
+        reader,
+        out,
+        analyst,
+        &mut Blind {},
+    )
+}
+
+// Runs one line, and shows its steps and phases to an onlooker, who knows the session's state, and the state behind it.
+fn run_seen<R: LineReader, L: Lines, A: Analyst, O: Onlooker>(
+    alloc: Global,
+    session: &mut Session,
+    cut: Option<u64>,
+    line: Line<'_>,
+    reader: &R,
+    out: &mut L,
+    analyst: &mut A,
+    onlooker: &mut O,
+) -> Result<Turn, Stop>
+    requires { O.knows onlooker.old session.old.core.state }
+    ensures turn { TakesTurn L.hear L.part (R.reading reader.now)
+        cut (line.entry.number, line.entry.bytes.now) session.old session.new
+        (L.heard out.old) (L.heard out.new) (A.analysed analyst.old) (A.analysed analyst.new) result }
+    ensures no_read { IfErr result (λ stop. stop ≢ Stop.Read) }
+    ensures write { L.faults out.new ≡ faults_written (L.faults out.old) result }
+    ensures refused { IsRefusedOnce (L.refusals out.old) (L.refusals out.new) result }
+    ensures seen { result ≡ Ok Turn.Accepted → SeesLine O.begin O.see O.rest (R.reading reader.now)
+        cut session.old.core (line.entry.number, line.entry.bytes.now) session.new.core.state (O.seen onlooker.old) (O.seen onlooker.new) }
+    ensures knows { result ≡ Ok Turn.Accepted → O.knows onlooker.new session.new.core.state }
+{
     if cut == Some(line.number) {
         return Ok(Turn::Refused(FaultCode::S11TooLong));
     }
     match reader.read(alloc, line.bytes, session.circuit(), session.vectors()) {
-        Ok(Some(command)) => turn_of(session.apply(&command, analyst, out)),
-        Ok(None) => Ok(Turn::Accepted),
+        Ok(Some(command)) => obey_command(session, &command, out, analyst, onlooker),
+        Ok(None) => {
+            session.show_still(onlooker);
+            Ok(Turn::Accepted)
+        }
         Err(fault) => match script_code(fault) {
             Some(code) => Ok(Turn::Refused(code)),
             None => Err(Stop::Memory),
         },
+    }
+}
+
+// Obeys a line's command, and shows its steps and phases and the state behind it to an onlooker, who knows the session's state.
+fn obey_command<L: Lines, A: Analyst, O: Onlooker>(
+    session: &mut Session,
+    command: &Command,
+    out: &mut L,
+    analyst: &mut A,
+    onlooker: &mut O,
+) -> Result<Turn, Stop>
+    requires formed { IsFormed command.now }
+    requires knows { O.knows onlooker.old session.old.core.state }
+    ensures turn { (reading : Reading) (cut : Option ℕ) (line : ℕ × List ℕ) → Asks reading cut session.old.core line command.now →
+        TakesTurn L.hear L.part reading cut line session.old session.new
+        (L.heard out.old) (L.heard out.new) (A.analysed analyst.old) (A.analysed analyst.new) result }
+    ensures no_read { IfErr result (λ stop. stop ≢ Stop.Read) }
+    ensures write { L.faults out.new ≡ faults_written (L.faults out.old) result }
+    ensures refused { IsRefusedOnce (L.refusals out.old) (L.refusals out.new) result }
+    ensures seen { result ≡ Ok Turn.Accepted → SeesBehind O.begin O.see O.rest
+        (PassesThrough session.old.core command.now) session.new.core.state (O.seen onlooker.old) (O.seen onlooker.new) }
+    ensures knows { result ≡ Ok Turn.Accepted → O.knows onlooker.new session.new.core.state }
+{
+    match session.apply_seen(command, analyst, out, onlooker) {
+        Ok(()) => {
+            session.show_behind(command, onlooker)?;
+            Ok(Turn::Accepted)
+        }
+        Err(fault) => turn_of(Err(fault)),
     }
 }
 

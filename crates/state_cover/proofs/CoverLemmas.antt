@@ -2,11 +2,13 @@
 use Rattle.std.proofs.Common.{◌≡◌, ◌≢◌, ℕ, zero, suc, ◌+◌, ◌-◌, ◌<◌, ◌≤◌, inl, inr, ◌⊎◌, List, [], ◌∷◌, ◌++◌, length, refl, sym, ◌∙◌, ap, arith, subst}
 use Rattle.std.specs.Prelude.{slice_index_or, slice_set, replicate, take}
 use Rattle.std.proofs.lemmas.Bool.{cases_eq}
-use Rattle.std.proofs.lemmas.List.{ext_get_or, take_all, get_or-set_same, get_or-set_other, length-set}
+use Rattle.std.proofs.lemmas.Bool.{cases_lt}
+use Rattle.std.proofs.lemmas.List.{ext_get_or, take_all, get_or-append_right, get_or-replicate, get_or-set_same, get_or-set_other, length-append, length-replicate, length-set}
+use Rattle.std.proofs.Math.ListN.{get_or-append}
 use Rattle.ternary.specs.declared.tern.Tern.{Tern}
 use Rattle.ternary.specs.declared.tern.Tern.TheVariants.{Zero, One, Unk}
 use Rattle.path_meaning.specs.Switching.{state_at}
-use Rattle.oscillation_x.specs.Moved.{ListsChanges}
+use Rattle.oscillation_x.specs.Moved.{IsGrown, ListsChanges}
 use Rattle.oscillation_x.proofs.NumbersLemmas.{shift}
 use Rattle.state_cover.specs.declared.had.Had.{Had}
 use Rattle.state_cover.specs.Cover.{none_had, had_more, had_after, had_at, Knows, Notes}
@@ -64,11 +66,10 @@ had_after-padded (had ∷ hads) more (state ∷ states) count =
     ap (λ hads. had_more had state ∷ hads) (had_after-padded hads more states (omega arith))
 
 -- notes that were filled up with such
-pub had_after-filled : (hads : List Had) (states : List Tern) (count : ℕ) → count ≡ length hads → length hads ≤ length states →
-    had_after (take (length states) hads ++ replicate (length states - count) none_had) states ≡ had_after hads states
-had_after-filled hads states count is few =
-    ap (λ front. had_after (front ++ replicate (length states - count) none_had) states) (take_all (length states) hads few)
-    ∙ had_after-padded hads (length states - count) states (omega (arith, is, few))
+pub filled : (hads : List Had) (nodes count : ℕ) → count ≡ length hads → length hads ≤ nodes →
+    take nodes hads ++ replicate (nodes - count) none_had ≡ hads ++ replicate (nodes - length hads) none_had
+filled hads nodes count is few =
+    ap (λ front. front ++ replicate (nodes - count) none_had) (take_all nodes hads few) ∙ ap (λ n. hads ++ replicate (nodes - n) none_had) is
 
 -- all states are noted behind them
 pub knows_all : (hads : List Had) (states : List Tern) → length hads ≤ length states → Knows (had_after hads states) states
@@ -78,6 +79,58 @@ knows_all hads states few = record {
       let is = had_after-at hads states node inside in
       ap (λ had. had_more had (state_at states node)) is ∙ (had_more-twice (had_at hads node) (state_at states node) ∙ sym is);
 }
+
+-- states that are noted make no difference
+pub had_after-known : (hads : List Had) (states : List Tern) → Knows hads states → had_after hads states ≡ hads
+had_after-known hads states knows =
+    let count = had_after-count hads states (omega (arith, knows.count)) in
+    ext_get_or none_had (had_after hads states) hads (count ∙ sym knows.count) (λ node inside.
+    had_after-at hads states node (omega (arith, inside, count)) ∙ knows.noted node (omega (arith, inside, count)))
+
+-- a node that is X leaves its notes
+grown_note : (hads : List Had) (old : List Tern) (more node : ℕ) → length old ≤ node → node < length old + more →
+    had_more (had_at (hads ++ replicate more none_had) node) (state_at (old ++ replicate more Unk) node) ≡ had_at (hads ++ replicate more none_had) node
+grown_note hads old more node beyond inside =
+    let unknown : state_at (old ++ replicate more Unk) node ≡ Unk =
+    get_or-append_right old (replicate more Unk) (length old) node Zero refl beyond
+    ∙ get_or-replicate more (node - length old) Unk Zero (omega (arith, beyond, inside)) in
+    ap (λ state. had_more (had_at (hads ++ replicate more none_had) node) state) unknown
+
+pub knows_grown : (hads : List Had) (old : List Tern) (more : ℕ) → Knows hads old → Knows (hads ++ replicate more none_had) (old ++ replicate more Unk)
+knows_grown hads old more knows = record {
+  count = length-append hads (replicate more none_had) ∙ ap (λ n. n + length (replicate more none_had)) knows.count
+      ∙ ap (λ n. length old + n) (length-replicate more none_had ∙ sym (length-replicate more Unk)) ∙ sym (length-append old (replicate more Unk));
+  noted = λ node inside. elim (cases_lt node (length old)) [
+    | inl here ↦
+        let had = get_or-append hads (replicate more none_had) none_had node (omega (arith, here, knows.count)) in
+        let state = get_or-append old (replicate more Unk) Zero node here in
+        ap (λ had. had_more had (state_at (old ++ replicate more Unk) node)) had ∙ ap (had_more (had_at hads node)) state
+        ∙ knows.noted node here ∙ sym had
+    | inr beyond ↦ grown_note hads old more node (omega (arith, beyond))
+        (omega (arith, inside, length-append old (replicate more Unk), length-replicate more Unk))
+  ];
+}
+
+-- so a state that grew is noted, once there is a note of each node
+pub grown_after : (hads : List Had) (old new : List Tern) → Knows hads old → IsGrown old new →
+    hads ++ replicate (length new - length hads) none_had ≡ had_after hads new
+grown_after hads old new knows grown =
+    let padded : List Had = hads ++ replicate grown.0 none_had in
+    let counted : length new ≡ length old + grown.0 =
+    ap length grown.1 ∙ length-append old (replicate grown.0 Unk) ∙ ap (λ n. length old + n) (length-replicate grown.0 Unk) in
+    let more : length new - length hads ≡ grown.0 = omega (arith, counted, knows.count) in
+    let known : Knows padded new = subst (Knows padded) (sym grown.1) (knows_grown hads old grown.0 knows) in
+    ap (λ n. hads ++ replicate n none_had) more ∙ sym (had_after-known padded new known)
+    ∙ had_after-padded hads grown.0 new (omega (arith, counted, knows.count))
+
+pub grown_known : (hads : List Had) (old new : List Tern) → Knows hads old → IsGrown old new →
+    Knows (hads ++ replicate (length new - length hads) none_had) new
+grown_known hads old new knows grown =
+    let counted : length new ≡ length old + grown.0 =
+    ap length grown.1 ∙ length-append old (replicate grown.0 Unk) ∙ ap (λ n. length old + n) (length-replicate grown.0 Unk) in
+    let more : length new - length hads ≡ grown.0 = omega (arith, counted, knows.count) in
+    subst (λ (n : ℕ). Knows (hads ++ replicate n none_had) new) (sym more)
+    (subst (Knows (hads ++ replicate grown.0 none_had)) (sym grown.1) (knows_grown hads old grown.0 knows))
 
 -- the first of all nodes are noted, and the others have their notes still
 pub record FirstNoted (states : List Tern) (before now : List Had) (at : ℕ) : Type 0 where

@@ -1,13 +1,14 @@
 -- The notes tell of each node which of 0 and 1 it had in one of the states.
-use Rattle.std.proofs.Common.{◌≡◌, ℕ, ◌<◌, ◌↔◌, inl, inr, ◌⊎◌, List, [], ◌∷◌, length, true, false, IsTrue, refl, sym, ◌∙◌, ap, arith, subst}
+use Rattle.std.proofs.Common.{◌≡◌, ℕ, Bool, ◌<◌, ◌↔◌, inl, inr, ◌⊎◌, List, [], ◌∷◌, length, true, false, IsTrue, refl, sym, ◌∙◌, ap, arith, subst}
 use Rattle.std.proofs.lemmas.Bool.{cases_lt}
+use Rattle.std.proofs.lemmas.List.{ext_get_or}
 use Rattle.ternary.specs.declared.tern.Tern.{Tern}
 use Rattle.ternary.specs.declared.tern.Tern.TheVariants.{Zero, One, Unk}
 use Rattle.path_meaning.specs.Switching.{state_at}
 use Rattle.oscillation_x.specs.Passing.{see_all}
 use Rattle.state_cover.specs.declared.had.Had.{Had}
 use Rattle.state_cover.specs.Cover.{none_had, had_more, had_after, had_at}
-use Rattle.state_cover.specs.Laws.{HasIn, NotesTellTheStates}
+use Rattle.state_cover.specs.Laws.{HasIn, TellStates, NotesTellTheStates}
 use Rattle.state_cover.proofs.CoverLemmas.{had_after-at, had_after-beyond}
 
 -- a node that has a state more had 0 if it had it before, or has it now
@@ -79,3 +80,24 @@ notes_tell passed node = (
   from_none (λ had. IsTrue had.zero) Zero more_zero (λ has. absurd cc) passed node,
   from_none (λ had. IsTrue had.one) One more_one (λ has. absurd cc) passed node,
 )
+
+-- ---- and there is one list of such notes
+
+same_flag : (a b : Bool) → (IsTrue a ↔ IsTrue b) → a ≡ b
+same_flag true true both = refl
+same_flag true false both = absurd (cc (both.0 refl))
+same_flag false true both = absurd (cc (both.1 refl))
+same_flag false false both = refl
+
+both_ways : {A B C : Type 0} → (A ↔ C) → (B ↔ C) → (A ↔ B)
+both_ways one two = ((λ a. two.1 (one.0 a)), (λ b. one.1 (two.0 b)))
+
+same_had : (a b : Had) → (IsTrue a.zero ↔ IsTrue b.zero) → (IsTrue a.one ↔ IsTrue b.one) → a ≡ b
+same_had a b zero one =
+    ap (λ (flag : Bool). record { zero = flag; one = a.one }) (same_flag a.zero b.zero zero)
+    ∙ ap (λ (flag : Bool). record { zero = b.zero; one = flag }) (same_flag a.one b.one one)
+
+pub told_once : (passed : List (List Tern)) (hads other : List Had) → length hads ≡ length other → TellStates passed hads → TellStates passed other →
+    hads ≡ other
+told_once passed hads other count tells also = ext_get_or none_had hads other count (λ node inside.
+    same_had (had_at hads node) (had_at other node) (both_ways (tells node).0 (also node).0) (both_ways (tells node).1 (also node).1))

@@ -1,11 +1,11 @@
-//! The notes, and the observer.
-ghost use Rattle.std.specs.Prelude.{◌≡◌, ◌<◌, ◌≤◌, [], List, length, IfOk, OnOk, OnErr, IfErr, slice_index_or};
+//! The notes, and the onlooker.
+ghost use Rattle.std.specs.Prelude.{◌≡◌, ◌<◌, ◌≤◌, ◌-◌, true, [], ◌++◌, List, length, replicate, IfOk, OnOk, OnErr, IfErr, slice_index_or};
 ghost use Rattle.state_cover.specs.Cover.{none_had, had_after, Knows, Notes};
 ghost use Rattle.state_cover.specs.declared.had.Had.{Had};
 
 use crate::had::{Had, had_more};
-use oscillation_x::{Moved, Never, Observer};
-use std::alloc::Global;
+use oscillation_x::{Moved, Never, Observer, Onlooker, unfailing};
+use std::alloc::{AllocError, Global};
 use std::marker::Model;
 use ternary::{NoMemory, Tern};
 
@@ -43,13 +43,7 @@ impl Cover {
         ensures knows { OnOk result (Knows self.new states.now) }
         ensures err { OnErr result (self.new ≡ self.old) }
     {
-        self.had.resize(
-            states.len(),
-            Had {
-                zero: false,
-                one: false,
-            },
-        )?;
+        self.make_room(states.len())?;
         self.note_states(states);
         Ok(())
     }
@@ -67,6 +61,20 @@ impl Cover {
         ensures { result.now ≡ self.now }
     {
         &self.had
+    }
+
+    // Makes notes of so many nodes: those that are new had nothing.
+    fn make_room(&mut self, nodes: usize) -> Result<(), AllocError>
+        requires { length self.old ≤ nodes }
+        ensures ok { OnOk result (self.new ≡ self.old ++ replicate (nodes - length self.old) none_had) }
+        ensures err { OnErr result (self.new ≡ self.old) }
+    {
+        let nothing = Had {
+            zero: false,
+            one: false,
+        };
+        self.had.resize(nodes, nothing)?;
+        Ok(())
     }
 
     // Notes these states, of as many nodes as there are notes.
@@ -100,6 +108,10 @@ impl Observer for Cover {
 
     ghost see = { had_after };
 
+    ghost begin = { had_after };
+
+    ghost rest = { λ had _. had };
+
     ghost knows = { Knows };
 
     ghost fixed = { λ _. tt };
@@ -110,6 +122,26 @@ impl Observer for Cover {
         for at in 0..moved.change_count() {
             self.note(moved, moved.changed_node(at));
         }
+        Ok(())
+    }
+}
+
+impl Onlooker for Cover {
+    ghost looks = { true };
+
+    #[inline]
+    fn is_looking(&self) -> bool {
+        true
+    }
+
+    fn begin<M: Moved>(&mut self, moved: &M) {
+        unfailing(self.see(moved));
+    }
+
+    fn rest(&mut self, _steps: u64) {}
+
+    fn grow(&mut self, state: &[Tern]) -> Result<(), NoMemory> {
+        self.make_room(state.len())?;
         Ok(())
     }
 }

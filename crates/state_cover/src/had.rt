@@ -15,15 +15,8 @@ pub struct Had {
 pub(crate) fn had_more(had: Had, state: Tern) -> Had
     ensures { result ≡ spec.had_more had state }
 {
-    match state {
-        Tern::Zero => Had {
-            zero: true,
-            one: had.one,
-        },
-        Tern::One => Had {
-            zero: had.zero,
-            one: true,
-        },
-        Tern::Unk => had,
+    Had {
+        zero: had.zero | (state == Tern::Zero),
+        one: had.one | (state == Tern::One),
     }
 }

@@ -1,9 +1,9 @@
 //! Which of 0 and 1 each node had during a run.
 //!
-//! The main type is `Cover`: notes of what each node had, and an observer of steps, which looks at
-//! those nodes alone that a step may have changed. `write_cover` writes at the end a line for each
-//! node that lacks something, and the counts; its contract, `cover_text`, is what the layer above
-//! uses.
+//! The main type is `Cover`: notes of what each node had, and an onlooker of a run, which at a step
+//! looks at those nodes alone that may have changed. `write_cover` writes at the end a line for
+//! each node that lacks something, and the counts; its contract, `cover_text`, is what the layer
+//! above uses.
 //!
 //! ```text
 //! an inverter a -> out, with a at 0 and then steady:    cover a 1

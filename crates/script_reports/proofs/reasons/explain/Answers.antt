@@ -7,11 +7,12 @@ use Rattle.script_meaning.specs.Runs.{plain_reading}
 use Rattle.script_meaning.specs.Halts.{HaltsAt}
 use Rattle.script_meaning.proofs.LowerLemmas.{ready-start}
 use Rattle.script_reports.specs.Explaining.{hear_nothing}
-use Rattle.script_reports.proofs.ReasonedLemmas.{told_halt, halted_size}
+use Rattle.script_reports.proofs.HaltedLemmas.{halted_size}
+use Rattle.script_reports.proofs.ReasonedLemmas.{told_halt}
 use Rattle.script_reports.proofs.reasons.explain.Goals as goal
 
-pub run_unwritten-requires : goal.run_unwritten-requires
-run_unwritten-requires g c = rw c.in_ok-session.ensures (ready-start c.args.circuit c.requires)
+pub run_unwritten-requires-clause-ready : goal.run_unwritten-requires-clause-ready
+run_unwritten-requires-clause-ready g c = rw c.in_ok-session.ensures (ready-start c.args.circuit c.requires)
 
 pub explain_at-requires : goal.explain_at-requires
 explain_at-requires g c =

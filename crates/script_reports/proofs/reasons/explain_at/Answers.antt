@@ -1,44 +1,19 @@
 -- Where all lines were obeyed the node is explained, and else the refusal that cut them short is told.
-use Rattle.std.proofs.Common.{◌≢◌, ℕ, List, Result, refl, subst, sym}
-use Rattle.netlist.specs.Circuits.{CircuitData}
-use Rattle.wave_print.specs.declared.faults.FaultPlace.TheVariants.{Script}
-use Rattle.told_lines.specs.Printing.{Page, print, PrintsPart}
+use Rattle.std.proofs.Common.{◌≢◌, ℕ, List, Option, Result, refl, subst, sym}
 use Rattle.session_meaning.specs.Sessions.{SessionData}
 use Rattle.script_meaning.specs.declared.halt.Halt.{Halt}
 use Rattle.script_meaning.specs.declared.halt.Halt.TheVariants.{End, Refused, TooLarge}
-use Rattle.run_ends.specs.declared.status.Status.TheVariants.{ScriptRefused}
 use Rattle.run_ends.specs.declared.stop.End as end
 use Rattle.run_ends.specs.declared.stop.Stop.{Stop}
-use Rattle.run_ends.specs.Causes.{plain_cause}
-use Rattle.run_ends.specs.Answers.{IsRefusalFor, IsTooLarge}
 use Rattle.run_ends.specs.Ends.{IsTold}
-use Rattle.run_ends.proofs.EndLemmas.{told_as}
-use Rattle.script_meaning.specs.Halts.{IsCutShort, TellsCutShort}
-use Rattle.script_reports.specs.Explaining.{TellsSize, IsHaltExplained}
-use Rattle.script_reports.proofs.ReasonedLemmas.{printed_refusal}
+use Rattle.script_reports.specs.Explaining.{IsHaltExplained, IsHaltRefused}
 use Rattle.script_reports.proofs.reasons.explain_at.Goals as goal
 
--- lines that weren't all obeyed were cut short
-cut_short : (circuit : CircuitData) (halt : Halt) → halt ≢ End → TellsSize circuit.graph halt → IsCutShort circuit halt
-cut_short circuit End other tells = absurd (other refl)
-cut_short circuit (Refused number code) other tells = tt
-cut_short circuit (TooLarge number fault) other tells = tells
-
--- and what a printer was told of that is what is told where they ended
-told_short : (name : List ℕ) (session : SessionData) (halt : Halt) (page after : Page) (result : Result end.End Stop) → TellsSize session.circuit.graph halt →
-    TellsCutShort print PrintsPart session.circuit halt page after result → IsTold (IsHaltExplained name session halt) page.written after.written result
-told_short name session End page after result size told = absurd told
-told_short name session (Refused number code) page after result size told =
-    printed_refusal page after (record { line = number; cause = plain_cause code }) result told
-told_short name session (TooLarge number fault) page after result size (cause, named, told) =
-    told_as (IsRefusalFor (Script number) cause ScriptRefused) (IsTooLarge session.circuit (Script number) ScriptRefused) page.written after.written result
-    (λ answer is. record { fault = fault; first = size; cause = cause; named = named; told = is })
-    (printed_refusal page after (record { line = number; cause = cause }) result told)
-
-pub refuse_halt-requires : goal.refuse_halt-requires
-refuse_halt-requires g c =
-    subst (λ (circuit : CircuitData). IsCutShort circuit c.args.halt) (sym c.circuit.ensures.value)
-    (cut_short c.args.session.now.core.circuit c.args.halt c.in_default.not-End c.requires)
+told_short : (name : List ℕ) (session : SessionData) (halt : Halt) (old last : Option (List ℕ)) (result : Result end.End Stop) → halt ≢ End →
+    IsTold (IsHaltRefused session halt) old last result → IsTold (IsHaltExplained name session halt) old last result
+told_short name session End old last result other told = absurd (other refl)
+told_short name session (Refused number code) old last result other told = told
+told_short name session (TooLarge number fault) old last result other told = told
 
 pub returns-in-End-clause-told : goal.returns-in-End-clause-told
 returns-in-End-clause-told g c =
@@ -47,6 +22,5 @@ returns-in-End-clause-told g c =
 
 pub returns-in_default-clause-told : goal.returns-in_default-clause-told
 returns-in_default-clause-told g c =
-    told_short c.args.name.now c.args.session.now.core c.args.halt c.args.out.now.page c.refuse_halt.new.out.page c.refuse_halt.result c.requires
-    (subst (λ (circuit : CircuitData). TellsCutShort print PrintsPart circuit c.args.halt c.args.out.now.page c.refuse_halt.new.out.page
-    c.refuse_halt.result) c.circuit.ensures.value c.refuse_halt.ensures.told)
+    told_short c.args.name.now c.args.session.now.core c.args.halt c.args.out.now.page.written c.refuse_at.new.out.page.written c.refuse_at.result
+    c.in_default.not-End c.refuse_at.ensures.told
