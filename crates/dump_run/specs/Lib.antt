@@ -1,0 +1,3 @@
+pub mod Dumped
+pub mod Turns
+pub mod Laws

@@ -1,0 +1,14 @@
+pub mod CodeLemmas
+pub mod TextLemmas
+pub mod CommentLemmas
+pub mod TellingLemmas
+pub mod ChangeLemmas
+pub mod MarkedLemmas
+pub mod DueWalks
+pub mod PenLemmas
+pub mod MarkingLemmas
+pub mod EntryLemmas
+pub mod HeaderLemmas
+pub mod TakingLemmas
+pub mod ValueLemmas
+pub mod SheetLemmas

@@ -1,0 +1,10 @@
+pub mod Codes
+pub mod Scenes
+pub mod Values
+pub mod Comments
+pub mod Dumps
+pub mod Pens
+pub mod Entries
+pub mod Changes
+pub mod Writing
+pub mod Laws
