@@ -10,7 +10,7 @@ use Rattle.net_gen.specs.declared.families.GenPart.{GenPart}
 use Rattle.command_line.specs.Columns.{lanes_of}
 use Rattle.command_line.specs.Decks.{is_deck_name}
 use Rattle.command_line.specs.Samples.{Sample, part_of, sample_of}
-use Rattle.command_line.specs.Requests.{Question, Simulate, Batch, Check, Groups, Compile, Lint, Explain, Judge, Request, About, OverDeck, Show, Unclear, request_of, about, shown, generate, sum_up, in_columns}
+use Rattle.command_line.specs.Requests.{Question, Simulate, Batch, Check, Groups, Compile, Lint, Explain, Judge, Cover, Request, About, OverDeck, Show, Unclear, request_of, about, shown, generate, sum_up, in_columns}
 
 -- a question for columns is for one at least
 abbrev pub HasColumns : Question → Type 0
@@ -52,6 +52,10 @@ about_fits net false true compile = tt
 about_fits net false false true = tt
 about_fits net false false false = tt
 
+cover_fits : (net script : List ℕ) (deck : Bool) → AsksColumns (if deck then OverDeck net (Cover script) else About net (Cover script))
+cover_fits net script true = tt
+cover_fits net script false = tt
+
 lint_fits : (net : List ℕ) (deck : Bool) → AsksColumns (if deck then OverDeck net Lint else About net Lint)
 lint_fits net true = tt
 lint_fits net false = tt
@@ -63,11 +67,13 @@ two_fit net text true lint deck check groups compile = shown_fits text
 two_fit net text false true deck check groups compile = lint_fits net deck
 two_fit net text false false deck check groups compile = about_fits net check groups compile
 
-three_fit : (circuit script : List ℕ) (plain deck : Bool) →
-    AsksColumns (if plain then About circuit (Simulate script) else (if deck then OverDeck circuit (Simulate script) else Unclear))
-three_fit circuit script true deck = tt
-three_fit circuit script false true = tt
-three_fit circuit script false false = tt
+three_fit : (circuit script : List ℕ) (plain deck cover named : Bool) →
+    AsksColumns (if plain then About circuit (Simulate script) else (if deck then OverDeck circuit (Simulate script)
+    else (if cover then (if named then OverDeck circuit (Cover script) else About circuit (Cover script)) else Unclear)))
+three_fit circuit script true deck cover named = tt
+three_fit circuit script false true cover named = tt
+three_fit circuit script false false true named = cover_fits circuit script named
+three_fit circuit script false false false named = tt
 
 sum_fits : (sample : Option Sample) → AsksColumns (sum_up sample)
 sum_fits None = tt
@@ -99,7 +105,7 @@ asks_columns (command ∷ net ∷ []) =
     two_fit net (text_of topics net) (bytes_eq command (codes "help")) (bytes_eq command (codes "lint")) (is_deck_name net)
     (bytes_eq command (codes "check")) (bytes_eq command (codes "groups")) (bytes_eq command (codes "compile"))
 asks_columns (command ∷ circuit ∷ script ∷ []) =
-    three_fit circuit script (bytes_eq command (codes "sim")) (bytes_eq command (codes "sim-spice"))
+    three_fit circuit script (bytes_eq command (codes "sim")) (bytes_eq command (codes "sim-spice")) (bytes_eq command (codes "cover")) (is_deck_name circuit)
 asks_columns (command ∷ first ∷ second ∷ third ∷ []) =
     four_fit first second third (sample_of first second third) (bytes_eq command (codes "large")) (bytes_eq command (codes "why"))
     (bytes_eq command (codes "faults")) (bytes_eq command (codes "batch"))

@@ -19,8 +19,9 @@ use Rattle.command_line.specs.Decks.{is_deck_name}
 use Rattle.command_line.specs.Samples.{Sample, part_of, sample_of, sample_seen}
 
 -- what may be asked about a netlist or a deck: the run of the script with this name in its circuit, or in so many columns of it, a check,
--- its groups, its listing, its findings, the reasons of the node with the second name at the end of the script with the first, or the
--- verdicts on the faults of the list with the second name beside the run of the script with the first
+-- its groups, its listing, its findings, the reasons of the node with the second name at the end of the script with the first, the verdicts
+-- on the faults of the list with the second name beside the run of the script with the first, or which of 0 and 1 its nodes never had in
+-- the run of the script with this name
 pub data Question : Type 0 where
   Simulate : List ℕ → Question
   Batch : ℕ → List ℕ → Question
@@ -30,6 +31,7 @@ pub data Question : Type 0 where
   Lint : Question
   Explain : List ℕ → List ℕ → Question
   Judge : List ℕ → List ℕ → Question
+  Cover : List ℕ → Question
 
 -- what words ask for: a question about the netlist with this name, a part of a sample, a sample's run summed up, a question about the deck
 -- with this name, a text that is shown as it stands, or nothing that there is
@@ -81,11 +83,12 @@ generate (Some part) (Some sample) = Generate part sample
 generate (Some part) None = Unclear
 generate None sample = Unclear
 
--- `sim NET SCRIPT` or `sim-spice DECK SCRIPT`, compared byte by byte
+-- `sim NET SCRIPT`, `sim-spice DECK SCRIPT` or `cover NET SCRIPT`, compared byte by byte
 abbrev pub simulation : List ℕ → List ℕ → List ℕ → Request
 simulation command circuit script =
     if bytes_eq command (codes "sim") then About circuit (Simulate script)
-    else (if bytes_eq command (codes "sim-spice") then OverDeck circuit (Simulate script) else Unclear)
+    else (if bytes_eq command (codes "sim-spice") then OverDeck circuit (Simulate script)
+    else (if bytes_eq command (codes "cover") then over circuit (Cover script) else Unclear))
 
 -- `gen PART KIND SEED N`
 abbrev pub generation : List ℕ → List ℕ → List ℕ → List ℕ → List ℕ → Request
@@ -111,8 +114,8 @@ by_four command first second third =
     else (if bytes_eq command (codes "batch") then in_columns first (lanes_of second) third else Unclear)))
 
 -- what words ask for, by their number: `sim NET SCRIPT`, `sim-spice DECK SCRIPT`, `check NET`, `groups NET`, `compile NET`, `lint NET`,
--- `gen PART KIND SEED N`, `large KIND SEED N`, `why NET SCRIPT NODE`, `faults NET SCRIPT LIST`, `batch NET L SCRIPT`, `help`, `help WORD` and
--- `version`, and nothing else
+-- `gen PART KIND SEED N`, `large KIND SEED N`, `why NET SCRIPT NODE`, `faults NET SCRIPT LIST`, `batch NET L SCRIPT`, `cover NET SCRIPT`, `help`,
+-- `help WORD` and `version`, and nothing else
 abbrev pub request_of : List (List ℕ) → Request
 request_of (command ∷ circuit ∷ script ∷ []) = simulation command circuit script
 request_of (command ∷ word ∷ []) = by_two command word
@@ -126,6 +129,7 @@ abbrev pub run_seen : code_purpose.Purpose → List ℕ → Question
 run_seen code_purpose_is.Lines script = Simulate script
 run_seen (code_purpose_is.Columns lanes) script = Batch (lanes_seen lanes) script
 run_seen (code_purpose_is.Reasons node) script = Explain script node.now
+run_seen code_purpose_is.Cover script = Cover script
 
 -- the question for what is told of a circuit alone
 abbrev pub report_seen : code_report.Report → Question

@@ -70,6 +70,8 @@ pub enum Purpose<'a> {
     Columns(Lanes),
     /// The reasons of the node with this name at their end.
     Reasons(&'a str),
+    /// Which of 0 and 1 each node never had.
+    Cover,
 }
 
 /// What is told of a circuit alone.
@@ -87,8 +89,8 @@ pub enum Report {
 
 /// What the words of a command line ask for: `sim NET SCRIPT`, `sim-spice DECK SCRIPT`, `check NET`, `groups NET`,
 /// `compile NET`, `lint NET`, `gen PART KIND SEED N`, `large KIND SEED N`, `why NET SCRIPT NODE`,
-/// `faults NET SCRIPT LIST`, `batch NET L SCRIPT`, `help`, `help WORD` of a request or a command of a script, and
-/// `version`, and nothing else. Under `lint` NET is a deck if its name is that of one.
+/// `faults NET SCRIPT LIST`, `batch NET L SCRIPT`, `cover NET SCRIPT`, `help`, `help WORD` of a request or a command of a
+/// script, and `version`, and nothing else. Under `lint` and `cover` NET is a deck if its name is that of one.
 pub fn request_of(words: &[String]) -> Request<'_>
     ensures { spec.request_seen result ≡ spec.request_of (spec.names_of words.now) }
 {
@@ -141,6 +143,8 @@ fn simulation<'a>(command: &str, circuit: &'a str, script: &'a str) -> Request<'
         run_for(circuit, script, Purpose::Lines)
     } else if command == "sim-spice" {
         simulation_over(circuit, script)
+    } else if command == "cover" {
+        coverage(circuit, script)
     } else {
         Request::Alone(Alone::Unclear)
     }
@@ -181,6 +185,14 @@ fn simulation_over<'a>(deck: &'a str, script: &'a str) -> Request<'a>
     let purpose = Purpose::Lines;
     let question = Question::Run { script, purpose };
     Request::OverDeck { deck, question }
+}
+
+// What a script covers, over a netlist or a deck.
+fn coverage<'a>(net: &'a str, script: &'a str) -> Request<'a>
+    ensures { spec.request_seen result ≡ spec.over net.now (spec.Cover script.now) }
+{
+    let purpose = Purpose::Cover;
+    over(net, Question::Run { script, purpose })
 }
 
 // The question for the run of a script for a purpose.

@@ -10,7 +10,9 @@
 //! it, and `cosmos lint NET` what it most often has wrong, of a netlist or a deck. `cosmos gen PART KIND SEED N` reads nothing and writes a generated netlist or script, and
 //! `cosmos large KIND SEED N` one line that sums up the run of both. `cosmos why NET SCRIPT NODE` runs
 //! the script, whose lines aren't written, and writes why the node may be 1 and why it may be 0 at its
-//! end. `cosmos faults NET SCRIPT LIST` runs the script under each fault of a list and writes whether it
+//! end. `cosmos cover NET SCRIPT` runs the script so too, and writes which of 0 and 1 each node never had.
+//! `cosmos vcd NET SCRIPT` does what `sim` does on a netlist or a deck, and writes a value change dump.
+//! `cosmos faults NET SCRIPT LIST` runs the script under each fault of a list and writes whether it
 //! shows. `cosmos talk NET` reads the netlist or the deck, and then obeys lines as they come from standard input, each
 //! answered before the next one is read. `cosmos help` writes a page on all requests and commands, `cosmos help WORD`
 //! what the request or the command WORD does, and `cosmos version` the program's version. All other words are answered
@@ -27,7 +29,7 @@
 //!
 //! `answer_over` makes that call, over any opener of files and a printer to any outlet, and has its clauses for all of
 //! them; `main` hands it the files of the system and a printer to standard output. `talk_over` does so for a talk, over
-//! any port of one.
+//! any port of one, and `dump_over` for a dump, over any outlet.
 //!
 //! ```text
 //! cosmos sim inverter.sim inverter.cmd
@@ -36,17 +38,18 @@
 #![tactic(auto)]
 
 ghost use Rattle.std.specs.Prelude.{◌≡◌, Some, IfSome};
-ghost use Rattle.command_line.specs.Requests.{names_of, request_of};
+ghost use Rattle.command_line.specs.Requests.{Simulate, names_of, over, request_of};
 ghost use Rattle.cosmos_app.specs.Answers.{IsAnswered};
 ghost use Rattle.cosmos_app.specs.Counts.{files_count, sink_count};
+ghost use Rattle.cosmos_app.specs.Dumping.{IsDumpTo};
 ghost use Rattle.cosmos_app.specs.Starts.{RequestStarts};
 ghost use Rattle.cosmos_app.specs.Talking.{HandsOn, HasReadOnce, IsTalkTo};
 
 mod telling;
 mod told;
 
-use command_line::talk_net;
-use cosmos_app::{Status, run, talk};
+use command_line::{dump_names, talk_net};
+use cosmos_app::{Status, dump, run, talk};
 use group_analysis::Analyst;
 use node_elimination::SymbolicAnalyst;
 use port_edge::{FilesOver, Open, Outlet, SinkOver, real_files, real_outlet};
@@ -100,6 +103,9 @@ fn answer(rt: &HostRuntime, words: &[String], keys: TableKeys) -> Status {
     if let Some(net) = talk_net(words) {
         return answer_talk(rt, words, net, keys);
     }
+    if let Some((net, script)) = dump_names(words) {
+        return answer_dump(rt, words, net, script, keys);
+    }
     let sink = SinkOver::new(Told::over(real_outlet(rt), rt, words));
     let Ok(mut out) = Printer::new(rt.alloc(), sink, false) else {
         tell_stop(rt, words, Status::NoMemory, None, None, None);
@@ -109,6 +115,25 @@ fn answer(rt: &HostRuntime, words: &[String], keys: TableKeys) -> Status {
     let mut analyst = SymbolicAnalyst::with_keys(rt.alloc(), keys);
     let status = answer_over(rt.alloc(), words, &mut files, &mut out, &mut analyst);
     let sink = out.into_sink();
+    sink.outlet().finish();
+    let (of_file, of_output) = (files.reason(), sink.reason());
+    tell_stop(rt, words, status, files.name(), of_file, of_output);
+    status
+}
+
+// Writes the dump of a script's run over the files of the system and the standard output, and says on standard error why
+// it stopped.
+fn answer_dump(
+    rt: &HostRuntime,
+    words: &[String],
+    net: &str,
+    script: &str,
+    keys: TableKeys,
+) -> Status {
+    let sink = SinkOver::new(Told::over(real_outlet(rt), rt, words));
+    let mut files = real_files(rt, keys);
+    let mut analyst = SymbolicAnalyst::with_keys(rt.alloc(), keys);
+    let (sink, status) = dump_over(rt.alloc(), net, script, &mut files, sink, &mut analyst);
     sink.outlet().finish();
     let (of_file, of_output) = (files.reason(), sink.reason());
     tell_stop(rt, words, status, files.name(), of_file, of_output);
@@ -163,6 +188,25 @@ fn answer_over<O: Open + Drop, W: Outlet + Drop, A: Analyst>(
     ensures write { out.new.faults ≡ sink_count out.old.faults result }
 {
     run(alloc, words, files, out, analyst)
+}
+
+// Writes the dump of a script's run over the files of an opener and any outlet.
+fn dump_over<O: Open + Drop, T: Outlet + Drop, A: Analyst>(
+    alloc: Global,
+    net: &str,
+    script: &str,
+    files: &mut FilesOver<O>,
+    out: SinkOver<T>,
+    analyst: &mut A,
+) -> (SinkOver<T>, Status)
+    ensures answer { IfSome (O.holds files.old.opener) (λ holds. IsDumpTo net.now script.now holds
+        out.contents result.0.contents (A.analysed analyst.old) (A.analysed analyst.new) result.1) }
+    ensures started { RequestStarts (over net.now (Simulate script.now))
+        (O.holds files.old.opener) (Some files.old.started) (Some files.new.started) }
+    ensures read { files.new.faults ≡ files_count files.old.faults result.1 }
+    ensures write { result.0.faults ≡ sink_count out.faults result.1 }
+{
+    dump(alloc, net, script, files, out, analyst)
 }
 
 // Holds the talk about a netlist or a deck over the files of an opener and the port of any talk.

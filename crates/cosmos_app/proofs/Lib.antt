@@ -6,5 +6,6 @@ pub mod FaultLemmas
 pub mod CountLemmas
 mod TalkLemmas
 mod PurposeLemmas
+mod DumpLemmas
 mod AskedLemmas
 mod UniqueAnswers

@@ -12,12 +12,13 @@ use Rattle.lane_run.proofs.RunLemmas.{together-same}
 use Rattle.run_ends.specs.declared.stop.Stop.{Stop}
 use Rattle.run_ends.specs.declared.stop.End as end
 use Rattle.run_ends.specs.Answers.{Answer}
+use Rattle.script_reports.specs.Covered.{IsCoveredAt}
 use Rattle.script_meaning.specs.Runs.{Runs, plain_reading, IsScriptAnswer}
 use Rattle.run_ends.specs.Ends.{IsToldBy}
 use Rattle.script_meaning.specs.Ends.{TellsRun}
 use Rattle.script_meaning.proofs.PrintedLemmas.{printed_run}
 use Rattle.command_line.specs.declared.request.Purpose.{Purpose}
-use Rattle.command_line.specs.declared.request.Purpose.TheVariants.{Lines, Columns, Reasons}
+use Rattle.command_line.specs.declared.request.Purpose.TheVariants.{Lines, Columns, Reasons, Cover}
 use Rattle.command_line.specs.Requests.{run_seen}
 use Rattle.cosmos_app.specs.Batching.{IsBatch}
 use Rattle.command_line.specs.Columns.{lanes_seen}
@@ -67,7 +68,7 @@ told_columns lanes circuit session text before after asked told result same star
 -- ---- the text that was read
 
 -- what is so of the lines of a script's front is so of its lines
-at_front : (P : Option ℕ → List (ℕ × List ℕ) → Type 0) (script : List ℕ) → P (cut_line (front_of script)) (lines_in (front_of script)) →
+pub at_front : (P : Option ℕ → List (ℕ × List ℕ) → Type 0) (script : List ℕ) → P (cut_line (front_of script)) (lines_in (front_of script)) →
     P (cut_line script) (lines_in script)
 at_front P script is =
     subst (λ cut. P cut (lines_in script)) (cut_line-front_of script)
@@ -86,17 +87,31 @@ run_for-front (Reasons node) script circuit answer right = record {
   explained = right.explained;
   texts = right.texts;
 }
+run_for-front Cover script circuit answer right = record {
+  outcome = right.outcome;
+  runs = at_front (λ cut lines. Runs plain_reading cut (start_of circuit) lines right.outcome) script right.runs;
+  covered = at_front (λ cut lines. IsCoveredAt cut (start_of circuit) lines right.outcome.end right.outcome.refused answer.status answer.text)
+      script right.covered;
+  texts = right.texts;
+}
 
--- what was told of the text that was read is told of the script
+-- what was told of the text that was read is told of the script, if what is right of a script's front is right of the script
+pub told_front : (IsRight : List ℕ → Answer → Type 0) → ((script : List ℕ) (answer : Answer) → IsRight (front_of script) answer → IsRight script answer) →
+    (known : Option (List ℕ → List ℕ)) (name text seen : List ℕ) (old new : Option (List ℕ)) (before after : List GroupTextData)
+    (result : Result end.End Stop) → IfSome known (λ holds. text ≡ front_of (holds name)) → seen ≡ text →
+    IsToldBy (IsRight seen) old new before after result → IfSome known (λ holds. IsToldBy (IsRight (holds name)) old new before after result)
+told_front IsRight whole None name text seen old new before after result front same told = tt
+told_front IsRight whole (Some holds) name text seen old new before after result front same told =
+    told_by_as (IsRight seen) (IsRight (holds name)) old new before after result
+    (λ answer right. whole (holds name) answer (subst (λ (bytes : List ℕ). IsRight bytes answer) (same ∙ front) right)) told
+
+-- so it is of a run for a purpose
 pub told_run_for : (known : Option (List ℕ → List ℕ)) (name : List ℕ) (purpose : Purpose) (circuit : CircuitData) (text seen : List ℕ) (old new : Option (List ℕ))
     (before after : List GroupTextData) (result : Result end.End Stop) → IfSome known (λ holds. text ≡ front_of (holds name)) → seen ≡ text →
     IsToldBy (IsRunFor purpose seen circuit) old new before after result →
     IfSome known (λ holds. IsToldBy (IsRunFor purpose (holds name) circuit) old new before after result)
-told_run_for None name purpose circuit text seen old new before after result front same told = tt
-told_run_for (Some holds) name purpose circuit text seen old new before after result front same told =
-    told_by_as (IsRunFor purpose seen circuit) (IsRunFor purpose (holds name) circuit) old new before after result
-    (λ answer right. run_for-front purpose (holds name) circuit answer
-    (subst (λ (bytes : List ℕ). IsRunFor purpose bytes circuit answer) (same ∙ front) right)) told
+told_run_for known name purpose circuit =
+    told_front (λ script. IsRunFor purpose script circuit) (λ script answer right. run_for-front purpose script circuit answer right) known name
 
 -- ---- the question for the run
 
@@ -107,13 +122,16 @@ pub told_asked : (known : Option (List ℕ → List ℕ)) (script : List ℕ) (p
 told_asked known script Lines circuit old new before after result told = told
 told_asked known script (Columns lanes) circuit old new before after result told = told
 told_asked known script (Reasons node) circuit old new before after result told = told
+told_asked known script Cover circuit old new before after result told = told
 
 pub starts_asked : (script : List ℕ) (purpose : Purpose) (old new : Started) → StartsAtMost old new script → ScriptStarts (run_seen purpose script) old new
 starts_asked script Lines old new starts = starts
 starts_asked script (Columns lanes) old new starts = starts
 starts_asked script (Reasons node) old new starts = starts
+starts_asked script Cover old new starts = starts
 
 pub scripts_asked : (script : List ℕ) (purpose : Purpose) → script ∷ [] ≡ scripts_of (run_seen purpose script)
 scripts_asked script Lines = refl
 scripts_asked script (Columns lanes) = refl
 scripts_asked script (Reasons node) = refl
+scripts_asked script Cover = refl

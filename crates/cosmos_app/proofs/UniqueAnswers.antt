@@ -1,10 +1,11 @@
 -- The words have one answer, unless they ask for a listing or for reasons; of these the status and the texts that are analysed are one.
-use Rattle.std.proofs.Common.{◌≡◌, ℕ, false, List, refl, sym, ◌∙◌}
+use Rattle.std.proofs.Common.{◌≡◌, ℕ, Bool, true, false, List, refl, sym, ◌∙◌}
 use Rattle.line_words.specs.Files.{lines_in, cut_line}
 use Rattle.netlist.specs.Circuits.{CircuitData}
 use Rattle.sim_read.specs.Meaning.{netlist_of}
 use Rattle.spice_read.specs.Making.{circuit_of}
-use Rattle.command_line.specs.Requests.{Question, Simulate, Batch, Check, Groups, Compile, Lint, Explain, Judge, Request, About, Generate, SumUp, OverDeck, Show, Unclear, request_of}
+use Rattle.command_line.specs.Decks.{is_deck_name}
+use Rattle.command_line.specs.Requests.{Question, Simulate, Batch, Check, Groups, Compile, Lint, Explain, Judge, Cover, Request, About, Generate, SumUp, OverDeck, Show, Unclear, request_of}
 use Rattle.command_line.proofs.LaneLemmas.{HasColumns, AsksColumns, asks_columns}
 use Rattle.session_meaning.specs.Sessions.{start_of}
 use Rattle.run_ends.specs.Answers.{Answer}
@@ -14,9 +15,12 @@ use Rattle.lane_run.proofs.UniqueBatches.{batch_unique}
 use Rattle.fault_meaning.proofs.UniqueJudging.{judged_faults_unique}
 use Rattle.circuit_reports.specs.Alike.{AreAlike}
 use Rattle.circuit_reports.proofs.UniqueAnswers as circuit
-use Rattle.script_reports.proofs.UniqueAnswers.{sample_unique, reasoned_alike}
+use Rattle.script_reports.proofs.UniqueAnswers.{sample_unique, reasoned_alike, covered_unique}
 use Rattle.cosmos_app.specs.Answers.{IsSimulation, IsAnswerIn, IsAnswerTo}
-use Rattle.cosmos_app.specs.Laws.{leaves_choice, asks_choice, AnswersAreUnique, AnswersAreAlike}
+use Rattle.dump_run.specs.Dumped.{IsDumped}
+use Rattle.dump_run.proofs.UniqueDumps.{dump_answer_unique}
+use Rattle.cosmos_app.specs.Dumping.{IsDumpBy}
+use Rattle.cosmos_app.specs.Laws.{leaves_choice, asks_choice, AnswersAreUnique, AnswersAreAlike, DumpsHaveOneAnswer}
 
 -- ---- one answer
 
@@ -36,6 +40,7 @@ question_unique Compile holds plain some c first second one two = absurd (cc (pl
 question_unique Lint holds plain some c first second one two = circuit.linted_unique c first second one two
 question_unique (Explain script node) holds plain some c first second one two = absurd (cc (plain))
 question_unique (Judge script list) holds plain some c first second one two = judged_faults_unique (holds script) (holds list) c first second one two
+question_unique (Cover script) holds plain some c first second one two = covered_unique (holds script) c first second one two
 
 -- and so has a request
 request_unique : (request : Request) (holds : List ℕ → List ℕ) (first second : Answer) → asks_choice request ≡ false → AsksColumns request →
@@ -68,6 +73,7 @@ question_alike Lint holds some c first second one two = circuit.alike first seco
 question_alike (Explain script node) holds some c first second one two = reasoned_alike (holds script) node c first second one two
 question_alike (Judge script list) holds some c first second one two =
     circuit.alike first second (question_unique (Judge script list) holds refl some c first second one two)
+question_alike (Cover script) holds some c first second one two = circuit.alike first second (question_unique (Cover script) holds refl some c first second one two)
 
 -- and of a request
 request_alike : (request : Request) (holds : List ℕ → List ℕ) (first second : Answer) → AsksColumns request →
@@ -87,3 +93,19 @@ request_alike Unclear holds first second some one two =
 
 pub answers_alike : AnswersAreAlike
 answers_alike words holds first second one two = request_alike (request_of words) holds first second (asks_columns words) one two
+
+-- ---- dumps
+
+-- a dump has one answer
+dumped_unique : (script : List ℕ) (c : CircuitData) (first second : Answer) → IsDumped script c first → IsDumped script c second → first ≡ second
+dumped_unique script c first second one two = dump_answer_unique script (start_of c) first second one two
+
+dump_by_unique : (deck : Bool) (text script : List ℕ) (first second : Answer) → IsDumpBy deck text script first → IsDumpBy deck text script second →
+    first ≡ second
+dump_by_unique true text script first second one two =
+    circuit.over_deck_unique (IsDumped script) (dumped_unique script) (circuit_of text) first second one two
+dump_by_unique false text script first second one two =
+    circuit.over_unique (IsDumped script) (dumped_unique script) (netlist_of text) first second one two
+
+pub dumps_unique : DumpsHaveOneAnswer
+dumps_unique net script holds first second one two = dump_by_unique (is_deck_name net) (holds net) (holds script) first second one two

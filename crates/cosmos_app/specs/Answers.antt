@@ -9,10 +9,11 @@ use Rattle.session_meaning.specs.Sessions.{start_of}
 use Rattle.run_ends.specs.declared.status.Status.{Status}
 use Rattle.run_ends.specs.declared.status.Status.TheVariants as status
 use Rattle.cosmos_app.specs.Batching.{IsBatch}
-use Rattle.command_line.specs.Requests.{Question, Simulate, Batch, Check, Groups, Compile, Lint, Explain, Judge, Request, About, Generate, SumUp, OverDeck, Show, Unclear, request_of}
+use Rattle.command_line.specs.Requests.{Question, Simulate, Batch, Check, Groups, Compile, Lint, Explain, Judge, Cover, Request, About, Generate, SumUp, OverDeck, Show, Unclear, request_of}
 use Rattle.run_ends.specs.Answers.{Answer, IsWritten, IsStopped, IsAnalysed}
 use Rattle.script_meaning.specs.Runs.{plain_reading, IsScriptAnswer}
 use Rattle.script_reports.specs.Reasoned.{IsReasoned}
+use Rattle.script_reports.specs.Covered.{IsCovered}
 use Rattle.fault_meaning.specs.Judging.{AreJudgedFaults}
 use Rattle.circuit_reports.specs.Answers.{IsUsage, IsOver, IsOverDeck, IsCheck, IsGroups, IsLinted, IsCompiled, IsGenerated, IsShown}
 use Rattle.script_reports.specs.Answers.{IsSampleSummary}
@@ -31,6 +32,7 @@ IsAnswerIn Compile holds = IsCompiled
 IsAnswerIn Lint holds = IsLinted
 IsAnswerIn (Explain script node) holds = IsReasoned (holds script) node
 IsAnswerIn (Judge script list) holds = AreJudgedFaults (holds script) (holds list)
+IsAnswerIn (Cover script) holds = IsCovered (holds script)
 
 -- the answer to a request, by what the names hold
 abbrev pub IsAnswerTo : Request → (List ℕ → List ℕ) → Answer → Type 0

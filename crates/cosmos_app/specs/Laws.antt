@@ -1,9 +1,10 @@
--- Laws of the answer of the words: if it is one.
+-- Laws of the answer of the words, and of a dump: if it is one.
 use Rattle.std.specs.Prelude.{◌≡◌, ℕ, Bool, true, false, List}
 use Rattle.command_line.specs.Requests.{Question, Compile, Explain, Request, About, OverDeck, request_of}
 use Rattle.run_ends.specs.Answers.{Answer}
 use Rattle.circuit_reports.specs.Alike.{AreAlike}
 use Rattle.cosmos_app.specs.Answers.{IsAnswer}
+use Rattle.cosmos_app.specs.Dumping.{IsDump}
 
 -- the question leaves a choice: any faithful listing answers it, or any of the strongest reasons
 abbrev pub leaves_choice : Question → Bool
@@ -28,3 +29,9 @@ abbrev pub AnswersAreAlike : Type 0
 AnswersAreAlike =
     (words : List (List ℕ)) (holds : List ℕ → List ℕ) (first second : Answer) → IsAnswer words holds first → IsAnswer words holds second →
     AreAlike first second
+
+-- the dump of a script's run is one answer, by what the two names hold
+abbrev pub DumpsHaveOneAnswer : Type 0
+DumpsHaveOneAnswer =
+    (net script : List ℕ) (holds : List ℕ → List ℕ) (first second : Answer) → IsDump net script holds first → IsDump net script holds second →
+    first ≡ second

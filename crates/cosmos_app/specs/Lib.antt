@@ -6,3 +6,4 @@ pub mod Counts
 pub mod Wholes
 pub mod Laws
 pub mod Talking
+pub mod Dumping

@@ -3,10 +3,11 @@ use Rattle.std.specs.Prelude.{ℕ, List}
 use Rattle.netlist.specs.Circuits.{CircuitData}
 use Rattle.run_ends.specs.Answers.{Answer}
 use Rattle.command_line.specs.declared.request.Purpose.{Purpose}
-use Rattle.command_line.specs.declared.request.Purpose.TheVariants.{Lines, Columns, Reasons}
+use Rattle.command_line.specs.declared.request.Purpose.TheVariants.{Lines, Columns, Reasons, Cover}
 use Rattle.cosmos_app.specs.Batching.{IsBatch}
 use Rattle.command_line.specs.Columns.{lanes_seen}
 use Rattle.script_reports.specs.Reasoned.{IsReasoned}
+use Rattle.script_reports.specs.Covered.{IsCovered}
 use Rattle.cosmos_app.specs.Answers.{IsSimulation}
 
 -- the answer of a script that is run for this purpose, from the start in a circuit
@@ -14,3 +15,4 @@ abbrev pub IsRunFor : Purpose → List ℕ → CircuitData → Answer → Type 0
 IsRunFor Lines script = IsSimulation script
 IsRunFor (Columns lanes) script = IsBatch (lanes_seen lanes) script
 IsRunFor (Reasons node) script = IsReasoned script node.now
+IsRunFor Cover script = IsCovered script

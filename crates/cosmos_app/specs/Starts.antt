@@ -4,7 +4,7 @@ use Rattle.port_edge.specs.Ports.{with_name}
 use Rattle.netlist.specs.Circuits.{CircuitData}
 use Rattle.sim_read.specs.Meaning.{netlist_of}
 use Rattle.spice_read.specs.Making.{circuit_of}
-use Rattle.command_line.specs.Requests.{Question, Simulate, Batch, Explain, Judge, Request, About, Generate, SumUp, OverDeck, Show, Unclear}
+use Rattle.command_line.specs.Requests.{Question, Simulate, Batch, Explain, Judge, Cover, Request, About, Generate, SumUp, OverDeck, Show, Unclear}
 use Rattle.circuit_files.specs.Starts.{Started, StartsAtMost}
 
 -- nothing was started, or the file of the first name, or that and then the file of the second
@@ -18,6 +18,7 @@ ScriptStarts (Simulate script) old new = StartsAtMost old new script
 ScriptStarts (Batch lanes script) old new = StartsAtMost old new script
 ScriptStarts (Explain script node) old new = StartsAtMost old new script
 ScriptStarts (Judge script list) old new = StartsInOrder old new script list
+ScriptStarts (Cover script) old new = StartsAtMost old new script
 ScriptStarts _ old new = new ≡ old
 
 -- the netlist, or the deck, has no refusal

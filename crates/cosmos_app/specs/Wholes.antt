@@ -6,7 +6,7 @@ use Rattle.spice_read.specs.Making.{circuit_of}
 use Rattle.port_edge.specs.Taken.{Taken}
 use Rattle.run_ends.specs.declared.status.Status.{Status}
 use Rattle.run_ends.specs.declared.status.Status.TheVariants.{ReadFault, WriteFault, NoMemory}
-use Rattle.command_line.specs.Requests.{Question, Simulate, Batch, Explain, Judge, Request, About, Generate, SumUp, OverDeck, Show, Unclear}
+use Rattle.command_line.specs.Requests.{Question, Simulate, Batch, Explain, Judge, Cover, Request, About, Generate, SumUp, OverDeck, Show, Unclear}
 use Rattle.circuit_files.specs.Wholes.{ReadsWhole}
 
 -- the files that a question needs beside the netlist or the deck, the last one first
@@ -15,6 +15,7 @@ scripts_of (Simulate script) = script ∷ []
 scripts_of (Batch lanes script) = script ∷ []
 scripts_of (Explain script node) = script ∷ []
 scripts_of (Judge script list) = list ∷ script ∷ []
+scripts_of (Cover script) = script ∷ []
 scripts_of _ = []
 
 -- the files that a question about a netlist or a deck of this meaning needs, the last one first: a script only if that has no refusal

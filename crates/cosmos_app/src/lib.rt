@@ -10,7 +10,7 @@
 //! `answers_are_unique` there is one answer, unless the words ask for a listing or for reasons.
 //!
 //! `talk` holds the talk about a netlist or a deck, by its name; its contract says by turns that each line was answered
-//! before the next one was asked for.
+//! before the next one was asked for. `dump` writes the value change dump of a script's run, as it goes.
 //!
 //! ```text
 //! run(alloc, ["sim", "inverter.sim", "inverter.cmd"], files, out)   is Status::Done
@@ -22,6 +22,8 @@
 //!     `large nodes 5 switches 4 lines 4 steps 4 marks 0 zeros 4 ones 4 unknown 0`
 //! run(alloc, ["why", "inverter.sim", "inverter.cmd", "out"], files, out) is Status::Done, and writes
 //!     the line of a reason why `out` may be 1 at the script's end, or that there is none, and that of 0
+//! run(alloc, ["cover", "inverter.sim", "inverter.cmd"], files, out) is Status::Done, and writes
+//!     a line for each node that was never 0, or never 1, and one that counts the nodes
 //! run(alloc, ["faults", "inverter.sim", "inverter.cmd", "inverter.faults"], files, out) is Status::Done, and writes
 //!     a line for the verdict on each fault of the list, and one that counts them
 //! run(alloc, ["batch", "inverter.sim", "3", "columns.cmd"], files, out) is Status::Done, and writes
@@ -32,6 +34,7 @@
 #![tactic(auto)]
 
 mod batch;
+mod dumping;
 mod faults;
 mod laws;
 mod noting;
@@ -39,6 +42,7 @@ mod reports;
 mod talking;
 mod top;
 
+pub use dumping::dump;
 pub use laws::answers_are_unique;
 pub use run_ends::Status;
 pub use script_meaning::scripts_end_at_their_first_refused_line;

@@ -30,7 +30,7 @@ use line_words::MOST_FILE_BYTES;
 use netlist::Circuit;
 use port_edge::{Files, Sink};
 use run_ends::{End, Status, Stop};
-use script_reports::{explain, sum_up};
+use script_reports::{cover_script, explain, sum_up};
 use script_run::run_lines;
 use std::alloc::Global;
 use table_keys::TableKeys;
@@ -57,7 +57,9 @@ use told_lines::Printer;
 /// many values are 0, 1 and X; an expectation that isn't met counts for nothing. `why NET SCRIPT NODE` runs the
 /// script as `sim` does, whose lines aren't written, and writes two lines for the node of the name NODE in the
 /// circuit and the state at the script's end: a strongest reason why it may be 1, or that there is none, and
-/// the same of 0. A name that isn't in use then is refused with the status of the usage line.
+/// the same of 0. A name that isn't in use then is refused with the status of the usage line. `cover NET SCRIPT` runs the
+/// script so too, in the circuit of a netlist or a deck, and writes a line for each node but the rails that lacks 0 or 1,
+/// with what it never had in any state behind a line, a unit step or the placing of a cycle's letters, and the counts.
 /// `faults NET SCRIPT LIST` reads the netlist, the script and the list of faults, runs the script as `sim` does,
 /// and then once more under each fault of the list, and writes a line with the verdict on each fault and one
 /// that counts the verdicts; the first refused line of the list, or else of the script in the run without a
@@ -324,6 +326,7 @@ fn run_text<S: Sink + Drop, A: Analyst>(
         Purpose::Lines => simulate(alloc, circuit, text, out, analyst),
         Purpose::Columns(lanes) => run_columns(alloc, circuit, lanes, text, out, analyst),
         Purpose::Reasons(node) => explain(alloc, circuit, text, node, out, analyst),
+        Purpose::Cover => cover_script(alloc, circuit, text, out, analyst),
     }
 }
 

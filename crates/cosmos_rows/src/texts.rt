@@ -41,7 +41,7 @@ const DECK: &[u8] = b"two inverters\n.subckt inv a y\nmp y a vdd vdd p\nmn y a 0
     x1 in m inv\nx2 m out inv\n";
 
 /// Each request once, and scripts that between them have each command.
-pub(super) const RUNS: [Run; 15] = [
+pub(super) const RUNS: [Run; 16] = [
     (
         SIMULATE,
         b"n a Gnd out\np a Vdd out\nn r Gnd r\np r Vdd r\n",
@@ -73,6 +73,13 @@ pub(super) const RUNS: [Run; 15] = [
         b"step\n",
         Status::NetRefused,
         b"net line 2: N1 BadRecord\n",
+    ),
+    (
+        &["cover", "net", "script"],
+        INVERTER,
+        b"input a\nset a=0\nphase\nadd n a q r\n",
+        Status::Done,
+        b"cover a 1\ncover out 0\ncover q 01\ncover r 01\ncover nodes 4 both 0 one 2 none 2\n",
     ),
     (
         &["check", "net"],

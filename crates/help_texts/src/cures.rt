@@ -14,7 +14,7 @@ use crate::finding::text_of;
 /// the place of the number, for S4 that in the place of the assignment or the kind; for E4 and E5 the
 /// strength and the size; for G1 and G2 the name that the refusal has; for P4 to P8 the subcircuit's
 /// name, for P10 the model's. The others have none.
-pub const CURES: [(&str, &str); 45] = [
+pub const CURES: [(&str, &str); 46] = [
     (
         "L1 LineTooLong",
         "the line has more than 65,536 bytes; write it as several shorter ones",
@@ -138,6 +138,10 @@ pub const CURES: [(&str, &str); 45] = [
     (
         "S16 NoSave",
         "nothing is kept under '{}'; put a line 'save {}' before this one",
+    ),
+    (
+        "S17 LateWatch",
+        "a dump's words are told at its head; put 'watch' before the first step, phase or cycle",
     ),
     (
         "F1 BadFault",

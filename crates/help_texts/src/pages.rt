@@ -10,6 +10,8 @@ Cosmos: a proved switch-level simulator for MOS circuits, by Bryant's model.
   cosmos sim-spice DECK SCRIPT    the same on the transistors of a SPICE deck
   cosmos why NET SCRIPT NODE      the paths that make the node 1, and 0
   cosmos faults NET SCRIPT LIST   run it under each fault; tell if it shows
+  cosmos vcd NET SCRIPT           run it, and write waveforms for a viewer
+  cosmos cover NET SCRIPT         tell which of 0 and 1 each node never had
   cosmos batch NET L SCRIPT       run it in L columns at once, L from 1 to 64
   cosmos check NET                count nodes, transistors and names
   cosmos groups NET               list the channel-connected groups
@@ -52,6 +54,8 @@ usage: cosmos sim NET SCRIPT
        cosmos sim-spice DECK SCRIPT
        cosmos why NET SCRIPT NODE
        cosmos faults NET SCRIPT LIST
+       cosmos vcd NET SCRIPT
+       cosmos cover NET SCRIPT
        cosmos batch NET L SCRIPT
        cosmos check NET
        cosmos groups NET

@@ -6,7 +6,7 @@ ghost use Rattle.help_texts.specs.Texts as spec;
 use crate::finding::text_of;
 
 /// Each request and each command of a script with its form, what it does, and what it is refused for.
-pub const TOPICS: [(&str, &str); 39] = [
+pub const TOPICS: [(&str, &str); 41] = [
     (
         "sim",
         "cosmos sim NET SCRIPT
@@ -62,6 +62,33 @@ and 'one NAME' of a node that is stuck. It is refused (status 4) for
 F1 BadFault, F2 TooLong, E1 UnknownNode, E2 NoSuchSwitch, E3 Rail,
 L1 LineTooLong, L2 BadByte. A line of NET, and of SCRIPT in the run without a
 fault, is refused as in 'sim'. Each refusal is told alone.
+",
+    ),
+    (
+        "vcd",
+        "cosmos vcd NET SCRIPT
+As 'sim', but writes a value change dump of the watched words, for a viewer of
+waveforms: 'cosmos vcd NET SCRIPT > run.vcd'. Time goes by unit steps, one a
+step, and one more between phases: it is an order, and no delay. So a ripple is
+seen as it goes through the circuit. Lines of 'expect', 'report', 'show' and
+'look' are comments, and that of a refusal is the last.
+If the name NET ends in .sp, .spi, .spice, .cir or .ckt, it is a SPICE deck. A
+line of NET or SCRIPT is refused as in 'sim', one of a deck as in 'sim-spice';
+and a 'watch' behind the first 'step', 'phase' or 'cycle': S17 LateWatch.
+",
+    ),
+    (
+        "cover",
+        "cosmos cover NET SCRIPT
+Runs SCRIPT without printing its lines, and prints a line for each node that is
+there at the end, inputs too, and never had 0, or 1: 'cover NAME 0', 'cover NAME
+1', or 'cover NAME 01' if it had none. The last line has the numbers of nodes,
+and of those that had both, one and none. What a node has behind a line counts,
+behind each unit step inside one, and behind the placing of a cycle's letters.
+So one sees where a test is blind before 'faults' runs any fault.
+If the name NET ends in .sp, .spi, .spice, .cir or .ckt, it is a SPICE deck. A
+line of NET or SCRIPT is refused as in 'sim', one of a deck as in 'sim-spice',
+and told alone.
 ",
     ),
     (
@@ -218,6 +245,7 @@ S14 VectorValue, E3 Rail, S7 NotStore for an input node ('set' is for these).
 Appends the nodes to the watch list, whose states each printed line shows in
 this order. Where nothing is watched a line has - in their place.
 Refused: S2 FewWords; E1 UnknownNode, S10 TooManyWatched past 256 entries.
+In 'vcd' behind a step, phase or cycle: S17 LateWatch.
 ",
     ),
     (

@@ -100,6 +100,8 @@ pub enum FaultCode {
     S15TooManySaves,
     /// Nothing is kept under the name.
     S16NoSave,
+    /// In a dump a word is watched behind the first step, phase or cycle.
+    S17LateWatch,
     /// A line of the list isn't two words that name a fault.
     F1BadFault,
     /// A list goes past 67,108,864 bytes.
@@ -146,6 +148,7 @@ impl FaultCode {
             FaultCode::S14VectorValue => b"S14 VectorValue",
             FaultCode::S15TooManySaves => b"S15 TooManySaves",
             FaultCode::S16NoSave => b"S16 NoSave",
+            FaultCode::S17LateWatch => b"S17 LateWatch",
             FaultCode::F1BadFault => b"F1 BadFault",
             FaultCode::F2TooLong => b"F2 TooLong",
         }

@@ -1,4 +1,4 @@
-use Rattle.cosmos_app.proofs.UniqueAnswers.{answers_unique, answers_alike}
+use Rattle.cosmos_app.proofs.UniqueAnswers.{answers_unique, answers_alike, dumps_unique}
 use Rattle.cosmos_app.proofs.laws.answers_are_unique.Goals as goal
 
 pub returns-clause-one : goal.returns-clause-one
@@ -6,3 +6,6 @@ returns-clause-one c = answers_unique
 
 pub returns-clause-alike : goal.returns-clause-alike
 returns-clause-alike c = answers_alike
+
+pub returns-clause-dumps : goal.returns-clause-dumps
+returns-clause-dumps c = dumps_unique

@@ -29,3 +29,8 @@ pub returns-in-Reasons-clause-told : goal.returns-in-Reasons-clause-told
 returns-in-Reasons-clause-told g c =
     told_for c.in-Reasons.is c.args.text.now c.args.circuit c.args.out.now.page.written c.explain.new.out.page.written
     (g.A.Analyst.analysed c.args.analyst.now) (g.A.Analyst.analysed c.explain.new.analyst) c.explain.result c.explain.ensures.told
+
+pub returns-in-Cover-clause-told : goal.returns-in-Cover-clause-told
+returns-in-Cover-clause-told g c =
+    told_for c.in-Cover.is c.args.text.now c.args.circuit c.args.out.now.page.written c.cover_script.new.out.page.written
+    (g.A.Analyst.analysed c.args.analyst.now) (g.A.Analyst.analysed c.cover_script.new.analyst) c.cover_script.result c.cover_script.ensures.told
