@@ -119,20 +119,30 @@ impl LaneSession {
         ensures named { IfErr result (NamesNode self.new.core.circuit.graph) }
         ensures session { IsLaneSession self.new.core }
     {
+        let outcome = self.obey(command, analyst, out);
+        let _circuit = self.circuit();
+        outcome
+    }
+
+    // Does a command in each column, and writes the columns' lines.
+    fn obey<A: Analyst, S: Sink>(
+        &mut self,
+        command: &LaneCommand,
+        analyst: &mut A,
+        out: &mut S,
+    ) -> Result<(), ApplyFault>
+        requires { IsFormed self.old.core.lanes command.now }
+        ensures obeys { ObeysTogether self.old.core command.now self.new.core (S.written out.old) (S.written out.new)
+            (A.analysed analyst.old) (A.analysed analyst.new) (S.refusals out.old) (S.refusals out.new) result }
+        ensures faults { S.faults out.new ≡ faults_applied (S.faults out.old) result }
+        ensures lanes { self.new.core.lanes ≡ self.old.core.lanes }
+    {
         match command {
-            LaneCommand::Shared(Command::Run(run)) => {
-                let outcome = self.run(run, analyst, out);
-                let _circuit = self.circuit();
-                outcome
-            }
+            LaneCommand::Shared(Command::Run(run)) => self.run(run, analyst, out),
             LaneCommand::Values(_, _)
             | LaneCommand::Shared(Command::Edit(_))
             | LaneCommand::Shared(Command::Give(_))
-            | LaneCommand::Shared(Command::Setup(_)) => {
-                let outcome = self.stay(command);
-                let _circuit = self.circuit();
-                outcome
-            }
+            | LaneCommand::Shared(Command::Setup(_)) => self.stay(command),
             LaneCommand::Shared(Command::Tell(_)) => unreachable!(),
         }
     }

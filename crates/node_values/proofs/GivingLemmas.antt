@@ -1,5 +1,5 @@
 -- The nodes that an assignment gives letters are nodes of the circuit, and a state of a column goes to its name's node.
-use Rattle.std.proofs.Common.{ℕ, ◌<◌, List, [], ◌∷◌, length, All, Option, Some, None, IfSome, option_map, IfOk}
+use Rattle.std.proofs.Common.{◌≡◌, ℕ, ◌<◌, List, [], ◌∷◌, length, All, Option, Some, None, IfSome, option_map, IfOk, refl, ap, map}
 use Rattle.std.specs.Prelude.{replicate, zip}
 use Rattle.std.proofs.lemmas.List.Elements.{All-nil, All-cons, All-head, All-tail}
 use Rattle.ternary.specs.declared.tern.Tern.{Tern}
@@ -73,3 +73,8 @@ module _ (c : CircuitData) (is : IsCircuit c) (vectors : List (List ℕ × List 
   given-inside (name, given.Wide value) = value-inside value (vector_named c vectors name) (vector-inside name)
   given-inside (name, given.Alone state) =
       state-inside state (option_map (λ node. node ∷ []) (node_of c.names name)) (alone-inside name)
+
+-- nodes with one letter for each are the nodes, each with that letter
+pub zip_same : (nodes : List ℕ) (letter : Letter) → zip nodes (replicate (length nodes) letter) ≡ map (λ (node : ℕ). (node, letter)) nodes
+zip_same [] letter = refl
+zip_same (node ∷ nodes) letter = ap (λ (more : List (ℕ × Letter)). (node, letter) ∷ more) (zip_same nodes letter)

@@ -68,8 +68,11 @@ fn with_state(
     ensures ok { IfOk result (λ pairs. pairs.items ≡ zip nodes.now (replicate (length nodes.now) (Some state))) }
     ensures refused { IfErr result (λ fault. fault ≡ GivenFault.NoMemory) }
 {
-    let letters = vec![in alloc; Some(state); nodes.len()].map_err(NoMemory::from)?;
-    Ok(paired(alloc, nodes, &letters)?)
+    let mut pairs = Vec::with_capacity(alloc, nodes.len()).map_err(NoMemory::from)?;
+    for node in nodes {
+        pairs.push_reserved((*node, Some(state)));
+    }
+    Ok(pairs)
 }
 
 // These nodes, each with its letter of the value.

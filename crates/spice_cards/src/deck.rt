@@ -1,6 +1,6 @@
 //! A deck, and the reader of one.
 
-ghost use Rattle.std.specs.Prelude.{◌≡◌, map, is_some, IfOk, IfErr, IfSome, IsNone, Ok, Some, None};
+ghost use Rattle.std.specs.Prelude.{◌≡◌, ◌≢◌, map, is_some, IfOk, IfErr, IfSome, IsNone, Ok, Some, None};
 ghost use Rattle.std.specs.Char.{to_ascii_lowercase};
 ghost use Rattle.std.specs.List.{enumerate_from};
 ghost use Rattle.line_words.specs.Lines.{lines_of};
@@ -154,6 +154,7 @@ fn read_lines(
 fn unless(refusal: Option<DeckRefusal>, deck: Deck) -> Result<Deck, DeckFault>
     ensures ok { IfOk result (λ made. spec.unless refusal (Ok deck) ≡ Ok made) }
     ensures refused { IfErr result (IsFault (spec.unless refusal (Ok deck))) }
+    ensures memory { IfErr result (λ fault. fault ≢ Unmade.NoMemory) }
 {
     match refusal {
         Some(refusal) => Err(Unmade::Refused(refusal)),

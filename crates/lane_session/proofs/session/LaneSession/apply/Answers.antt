@@ -1,31 +1,6 @@
--- A command that takes no step is obeyed quietly.
-use Rattle.std.proofs.Common.{◌≡◌, true, rules}
-use Rattle.lane_script.specs.Commands.{in_column}
-use Rattle.lane_session.specs.Stages.{is_silent}
-use Rattle.lane_session.proofs.OutcomeLemmas.{names_node_together, quietly_obeys, quietly_lanes}
-use Rattle.lane_session.proofs.QuietLemmas.{quietly_faults, silent_still}
+use Rattle.lane_session.proofs.OutcomeLemmas.{names_node_together}
 use Rattle.lane_session.proofs.session.LaneSession.apply.Goals as goal
 
-pub stay-outcome-requires-clause-silent : goal.stay-outcome-requires-clause-silent
-stay-outcome-requires-clause-silent g c = search rules
-
-pub returns-in-Shared-Run-clause-named : goal.returns-in-Shared-Run-clause-named
-returns-in-Shared-Run-clause-named g c =
-    names_node_together c.args.self.now.core c.run-outcome.new.self.core _ _ _ _ _ _ _ c.run-outcome.result c.run-outcome.ensures.obeys
-
-pub returns-in-Values-clause-obeys : goal.returns-in-Values-clause-obeys
-returns-in-Values-clause-obeys g c =
-    let silent : is_silent (in_column 0 c.args.command.now) ≡ true = search rules in
-    quietly_obeys c.args.self.now.core c.stay-outcome.new.self.core c.args.command.now _ _ _ c.stay-outcome.result (silent_still _ silent) c.stay-outcome.ensures
-
-pub returns-in-Values-clause-faults : goal.returns-in-Values-clause-faults
-returns-in-Values-clause-faults g c =
-    quietly_faults c.args.self.now.core c.stay-outcome.new.self.core c.args.command.now _ c.stay-outcome.result c.stay-outcome.ensures
-
-pub returns-in-Values-clause-lanes : goal.returns-in-Values-clause-lanes
-returns-in-Values-clause-lanes g c =
-    quietly_lanes c.args.self.now.core c.stay-outcome.new.self.core c.args.command.now c.stay-outcome.result c.stay-outcome.ensures
-
-pub returns-in-Values-clause-named : goal.returns-in-Values-clause-named
-returns-in-Values-clause-named g c =
-    names_node_together c.args.self.now.core c.stay-outcome.new.self.core c.args.command.now _ _ _ _ _ _ c.stay-outcome.result (returns-in-Values-clause-obeys g c)
+pub returns-clause-named : goal.returns-clause-named
+returns-clause-named g c =
+    names_node_together c.args.self.now.core c.obey-outcome.new.self.core c.args.command.now _ _ _ _ _ _ c.obey-outcome.result c.obey-outcome.ensures.obeys
