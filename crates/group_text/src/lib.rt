@@ -3,8 +3,9 @@
 //! The main type is `GroupText`: the local graph of a group, how many of its nodes are members, and
 //! which of them are rails. Texts are equal exactly if all three are, so they serve as the keys
 //! of what is kept. The layers above use that `text_of` gives the text and the node that each local
-//! node stands for, and the law that responses are local: the steady state of a member in the local
-//! graph is its steady state in the whole graph.
+//! node stands for, unless the group is too large (`text_of_any_size` makes any), and the law that
+//! responses are local: the steady state of a member in the local graph is its steady state in the
+//! whole graph.
 //!
 //! ```text
 //! an inverter a -> out: local nodes out, a, Vdd, Gnd; one member; constants none, none, 1, 0
@@ -25,4 +26,4 @@ mod local;
 mod text;
 
 pub use laws::{limits_are_as_stated, responses_are_local, texts_are_small, texts_are_well_formed};
-pub use text::{GroupText, MOST_MEMBERS, MOST_SWITCHES, TextFault, text_of};
+pub use text::{GroupText, MOST_MEMBERS, MOST_SWITCHES, TextFault, text_of, text_of_any_size};

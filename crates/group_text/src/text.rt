@@ -130,10 +130,27 @@ pub fn text_of(
             count: switches.len() as u64,
         });
     }
+    Ok(text_of_any_size(alloc, graph, members, switches)?)
+}
+
+/// The same for a group of any size.
+///
+/// A text that [`text_of`] refuses is for a look at a single group: what is kept by texts, and their
+/// analysis, need small ones.
+pub fn text_of_any_size(
+    alloc: Global,
+    graph: &Graph,
+    members: &[usize],
+    switches: &[usize],
+) -> Result<(GroupText, Vec<usize>), NoMemory>
+    requires { IsGroup graph.now (record { members = members.now; switches = switches.now }) }
+    ensures text { IfOk result (λ made.
+        made.0 ≡ text_of_group graph.now (record { members = members.now; switches = switches.now })) }
+    ensures locals { IfOk result (λ made.
+        made.1.items ≡ local_nodes graph.now (record { members = members.now; switches = switches.now })) }
+{
     graphs_are_wired(graph);
-    let Ok(locals) = collect_nodes(alloc, graph, members, switches) else {
-        return Err(TextFault::NoMemory);
-    };
+    let locals = collect_nodes(alloc, graph, members, switches)?;
     let text = GroupText {
         graph: local_graph(alloc, graph, members, switches, &locals)?,
         members: members.len(),
