@@ -15,3 +15,4 @@ pub mod TurnLemmas
 pub mod LiveListLemmas
 pub mod LiveListsLemmas
 pub mod ListingLemmas
+pub mod GrowingLemmas

@@ -18,7 +18,8 @@ use Rattle.vicinity.specs.Vicinities.{live_graph}
 use Rattle.vicinity.specs.Touching.{IsAwake, IsStirred, RestsAsleep, RespondedAsleep}
 use Rattle.vicinity.specs.Evaluating.{AreChanges}
 use Rattle.part_words.specs.Noting.{after}
-use Rattle.vicinity.specs.Stepping.{IsTaken, Touches, MembersMove}
+use Rattle.machine_parts.specs.Running.{IsTaken}
+use Rattle.vicinity.specs.Stepping.{Touches, MembersMove}
 use Rattle.vicinity.proofs.LiveGraphs.{storage_whole}
 use Rattle.vicinity.proofs.SleepingNodes.{same_tern, asleep_rest}
 

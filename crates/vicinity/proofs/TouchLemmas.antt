@@ -1,5 +1,5 @@
 -- What a change touches: the ends of the switches that change with it, and with one change after the other.
-use Rattle.std.proofs.Common.{◌≡◌, ◌≢◌, ℕ, ◌+◌, ◌<◌, inl, inr, ◌⊎◌, Bool, false, List, [], ◌∷◌, ◌++◌, length, take, drop, get_or, Some, refl, sym, ap, ◌∙◌, subst, arith}
+use Rattle.std.proofs.Common.{◌≡◌, ◌≢◌, ℕ, ◌+◌, ◌<◌, inl, inr, ◌⊎◌, ◌↔◌, Bool, false, List, [], ◌∷◌, ◌++◌, length, take, drop, get_or, Some, refl, sym, ap, ◌∙◌, subst, arith}
 use Rattle.std.specs.Prelude.{Contains, slice_set}
 use Rattle.std.proofs.lemmas.Bool.{cases_eq}
 use Rattle.std.proofs.lemmas.List.{length-set, get_or-set_same, get_or-set_other, take_more, take-append-drop}
@@ -7,6 +7,7 @@ use Rattle.std.proofs.lemmas.List.Elements.{Contains-get_or, Contains-push, Cont
 use Rattle.vicinity.specs.LiveLists.{HasGate}
 use Rattle.ternary.specs.declared.tern.Tern.{Tern}
 use Rattle.ternary.specs.declared.tern.Tern.TheVariants.{Zero}
+use Rattle.ternary.proofs.TernLemmas.{same_or_other}
 use Rattle.path_meaning.specs.declared.switching.Switch.{Switch}
 use Rattle.path_meaning.specs.declared.switching.SwitchState.{SwitchState}
 use Rattle.path_meaning.specs.declared.switching.SwitchState.TheVariants.{Open, Closed, Unknown}
@@ -17,8 +18,11 @@ use Rattle.path_meaning.specs.Path.{Joins}
 use Rattle.part_words.specs.declared.change.Change.{Change}
 use Rattle.vicinity.specs.NodeSets.{NodeSetData}
 use Rattle.vicinity.specs.Flooding.{Wakes}
-use Rattle.vicinity.specs.Stepping.{TurnsAt, IsTaken, Touches}
+use Rattle.machine_parts.specs.Running.{AreAgreed, IsTaken}
+use Rattle.vicinity.specs.Touching.{SwitchChanges}
+use Rattle.vicinity.specs.Stepping.{TurnsAt, Touches}
 use Rattle.vicinity.proofs.FloodLemmas.{Wakes-then}
+use Rattle.vicinity.proofs.SleepingNodes.{same_tern}
 
 -- what a test of two states of switches tells apart differs
 pub apart_states : (a b : SwitchState) → states.eq-value.it a b ≡ false → a ≢ b
@@ -72,7 +76,7 @@ Wakes-each g Leads places i inside old mid new first next =
 
 -- one change touches what it stirs
 pub Touches-one : (g : GraphData) (old : List Tern) (node : ℕ) (was value : Tern) (places : List ℕ) (before after : NodeSetData) →
-    ((place : ℕ) → HasGate g place node → Contains places place) → node < length old → was ≡ state_at old node →
+    ((place : ℕ) → Contains places place ↔ HasGate g place node) → node < length old → was ≡ state_at old node →
     Wakes g (λ n. (place : ℕ) × Contains places place × TurnsAt g was value place n) before after →
     Touches g old (slice_set old node value) before.inside after.inside
 Touches-one g old node was value places before after gated inside is wakes = record {
@@ -87,7 +91,7 @@ Touches-one g old node was value places before after gated inside is wakes = rec
             let then_ : state_at old switch.gate ≡ was = ap (state_at old) same ∙ sym is in
             wakes.all n (
               changes.place,
-              gated changes.place (record { switch = switch; at_place = changes.at_place; gated = same }),
+              (gated changes.place).1 (record { switch = switch; at_place = changes.at_place; gated = same }),
               record {
                 switch = switch;
                 at_place = changes.at_place;
@@ -99,12 +103,39 @@ Touches-one g old node was value places before after gated inside is wakes = rec
         | inr other ↦
             absurd (changes.changed (ap (state_by switch.kind) (get_or-set_other old node switch.gate value Zero other)))
       ];
+  only = λ n touched.
+      elim (wakes.only n touched) [
+        | inl before ↦ inl before
+        | inr ((place, there, turns), storage) ↦
+            let gate = (gated place).0 there in
+            let switch = turns.switch in
+            let one : switch ≡ gate.switch = cc (turns.at_place, gate.at_place) in
+            let same : switch.gate ≡ node = ap (λ (s : Switch). s.gate) one ∙ gate.gated in
+            let now : state_at (slice_set old node value) switch.gate ≡ value =
+            ap (state_at (slice_set old node value)) same ∙ get_or-set_same old node value Zero inside in
+            let then_ : state_at old switch.gate ≡ was = ap (state_at old) same ∙ sym is in
+            inr (
+              storage,
+              record {
+                place = place;
+                switch = switch;
+                at_place = turns.at_place;
+                other = turns.other;
+                joins = turns.joins;
+                changed = λ e. turns.changed (ap (state_by switch.kind) (sym now) ∙ (e ∙ ap (state_by switch.kind) then_));
+              },
+            )
+      ];
 }
 
--- what two changes stir, one of them does
-pub Touches-then : (g : GraphData) (old mid new : List Tern) (before between after : List Bool) → Touches g old mid before between →
-    Touches g mid new between after → Touches g old new before after
-Touches-then g old mid new before between after first next = record {
+-- no state changes twice: a node that changed first keeps the state that it got
+abbrev pub NoneTwice : List Tern → List Tern → List Tern → Type 0
+NoneTwice old mid new = (node : ℕ) → (state_at mid node ≡ state_at old node) ⊎ (state_at new node ≡ state_at mid node)
+
+-- what two changes stir, one of them does, and what one of them stirs, both do together if none changes twice
+pub Touches-then : (g : GraphData) (old mid new : List Tern) (before between after : List Bool) → NoneTwice old mid new →
+    Touches g old mid before between → Touches g mid new between after → Touches g old new before after
+Touches-then g old mid new before between after once first next = record {
   count = next.count ∙ first.count;
   stays = λ node is. next.stays node (first.stays node is);
   all = λ node storage changes.
@@ -127,7 +158,38 @@ Touches-then g old mid new before between after first next = record {
           changed = differs;
         }))
       ];
+  only = λ node touched.
+      elim (next.only node touched) [
+        | inl between ↦ elim (first.only node between) [ inl before ↦ inl before | inr (storage, changes) ↦ inr (storage, at_first node changes) ]
+        | inr (storage, changes) ↦ inr (storage, behind node changes)
+      ];
 }
+  where
+    at_first : (node : ℕ) → SwitchChanges g old mid node → SwitchChanges g old new node
+    at_first node changes = record {
+      place = changes.place;
+      switch = changes.switch;
+      at_place = changes.at_place;
+      other = changes.other;
+      joins = changes.joins;
+      changed = elim (once changes.switch.gate) [
+        | inl same ↦ absurd (changes.changed (ap (state_by changes.switch.kind) same))
+        | inr same ↦ λ e. changes.changed (ap (state_by changes.switch.kind) (sym same) ∙ e)
+      ];
+    }
+
+    behind : (node : ℕ) → SwitchChanges g mid new node → SwitchChanges g old new node
+    behind node changes = record {
+      place = changes.place;
+      switch = changes.switch;
+      at_place = changes.at_place;
+      other = changes.other;
+      joins = changes.joins;
+      changed = elim (once changes.switch.gate) [
+        | inl same ↦ λ e. changes.changed (e ∙ ap (state_by changes.switch.kind) (sym same))
+        | inr same ↦ absurd (changes.changed (ap (state_by changes.switch.kind) same))
+      ];
+    }
 
 -- nothing changes, nothing is touched
 pub Touches-none : (g : GraphData) (state : List Tern) (touched : List Bool) → Touches g state state touched touched
@@ -135,6 +197,7 @@ Touches-none g state touched = record {
   count = refl;
   stays = λ node is. is;
   all = λ node storage changes. absurd (changes.changed refl);
+  only = λ node touched. inl touched;
 }
 
 -- what a prefix of a list contains, the list contains
@@ -173,3 +236,47 @@ IsTaken-more changes i d old mid inside node_inside agreed so_far =
           get_or-set_other mid change.node node change.value Zero other
           ∙ so_far.stays node (λ one before. none one (Contains-append_left (take i changes) (change ∷ []) one before));
     })
+
+-- one change is written
+IsTaken-one : (old : List Tern) (change : Change) → change.node < length old → IsTaken (change ∷ []) old (slice_set old change.node change.value)
+IsTaken-one old change inside = record {
+  count = length-set old change.node change.value;
+  taken = λ one there.
+      let same : change ≡ one = alone one there in
+      subst (λ (c : Change). state_at (slice_set old change.node change.value) c.node ≡ c.value) same
+      (get_or-set_same old change.node change.value Zero inside);
+  stays = λ node none. get_or-set_other old change.node node change.value Zero (λ same. none change (Contains-push [] change) (sym same));
+}
+  where
+    alone : (one : Change) → Contains (change ∷ []) one → change ≡ one
+    alone one there = elim (Contains-push_cases [] change one there) [ inl before ↦ absurd (omega (arith, before.1)) | inr same ↦ same ]
+
+-- changes that agree change no state twice, some of them first and more behind them
+pub none_twice : (first more : List Change) (old mid new : List Tern) →
+    ((one two : Change) → Contains first one → Contains more two → one.node ≡ two.node → one.value ≡ two.value) →
+    IsTaken first old mid → IsTaken more mid new → NoneTwice old mid new
+none_twice first more old mid new agreed before behind node =
+    elim (same_or_other (state_at mid node) (state_at old node)) [
+      | inl same ↦ inl same
+      | inr changed ↦ inr (same_tern (state_at new node) (state_at mid node) (λ differs.
+          differs (behind.stays node (λ two there at_two.
+          changed (before.stays node (λ one here at_one.
+          let value : one.value ≡ two.value = agreed one two here there (at_one ∙ sym at_two) in
+          differs (ap (state_at new) (sym at_two) ∙ (behind.taken two there ∙ (sym value ∙ (sym (before.taken one here) ∙ ap (state_at mid) at_one))))))))))
+    ]
+
+-- nor does the next one
+pub none_twice-next : (changes : List Change) (i : ℕ) (d : Change) (old mid : List Tern) → i < length changes → (get_or changes i d).node < length mid →
+    AreAgreed changes → IsTaken (take i changes) old mid →
+    NoneTwice old mid (slice_set mid (get_or changes i d).node (get_or changes i d).value)
+none_twice-next changes i d old mid inside node_inside agreed so_far =
+    let change : Change = get_or changes i d in
+    none_twice (take i changes) (change ∷ []) old mid (slice_set mid change.node change.value)
+    (λ one two here there. agreed one two (Contains-front changes i one here) (among two there)) so_far (IsTaken-one mid change node_inside)
+  where
+    among : (two : Change) → Contains (get_or changes i d ∷ []) two → Contains changes two
+    among two there =
+        elim (Contains-push_cases [] (get_or changes i d) two there) [
+          | inl before ↦ absurd (omega (arith, before.1))
+          | inr same ↦ subst (Contains changes) same (Contains-get_or changes i d inside)
+        ]

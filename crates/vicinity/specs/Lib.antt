@@ -13,4 +13,5 @@ pub mod Spreading
 pub mod Evaluating
 pub mod Stepping
 pub mod Wides
+pub mod Growing
 pub mod Words

@@ -1,6 +1,6 @@
 -- A step over the members of large groups: those that are awake are evaluated, changes are written, and what they stir is touched.
 -- After Bryant, "A Switch-Level Model and Simulator for MOS Digital Systems", 1984.
-use Rattle.std.specs.Prelude.{◌≡◌, ◌≢◌, ℕ, Bool, List, length, Contains, Some}
+use Rattle.std.specs.Prelude.{◌≡◌, ◌≢◌, ℕ, ◌⊎◌, Bool, List, length, Contains, Some}
 use Rattle.ternary.specs.declared.tern.Tern.{Tern}
 use Rattle.path_meaning.specs.declared.switching.Switch.{Switch}
 use Rattle.path_meaning.specs.Switching.{state_at, state_by}
@@ -8,8 +8,8 @@ use Rattle.path_meaning.specs.Graphs.{GraphData, IsStorage, place_at}
 use Rattle.path_meaning.specs.Path.{Joins}
 use Rattle.path_meaning.specs.Step.{IsResponse}
 use Rattle.group_meaning.specs.Groups.{Group, IsGroup}
-use Rattle.part_words.specs.declared.change.Change.{Change}
 use Rattle.vicinity.specs.NodeSets.{IsIn}
+use Rattle.vicinity.specs.Flooding.{IsNext}
 use Rattle.vicinity.specs.Touching.{SwitchChanges, RestsAsleep}
 use Rattle.part_words.specs.Noting.{after}
 
@@ -21,17 +21,16 @@ pub record TurnsAt (g : GraphData) (was now : Tern) (place node : ℕ) : Type 0 
   pub joins : Joins switch node other
   pub changed : state_by switch.kind now ≢ state_by switch.kind was
 
--- each node that is to change has its new state, and every other node stays
-pub record IsTaken (changes : List Change) (old new : List Tern) : Type 0 where
-  pub count : length new ≡ length old
-  pub taken : (change : Change) → Contains changes change → state_at new change.node ≡ change.value
-  pub stays : (node : ℕ) → ((change : Change) → Contains changes change → change.node ≢ node) → state_at new node ≡ state_at old node
-
--- the storage nodes at which a switch changed are touched, with those that were
+-- the storage nodes at which a switch changed are touched, with those that were, and no others
 pub record Touches (g : GraphData) (old new : List Tern) (before touched : List Bool) : Type 0 where
   pub count : length touched ≡ length before
   pub stays : (node : ℕ) → IsIn before node → IsIn touched node
   pub all : (node : ℕ) → IsStorage g node → SwitchChanges g old new node → IsIn touched node
+  pub only : (node : ℕ) → IsIn touched node → IsIn before node ⊎ (IsStorage g node × SwitchChanges g old new node)
+
+-- a node that is given a state stirs itself, what a switch that isn't open joins with it, and the ends of the switches that change
+abbrev pub Stirs : GraphData → List Tern → List Tern → ℕ → ℕ → Type 0
+Stirs g old new placed node = (node ≡ placed) ⊎ (IsNext g old placed node ⊎ SwitchChanges g old new node)
 
 -- each member of the group takes its steady state or, in a joining step, the join with it
 abbrev pub MembersMove : Bool → GraphData → Group → List Tern → List Tern → Type 0

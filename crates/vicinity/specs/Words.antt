@@ -9,5 +9,6 @@ pub use Rattle.vicinity.specs.Entries.{own_strength, IsWay, HasAbove, IsFloorAt,
 pub use Rattle.vicinity.specs.Sources.{is_crossed, HasEdge}
 pub use Rattle.vicinity.specs.Spreading.{IsSweep, GoesOn, Raises, Starts, IsSpreadOver, cost_at, size_of, owed}
 pub use Rattle.vicinity.specs.Evaluating.{IsScratch, HasRails, NotesWhere, AreChanges, IsPaid}
-pub use Rattle.vicinity.specs.Stepping.{TurnsAt, IsTaken, Touches, StepsGroup, PlacesGroup}
+pub use Rattle.vicinity.specs.Stepping.{TurnsAt, Touches, Stirs, StepsGroup, PlacesGroup}
 pub use Rattle.vicinity.specs.Wides.{Calms, Turned, PlacesWide}
+pub use Rattle.vicinity.specs.Growing.{no_places, with_lists, GrowsWide}

@@ -1,5 +1,5 @@
 //! The evaluation of the nodes that are awake.
-ghost use Rattle.std.specs.Prelude.{◌≡◌, ℕ, ◌+◌, ◌<◌, ◌≤◌, List, length, All, IfOk, vec_len, vec_capacity, slice_index};
+ghost use Rattle.std.specs.Prelude.{◌≡◌, ℕ, ◌+◌, ◌-◌, ◌<◌, ◌≤◌, ◌++◌, List, length, replicate, All, IfOk, vec_len, vec_capacity, slice_index};
 ghost use Rattle.ternary.specs.declared.tern.Tern.{Tern};
 ghost use Rattle.path_meaning.specs.Words.{state_at, nodes};
 ghost use Rattle.vicinity.specs.Words.{IsIn, ListsLive, AreListsOf, HasRails, NotesWhere, AreChanges, IsPaid, IsScratch};
@@ -54,6 +54,45 @@ impl Scratch {
             zero: vec![in alloc; 0; nodes]?,
         })
     }
+
+    /// Room for graphs of so many nodes, which are no fewer than before.
+    pub fn grown(self, nodes: usize) -> Result<Scratch, AllocError>
+        requires { self.nodes ≤ nodes }
+        ensures { IfOk result (λ room. room.nodes ≡ nodes) }
+    {
+        let Scratch {
+            awake,
+            left,
+            floor,
+            best,
+            one,
+            zero,
+        } = self;
+        let awake = awake.grown(nodes)?;
+        let left = left.grown(nodes)?;
+        let floor = filled(floor, nodes)?;
+        let best = filled(best, nodes)?;
+        let one = filled(one, nodes)?;
+        let zero = filled(zero, nodes)?;
+        Ok(Scratch {
+            awake,
+            left,
+            floor,
+            best,
+            one,
+            zero,
+        })
+    }
+}
+
+// A table with 0 for each new node, up to so many nodes.
+fn filled(table: Vec<u8>, nodes: usize) -> Result<Vec<u8>, AllocError>
+    requires { length table.items ≤ nodes }
+    ensures { IfOk result (λ more. more.items ≡ table.items ++ replicate (nodes - length table.items) 0) }
+{
+    let mut table = table;
+    table.resize(nodes, 0)?;
+    Ok(table)
 }
 
 /// Finds the steady state of each node that is awake, and notes those that change by it. No state is written, and no

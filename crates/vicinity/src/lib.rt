@@ -10,11 +10,11 @@
 //! the switches that turn by it; [`place_awake`] writes a state that a node gets from outside, and touches what that
 //! stirs. Neither takes memory.
 //!
-//! The layer above uses the contract of `step_awake`: each member of a group takes its steady state, or in a
-//! joining step the join with it, and what no touched node is near rests afterwards. The looks that it takes are
-//! at most 55 for each node that a touched node is near, and for each switch at it that isn't open. [`Wide`] has the
-//! graph, the lists and the touched nodes of such groups together, and finds and writes changes in turns with others
-//! that share the states. Nothing in the program uses it yet.
+//! The contract of `step_awake` says what a step of such groups alone comes to: each member of a group takes its steady
+//! state, or in a joining step the join with it, and what no touched node is near rests afterwards. The looks that it
+//! takes are at most 55 for each node that a touched node is near, and for each switch at it that isn't open. The layer
+//! above uses [`Wide`], which has the graph, the lists and the touched nodes of such groups together: it finds changes,
+//! and writes them in turns with those of other groups, which share the states.
 //!
 //! ```text
 //! a bit line, and behind pass transistors with gates w0, w1, w2 the cells c0, c1, c2

@@ -1,7 +1,7 @@
 //! The places at a node, with those in front whose switches aren't open.
-ghost use Rattle.std.specs.Prelude.{◌≡◌, ◌<◌, [], length, replicate, Contains, IfOk, OnOk};
+ghost use Rattle.std.specs.Prelude.{◌≡◌, ◌<◌, ◌++◌, [], length, replicate, Contains, IfOk, OnOk};
 ghost use Rattle.machine_parts.specs.Marking.{AreOnce};
-ghost use Rattle.vicinity.specs.Words.{all_at, TurnsIn, AddsIn, AddsAt};
+ghost use Rattle.vicinity.specs.Words.{all_at, no_places, TurnsIn, AddsIn, AddsAt};
 
 use crate::arms::Places;
 use crate::turning::{spot_of, turn};
@@ -84,10 +84,19 @@ pub(crate) fn empty_lists(alloc: Global, count: usize) -> Result<Vec<LiveList>, 
     ensures none { IfOk result (λ lists. lists.items ≡ replicate count (record { items = []; all = [] })) }
 {
     let mut lists = Vec::new(alloc);
-    for _ in 0..count {
+    add_empty(&mut lists, count)?;
+    Ok(lists)
+}
+
+/// So many lists more, without places.
+pub(crate) fn add_empty(lists: &mut Vec<LiveList>, more: usize) -> Result<(), AllocError>
+    ensures { OnOk result (lists.new.items ≡ lists.old.items ++ replicate more no_places) }
+{
+    let alloc = *lists.allocator();
+    for _node in 0..more {
         lists.push(LiveList::new(alloc))?;
     }
-    Ok(lists)
+    Ok(())
 }
 
 /// A new place stands in the list of one node, in front if it is live.

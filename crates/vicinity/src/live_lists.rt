@@ -2,10 +2,10 @@
 ghost use Rattle.std.specs.Prelude.{◌≡◌, ℕ, ◌+◌, ◌<◌, length, slice_set, Contains, Some, IfOk, OnOk};
 ghost use Rattle.path_meaning.specs.Graphs.{nodes};
 ghost use Rattle.machine_parts.specs.Marking.{AreOnce};
-ghost use Rattle.vicinity.specs.Words.{places_of, all_at, AreListsOf, AreListedBelow, AddsEnds, TurnsAtNode, TurnsGate};
+ghost use Rattle.vicinity.specs.Words.{places_of, all_at, with_lists, AreListsOf, AreListedBelow, AddsEnds, TurnsAtNode, TurnsGate};
 
 use crate::arms::listed;
-use crate::live_list::{LiveList, add_at, empty_lists};
+use crate::live_list::{LiveList, add_at, add_empty, empty_lists};
 use crate::spots::{HEADS, Spots, hint_at, note_all, note_exchange};
 use crate::turning::conducts;
 use path_meaning::{Graph, Switch};
@@ -46,6 +46,14 @@ impl LiveLists {
         list_all(graph, state, &mut ends, &mut gates)?;
         note_all(graph, &mut spots, &ends);
         Ok(LiveLists { ends, gates, spots })
+    }
+
+    /// So many nodes more have no places.
+    pub(crate) fn grow(&mut self, more: usize) -> Result<(), AllocError>
+        ensures { OnOk result (self.new ≡ with_lists self.old more) }
+    {
+        add_empty(&mut self.ends, more)?;
+        add_empty(&mut self.gates, more)
     }
 
     /// The list of each node.

@@ -1,5 +1,5 @@
 //! Sets of nodes that take no memory while they change.
-ghost use Rattle.std.specs.Prelude.{◌≡◌, ℕ, ◌<◌, ◌≤◌, ◌++◌, ◌∷◌, [], true, false, length, replicate, slice_set, slice_index, slice_index_or, All, IfOk, IfSome, Contains};
+ghost use Rattle.std.specs.Prelude.{◌≡◌, ℕ, ◌-◌, ◌<◌, ◌≤◌, ◌++◌, ◌∷◌, [], true, false, length, replicate, slice_set, slice_index, slice_index_or, All, IfOk, IfSome, Contains};
 ghost use Rattle.std.specs.Bool.{OnTrue, OnFalse};
 ghost use Rattle.std.specs.Option.{IfNone};
 ghost use Rattle.machine_parts.specs.Marking.{AreOnce};
@@ -37,6 +37,20 @@ impl NodeSet {
             marks: vec![in alloc; false; nodes]?,
             list: Vec::with_capacity(alloc, nodes)?,
         })
+    }
+
+    /// The same nodes as a set of some of so many, which are no fewer than before.
+    pub(crate) fn grown(self, nodes: usize) -> Result<NodeSet, AllocError>
+        requires { length self.inside ≤ nodes }
+        ensures inside { IfOk result (λ set. set.inside ≡ self.inside ++ replicate (nodes - length self.inside) false) }
+        ensures list { IfOk result (λ set. set.list ≡ self.list) }
+    {
+        let NodeSet { marks, list } = self;
+        let mut marks = marks;
+        let mut list = list;
+        list.reserve(nodes.saturating_sub(list.len()))?;
+        marks.resize(nodes, false)?;
+        Ok(NodeSet { marks, list })
     }
 
     /// Of how many nodes it is a set.

@@ -1,7 +1,7 @@
 //! A node gets a state from outside.
-ghost use Rattle.std.specs.Prelude.{◌≡◌, ℕ, ◌<◌, length, slice_set, Contains};
-ghost use Rattle.path_meaning.specs.Graphs.{nodes};
-ghost use Rattle.vicinity.specs.Words.{LeadsTo, AreListsOf, Wakes, PlacesGroup};
+ghost use Rattle.std.specs.Prelude.{◌≡◌, ℕ, ◌<◌, ◌⊎◌, length, slice_set, Contains};
+ghost use Rattle.path_meaning.specs.Graphs.{nodes, IsStorage};
+ghost use Rattle.vicinity.specs.Words.{LeadsTo, AreListsOf, Wakes, Stirs, PlacesGroup};
 
 use crate::flood::{look, wake};
 use crate::live_lists::LiveLists;
@@ -26,6 +26,8 @@ pub fn place_awake(
     requires inside { node < nodes graph.now }
     ensures state { state.new ≡ slice_set state.old node value }
     ensures group { PlacesGroup graph.now state.old state.new touched.old.list touched.new.list }
+    ensures only { (other : ℕ) → Contains touched.new.list other →
+        Contains touched.old.list other ⊎ (IsStorage graph.now other × Stirs graph.now state.old state.new node other) }
     ensures lists { AreListsOf graph.now state.new lists.new }
     ensures count { length touched.new.inside ≡ length touched.old.inside }
 {

@@ -2,7 +2,8 @@
 ghost use Rattle.std.specs.Prelude.{◌≡◌, ℕ, ◌<◌, length, Contains, slice_set};
 ghost use Rattle.path_meaning.specs.Graphs.{nodes};
 ghost use Rattle.part_words.specs.declared.change.Change.{Change};
-ghost use Rattle.vicinity.specs.Words.{Wakes, AreListsOf, TurnsAt, IsTaken, Touches};
+ghost use Rattle.machine_parts.specs.Words.{IsTaken};
+ghost use Rattle.vicinity.specs.Words.{Wakes, AreListsOf, TurnsAt, Touches};
 
 use crate::flood::wake;
 use crate::live_lists::LiveLists;

@@ -1,20 +1,21 @@
 //! Large groups: their switches in a graph of their own, and which of its nodes are touched.
-ghost use Rattle.std.specs.Prelude.{◌≡◌, ℕ, ◌+◌, ◌<◌, ◌≤◌, length, slice_set, Contains, IfOk, vec_len, vec_capacity};
+ghost use Rattle.std.specs.Prelude.{◌≡◌, ℕ, ◌+◌, ◌<◌, ◌≤◌, ◌↔◌, min, true, length, slice_set, Contains, IfOk, vec_len, vec_capacity};
 ghost use Rattle.path_meaning.specs.Graphs.{nodes, IsStorage};
-ghost use Rattle.vicinity.specs.Words.{IsIn, AreListsOf, AreChanges, IsPaid, Calms, Turned, PlacesWide};
+ghost use Rattle.vicinity.specs.Words.{IsIn, AreListsOf, AreChanges, IsPaid, Calms, Turned, PlacesWide, GrowsWide};
 
 use crate::evaluation::{Scratch, evaluate};
-use crate::flood::wake;
+use crate::flood::{is_storage, wake};
 use crate::live_lists::LiveLists;
 use crate::node_set::NodeSet;
 use crate::placing::place_awake;
 use crate::touching::take_state;
 use part_words::Change;
-use path_meaning::Graph;
+use path_meaning::{Graph, graphs_are_wired};
 use std::alloc::{AllocError, Global};
 use std::marker::Model;
 use std::sync::ledger::Ledger;
-use ternary::{Steps, Tern};
+use strength_order::INPUT_LEVEL;
+use ternary::{NoMemory, Steps, Tern};
 
 /// The groups that are stepped by vicinities.
 ///
@@ -54,6 +55,70 @@ impl Wide {
         wake_all(&graph, &mut touched);
         touched.lists_what_is_in_it();
         let room = Scratch::new(alloc, graph.nodes())?;
+        Ok(Wide {
+            large,
+            graph,
+            lists,
+            touched,
+            room,
+        })
+    }
+
+    /// How many members a group without a text may have that is one of them.
+    pub fn large(&self) -> usize
+        ensures { result ≡ self.now.large }
+    {
+        self.large
+    }
+
+    /// From now on a group without a text is one of them only if it has no more members than this either.
+    pub fn lower(&mut self, large: usize)
+        ensures { self.new ≡ record self.old { large = min self.old.large large } }
+    {
+        self.large = self.large.min(large);
+    }
+
+    /// Whether this node is a member of one of them.
+    pub fn has(&self, node: usize) -> bool
+        ensures { (result ≡ true) ↔ IsStorage self.now.graph node }
+    {
+        node < self.graph.nodes() && is_storage(&self.graph, node)
+    }
+
+    /// Whether one of these nodes is.
+    pub fn has_any(&self, nodes: &[usize]) -> bool
+        ensures { (result ≡ true) ↔ ((node : ℕ) × Contains nodes.now node × IsStorage self.now.graph node) }
+    {
+        for node in nodes {
+            if self.has(*node) {
+                return true;
+            }
+        }
+        false
+    }
+
+    /// The same groups once the circuit has so many nodes: the new ones are input nodes of its graph. The work is that of the
+    /// new nodes.
+    pub fn grown(self, count: usize) -> Result<Wide, NoMemory>
+        requires { nodes self.graph ≤ count }
+        ensures { IfOk result (GrowsWide count self) }
+    {
+        graphs_are_wired(&self.graph);
+        let Wide {
+            large,
+            graph,
+            lists,
+            touched,
+            room,
+        } = self;
+        let mut graph = graph;
+        let mut lists = lists;
+        let more = count - graph.nodes();
+        graph.add_nodes(more, INPUT_LEVEL)?;
+        graphs_are_wired(&graph);
+        lists.grow(more)?;
+        let touched = touched.grown(count)?;
+        let room = room.grown(count)?;
         Ok(Wide {
             large,
             graph,
@@ -127,7 +192,7 @@ impl Wide {
         requires lists { AreListsOf self.old.graph state.old self.old.lists }
         requires inside { node < length state.old }
         ensures state { state.new ≡ slice_set state.old node value }
-        ensures places { PlacesWide self.old self.new state.old state.new }
+        ensures places { PlacesWide node self.old self.new state.old state.new }
     {
         place_awake(
             &self.graph,

@@ -1,1 +1,4 @@
 pub mod WideCases
+pub mod ConfinedLemmas
+pub mod HoldingLemmas
+pub mod StayingLemmas

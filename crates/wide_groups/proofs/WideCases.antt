@@ -1,20 +1,21 @@
 -- The groups that are stepped by vicinities, if they are known: what holds in both cases.
-use Rattle.std.proofs.Common.{◌≡◌, ℕ, ◌<◌, ◌≤◌, Bool, true, List, [], length, refl, sym, ap, subst, ◌∙◌, arith}
+use Rattle.std.proofs.Common.{◌≡◌, ℕ, ◌<◌, ◌≤◌, inl, inr, Bool, true, false, List, length, refl, sym, ap, subst, ◌∙◌, arith}
 use Rattle.std.specs.Prelude.{Contains, Option, None, Some, IfSome, is_some}
 use Rattle.ternary.specs.declared.tern.Tern.{Tern}
 use Rattle.path_meaning.specs.Graphs.{GraphData, IsStorage, nodes}
 use Rattle.group_meaning.proofs.LinkLemmas.{AreLinked-to}
 use Rattle.vicinity.specs.Vicinities.{live_graph}
 use Rattle.vicinity.specs.LiveLists.{AreListsOf}
+use Rattle.vicinity.specs.NodeSets.{NodeSetData, IsIn}
 use Rattle.vicinity.specs.Touching.{IsAwake, SwitchChanges}
 use Rattle.vicinity.specs.Stepping.{Touches}
-use Rattle.vicinity.specs.Wides.{WideData, StaysWide, Calms, Turned, Retouches, PlacesWide}
+use Rattle.vicinity.specs.Wides.{WideData, StaysWide, Calms, Retouches, PlacesWide}
 use Rattle.vicinity.proofs.LiveGraphs.{storage_whole}
-use Rattle.vicinity.proofs.TouchLemmas.{Touches-then, Touches-none}
+use Rattle.vicinity.proofs.TouchLemmas.{NoneTwice, Touches-then, Touches-none}
 use Rattle.machine_parts.specs.declared.part.HeldPart.{HeldPart}
 use Rattle.machine_parts.specs.Parts.{HasMember, IsStale}
 use Rattle.machine_parts.specs.Stepping.{Moves}
-use Rattle.wide_groups.specs.Moving.{HasStaleOnly, IsAwakeIn, MovesIn, RetouchesIn, PlacesIn}
+use Rattle.wide_groups.specs.Moving.{graph_in, touched_in, HasStaleOnly, IsAwakeIn, MovesIn, RetouchesIn, PlacesIn}
 use Rattle.wide_groups.specs.Awake.{HoldsWide, IsListedIn, CalmsIn, TurnedIn, ListsIn}
 
 -- what is awake is a storage node of the graph
@@ -74,29 +75,45 @@ TurnedIn-none (Some wide) state = record {
   touches = Touches-none wide.graph state wide.touched.inside;
 }
 
-pub TurnedIn-then : (a b c : Option WideData) (old mid new : List Tern) → TurnedIn a b old mid → TurnedIn b c mid new → TurnedIn a c old new
-TurnedIn-then None None None old mid new first then = tt
-TurnedIn-then (Some a) (Some b) (Some c) old mid new first then = record {
+pub TurnedIn-then : (a b c : Option WideData) (old mid new : List Tern) → NoneTwice old mid new → TurnedIn a b old mid → TurnedIn b c mid new →
+    TurnedIn a c old new
+TurnedIn-then None None None old mid new once first then = tt
+TurnedIn-then (Some a) (Some b) (Some c) old mid new once first then = record {
   stays = StaysWide-then a b c first.stays then.stays;
   live = λ lists. (subst (λ g. AreListsOf g mid b.lists → AreListsOf g new c.lists) first.stays.graph then.live) (first.live lists);
-  touches = Touches-then a.graph old mid new a.touched.inside b.touched.inside c.touched.inside first.touches
+  touches = Touches-then a.graph old mid new a.touched.inside b.touched.inside c.touched.inside once first.touches
       (subst (λ g. Touches g mid new b.touched.inside c.touched.inside) first.stays.graph then.touches);
 }
-TurnedIn-then None None (Some c) old mid new first then = absurd then
-TurnedIn-then None (Some b) c old mid new first then = absurd first
-TurnedIn-then (Some a) None c old mid new first then = absurd first
-TurnedIn-then (Some a) (Some b) None old mid new first then = absurd then
+TurnedIn-then None None (Some c) old mid new once first then = absurd then
+TurnedIn-then None (Some b) c old mid new once first then = absurd first
+TurnedIn-then (Some a) None c old mid new once first then = absurd first
+TurnedIn-then (Some a) (Some b) None old mid new once first then = absurd then
 
--- a step that was taken over touched what it stirred
+-- what is touched after a step was so before it, and the step was a joining one
+calm_only : (joining : Bool) (a b : WideData) → ((node : ℕ) → IsIn a.touched.inside node → Contains a.touched.list node) → Calms joining a b →
+    (node : ℕ) → IsIn b.touched.inside node → (joining ≡ true) × Contains a.touched.list node
+calm_only true a b listed calms node there = (refl, listed node (subst (λ (set : NodeSetData). IsIn set.inside node) (calms.kept refl) there))
+calm_only false a b listed calms node there = absurd (calms.clear refl node there)
+
+-- a step that was taken over touched what it stirred, and no more
 pub RetouchesIn-from : (joining : Bool) (a b c : Option WideData) (old new : List Tern) → ListsIn a → CalmsIn joining a b → TurnedIn b c old new →
     ListsIn c → RetouchesIn joining a c old new
 RetouchesIn-from joining None None None old new before calms turned lists = tt
 RetouchesIn-from joining (Some a) (Some b) (Some c) old new before calms turned lists = record {
   stays = StaysWide-then a b c calms.stays turned.stays;
-  kept = λ is node there. lists.listed node (turned.touches.stays node (calms.kept is node (before.only node there)));
+  kept = λ is node there.
+      lists.listed node (turned.touches.stays node (subst (λ (set : NodeSetData). IsIn set.inside node) (sym (calms.kept is)) (before.only node there)));
   all = λ node storage changed.
       lists.listed node (turned.touches.all node (subst (λ g. IsStorage g node) (sym calms.stays.graph) storage)
       (subst (λ g. SwitchChanges g old new node) (sym calms.stays.graph) changed));
+  only = λ node there.
+      elim (turned.touches.only node (lists.only node there)) [
+        | inl was ↦ inl (calm_only joining a b before.listed calms node was)
+        | inr (storage, changes) ↦ inr (
+          subst (λ g. IsStorage g node) calms.stays.graph storage,
+          subst (λ g. SwitchChanges g old new node) calms.stays.graph changes,
+        )
+      ];
 }
 RetouchesIn-from joining None None (Some c) old new before calms turned lists = absurd turned
 RetouchesIn-from joining None (Some b) c old new before calms turned lists = absurd calms
@@ -129,25 +146,37 @@ known_still joining None (Some c) old new retouches = absurd retouches
 known_still joining (Some a) None old new retouches = absurd retouches
 known_still joining (Some a) (Some c) old new retouches = refl
 
--- and after a node was placed
-pub placed_wide : (a c : Option WideData) (old new : List Tern) → PlacesIn a c old new → (w : WideData) → c ≡ Some w →
-    (v : WideData) × (a ≡ Some v) × PlacesWide v w old new
-placed_wide None None old new places w is = absurd (cc)
-placed_wide None (Some c) old new places w is = absurd places
-placed_wide (Some a) None old new places w is = absurd places
-placed_wide (Some a) (Some c) old new places w is =
+-- after a plain step no more is touched than the ends of the switches that changed
+pub retouched_only : (a c : Option WideData) (old new : List Tern) → RetouchesIn false a c old new → (node : ℕ) → Contains (touched_in c) node →
+    SwitchChanges (graph_in c) old new node
+retouched_only None None old new retouches node there = absurd (omega (arith, there.1))
+retouched_only None (Some c) old new retouches node there = absurd retouches
+retouched_only (Some a) None old new retouches node there = absurd retouches
+retouched_only (Some a) (Some c) old new retouches node there =
+    elim (retouches.only node there) [
+      | inl (joining, _) ↦ absurd (cc joining)
+      | inr (_, changes) ↦ subst (λ g. SwitchChanges g old new node) (sym retouches.stays.graph) changes
+    ]
+
+-- such groups are known after a node was placed if they were before
+pub placed_wide : (placed : ℕ) (a c : Option WideData) (old new : List Tern) → PlacesIn placed a c old new → (w : WideData) → c ≡ Some w →
+    (v : WideData) × (a ≡ Some v) × PlacesWide placed v w old new
+placed_wide placed None None old new places w is = absurd (cc)
+placed_wide placed None (Some c) old new places w is = absurd places
+placed_wide placed (Some a) None old new places w is = absurd places
+placed_wide placed (Some a) (Some c) old new places w is =
     let same : c ≡ w = cc is in
-    (a, refl, subst (λ (one : WideData). PlacesWide a one old new) same places)
+    (a, refl, subst (λ (one : WideData). PlacesWide placed a one old new) same places)
 
-pub none_placed : (a c : Option WideData) (old new : List Tern) → PlacesIn a c old new → c ≡ None → a ≡ None
-none_placed None c old new places is = refl
-none_placed (Some a) None old new places is = absurd places
-none_placed (Some a) (Some c) old new places is = absurd (cc)
+pub none_placed : (placed : ℕ) (a c : Option WideData) (old new : List Tern) → PlacesIn placed a c old new → c ≡ None → a ≡ None
+none_placed placed None c old new places is = refl
+none_placed placed (Some a) None old new places is = absurd places
+none_placed placed (Some a) (Some c) old new places is = absurd (cc)
 
-pub placed_none : (a c : Option WideData) (old new : List Tern) → PlacesIn a c old new → a ≡ None → c ≡ None
-placed_none None None old new places is = refl
-placed_none None (Some c) old new places is = absurd places
-placed_none (Some a) c old new places is = absurd (cc)
+pub placed_none : (placed : ℕ) (a c : Option WideData) (old new : List Tern) → PlacesIn placed a c old new → a ≡ None → c ≡ None
+placed_none placed None None old new places is = refl
+placed_none placed None (Some c) old new places is = absurd places
+placed_none placed (Some a) c old new places is = absurd (cc)
 
 -- if they are known as before, they aren't if they weren't
 pub still_none : (a c : Option WideData) → is_some c ≡ is_some a → a ≡ None → c ≡ None
@@ -197,12 +226,12 @@ holds_turned parts old new room (Some a) (Some c) joining retouches count listed
   enough = omega (arith, holds.enough, count);
 }
 
-pub holds_placed : (parts : List HeldPart) (old new : List Tern) (room : ℕ) (a c : Option WideData) → PlacesIn a c old new → length new ≡ length old →
-    HoldsWide parts old room a → HoldsWide parts new room c
-holds_placed parts old new room None None places count holds = tt
-holds_placed parts old new room None (Some c) places count holds = absurd places
-holds_placed parts old new room (Some a) None places count holds = absurd places
-holds_placed parts old new room (Some a) (Some c) places count holds = record {
+pub holds_placed : (placed : ℕ) (parts : List HeldPart) (old new : List Tern) (room : ℕ) (a c : Option WideData) → PlacesIn placed a c old new →
+    length new ≡ length old → HoldsWide parts old room a → HoldsWide parts new room c
+holds_placed placed parts old new room None None places count holds = tt
+holds_placed placed parts old new room None (Some c) places count holds = absurd places
+holds_placed placed parts old new room (Some a) None places count holds = absurd places
+holds_placed placed parts old new room (Some a) (Some c) places count holds = record {
   listed = record {
     counted = ap nodes places.stays.graph ∙ (holds.listed.counted ∙ sym count);
     live = subst (λ g. AreListsOf g new c.lists) (sym places.stays.graph) places.live;

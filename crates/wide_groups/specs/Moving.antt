@@ -46,8 +46,8 @@ RetouchesIn joining None (Some later) old new = ⊥
 RetouchesIn joining (Some wide) None old new = ⊥
 
 -- and by what a placed node stirred
-abbrev pub PlacesIn : Option WideData → Option WideData → List Tern → List Tern → Type 0
-PlacesIn None None old new = Unit {0}
-PlacesIn (Some wide) (Some later) old new = PlacesWide wide later old new
-PlacesIn None (Some later) old new = ⊥
-PlacesIn (Some wide) None old new = ⊥
+abbrev pub PlacesIn : ℕ → Option WideData → Option WideData → List Tern → List Tern → Type 0
+PlacesIn placed None None old new = Unit {0}
+PlacesIn placed (Some wide) (Some later) old new = PlacesWide placed wide later old new
+PlacesIn placed None (Some later) old new = ⊥
+PlacesIn placed (Some wide) None old new = ⊥

@@ -56,7 +56,7 @@ pub fn place(node: usize, value: Tern, state: &mut [Tern], wide: &mut Option<Wid
     requires listed { IsListedIn state.old wide.old }
     requires inside { node < length state.old }
     ensures state { state.new ≡ slice_set state.old node value }
-    ensures places { PlacesIn wide.old wide.new state.old state.new }
+    ensures places { PlacesIn node wide.old wide.new state.old state.new }
 {
     match wide {
         Some(wide) => wide.place(node, value, state),

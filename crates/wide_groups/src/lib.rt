@@ -10,11 +10,23 @@
 //! and of the bit line and the cells those that a touched node is near
 //! ```
 //!
-//! For the proofs of crates above: `WideCases`, what holds with a `Wide` and without.
+//! [`wide_of`] makes a `Wide` of a graph and the members of such groups: a graph with these nodes alone as storage nodes,
+//! in which each of the groups stands alike.
+//!
+//! Through an edit that leaves these groups as they were they stay known: [`grown`] gives their graph the new nodes, and
+//! [`forget_with`] forgets them if one of their members loses its part.
+//!
+//! For the proofs of crates above: `WideCases`, what holds with a `Wide` and without; `StayingLemmas`, what stays of it
+//! through an edit.
 //!
 //! After Bryant, "A Switch-Level Model and Simulator for MOS Digital Systems", 1984.
 #![tactic(auto)]
 
 mod awake;
+mod confined;
+mod holding;
+mod staying;
 
 pub use awake::{calm, evaluate_awake, place, touched_is_listed, write};
+pub use holding::wide_of;
+pub use staying::{forget_with, grown, holds_any, holds_node, holds_up_to, lower};

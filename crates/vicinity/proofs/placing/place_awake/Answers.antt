@@ -1,5 +1,5 @@
--- What is asleep afterwards rests.
-use Rattle.std.proofs.Common.{ℕ, refl, sym, subst}
+-- What is asleep afterwards rests, and no more is touched than what the node stirs.
+use Rattle.std.proofs.Common.{ℕ, inl, inr, refl, sym, subst}
 use Rattle.std.specs.Prelude.{slice_set}
 use Rattle.path_meaning.specs.Graphs.{IsStorage}
 use Rattle.vicinity.specs.Arms.{ListsLive}
@@ -30,3 +30,18 @@ returns-clause-group c = λ group is_group rests.
     (λ n leads storage. listed n (last.stays n (next.all n leads storage)))
     (λ n storage changed. listed n (changes n storage changed)) in
     subst (λ new. RestsAsleep graph new group.members again) (sym c.take_state.ensures.state) rest
+
+pub returns-clause-only : goal.returns-clause-only
+returns-clause-only c = λ other there.
+    elim (c.take_state.ensures.touches.only other (c.lists_what_is_in_it-2.ensures.only other there)) [
+      | inr (storage, changes) ↦ inr (storage, inr (inr changes))
+      | inl woken ↦
+          elim (c.wake_along.ensures.wakes.only other woken) [
+            | inr ((place, _, leads), storage) ↦ inr (storage, inr (inl (place, leads)))
+            | inl first ↦
+                elim (c.wake.ensures.only other first) [
+                  | inr (same, storage) ↦ inr (storage, inl same)
+                  | inl before ↦ inl (c.lists_what_is_in_it.ensures.listed other before)
+                ]
+          ]
+    ]

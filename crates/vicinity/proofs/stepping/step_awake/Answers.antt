@@ -4,7 +4,7 @@ use Rattle.std.specs.Prelude.{Contains}
 use Rattle.part_words.specs.declared.change.Change.{Change}
 use Rattle.vicinity.specs.NodeSets.{NodeSetData, IsIn}
 use Rattle.vicinity.specs.Evaluating.{AreChanges}
-use Rattle.vicinity.specs.Stepping.{IsTaken}
+use Rattle.machine_parts.specs.Running.{IsTaken}
 use Rattle.vicinity.proofs.StepLemmas.{noted_inside, noted_agree, members_move, rests_again}
 use Rattle.vicinity.proofs.stepping.step_awake.Given.{Over}
 use Rattle.vicinity.proofs.stepping.step_awake.Goals.{After-evaluate}

@@ -1,7 +1,8 @@
 -- The changes so far are written, and what they stir is touched.
 use Rattle.std.proofs.Common.{take}
 use Rattle.vicinity.specs.LiveLists.{AreListsOf}
-use Rattle.vicinity.specs.Stepping.{IsTaken, Touches}
+use Rattle.machine_parts.specs.Running.{IsTaken}
+use Rattle.vicinity.specs.Stepping.{Touches}
 use Rattle.vicinity.proofs.touching.take_all.Given as goal
 
 abbrev pub invariant-loop-change : goal.invariant-loop-change

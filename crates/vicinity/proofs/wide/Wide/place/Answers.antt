@@ -8,4 +8,5 @@ returns-clause-places c =
       stays = record { large = refl; graph = refl };
       live = c.place_awake.ensures.lists;
       group = c.place_awake.ensures.group;
+      only = c.place_awake.ensures.only;
     })
