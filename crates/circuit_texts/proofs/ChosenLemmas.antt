@@ -1,17 +1,18 @@
 -- Groups that are chosen by their ids: one id more is one group more.
-use Rattle.std.proofs.Common.{◌≡◌, ℕ, zero, suc, ◌+◌, ◌<◌, ◌≤◌, List, [], ◌∷◌, ◌++◌, length, take, drop, map, get_or, All, ◌⊎◌, Option, Some, None, true, refl, sym, ap, subst, ◌∙◌, arith}
+use Rattle.std.proofs.Common.{◌≡◌, ℕ, zero, suc, ◌+◌, ◌<◌, ◌≤◌, Bool, true, false, cond, eqb, List, [], ◌∷◌, ◌++◌, length, take, drop, map, get_or, All, ◌⊎◌, Option, Some, None, refl, sym, ap, ap₂, subst, ◌∙◌, arith}
 use Rattle.std.specs.Prelude.{is_some}
 use Rattle.std.specs.List.{filter_map}
 use Rattle.std.specs.List.Sorted.{IsStrictlyIncreasing}
 use Rattle.std.proofs.lemmas.List.{take_more, take_all, take-append-drop, map-append, length-map}
-use Rattle.std.proofs.lemmas.List.Elements.{filter_map-append}
+use Rattle.std.proofs.lemmas.Bool.Decides.{Decides-eqb}
+use Rattle.std.proofs.lemmas.List.Elements.{All-head, All-tail, filter_map-append}
 use Rattle.group_meaning.specs.Groups.{Group, id_of}
 use Rattle.channel_groups.specs.declared.group.GroupId.{GroupId}
 use Rattle.channel_groups.specs.Grouping.{group_with, IsId}
 use Rattle.channel_groups.proofs.HeldLemmas.{group_of_id}
 use Rattle.circuit_texts.specs.declared.texts.BuildFault.{BuildFault}
 use Rattle.circuit_texts.specs.declared.texts.BuildFault.TheVariants.{NoMemory}
-use Rattle.circuit_texts.specs.Sizes.{fault_in, IsTooLarge, IsFirstTooLarge}
+use Rattle.circuit_texts.specs.Sizes.{refused_in, IsRefused, IsFirstRefused}
 use Rattle.circuit_texts.specs.Choosing.{chosen}
 use Rattle.circuit_texts.proofs.SizeLemmas.{first_refused}
 
@@ -58,15 +59,16 @@ seam_inside : (front rest : List Group) (group : Group) → length front < lengt
 seam_inside [] rest group = omega arith
 seam_inside (first ∷ front) rest group = omega (arith, seam_inside front rest group)
 
--- a group that no text was made of, where all groups before it fit, is the first that is too large, or there was lack of memory
-pub split_refused : (all front rest : List Group) (group : Group) (fault : BuildFault) → all ≡ (front ++ group ∷ []) ++ rest →
-    All (λ one. fault_in one ≡ None) front → (fault ≡ NoMemory) ⊎ IsTooLarge group fault → (fault ≡ NoMemory) ⊎ IsFirstTooLarge all fault
-split_refused all front rest group fault all_are fits told =
+-- a group that is refused, if no group before it is, is the first that is refused, or there was lack of memory
+pub split_refused : (large : ℕ) (all front rest : List Group) (group : Group) (fault : BuildFault) → all ≡ (front ++ group ∷ []) ++ rest →
+    All (λ one. refused_in large one ≡ None) front → (fault ≡ NoMemory) ⊎ IsRefused large group fault →
+    (fault ≡ NoMemory) ⊎ IsFirstRefused large all fault
+split_refused large all front rest group fault all_are fits told =
     let list = (front ++ group ∷ []) ++ rest in
-    let fit : All (λ one. fault_in one ≡ None) (take (length front) list) =
-    subst (All (λ one. fault_in one ≡ None)) (sym (before_seam front rest group)) fits in
-    subst (λ (groups : List Group). (fault ≡ NoMemory) ⊎ IsFirstTooLarge groups fault) (sym all_are)
-    (first_refused list (length front) group fault (seam_inside front rest group) (sym (at_seam front rest group group)) fit told)
+    let fit : All (λ one. refused_in large one ≡ None) (take (length front) list) =
+    subst (All (λ one. refused_in large one ≡ None)) (sym (before_seam front rest group)) fits in
+    subst (λ (groups : List Group). (fault ≡ NoMemory) ⊎ IsFirstRefused large groups fault) (sym all_are)
+    (first_refused large list (length front) group fault (seam_inside front rest group) (sym (at_seam front rest group group)) fit told)
 
 -- the groups of the first of all ids are the first groups
 chosen_front : (groups : List Group) → IsStrictlyIncreasing (map id_of groups) → (ids : List GroupId) → map (λ (id : GroupId). id.node) ids ≡ map id_of groups →
@@ -95,3 +97,27 @@ chosen-all groups ascending ids read is same each =
     let counted : length ids ≡ length groups = omega (arith, ap length same, length-map ids (λ (id : GroupId). id.node), length-map groups id_of) in
     ap (chosen groups) (is ∙ sym (take_all (length ids) ids (omega arith)))
     ∙ (chosen_front groups ascending ids same each (length ids) (omega arith) ∙ take_all (length ids) groups (omega (arith, counted)))
+
+-- a group that is found by an id has it
+own_id : (all : List Group) (node : ℕ) (group : Group) → group_with all node ≡ Some group → id_of group ≡ node
+own_id [] node group is = absurd cc
+own_id (first ∷ all) node group is = at (own_id all node group) (eqb (id_of first) node) refl is
+  where
+    at : (group_with all node ≡ Some group → id_of group ≡ node) → (same : Bool) → eqb (id_of first) node ≡ same →
+        cond same (Some first) (group_with all node) ≡ Some group → id_of group ≡ node
+    at later true same is = let one : first ≡ group = cc in ap id_of (sym one) ∙ (Decides-eqb (id_of first) node).0 same
+    at later false same is = later is
+
+-- the ids of the groups with some ids are these
+pub chosen-ids : (groups : List Group) (ids : List GroupId) → All (λ (id : GroupId). IsId groups id.node) ids →
+    map id_of (chosen groups ids) ≡ map (λ (id : GroupId). id.node) ids
+chosen-ids groups [] each = refl
+chosen-ids groups (id ∷ ids) each =
+    let Is : GroupId → Type 0 = λ one. IsId groups one.node in
+    by (group_with groups id.node) refl (All-head Is id ids each) (chosen-ids groups ids (All-tail Is id ids each))
+  where
+    by : (slot : Option Group) → group_with groups id.node ≡ slot → is_some (group_with groups id.node) ≡ true →
+        map id_of (chosen groups ids) ≡ map (λ (one : GroupId). one.node) ids →
+        map id_of (chosen groups (id ∷ ids)) ≡ id.node ∷ map (λ (one : GroupId). one.node) ids
+    by None is some rest = absurd cc
+    by (Some group) is some rest = rw is (ap₂ (λ node nodes. node ∷ nodes) (own_id groups id.node group is) rest)

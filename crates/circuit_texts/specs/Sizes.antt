@@ -23,17 +23,15 @@ abbrev pub refused_in : ℕ → Group → Option TextFault
 refused_in zero group = fault_in group
 refused_in (suc more) group = if nat_le (length group.members) (suc more) then None else fault_in group
 
--- the fault is that of a group that is too large
-pub record IsTooLarge (group : Group) (fault : BuildFault) : Type 0 where
-  pub cause : TextFault
-  pub too_large : fault_in group ≡ Some cause
-  pub named : fault ≡ at_node (id_of group) cause
-
 -- the fault is that of a group that is refused with this bound
 pub record IsRefused (large : ℕ) (group : Group) (fault : BuildFault) : Type 0 where
   pub cause : TextFault
   pub too_large : refused_in large group ≡ Some cause
   pub named : fault ≡ at_node (id_of group) cause
+
+-- the fault is that of a group that is too large
+abbrev pub IsTooLarge : Group → BuildFault → Type 0
+IsTooLarge group fault = IsRefused 0 group fault
 
 -- the fault is that of the first of these groups that is refused with this bound
 pub record IsFirstRefused (large : ℕ) (groups : List Group) (fault : BuildFault) : Type 0 where

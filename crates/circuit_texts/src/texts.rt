@@ -1,7 +1,7 @@
 ghost use Rattle.std.specs.Prelude.{◌≡◌, ◌⊎◌, None, map, All, IfOk, IfErr, OnOk};
 ghost use Rattle.group_meaning.specs.Groups.{AreGroups, IsGroup};
 ghost use Rattle.group_text.specs.Texts.{local_nodes, text_of_group};
-ghost use Rattle.circuit_texts.specs.Words.{IsFirstTooLarge, IsTooLarge, IsRefused, fault_in, refused_in, at_node, told_text, told_nodes};
+ghost use Rattle.circuit_texts.specs.Words.{IsFirstTooLarge, IsTooLarge, fault_in, at_node};
 
 use crate::chosen::texts_at;
 use channel_groups::{Group, Groups};
@@ -84,37 +84,8 @@ pub fn text_or_fault(
     }
 }
 
-/// The text of a group, if it has one, and the nodes that a part of it stands for: those of the text's local nodes, or
-/// else its members.
-///
-/// A group that is too large has no text; it is refused if it has more members than `large`. With 0 each such group is
-/// refused.
-pub fn text_up_to(
-    alloc: Global,
-    graph: &Graph,
-    group: &Group,
-    large: usize,
-) -> Result<(Option<GroupText>, Vec<usize>), BuildFault>
-    requires { IsGroup graph.now group.now }
-    ensures text { IfOk result (λ made. made.0 ≡ told_text graph.now group.now) }
-    ensures nodes { IfOk result (λ made. made.1.items ≡ told_nodes graph.now group.now) }
-    ensures fits { OnOk result (refused_in large group.now ≡ None) }
-    ensures refused { IfErr result (λ fault. (fault ≡ BuildFault.NoMemory) ⊎ IsRefused large group.now fault) }
-{
-    match text_of(alloc, graph, group.members(), group.switches()) {
-        Ok((text, nodes)) => Ok((Some(text), nodes)),
-        Err(TextFault::NoMemory) => Err(BuildFault::NoMemory),
-        Err(fault) => {
-            if group.members().len() > large {
-                return Err(fault_at(group.id().node(), fault));
-            }
-            Ok((None, Vec::from_slice(alloc, group.members())?))
-        }
-    }
-}
-
 // The fault of a group's text, told of the group with this least node.
-fn fault_at(node: usize, fault: TextFault) -> BuildFault
+pub(crate) fn fault_at(node: usize, fault: TextFault) -> BuildFault
     ensures { result ≡ at_node node fault }
 {
     match fault {

@@ -4,4 +4,3 @@ pub mod UseLemmas
 pub mod PlaceLemmas
 pub mod NumberLemmas
 pub mod BoundLemmas
-pub mod ToldNumbers

@@ -22,6 +22,6 @@ mod numbered;
 mod parts;
 mod uses;
 
-pub use numbered::{NumberedTexts, numbered_texts, numbered_up_to};
+pub use numbered::{NumberedTexts, numbered_at, numbered_texts};
 pub use parts::{parts_by_number, parts_of};
 pub use uses::TextUses;

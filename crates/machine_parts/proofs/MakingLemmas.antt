@@ -1,6 +1,6 @@
 -- A machine that is made: its parts, who owns and who reads each node, and the list of all parts.
 use Rattle.std.proofs.Common.{◌≡◌, ◌≢◌, ℕ, zero, suc, ◌+◌, ◌*◌, ◌<◌, ◌≤◌, Bool, true, false, cond, inl, inr, ◌⊎◌, List, [], ◌∷◌, ◌++◌, length, map, take, get_or, All, Option, Some, None, Result, Ok, Err, Vec, Global, nat_eq, refl, sym, ap, ap₂, subst, ◌∙◌, append_assoc, append-nil, arith}
-use Rattle.std.specs.Prelude.{Contains, slice_index, slice_index_or, slice_set, slice_get, zip, replicate, OnOk, count_by}
+use Rattle.std.specs.Prelude.{◌↔◌, Contains, slice_index, slice_index_or, slice_set, slice_get, zip, replicate, OnOk, count_by}
 use Rattle.std.specs.Result.{is_ok}
 use Rattle.std.specs.List.{IsDistinct, range_with_len}
 use Rattle.std.specs.declared.rc.Rc.{Rc}
@@ -17,7 +17,7 @@ use Rattle.straight_code.specs.Code.{CodeData}
 use Rattle.straight_code.specs.declared.part.Part.{Part}
 use Rattle.straight_code.specs.Parts as straight
 use Rattle.machine_parts.specs.declared.part.HeldPart.{HeldPart}
-use Rattle.machine_parts.specs.Parts.{Stands, IsMemberAt, HasMember, ReadsAt, AreApart, has_members}
+use Rattle.machine_parts.specs.Parts.{Stands, IsMemberAt, HasMember, ReadsAt, IsStale, AreApart, has_members}
 use Rattle.machine_parts.specs.Marking.{IsMarked, count_marked, IsAgenda}
 use Rattle.machine_parts.specs.Evaluating.{Rooms, IsSeated}
 use Rattle.machine_parts.specs.Running.{AreOwners, IsMachine}
@@ -206,7 +206,6 @@ formed_part count part nodes fits = record {
   below = fits.below;
   members = fits.members;
   apart = places_apart part.map.items fits.apart;
-  some = λ none. absurd (cc);
   inputs = λ code is. let same : part.code ≡ code = cc in subst (λ (shared : Rc CodeData Global). length part.map.items ≡ shared.value.inputs) same fits.inputs;
   outputs = λ code is. let same : part.code ≡ code = cc in subst (λ (shared : Rc CodeData Global). length shared.value.outputs ≡ part.members) same fits.outputs;
 }
@@ -275,16 +274,15 @@ pub IsMachine-started : (parts : List HeldPart) (count : ℕ) (lists : List (Sma
     ((node k : ℕ) → ReadsAt parts k node → Contains (readers_of lists node) k) →
     ((node k : ℕ) → Contains (readers_of lists node) k → ReadsAt parts k node) → AreOwners parts count owners →
     length parts ≤ length numbers → number ≡ count_by has_members parts → most ≡ room.changes → HasRoomFor parts room →
-    IsMachine parts (replicate (length parts) true) (replicate (length parts) false) count lists owners numbers number most room
-IsMachine-started parts count lists owners numbers number most room formed apart counted readers reads own numbered number_is most_is fits = record {
+    (waiting : List Bool) → ((k : ℕ) → IsMarked waiting k ↔ IsStale parts k) →
+    IsMachine parts (replicate (length parts) true) waiting count lists owners numbers number most room
+IsMachine-started parts count lists owners numbers number most room formed apart counted readers reads own numbered number_is most_is fits waiting waits = record {
   runs = record {
     counted = length-replicate (length parts) true;
     seated = λ k d inside. IsSeated-formed count room _ (formed k d inside) (fits.values k d inside);
     apart = apart;
-    waits = λ k waits. absurd (none_marked (length parts) k waits);
-    stale = λ k stale.
-        let form = subst (IsFormed count) stale.stands.here (formed k stale.part stale.stands.inside) in
-        absurd (form.some stale.none);
+    waits = λ k marked. (waits k).0 marked;
+    stale = λ k stale. (waits k).1 stale;
     readers_counted = counted;
     readers = readers;
     reads = reads;

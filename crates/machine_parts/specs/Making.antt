@@ -1,11 +1,10 @@
 -- What a machine is made of: parts with the nodes that they read, who owns and who reads a node, and room for the steps.
-use Rattle.std.specs.Prelude.{◌≡◌, ◌≢◌, ℕ, ◌+◌, ◌-◌, ◌*◌, ◌^◌, ◌<◌, ◌≤◌, ◌⊎◌, List, length, All, Contains, Option, Some, None, Vec, slice_index, slice_index_or}
+use Rattle.std.specs.Prelude.{◌≡◌, ℕ, ◌+◌, ◌-◌, ◌*◌, ◌^◌, ◌<◌, ◌≤◌, ◌⊎◌, List, length, All, Contains, Option, Some, None, Vec, slice_index, slice_index_or}
 use Rattle.std.specs.declared.rc.Rc.{Rc}
 use Rattle.std.specs.List.{sum_by}
 use Rattle.std.proofs.Common.{Global}
 use Rattle.straight_code.specs.Code.{CodeData}
 use Rattle.straight_code.specs.declared.part.Part.{Part}
-use Rattle.straight_code.specs.Parts as straight
 use Rattle.machine_parts.specs.declared.part.HeldPart.{HeldPart}
 use Rattle.machine_parts.specs.Marking.{members_of}
 use Rattle.machine_parts.specs.Evaluating.{Rooms}
@@ -15,13 +14,12 @@ use Rattle.machine_parts.specs.Parts.{HasMember}
 abbrev pub held : Part × Vec ℕ Global → HeldPart
 held (part, reads) = record { code = Some part.code; map = part.map; members = part.members; reads = reads }
 
--- a part that has code, over so many nodes: its nodes are there, no two places of its map have one node, and its code fits it
+-- a part over so many nodes: its nodes are there, no two places of its map have one node, and its code fits it, if it has one
 pub record IsFormed (count : ℕ) (part : HeldPart) : Type 0 where
   pub below : All (λ node. node < count) part.map.items
   pub members : part.members ≤ length part.map.items
   pub apart : (i j : ℕ) → i < length part.map.items → j < length part.map.items →
       slice_index part.map.items i ≡ slice_index part.map.items j → i ≡ j
-  pub some : part.code ≢ None
   pub inputs : (code : Rc CodeData Global) → part.code ≡ Some code → length part.map.items ≡ code.value.inputs
   pub outputs : (code : Rc CodeData Global) → part.code ≡ Some code → length code.value.outputs ≡ part.members
 

@@ -20,7 +20,7 @@ returns-in_err-text-clause-too_large c =
     let i = c.loop-id.id-index in
     let ids = c.args.ids.now in
     let split = chosen-split groups ids i _ group c.loop-id-test.true c.group.ensures in
-    let told = split_refused (chosen groups ids) (chosen groups (take i ids)) (chosen groups (drop (i + 1) ids)) group c.in_err-text.field-0.0 split
+    let told = split_refused 0 (chosen groups ids) (chosen groups (take i ids)) (chosen groups (drop (i + 1) ids)) group c.in_err-text.field-0.0 split
     c.loop-id.invariant.fits c.in_err-text.ensures.too_large in
     search rules
 
