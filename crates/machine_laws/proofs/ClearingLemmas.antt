@@ -8,8 +8,9 @@ use Rattle.machine_parts.specs.declared.part.HeldPart.{HeldPart}
 use Rattle.machine_parts.specs.Parts.{Stands, HasMember, AreApart}
 use Rattle.machine_laws.specs.Machines.{MachineData}
 use Rattle.machine_parts.specs.Marking.{IsMarked}
-use Rattle.machine_laws.specs.Seating.{KeepsRest, Vacates, Seats, Clears, Renews, IsStalePartOf, IsTidy}
+use Rattle.machine_laws.specs.Seating.{KeepsKnown, KeepsRest, Vacates, Seats, Clears, Renews, IsStalePartOf, IsTidy}
 use Rattle.machine_parts.proofs.MarkLemmas.{marked-push, marked-push_cases}
+use Rattle.machine_laws.proofs.HeldParts.{KeepsKnown-same, KeepsKnown-then, KeepsKnown-seated}
 use Rattle.machine_laws.proofs.SlotLemmas.{Stands-other, Stands-was, Stands-same, has_not_k, HasMember-was, Stands-before, Stands-last, Stands-cases}
 
 -- what follows on success
@@ -24,7 +25,7 @@ only_one node other (suc i, inside, here) = absurd (omega (arith, inside))
 
 -- if nothing changes the rest stays
 pub KeepsRest-same : (m : MachineData) → KeepsRest m m
-KeepsRest-same m = record { groups = refl; state = refl; last = refl; moves = refl; placed = refl; spare = refl; wide = refl }
+KeepsRest-same m = record { groups = refl; state = refl; last = refl; moves = refl; placed = refl; spare = refl }
 
 -- and what stays twice stays
 pub KeepsRest-then : (old mid new : MachineData) → KeepsRest old mid → KeepsRest mid new → KeepsRest old new
@@ -35,7 +36,6 @@ KeepsRest-then old mid new first then = record {
   moves = then.moves ∙ first.moves;
   placed = then.placed ∙ first.placed;
   spare = then.spare ∙ first.spare;
-  wide = then.wide ∙ first.wide;
 }
 
 -- if no part has one of the nodes, nothing is to be cleared
@@ -48,6 +48,7 @@ Clears-same nodes m none = record {
   tidy = λ tidy. tidy;
   marks = refl;
   count = refl;
+  wide = KeepsKnown-same m.parts m.wide;
   rest = KeepsRest-same m;
 }
 
@@ -127,6 +128,7 @@ Clears-vacated node k old new apart has vacates =
       tidy = IsTidy-vacated k old new inside vacates;
       marks = vacates.marks;
       count = ap length vacates.parts ∙ length-set old.parts k vacates.part;
+      wide = vacates.wide;
       rest = vacates.rest;
     }
 
@@ -164,6 +166,8 @@ module _ (nodes : List ℕ) (node : ℕ) (old mid new : MachineData) (first : Cl
     tidy = λ tidy. then.tidy (first.tidy tidy);
     marks = then.marks ∙ first.marks;
     count = then.count ∙ first.count;
+    wide = KeepsKnown-then old.parts mid.parts new.parts old.wide mid.wide new.wide (omega (arith, first.count)) (λ k part stands inside some. then.was k part stands some)
+        first.wide then.wide;
     rest = KeepsRest-then old mid new first.rest then.rest;
   }
 
@@ -174,6 +178,17 @@ module _ (members : List ℕ) (old mid new : MachineData) (counted : length mid.
 
   inside_old : (k : ℕ) (part : HeldPart) → Stands old.parts k part → length mid.parts ≡ length old.parts → k < length mid.parts
   inside_old k part stands same = omega (arith, stands.inside, same)
+
+  -- what is known is known with the part behind the others
+  seated_known : KeepsKnown old.parts (mid.parts ++ seats.part ∷ []) old.wide new.wide
+  seated_known =
+      KeepsKnown-then old.parts mid.parts (mid.parts ++ seats.part ∷ []) old.wide mid.wide new.wide (omega (arith, clears.count))
+      (λ k part stands inside some.
+      elim (Stands-cases mid.parts seats.part k part stands) [
+        | inl before ↦ before
+        | inr (last, is) ↦ absurd (omega (arith, last, inside))
+      ])
+      clears.wide (KeepsKnown-seated mid.parts seats.part mid.wide new.wide seats.wide)
 
   -- nodes are cleared, and then a part for them is seated
   pub Renews-seated : length mid.parts ≡ length old.parts → Renews members old new
@@ -205,5 +220,6 @@ module _ (members : List ℕ) (old mid new : MachineData) (counted : length mid.
     is_new = seats.is_new;
     count = omega (arith, same_count, ap length seats.parts, length_push mid.parts seats.part);
     tidy = λ tidy. IsTidy-seated members mid new seats (clears.tidy tidy);
+    wide = subst (λ parts. KeepsKnown old.parts parts old.wide new.wide) (sym seats.parts) seated_known;
     rest = KeepsRest-then old mid new clears.rest seats.rest;
   }

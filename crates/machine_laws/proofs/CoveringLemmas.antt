@@ -27,12 +27,20 @@ use Rattle.machine_parts.specs.declared.part.HeldPart.{HeldPart}
 use Rattle.machine_parts.specs.Parts.{Stands, IsMemberAt, HasMember, IsStale, AreApart}
 use Rattle.machine_laws.specs.Machines.{MachineData, groups_in}
 use Rattle.machine_parts.specs.Marking.{IsMarked}
-use Rattle.machine_laws.specs.Fitting.{IsPartOf, HasPart, IsTextOf, Covers}
+use Rattle.vicinity.specs.Wides.{WideData}
+use Rattle.vicinity.specs.Growing.{GrowsWide}
+use Rattle.vicinity.proofs.GrowingLemmas.{storage_before}
+use Rattle.wide_groups.specs.Moving.{HasStaleOnly}
+use Rattle.wide_groups.specs.Staying.{GrowsIn}
+use Rattle.wide_groups.proofs.StayingLemmas.{grown_wide, wide_grown}
+use Rattle.machine_laws.specs.Fitting.{IsPartOf, HasPart, IsTextOf, IsHeldIn, IsOutside, Covers}
 use Rattle.machine_laws.specs.Editing.{with_new_nodes, is_touched_in, Edits}
-use Rattle.machine_laws.specs.Seating.{Clears, IsStalePartOf, HasAny, IsWithAny, IsTidy, RenewsAll}
+use Rattle.machine_laws.specs.Seating.{KeepsKnown, Clears, IsStalePartOf, HasAny, IsWithAny, IsTidy, RenewsAll}
 use Rattle.machine_parts.proofs.PartLemmas.{same_part}
 use Rattle.machine_laws.proofs.PartGroups.{member_in_group, member_of_part, one_group}
 use Rattle.machine_laws.proofs.FittingLemmas.{none_rest}
+use Rattle.machine_laws.proofs.HeldLemmas.{IsHeldIn-grown}
+use Rattle.machine_laws.proofs.HeldParts.{taken_member, member_taken, KeepsKnown-then, HasStaleOnly-kept}
 use Rattle.machine_laws.proofs.AlikeParts.{alike_groups_keep_their_parts}
 use Rattle.machine_laws.proofs.KeptLemmas.{group_there}
 use Rattle.machine_laws.proofs.RenewingLemmas.{stale_members, member_stale, one_of_node}
@@ -74,7 +82,7 @@ rests_grown g group state count wired is_group counted rests =
     (λ node reads. state_stays state count node (omega (arith, counted, reads_inside g group node wired reads)))
 
 -- a graph has no more nodes before an edit than after it
-few_before : (g : GraphData) (change : Change) → nodes (undo g change) ≤ nodes g
+pub few_before : (g : GraphData) (change : Change) → nodes (undo g change) ≤ nodes g
 few_before g change = omega (arith, count change.level, length-take change.nodes g.levels)
   where
     count : (held : Option (ℕ × ℕ)) → length (with_level held (take change.nodes g.levels)) ≡ length (take change.nodes g.levels)
@@ -102,7 +110,8 @@ member_below g groups others are same group node there member =
     (member_storage g group (subst (IsGroup g) in_groups.2 (are.each in_groups.0 group in_groups.1)) node member).inside
 
 -- the part is the new stale part of a touched group
-pub record IsRenewed (g : GraphData) (change : Change) (old : MachineData) (now : List Group) (part : HeldPart) : Type 0 where
+pub record IsRenewed (g : GraphData) (change : Change) (old : MachineData) (now : List Group) (k : ℕ) (part : HeldPart) : Type 0 where
+  pub later : length old.parts ≤ k
   pub group : Group
   pub there : Contains now group
   pub touched : is_touched_in g change old group ≡ true
@@ -119,14 +128,15 @@ pub record IsStill (g : GraphData) (change : Change) (old cleared : MachineData)
   pub was : IsPartOf (undo g change) group part
 
 module _ (g : GraphData) (change : Change) (old : MachineData) (covers : Covers (undo g change) old) (wired_before : IsWired (undo g change))
-    (wired : IsWired g) (now : GroupsData) (are : AreOf g now) (spare : ℕ) (found nodes_found : List ℕ)
+    (wired : IsWired g) (now : GroupsData) (are : AreOf g now) (spare : ℕ) (begun : Option WideData) (grows : GrowsIn (nodes g) old.wide begun)
+    (found nodes_found : List ℕ)
     (found_are : (node : ℕ) → Contains found node ↔ IsWithAny covers.groups.groups (nodes_before change) node)
     (nodes_are : nodes_found ≡ found ++ nodes_after g change) where
   abbrev before : GraphData
   before = undo g change
 
   abbrev start : MachineData
-  start = record old { groups = None; state = with_new_nodes old.state (nodes g); spare = spare; wide = None }
+  start = record old { groups = None; state = with_new_nodes old.state (nodes g); spare = spare; wide = begun }
 
   old_groups_are : groups_in old.groups ≡ covers.groups.groups
   old_groups_are = ap groups_in covers.kept
@@ -172,9 +182,9 @@ module _ (g : GraphData) (change : Change) (old : MachineData) (covers : Covers 
   module _ (cleared made : MachineData) (clears : Clears nodes_found start cleared) (renews : RenewsAll now.groups nodes_found cleared made)
       (apart : AreApart made.parts) (stale_marked : (k : ℕ) → IsStale made.parts k → IsMarked made.marks k) where
     module _ (k : ℕ) (part : HeldPart) (stands : Stands made.parts k part) (some : 0 < part.members) where
-      -- a part that stands as it stood is that of an untouched group, or of a touched one that has it now
-      stood_cases : Stands cleared.parts k part → IsRenewed g change old now.groups part ⊎ IsStill g change old cleared now.groups k part
-      stood_cases middle =
+      -- a part that stands as it stood is that of an untouched group
+      stood_still : Stands cleared.parts k part → IsStill g change old cleared now.groups k part
+      stood_still middle =
           let stood : Stands old.parts k part = clears.was k part middle some in
           let (was, is_part) = covers.whole k part stood some in
           let node = id_of was in
@@ -193,15 +203,17 @@ module _ (g : GraphData) (change : Change) (old : MachineData) (covers : Covers 
           let there : Contains now.groups group = (any.0, any.2, any.3) in
           elim (touched_or_not (is_touched_in g change old group)) [
             | inl touched ↦
-                let has = renews.has group there (touched_any group touched) in
+                let any_of = touched_any group touched in
+                let has = renews.has group there any_of in
                 let its = member_stale group.members made.parts has.k has.part has.stands has.is_new node any.4 in
                 let same_k : has.k ≡ k = apart has.k k node its (record { part = part; stands = stands; place = place; member = at }) in
                 let same : has.part ≡ part = same_part made.parts k has.part part (subst (λ n. Stands made.parts n has.part) same_k has.stands) stands in
-                inl (record { group = group; there = there; touched = touched; is_new = subst (IsStalePartOf group.members) same has.is_new })
+                let is_new : IsStalePartOf group.members part = subst (IsStalePartOf group.members) same has.is_new in
+                absurd (clears.none k any_of.node any_of.among (member_stale group.members cleared.parts k part middle is_new any_of.node any_of.member))
             | inr untouched ↦
                 let alike = (untouched_was group there untouched).1 in
                 let same : was ≡ group = same_by_member before was group is_part.is_group alike.here node member any.4 in
-                inr (record {
+                record {
                   group = group;
                   there = there;
                   untouched = untouched;
@@ -209,18 +221,24 @@ module _ (g : GraphData) (change : Change) (old : MachineData) (covers : Covers 
                   stood = stood;
                   alike = alike;
                   was = subst (λ (one : Group). IsPartOf before one part) same is_part;
+                }
+          ]
+
+      pub part_cases : IsRenewed g change old now.groups k part ⊎ IsStill g change old cleared now.groups k part
+      part_cases =
+          elim (renews.was k part stands some) [
+            | inl middle ↦ inr (stood_still middle)
+            | inr (later, is) ↦
+                inl (record {
+                  later = omega (arith, later, clears.count);
+                  group = is.group;
+                  there = is.there;
+                  touched = any_touched is.group is.has;
+                  is_new = is.is_new;
                 })
           ]
 
-      pub part_cases : IsRenewed g change old now.groups part ⊎ IsStill g change old cleared now.groups k part
-      part_cases =
-          elim (renews.was k part stands some) [
-            | inl middle ↦ stood_cases middle
-            | inr (later, is) ↦
-                inl (record { group = is.group; there = is.there; touched = any_touched is.group is.has; is_new = is.is_new })
-          ]
-
-      renewed_part : (is : IsRenewed g change old now.groups part) → IsPartOf g is.group part
+      renewed_part : (is : IsRenewed g change old now.groups k part) → IsPartOf g is.group part
       renewed_part is = part_of_group g is.group made.parts k part stands (is_now is.group is.there) is.is_new
 
       still_part : (is : IsStill g change old cleared now.groups k part) → IsPartOf g is.group part
@@ -329,8 +347,74 @@ module _ (g : GraphData) (change : Change) (old : MachineData) (covers : Covers 
     tidy : IsTidy made
     tidy = renews.tidy (clears.tidy (record { counted = covers.uses_counted; textless = covers.textless; quiet = covers.quiet }))
 
-    made_wide : made.wide ≡ None
-    made_wide = renews.rest.wide ∙ clears.rest.wide
+    -- the groups that are stepped by vicinities are known still if none of their members lost its part
+    made_known : KeepsKnown old.parts made.parts begun made.wide
+    made_known =
+        KeepsKnown-then old.parts cleared.parts made.parts begun cleared.wide made.wide (omega (arith, clears.count))
+        (λ k part stands inside some.
+        elim (renews.was k part stands some) [
+          | inl before ↦ before
+          | inr (later, is) ↦ absurd (omega (arith, later, inside))
+        ])
+        clears.wide renews.wide
+
+    module _ (later : WideData) (is : made.wide ≡ Some later) where
+      -- they were known before
+      was_wide : (wide : WideData) × (old.wide ≡ Some wide) × GrowsWide (nodes g) wide later
+      was_wide = grown_wide (nodes g) old.wide begun grows later ((made_known.known later is).0)
+
+      -- their members are those from before
+      was_storage : (node : ℕ) → IsStorage later.graph node → IsStorage was_wide.0.graph node
+      was_storage node storage =
+          storage_before was_wide.0.graph (nodes g) node (subst (λ h. IsStorage h node) was_wide.2.graph storage)
+
+      -- each of which has its part still
+      made_stale_only : HasStaleOnly made.parts later.graph
+      made_stale_only =
+          HasStaleOnly-kept old.parts made.parts later.graph
+          (λ node storage. covers.stale_only was_wide.0 was_wide.1 node (was_storage node storage)) ((made_known.known later is).1)
+
+      -- so a new part has none of them
+      outside_new : (k : ℕ) (part : HeldPart) → Stands made.parts k part → length old.parts ≤ k → IsOutside later.graph part
+      outside_new k part stands new node there storage =
+          let (l, has, stale) = covers.stale_only was_wide.0 was_wide.1 node (was_storage node storage) in
+          let taken = member_taken old.parts l stale.part stale.stands node has in
+          let still = (made_known.known later is).1 l stale.part node stale.stands taken storage in
+          let same : l ≡ k = apart l k node (taken_member made.parts l stale.part still node taken) (taken_member made.parts k part stands node there) in
+          omega (arith, same, new, stale.stands.inside)
+
+      -- and a part that stands as it stood is held as it was
+      made_held : (k : ℕ) (part : HeldPart) → Stands made.parts k part → 0 < part.members → part.code ≡ None →
+          IsHeldIn g made.state later part ⊎ IsOutside later.graph part
+      made_held k part stands some none =
+          elim (part_cases k part stands some) [
+            | inl is_new ↦ inr (outside_new k part stands is_new.later)
+            | inr still ↦
+                elim (covers.held was_wide.0 was_wide.1 k part still.stood some none) [
+                  | inl held ↦
+                      inl (subst (λ state. IsHeldIn g state later part) (sym made_state)
+                      (IsHeldIn-grown before g wired_before wired old.state (replicate (nodes g - length old.state) Unk) covers.counted (nodes g) was_wide.0 later
+                      was_wide.2 part still.group still.alike still.was held))
+                  | inr outside ↦ inr (λ node there storage. outside node there (was_storage node storage))
+                ]
+          ]
+
+    -- and if each part stands that had one of their members, they are known
+    made_stays : (wide : WideData) → old.wide ≡ Some wide →
+        ((k : ℕ) (part : HeldPart) → Stands old.parts k part → (¬ IsOutside wide.graph part) → Stands made.parts k part) → made.wide ≢ None
+    made_stays wide is stands none =
+        let (grown, begun_is, by) = wide_grown (nodes g) old.wide begun grows wide is in
+        elim (made_known.lost grown begun_is) [
+          | inl known ↦
+              let both : None ≡ Some grown = sym none ∙ known in
+              absurd cc
+          | inr (gone, loses) ↦
+              let storage : IsStorage wide.graph loses.node =
+              storage_before wide.graph (nodes g) loses.node (subst (λ h. IsStorage h loses.node) by.graph loses.storage) in
+              let (k, has, stale) = covers.stale_only wide is loses.node storage in
+              let taken = member_taken old.parts k stale.part stale.stands loses.node has in
+              loses.gone k stale.part stale.stands taken (stands k stale.part stale.stands (λ outside. outside loses.node taken storage))
+        ]
 
     covers_after : Covers g after
     covers_after = record {
@@ -348,8 +432,8 @@ module _ (g : GraphData) (change : Change) (old : MachineData) (covers : Covers 
       quiet = tidy.quiet;
       waits = is_stale;
       rests = rests;
-      stale_only = λ wide is. absurd (cc (made_wide, is));
-      held = λ wide is. absurd (cc (made_wide, is));
+      stale_only = made_stale_only;
+      held = made_held;
     }
 
     -- the part of a touched group is stale, and that of another one stood
@@ -391,41 +475,5 @@ module _ (g : GraphData) (change : Change) (old : MachineData) (covers : Covers 
       last = renews.rest.last ∙ clears.rest.last;
       moves = renews.rest.moves ∙ clears.rest.moves;
       placed = renews.rest.placed ∙ clears.rest.placed;
-      wide = made_wide;
+      wide = record { known = was_wide; stays = made_stays };
     }
-
--- a machine covers a graph without knowing the groups that are stepped by vicinities
-pub Covers-forgotten : (g : GraphData) (m : MachineData) → Covers g m → Covers g (record m { wide = None })
-Covers-forgotten g m covers = record {
-  groups = covers.groups;
-  kept = covers.kept;
-  are = covers.are;
-  counted = covers.counted;
-  each = covers.each;
-  whole = covers.whole;
-  apart = covers.apart;
-  number = covers.number;
-  known = covers.known;
-  textless = covers.textless;
-  uses_counted = covers.uses_counted;
-  quiet = covers.quiet;
-  waits = covers.waits;
-  rests = covers.rests;
-  stale_only = λ wide is. absurd (cc is);
-  held = λ wide is. absurd (cc is);
-}
-
--- and an edit does the same to it
-pub Edits-forgotten : (g : GraphData) (change : Change) (old new : MachineData) → Edits g change (record old { wide = None }) new → Edits g change old new
-Edits-forgotten g change old new edits = record {
-  covers = edits.covers;
-  state = edits.state;
-  stale = edits.stale;
-  marked = edits.marked;
-  stays = edits.stays;
-  marks = edits.marks;
-  last = edits.last;
-  moves = edits.moves;
-  placed = edits.placed;
-  wide = edits.wide;
-}

@@ -26,7 +26,7 @@ on_err (Err fault) fact = fact
 pub IsGrown-same : (kept : KeptData) → IsGrown kept kept
 IsGrown-same kept = record { more = []; grown = sym (append-nil kept.entries); bound = refl }
 
-module _ (g : GraphData) (old new : KeptData) (before after : List GroupTextData) (held_before held_after : TextSet) (texts : List GroupTextData) where
+module _ (large : ℕ) (g : GraphData) (old new : KeptData) (before after : List GroupTextData) (held_before held_after : TextSet) (texts : List GroupTextData) where
   -- a fill lets it grow, whether or not memory was wanting
   pub IsGrown-filled : (count : ℕ) → FillsAll old new before after held_before held_after texts count → IsGrown old new
   IsGrown-filled count fills = record { more = fills.more; grown = fills.kept; bound = fills.bound }
@@ -35,13 +35,13 @@ module _ (g : GraphData) (old new : KeptData) (before after : List GroupTextData
   IsGrown-cut_off keeps = record { more = keeps.more; grown = keeps.kept; bound = keeps.bound }
 
   -- the texts that were handed in are these, the new ones of which a build of the graph has analysed
-  module _ (present : List GroupTextData) (same : texts ≡ present) (fresh : BuildsFresh g (texts_of old) (new_texts (texts_of old) present)) where
-    fresh_read : BuildsFresh g (texts_of old) (new_texts (texts_of old) texts)
-    fresh_read = subst (λ list. BuildsFresh g (texts_of old) (new_texts (texts_of old) list)) (sym same) fresh
+  module _ (present : List GroupTextData) (same : texts ≡ present) (fresh : BuildsFresh large g (texts_of old) (new_texts (texts_of old) present)) where
+    fresh_read : BuildsFresh large g (texts_of old) (new_texts (texts_of old) texts)
+    fresh_read = subst (λ list. BuildsFresh large g (texts_of old) (new_texts (texts_of old) list)) (sym same) fresh
 
     -- where all new texts were analysed it is done
     pub Fills-filled : (count : ℕ) → FillsAll old new before after held_before held_after texts count →
-        Fills g (texts_of old) (texts_of new) before after count
+        Fills large g (texts_of old) (texts_of new) before after count
     Fills-filled count fills = record {
       fresh = new_texts (texts_of old) texts;
       news = fresh_read;
@@ -51,7 +51,7 @@ module _ (g : GraphData) (old new : KeptData) (before after : List GroupTextData
     }
 
     -- where not all could be kept, the build was cut off
-    pub cut_off_front : KeepsSome old new before after held_before held_after texts → IsCutOff g (texts_of old) (texts_of new) before after
+    pub cut_off_front : KeepsSome old new before after held_before held_after texts → IsCutOff large g (texts_of old) (texts_of new) before after
     cut_off_front keeps = inr (record {
       fresh = new_texts (texts_of old) texts;
       more = entry_texts keeps.more;
@@ -66,7 +66,7 @@ module _ (g : GraphData) (old new : KeptData) (before after : List GroupTextData
 
     -- and it may be cut off after all were kept
     pub cut_off_end : (count : ℕ) → FillsAll old new before after held_before held_after texts count →
-        IsCutOff g (texts_of old) (texts_of new) before after
+        IsCutOff large g (texts_of old) (texts_of new) before after
     cut_off_end count fills = inr (record {
       fresh = new_texts (texts_of old) texts;
       more = entry_texts fills.more;
@@ -80,11 +80,11 @@ module _ (g : GraphData) (old new : KeptData) (before after : List GroupTextData
     })
 
 -- once all texts of the graph's groups were put in front, by way of the distinct ones, the build is done
-pub Builds-first : (g : GraphData) (old filled : KeptData) (before after : List GroupTextData) (held_before held_after : TextSet)
-    (present known now : List GroupTextData) (count : ℕ) → HasTexts g present → known ≡ first_texts present →
+pub Builds-first : (large : ℕ) (g : GraphData) (old filled : KeptData) (before after : List GroupTextData) (held_before held_after : TextSet)
+    (present known now : List GroupTextData) (count : ℕ) → HasTexts large g present → known ≡ first_texts present →
     FillsAll old filled before after held_before held_after known count → now ≡ kept_after filled.bound known (texts_of filled) →
-    Builds g old.bound (texts_of old) now before after count
-Builds-first g old filled before after held_before held_after present known now count has known_are fills first = record {
+    Builds large g old.bound (texts_of old) now before after count
+Builds-first large g old filled before after held_before held_after present known now count has known_are fills first = record {
   present = present;
   has = has;
   kept =

@@ -1,44 +1,50 @@
 -- What a finish has analysed is what a build of the graph would: the texts of the parts that don't wait are kept.
-use Rattle.std.proofs.Common.{◌≡◌, ℕ, inl, inr, List, map, get_or, All, None, refl, sym, ap, subst, ◌∙◌}
-use Rattle.std.specs.Prelude.{Contains}
-use Rattle.std.proofs.lemmas.Bool.{cases_Bool}
-use Rattle.std.proofs.lemmas.List.{get_or_default}
+use Rattle.std.proofs.Common.{◌≡◌, ℕ, Bool, true, false, List, map, All, None, refl, sym, ap, subst, ◌∙◌, true≢false}
+use Rattle.std.specs.Prelude.{Contains, filter}
 use Rattle.path_meaning.specs.Graphs.{GraphData}
 use Rattle.group_meaning.specs.Groups.{Group, AreGroups}
 use Rattle.group_text.specs.Texts.{GroupTextData, text_of_group}
-use Rattle.group_text.specs.FirstTexts.{new_texts}
-use Rattle.circuit_texts.specs.Sizes.{fault_in}
+use Rattle.group_text.specs.FirstTexts.{is_among, new_texts}
+use Rattle.circuit_texts.specs.Sizes.{fault_in, refused_in}
 use Rattle.circuit_texts.specs.Building.{BuildsFresh}
+use Rattle.circuit_texts.specs.Told.{has_text, with_text, told}
+use Rattle.circuit_texts.proofs.ToldLemmas.{fit_from_text, text_from_fit}
 use Rattle.machine_laws.specs.Machines.{MachineData}
 use Rattle.machine_laws.specs.Fitting.{Covers, IsKeptBy}
 use Rattle.machine_laws.specs.Finishing.{AreWaiting}
+use Rattle.machine_laws.proofs.FilterLemmas.{filter_has, filter_keeps, filter_covered}
 use Rattle.machine_laws.proofs.FinishingTexts.{new_texts-waiting}
-use Rattle.machine_laws.proofs.FinishingWaiting.{filter_keeps, coded_fit}
 
 module _ (g : GraphData) (m : MachineData) (covers : Covers g m) (groups some : List Group) (slots : List ℕ) (are : AreGroups g groups)
     (waiting : AreWaiting g m.parts groups some slots) (fit : All (λ group. fault_in group ≡ None) some)
+    (large : ℕ) (few : All (λ group. refused_in large group ≡ None) groups)
     (kept : List GroupTextData) (known : IsKeptBy g kept m) (texts : List GroupTextData) (texts_are : texts ≡ map (text_of_group g) some) where
-  -- no group is too large
-  all_fit : All (λ group. fault_in group ≡ None) groups
-  all_fit i d inside =
-      let group = get_or groups i d in
-      let there : Contains groups group = (i, inside, get_or_default groups i group d inside) in
-      elim (cases_Bool (waiting.waits group)) [
-        | inl waits ↦
-            let (j, within, here) = subst (λ list. Contains list group) (sym waiting.some_are) (filter_keeps waiting.waits groups group there waits) in
-            subst (λ one. fault_in one ≡ None) here (fit j group within)
-        | inr not_waiting ↦ coded_fit g m covers group (waiting.others group there not_waiting)
-      ]
-
   -- the new ones of the waiting texts are the new ones of all
-  pub waiting_texts : BuildsFresh g kept (new_texts kept texts)
+  pub waiting_texts : BuildsFresh large g kept (new_texts kept texts)
   waiting_texts = record {
-    texts = map (text_of_group g) groups;
-    has = record { groups = groups; are = are; fit = all_fit; texts_are = refl };
+    texts = told g groups;
+    has = record { groups = groups; are = are; fit = few; texts_are = refl };
     fresh_are =
-        ap (new_texts kept) (texts_are ∙ ap (map (text_of_group g)) waiting.some_are)
-        ∙ sym (new_texts-waiting (text_of_group g) waiting.waits kept groups
-        (λ group there not_waiting.
-        let has = waiting.others group there not_waiting in
-        known has.k has.part has.stands has.coded group has.is_part));
+        ap (new_texts kept) (texts_are ∙ ap (map (text_of_group g)) (waiting.some_are ∙ some_told))
+        ∙ sym (new_texts-waiting (text_of_group g) waiting.waits kept (with_text groups) old);
   }
+    where
+      old : (group : Group) → Contains (with_text groups) group → waiting.waits group ≡ false → is_among kept (text_of_group g group) ≡ true
+      old group there not_waiting =
+          let (was, has_one) = filter_has has_text groups group there in
+          let has = waiting.others group was not_waiting (fit_from_text group has_one) in
+          known has.k has.part has.stands has.coded group has.is_part
+
+      -- those that wait have a text
+      some_told : filter waiting.waits groups ≡ filter waiting.waits (with_text groups)
+      some_told = sym (filter_covered has_text waiting.waits groups none_untold)
+        where
+          none_untold : (group : Group) → Contains groups group → has_text group ≡ false → waiting.waits group ≡ false
+          none_untold group there untold = by (waiting.waits group) refl
+            where
+              by : (b : Bool) → waiting.waits group ≡ b → waiting.waits group ≡ false
+              by false is = is
+              by true is =
+                  let (j, within, here) = subst (λ list. Contains list group) (sym waiting.some_are) (filter_keeps waiting.waits groups group there is) in
+                  let fits = subst (λ one. fault_in one ≡ None) here (fit j group within) in
+                  absurd (true≢false (sym (text_from_fit group fits) ∙ untold))

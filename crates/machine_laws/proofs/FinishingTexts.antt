@@ -10,7 +10,7 @@ use Rattle.std.proofs.lemmas.Map.Views.{any-filter_same}
 use Rattle.group_meaning.specs.Groups.{Group, id_of}
 use Rattle.group_text.specs.declared.text.TextFault.{TextFault}
 use Rattle.circuit_texts.specs.declared.texts.BuildFault.{BuildFault}
-use Rattle.circuit_texts.specs.Sizes.{fault_in, at_node, IsFirstTooLarge}
+use Rattle.circuit_texts.specs.Sizes.{refused_in, at_node, IsFirstRefused}
 use Rattle.group_text.specs.Texts.{GroupTextData}
 use Rattle.group_text.specs.Compared.{same_text, same_text_decides, same_text_equivalence}
 use Rattle.group_text.specs.FirstTexts.{is_among, first_texts, new_texts}
@@ -145,8 +145,8 @@ same_distinct one two same =
     (λ text. is_among-first one text ∙ (same text ∙ sym (is_among-first two text)))
 
 -- the first group that is too large stands behind one more that isn't
-first_behind : (x : Group) (groups : List Group) (fault : BuildFault) → fault_in x ≡ None → IsFirstTooLarge groups fault → IsFirstTooLarge (x ∷ groups) fault
-first_behind x groups fault fits later = record {
+first_behind : (large : ℕ) (x : Group) (groups : List Group) (fault : BuildFault) → refused_in large x ≡ None → IsFirstRefused large groups fault → IsFirstRefused large (x ∷ groups) fault
+first_behind large x groups fault fits later = record {
   k = suc later.k;
   group = later.group;
   stands = later.stands;
@@ -156,17 +156,17 @@ first_behind x groups fault fits later = record {
   before = earlier;
 }
   where
-    earlier : (j : ℕ) (other : Group) → j < suc later.k → slice_get (x ∷ groups) j ≡ Some other → fault_in other ≡ None
+    earlier : (j : ℕ) (other : Group) → j < suc later.k → slice_get (x ∷ groups) j ≡ Some other → refused_in large other ≡ None
     earlier zero other below at =
         let same : x ≡ other = cc in
-        ap fault_in (sym same) ∙ fits
+        ap (refused_in large) (sym same) ∙ fits
     earlier (suc j) other below at = later.before j other (omega (arith, below)) at
 
 -- it is the first of a list, or behind the first
-first_cases : (x : Group) (rest groups : List Group) (fault : BuildFault) → (IsFirstTooLarge rest fault → IsFirstTooLarge groups fault) →
-    (k : ℕ) (group : Group) (cause : TextFault) → slice_get (x ∷ rest) k ≡ Some group → fault_in group ≡ Some cause → fault ≡ at_node (id_of group) cause →
-    ((j : ℕ) (other : Group) → j < k → slice_get (x ∷ rest) j ≡ Some other → fault_in other ≡ None) → IsFirstTooLarge (x ∷ groups) fault
-first_cases x rest groups fault later zero group cause stands too_large named before = record {
+first_cases : (large : ℕ) (x : Group) (rest groups : List Group) (fault : BuildFault) → (IsFirstRefused large rest fault → IsFirstRefused large groups fault) →
+    (k : ℕ) (group : Group) (cause : TextFault) → slice_get (x ∷ rest) k ≡ Some group → refused_in large group ≡ Some cause → fault ≡ at_node (id_of group) cause →
+    ((j : ℕ) (other : Group) → j < k → slice_get (x ∷ rest) j ≡ Some other → refused_in large other ≡ None) → IsFirstRefused large (x ∷ groups) fault
+first_cases large x rest groups fault later zero group cause stands too_large named before = record {
   k = 0;
   group = group;
   stands = stands;
@@ -175,8 +175,8 @@ first_cases x rest groups fault later zero group cause stands too_large named be
   named = named;
   before = λ j other below at. absurd (omega (arith, below));
 }
-first_cases x rest groups fault later (suc k) group cause stands too_large named before =
-    first_behind x groups fault (before 0 x (omega arith) refl) (later (record {
+first_cases large x rest groups fault later (suc k) group cause stands too_large named before =
+    first_behind large x groups fault (before 0 x (omega arith) refl) (later (record {
       k = k;
       group = group;
       stands = stands;
@@ -187,15 +187,15 @@ first_cases x rest groups fault later (suc k) group cause stands too_large named
     }))
 
 -- the first group that is too large among those that pass a test is the first of all, where all others fit
-pub first_waiting : (waits : Group → Bool) (groups : List Group) →
-    ((group : Group) → Contains groups group → waits group ≡ false → fault_in group ≡ None) → (fault : BuildFault) →
-    IsFirstTooLarge (filter waits groups) fault → IsFirstTooLarge groups fault
-first_waiting waits [] fit fault first = first
-first_waiting waits (x ∷ groups) fit fault first =
-    by (first_waiting waits groups (λ group there. fit group (Contains-append_right (x ∷ []) groups group there)) fault) (waits x) refl first
+pub first_waiting : (large : ℕ) (waits : Group → Bool) (groups : List Group) →
+    ((group : Group) → Contains groups group → waits group ≡ false → refused_in large group ≡ None) → (fault : BuildFault) →
+    IsFirstRefused large (filter waits groups) fault → IsFirstRefused large groups fault
+first_waiting large waits [] fit fault first = first
+first_waiting large waits (x ∷ groups) fit fault first =
+    by (first_waiting large waits groups (λ group there. fit group (Contains-append_right (x ∷ []) groups group there)) fault) (waits x) refl first
   where
-    by : (IsFirstTooLarge (filter waits groups) fault → IsFirstTooLarge groups fault) → (b : Bool) → waits x ≡ b →
-        IsFirstTooLarge (cond b (x ∷ filter waits groups) (filter waits groups)) fault → IsFirstTooLarge (x ∷ groups) fault
+    by : (IsFirstRefused large (filter waits groups) fault → IsFirstRefused large groups fault) → (b : Bool) → waits x ≡ b →
+        IsFirstRefused large (cond b (x ∷ filter waits groups) (filter waits groups)) fault → IsFirstRefused large (x ∷ groups) fault
     by later true is first =
-        first_cases x (filter waits groups) groups fault later first.k first.group first.cause first.stands first.too_large first.named first.before
-    by later false is first = first_behind x groups fault (fit x (0, omega arith, refl) is) (later first)
+        first_cases large x (filter waits groups) groups fault later first.k first.group first.cause first.stands first.too_large first.named first.before
+    by later false is first = first_behind large x groups fault (fit x (0, omega arith, refl) is) (later first)

@@ -1,8 +1,9 @@
 -- The groups whose parts wait, found by the least members of these parts.
-use Rattle.std.proofs.Common.{◌≡◌, ◌≢◌, ℕ, zero, suc, ◌<◌, Bool, true, false, cond, eqb, List, [], ◌∷◌, length, map, filter, get_or, All, Option, Some, None, refl, sym, ap, subst, ◌∙◌, arith, true≢false, eq-eqb}
-use Rattle.std.specs.Prelude.{Contains, is_some, slice_get, slice_index, slice_index_or}
+use Rattle.std.proofs.Common.{◌≡◌, ◌≢◌, ℕ, zero, suc, ◌<◌, Bool, true, false, cond, ◌&&◌, eqb, inl, inr, ◌⊎◌, List, [], ◌∷◌, length, map, filter, get_or, All, Option, Some, None, refl, sym, ap, subst, ◌∙◌, arith, true≢false, eq-eqb}
+use Rattle.std.specs.Prelude.{Contains, not, is_some, slice_get, slice_index, slice_index_or}
 use Rattle.std.specs.List.{AllZip, filter_map, cons_option}
 use Rattle.std.specs.List.Sorted.{IsStrictlyIncreasing}
+use Rattle.std.proofs.lemmas.Bool.{cases_Bool}
 use Rattle.std.proofs.lemmas.Bool.Decides.{Decides-eqb}
 use Rattle.std.proofs.lemmas.List.{get_or_default, get_or-take, get_or-map, length-map}
 use Rattle.std.proofs.lemmas.List.Elements.{Contains-append_right}
@@ -11,14 +12,17 @@ use Rattle.std.proofs.lemmas.Option.{slice_get_read, slice_get_within, get_or_fr
 use Rattle.path_meaning.specs.Graphs.{GraphData}
 use Rattle.group_meaning.specs.Groups.{Group, IsGroup, id_of}
 use Rattle.group_meaning.proofs.AscendingLists.{same_ascending}
-use Rattle.group_meaning.proofs.MappedLists.{contains-map}
+use Rattle.group_meaning.proofs.MappedLists.{contains-map, contains-from_map}
 use Rattle.group_meaning.proofs.UniqueGroups.{id_member, same_by_member}
 use Rattle.channel_groups.specs.declared.group.GroupId.{GroupId}
 use Rattle.channel_groups.specs.Grouping.{group_with, IsId}
 use Rattle.circuit_texts.specs.Choosing.{chosen}
 use Rattle.circuit_texts.proofs.PairedLists.{partner_first}
 use Rattle.circuit_texts.specs.declared.texts.BuildFault.{BuildFault}
-use Rattle.circuit_texts.specs.Sizes.{fault_in, IsFirstTooLarge, TellsTooLarge}
+use Rattle.circuit_texts.specs.Sizes.{fault_in, refused_in, IsFirstRefused, TellsRefused}
+use Rattle.circuit_texts.specs.Told.{has_text, with_text, without_text}
+use Rattle.circuit_texts.proofs.SizeLemmas.{fits_any}
+use Rattle.circuit_texts.proofs.ToldLemmas.{text_from_fit, none_from_untold, ascending-filter}
 use Rattle.machine_parts.specs.declared.part.HeldPart.{HeldPart}
 use Rattle.machine_parts.specs.Parts.{Stands, HasMember, IsStale}
 use Rattle.machine_laws.specs.Machines.{MachineData}
@@ -26,37 +30,14 @@ use Rattle.machine_parts.specs.Marking.{AreOnce}
 use Rattle.machine_parts.specs.Running.{AreOwners}
 use Rattle.machine_laws.specs.Fitting.{IsPartOf, Covers}
 use Rattle.machine_laws.specs.Finishing.{IsSlotOf, HasCode, AreWaiting, first_node}
+use Rattle.machine_laws.proofs.FilterLemmas.{filter_has, filter_keeps, filter_both, filter_covered}
+use Rattle.machine_laws.proofs.HeldLemmas.{known_or_not}
 use Rattle.machine_laws.proofs.KeptLemmas.{group_there}
 use Rattle.machine_parts.proofs.PartLemmas.{same_part}
 use Rattle.machine_laws.proofs.PartGroups.{one_group, member_of_part, some_members}
 use Rattle.machine_laws.proofs.FinishingTexts.{first_waiting}
 use Rattle.machine_laws.proofs.FinishingGroups.{found_by}
 use Rattle.machine_parts.proofs.NumberLists.{is_one_of, one_of-Contains, one_of-from}
-
--- what is left by a test was there and passes, and what passes is left
-filter_has : {X : Type 0} (p : X → Bool) (xs : List X) (n : X) → Contains (filter p xs) n → Contains xs n × (p n ≡ true)
-filter_has p [] n there = absurd (omega (arith, there.1))
-filter_has p (x ∷ xs) n there = by (filter_has p xs n) (p x) refl there
-  where
-    by : (Contains (filter p xs) n → Contains xs n × (p n ≡ true)) → (b : Bool) → p x ≡ b → Contains (cond b (x ∷ filter p xs) (filter p xs)) n →
-        Contains (x ∷ xs) n × (p n ≡ true)
-    by later true is (zero, inside, here) = ((0, omega arith, here), ap p (sym here) ∙ is)
-    by later true is (suc i, inside, here) =
-        let (was, passes) = later (i, omega (arith, inside), here) in
-        (Contains-append_right (x ∷ []) xs n was, passes)
-    by later false is there =
-        let (was, passes) = later there in
-        (Contains-append_right (x ∷ []) xs n was, passes)
-
-pub filter_keeps : {X : Type 0} (p : X → Bool) (xs : List X) (n : X) → Contains xs n → p n ≡ true → Contains (filter p xs) n
-filter_keeps p [] n there passes = absurd (omega (arith, there.1))
-filter_keeps p (x ∷ xs) n there passes = by (λ behind. filter_keeps p xs n behind passes) (p x) refl there
-  where
-    by : (Contains xs n → Contains (filter p xs) n) → (b : Bool) → p x ≡ b → Contains (x ∷ xs) n → Contains (cond b (x ∷ filter p xs) (filter p xs)) n
-    by later true is (zero, inside, here) = (0, omega arith, here)
-    by later true is (suc i, inside, here) = Contains-append_right (x ∷ []) (filter p xs) n (later (i, omega (arith, inside), here))
-    by later false is (zero, inside, here) = absurd (true≢false (sym passes ∙ (ap p (sym here) ∙ is)))
-    by later false is (suc i, inside, here) = later (i, omega (arith, inside), here)
 
 -- a test of what is made of the items
 map_filter : {X : Type 0} (f : X → ℕ) (p : ℕ → Bool) (xs : List X) → map f (filter (λ x. p (f x)) xs) ≡ filter p (map f xs)
@@ -159,22 +140,16 @@ module _ (g : GraphData) (m : MachineData) (covers : Covers g m) (count : ℕ) (
       let one : at.x ≡ group = same_by_member g at.x group other is_group (id_of group) member (id_member g group is_group) in
       at.is ∙ ap Some one
 
-  module _ (nodes : List ℕ) (ascending : IsStrictlyIncreasing nodes)
-      (all : (k : ℕ) → IsStale m.parts k → Contains nodes (first_node m.parts k))
+  -- the least nodes of the groups of some of the stale parts
+  module _ (nodes : List ℕ) (ascending : IsStrictlyIncreasing nodes) (Passed : ℕ → Type 0)
+      (all : (k : ℕ) → IsStale m.parts k → Contains nodes (first_node m.parts k) ⊎ Passed (first_node m.parts k))
       (only : (node : ℕ) → Contains nodes node → (k : ℕ) × IsStale m.parts k × (first_node m.parts k ≡ node)) where
     -- each of these nodes is the least one of a group whose part waits
-    pub waits_by : (node : ℕ) → Contains nodes node → (k : ℕ) × (waits : Waits k) × (id_of waits.group ≡ node)
+    waits_by : (node : ℕ) → Contains nodes node → (k : ℕ) × (waits : Waits k) × (id_of waits.group ≡ node)
     waits_by node there =
         let (k, stale, first) = only node there in
         let waits = waits_at k stale in
         (k, waits, sym waits.least ∙ first)
-
-    pub nodes_owned : All (λ node. slice_index_or owners node None ≢ None) nodes
-    nodes_owned i d inside none =
-        let node = get_or nodes i d in
-        let (k, waits, same) = waits_by node (i, inside, get_or_default nodes i node d inside) in
-        let both : Some k ≡ None = sym waits.owner ∙ (ap (λ n. slice_index_or owners n None) same ∙ none) in
-        absurd cc
 
     pub nodes_are_ids : All (IsId all_groups) nodes
     nodes_are_ids i d inside =
@@ -182,7 +157,7 @@ module _ (g : GraphData) (m : MachineData) (covers : Covers g m) (count : ℕ) (
         let (k, waits, same) = waits_by node (i, inside, get_or_default nodes i node d inside) in
         subst (IsId all_groups) same (ap is_some (own_id waits.group waits.there))
 
-    abbrev waits_now : Group → Bool
+    abbrev pub waits_now : Group → Bool
     waits_now group = is_one_of nodes (id_of group)
 
     abbrev pub waiting_groups : List Group
@@ -201,64 +176,168 @@ module _ (g : GraphData) (m : MachineData) (covers : Covers g m) (count : ℕ) (
         let is_id : Contains (map id_of all_groups) n = subst (Contains (map id_of all_groups)) same (contains-map id_of all_groups i waits.group inside here) in
         filter_keeps (is_one_of nodes) (map id_of all_groups) n is_id (one_of-from nodes n there))
 
-    -- and each of them is one of the groups
-    waiting_there : (group : Group) → Contains waiting_groups group → Contains all_groups group × (waits_now group ≡ true)
-    waiting_there group there = filter_has waits_now all_groups group there
-
-    -- which has its slot
-    waiting_slot : (group : Group) → Contains waiting_groups group → HasSlot g m.parts owners group
-    waiting_slot group there =
-        let ((i, inside, here), passes) = waiting_there group there in
-        let (k, waits, same) = waits_by (id_of group) (one_of-Contains nodes (id_of group) passes) in
-        let is_group : IsGroup g group = subst (IsGroup g) here (covers.are.are.each i group inside) in
-        let member : Contains waits.group.members (id_of group) = subst (Contains waits.group.members) same (id_member g waits.group waits.is_group) in
-        let one : waits.group ≡ group = same_by_member g waits.group group waits.is_group is_group (id_of group) member (id_member g group is_group) in
-        record {
-          k = k;
-          owner = ap (λ other. slice_index_or owners (id_of other) None) (sym one) ∙ waits.owner;
-          slot = subst (λ other. IsSlotOf g m.parts other k) one waits.slot;
-        }
-
     -- the groups with these ids are those that wait
     pub chosen_waiting : (ids : List GroupId) → map (λ (id : GroupId). id.node) ids ≡ nodes → chosen all_groups ids ≡ waiting_groups
     chosen_waiting ids are =
         chosen-nodes all_groups ids
         ∙ (ap (filter_map (group_with all_groups)) (are ∙ sym waiting_ids)
-        ∙ pick-own all_groups waiting_groups (λ group there. own_id group (waiting_there group there).0))
+        ∙ pick-own all_groups waiting_groups (λ group there. own_id group (filter_has waits_now all_groups group there).0))
 
-    -- a group that doesn't wait has code
-    others_coded : (group : Group) → Contains all_groups group → waits_now group ≡ false → HasCode g m.parts group
-    others_coded group (i, inside, here) waits_not =
-        let at : slice_get all_groups i ≡ Some group = slice_get_read all_groups (length all_groups) i group refl inside (sym here) in
-        let has = covers.each i group at in
+    -- each of them has a stale part
+    pub slot_now : (group : Group) → Contains all_groups group → waits_now group ≡ true → (k : ℕ) × IsSlotOf g m.parts group k
+    slot_now group (i, inside, here) passes =
+        let (k, waits, same) = waits_by (id_of group) (one_of-Contains nodes (id_of group) passes) in
+        let is_group : IsGroup g group = subst (IsGroup g) here (covers.are.are.each i group inside) in
+        let member : Contains waits.group.members (id_of group) = subst (Contains waits.group.members) same (id_member g waits.group waits.is_group) in
+        let one : waits.group ≡ group = same_by_member g waits.group group waits.is_group is_group (id_of group) member (id_member g group is_group) in
+        (k, subst (λ other. IsSlotOf g m.parts other k) one waits.slot)
+
+    -- and each group with a stale part is one of them, or is passed over
+    pub due_now : (k : ℕ) (part : HeldPart) (group : Group) → Stands m.parts k part → part.code ≡ None → IsPartOf g group part →
+        (waits_now group ≡ true) ⊎ Passed (id_of group)
+    due_now k part group stands stale is_part =
+        let is_stale : IsStale m.parts k = record { part = part; stands = stands; some = some_members is_part; none = stale } in
+        let first : first_node m.parts k ≡ id_of group = first_is k part stands group is_part in
+        elim (all k is_stale) [
+          | inl among ↦ inl (one_of-from nodes (id_of group) (subst (Contains nodes) first among))
+          | inr passed ↦ inr (subst Passed first passed)
+        ]
+
+    module _ (large : ℕ) (passes : (k : ℕ) (part : HeldPart) (group : Group) → Stands m.parts k part → part.code ≡ None → IsPartOf g group part →
+        Passed (id_of group) → refused_in large group ≡ None) where
+      -- a group that doesn't wait isn't refused, if none is that is passed over
+      others_fit : (group : Group) → Contains all_groups group → waits_now group ≡ false → refused_in large group ≡ None
+      others_fit group (i, inside, here) waits_not =
+          let at : slice_get all_groups i ≡ Some group = slice_get_read all_groups (length all_groups) i group refl inside (sym here) in
+          let has = covers.each i group at in
+          elim (known_or_not has.part.code) [
+            | inl (code, is) ↦ fits_any large group (covers.known has.k has.part has.stands (λ none. absurd (cc (none, is))) group has.is_part).fits
+            | inr none ↦
+                elim (due_now has.k has.part group has.stands none has.is_part) [
+                  | inl waits ↦ absurd (true≢false (sym waits ∙ waits_not))
+                  | inr passed ↦ passes has.k has.part group has.stands none has.is_part passed
+                ]
+          ]
+
+      -- the first of the waiting groups that is refused is told
+      pub TellsRefused-waiting : (fault : BuildFault) → IsFirstRefused large waiting_groups fault → TellsRefused large g fault
+      TellsRefused-waiting fault first = record {
+        groups = all_groups;
+        are = covers.are.are;
+        first = first_waiting large waits_now all_groups others_fit fault first;
+      }
+
+      -- and if none of them is refused, no group is
+      pub none_refused : All (λ group. refused_in large group ≡ None) waiting_groups → All (λ group. refused_in large group ≡ None) all_groups
+      none_refused fits i d inside =
+          let group = get_or all_groups i d in
+          let there : Contains all_groups group = (i, inside, get_or_default all_groups i group d inside) in
+          elim (cases_Bool (waits_now group)) [
+            | inl waits ↦
+                let (j, within, here) = filter_keeps waits_now all_groups group there waits in
+                subst (λ one. refused_in large one ≡ None) here (fits j group within)
+            | inr not_waiting ↦ others_fit group there not_waiting
+          ]
+
+  -- some groups with a stale part are due, and each other one is passed over
+  module _ (due : Group → Bool) (slot_of : (group : Group) → Contains all_groups group → due group ≡ true → (k : ℕ) × IsSlotOf g m.parts group k)
+      (Passed : ℕ → Type 0)
+      (due_all : (k : ℕ) (part : HeldPart) (group : Group) → Stands m.parts k part → part.code ≡ None → IsPartOf g group part →
+      (due group ≡ true) ⊎ Passed (id_of group)) where
+    abbrev pub due_groups : List Group
+    due_groups = filter due all_groups
+
+    -- a due group has its slot
+    due_slot : (group : Group) → Contains due_groups group → HasSlot g m.parts owners group
+    due_slot group there =
+        let (in_all, is_due) = filter_has due all_groups group there in
+        let (k, slot) = slot_of group in_all is_due in
+        let (place, member) = member_of_part g group slot.part slot.is_part (id_of group) (id_member g group slot.is_part.is_group) in
         record {
-          k = has.k;
-          part = has.part;
-          stands = has.stands;
-          is_part = has.is_part;
-          coded = λ none.
-              let stale : IsStale m.parts has.k =
-              record { part = has.part; stands = has.stands; some = some_members has.is_part; none = none } in
-              let first = first_is has.k has.part has.stands group has.is_part in
-              let among = one_of-from nodes (id_of group) (subst (Contains nodes) first (all has.k stale)) in
-              true≢false (sym among ∙ waits_not);
+          k = k;
+          owner = own.owner (id_of group) k (record { part = slot.part; stands = slot.stands; place = place; member = member });
+          slot = slot;
         }
 
-    module _ (slots : List ℕ) (slots_are : map Some slots ≡ map (λ node. slice_index_or owners node None) nodes) where
-      slots_zip : AllZip (IsSlotOf g m.parts) waiting_groups slots
-      slots_zip =
-          zip_slots g m.parts owners waiting_groups slots waiting_slot
-          (slots_are ∙ ap (map (λ node. slice_index_or owners node None)) (sym waiting_ids))
+    -- those of them that have a text
+    abbrev pub told_groups : List Group
+    told_groups = with_text due_groups
 
-      slots_all : (k : ℕ) → IsStale m.parts k → Contains slots k
-      slots_all k stale =
-          let waits = waits_at k stale in
-          let (i, inside, here) = all k stale in
-          let owner_is : slice_index_or owners (first_node m.parts k) None ≡ Some k = ap (λ n. slice_index_or owners n None) waits.least ∙ waits.owner in
-          some_back slots k
-          (subst (λ xs. Contains xs (Some k)) (sym slots_are)
-          (subst (Contains (map (λ node. slice_index_or owners node None) nodes)) owner_is
-          (contains-map (λ node. slice_index_or owners node None) nodes i (first_node m.parts k) inside here)))
+    abbrev due_told : Group → Bool
+    due_told group = due group && has_text group
+
+    told_are : told_groups ≡ filter due_told all_groups
+    told_are = filter_both due has_text all_groups
+
+    told_there : (group : Group) → Contains told_groups group → Contains due_groups group × (has_text group ≡ true)
+    told_there group there = filter_has has_text due_groups group there
+
+    -- their least nodes have owners
+    pub told_owned : (told_nodes : List ℕ) → map id_of told_groups ≡ told_nodes → All (λ node. slice_index_or owners node None ≢ None) told_nodes
+    told_owned told_nodes told_ids i d inside none =
+        let node = get_or told_nodes i d in
+        let there : Contains (map id_of told_groups) node = subst (λ xs. Contains xs node) (sym told_ids) (i, inside, get_or_default told_nodes i node d inside) in
+        let any = contains-from_map id_of told_groups node there in
+        let slot = due_slot any.1 (told_there any.1 (any.0, any.2, any.3)).0 in
+        let both : Some slot.k ≡ None = sym slot.owner ∙ (ap (λ n. slice_index_or owners n None) any.4 ∙ none) in
+        absurd cc
+
+    -- a group without a text that has a stale part is due, or is passed over
+    pub untold_due : (k : ℕ) (part : HeldPart) (group : Group) → Stands m.parts k part → part.code ≡ None → IsPartOf g group part →
+        fault_in group ≢ None → Contains (without_text due_groups) group ⊎ Passed (id_of group)
+    untold_due k part group stands stale is_part untold =
+        elim (due_all k part group stands stale is_part) [
+          | inr passed ↦ inr passed
+          | inl is_due ↦
+              let (n, within, at) = group_there g all_groups covers.are.are group is_part.is_group in
+              let there : Contains all_groups group = (n, within, get_or_from_slice_get all_groups n group group at) in
+              inl (filter_keeps (λ one. not (has_text one)) due_groups group (filter_keeps due all_groups group there is_due) (none_from_untold group untold))
+        ]
+
+    -- if none is passed over, the groups without a text are those that are due and have none
+    pub untold_are_due : ((node : ℕ) → ¬ Passed node) → without_text due_groups ≡ without_text all_groups
+    untold_are_due none_passed =
+        filter_covered due (λ group. not (has_text group)) all_groups (λ group there due_not. ap not (text_from_fit group (told_else group there due_not)))
+      where
+        told_else : (group : Group) → Contains all_groups group → due group ≡ false → fault_in group ≡ None
+        told_else group (i, inside, here) due_not =
+            let at : slice_get all_groups i ≡ Some group = slice_get_read all_groups (length all_groups) i group refl inside (sym here) in
+            let has = covers.each i group at in
+            elim (known_or_not has.part.code) [
+              | inl (code, is) ↦ (covers.known has.k has.part has.stands (λ none. absurd (cc (none, is))) group has.is_part).fits
+              | inr none ↦
+                  elim (due_all has.k has.part group has.stands none has.is_part) [
+                    | inl is_due ↦ absurd (true≢false (sym is_due ∙ due_not))
+                    | inr passed ↦ absurd (none_passed (id_of group) passed)
+                  ]
+            ]
+
+    module _ (untold : (k : ℕ) (part : HeldPart) (group : Group) → Stands m.parts k part → part.code ≡ None → IsPartOf g group part →
+        Passed (id_of group) → fault_in group ≢ None) (told_nodes slots : List ℕ) (told_ids : map id_of told_groups ≡ told_nodes)
+        (slots_are : map Some slots ≡ map (λ node. slice_index_or owners node None) told_nodes) where
+      slots_zip : AllZip (IsSlotOf g m.parts) told_groups slots
+      slots_zip =
+          zip_slots g m.parts owners told_groups slots (λ group there. due_slot group (told_there group there).0)
+          (slots_are ∙ ap (map (λ node. slice_index_or owners node None)) (sym told_ids))
+
+      slots_all : (k : ℕ) (part : HeldPart) (group : Group) → Stands m.parts k part → part.code ≡ None → IsPartOf g group part → fault_in group ≡ None →
+          Contains slots k
+      slots_all k part group stands stale is_part fits =
+          elim (due_all k part group stands stale is_part) [
+            | inr passed ↦ absurd (untold k part group stands stale is_part passed fits)
+            | inl is_due ↦
+                let (n, within_all, at) = group_there g all_groups covers.are.are group is_part.is_group in
+                let there : Contains all_groups group = (n, within_all, get_or_from_slice_get all_groups n group group at) in
+                let (i, inside, here) = filter_keeps has_text due_groups group (filter_keeps due all_groups group there is_due) (text_from_fit group fits) in
+                let (j, within, stood) = subst (λ xs. Contains xs (id_of group)) told_ids (contains-map id_of told_groups i group inside here) in
+                let (place, member) = member_of_part g group part is_part (id_of group) (id_member g group is_part.is_group) in
+                let owner_is : slice_index_or owners (id_of group) None ≡ Some k =
+                own.owner (id_of group) k (record { part = part; stands = stands; place = place; member = member }) in
+                some_back slots k
+                (subst (λ xs. Contains xs (Some k)) (sym slots_are)
+                (subst (Contains (map (λ node. slice_index_or owners node None) told_nodes)) owner_is
+                (contains-map (λ node. slice_index_or owners node None) told_nodes j (id_of group) within stood)))
+          ]
 
       slots_once : AreOnce slots
       slots_once i j before inside same =
@@ -266,44 +345,50 @@ module _ (g : GraphData) (m : MachineData) (covers : Covers g m) (count : ℕ) (
           let i_inside : i < length slots = omega (arith, before, inside) in
           let at_i : slice_get slots i ≡ Some k = slice_get_read slots (length slots) i k refl i_inside (sym (get_or_default slots i k 0 i_inside)) in
           let at_j : slice_get slots j ≡ Some k = slice_get_read slots (length slots) j k refl inside (same ∙ sym (get_or_default slots j k 0 inside)) in
-          let (x, x_at, x_slot) = partner_first (IsSlotOf g m.parts) waiting_groups slots i k slots_zip at_i in
-          let (y, y_at, y_slot) = partner_first (IsSlotOf g m.parts) waiting_groups slots j k slots_zip at_j in
+          let (x, x_at, x_slot) = partner_first (IsSlotOf g m.parts) told_groups slots i k slots_zip at_i in
+          let (y, y_at, y_slot) = partner_first (IsSlotOf g m.parts) told_groups slots j k slots_zip at_j in
           let one_part : x_slot.part ≡ y_slot.part = same_part m.parts k x_slot.part y_slot.part x_slot.stands y_slot.stands in
           let one : x ≡ y = one_group g x y y_slot.part (subst (IsPartOf g x) one_part x_slot.is_part) y_slot.is_part in
-          let x_id : slice_index nodes i ≡ id_of x = node_at i x x_at in
-          let y_id : slice_index nodes j ≡ id_of y = node_at j y y_at in
-          let j_inside : j < length nodes = omega (arith, slice_get_within waiting_groups j y y_at, ap length waiting_ids, length-map waiting_groups id_of) in
-          let below : slice_index nodes i < slice_index nodes j = AllPairs-from_increasing nodes ascending i j 0 before j_inside in
-          omega (arith, below, x_id, y_id, ap id_of one)
+          let ids = map id_of told_groups in
+          let ascends = ascending-filter has_text due_groups (ascending-filter due all_groups covers.are.are.ascending) in
+          let j_inside : j < length ids = omega (arith, slice_get_within told_groups j y y_at, length-map told_groups id_of) in
+          let below : slice_index ids i < slice_index ids j = AllPairs-from_increasing ids ascends i j 0 before j_inside in
+          omega (arith, below, node_at i x x_at, node_at j y y_at, ap id_of one)
         where
-          node_at : (n : ℕ) (group : Group) → slice_get waiting_groups n ≡ Some group → slice_index nodes n ≡ id_of group
+          node_at : (n : ℕ) (group : Group) → slice_get told_groups n ≡ Some group → slice_index (map id_of told_groups) n ≡ id_of group
           node_at n group at =
-              let within = slice_get_within waiting_groups n group at in
-              ap (λ xs. slice_index xs n) (sym waiting_ids)
-              ∙ (get_or-map id_of waiting_groups n group 0 within ∙ ap id_of (get_or_from_slice_get waiting_groups n group group at))
+              let within = slice_get_within told_groups n group at in
+              get_or-map id_of told_groups n group 0 within ∙ ap id_of (get_or_from_slice_get told_groups n group group at)
+
+      -- a group with a text that isn't due has code
+      others_coded : (group : Group) → Contains all_groups group → due_told group ≡ false → fault_in group ≡ None → HasCode g m.parts group
+      others_coded group (i, inside, here) fails fits =
+          let at : slice_get all_groups i ≡ Some group = slice_get_read all_groups (length all_groups) i group refl inside (sym here) in
+          let has = covers.each i group at in
+          record {
+            k = has.k;
+            part = has.part;
+            stands = has.stands;
+            is_part = has.is_part;
+            coded = λ none.
+                elim (due_all has.k has.part group has.stands none has.is_part) [
+                  | inl is_due ↦ both (due group) (has_text group) is_due (text_from_fit group fits) fails
+                  | inr passed ↦ untold has.k has.part group has.stands none has.is_part passed fits
+                ];
+          }
+        where
+          both : (a b : Bool) → a ≡ true → b ≡ true → ¬ ((a && b) ≡ false)
+          both true true one two fails = true≢false fails
+          both true false one two fails = true≢false (sym two)
+          both false b one two fails = true≢false (sym one)
 
       -- so these groups wait, with these slots
-      pub AreWaiting-found : AreWaiting g m.parts all_groups waiting_groups slots
+      pub AreWaiting-found : AreWaiting g m.parts all_groups told_groups slots
       AreWaiting-found = record {
-        waits = waits_now;
-        some_are = refl;
+        waits = due_told;
+        some_are = told_are;
         others = others_coded;
         slots_are = slots_zip;
         all = slots_all;
         once = slots_once;
       }
-
--- a group that has code isn't too large
-pub coded_fit : (g : GraphData) (m : MachineData) → Covers g m → (group : Group) → HasCode g m.parts group → fault_in group ≡ None
-coded_fit g m covers group has = (covers.known has.k has.part has.stands has.coded group has.is_part).fits
-
--- the first of the waiting groups that is too large is told
-pub TellsTooLarge-waiting : (g : GraphData) (m : MachineData) (covers : Covers g m) (some : List Group) (slots : List ℕ) →
-    AreWaiting g m.parts covers.groups.groups some slots → (fault : BuildFault) → IsFirstTooLarge some fault → TellsTooLarge g fault
-TellsTooLarge-waiting g m covers some slots waiting fault first = record {
-  groups = covers.groups.groups;
-  are = covers.are.are;
-  first =
-      first_waiting waiting.waits covers.groups.groups (λ group there not. coded_fit g m covers group (waiting.others group there not)) fault
-      (subst (λ groups. IsFirstTooLarge groups fault) waiting.some_are first);
-}

@@ -1,6 +1,6 @@
 -- A step of a machine that fits a graph is the graph's step, and the machine fits the graph again: a part that isn't marked afterwards
 -- read no change, and its members took their steady states in this step or had them before, so they rest.
-use Rattle.std.proofs.Common.{◌≡◌, ℕ, ◌<◌, ◌≤◌, Bool, true, false, inl, inr, List, None, length, take, refl, sym, ap, subst, ◌∙◌, arith}
+use Rattle.std.proofs.Common.{◌≡◌, ℕ, ◌<◌, ◌≤◌, Bool, true, false, inl, inr, List, [], ◌∷◌, None, length, take, refl, sym, ap, subst, ◌∙◌, arith}
 use Rattle.std.proofs.lemmas.Bool.{cases_lt}
 use Rattle.group_text.specs.Texts.{GroupTextData}
 use Rattle.ternary.specs.declared.tern.Tern.{Tern}
@@ -21,10 +21,10 @@ use Rattle.group_meaning.proofs.GroupLemmas.{member_storage}
 use Rattle.group_rest.specs.Alike.{IsAlike}
 use Rattle.vicinity.specs.Touching.{IsAwake, RestsAsleep, RespondedAsleep}
 use Rattle.vicinity.specs.Wides.{WideData}
-use Rattle.wide_groups.specs.Moving.{HasStaleOnly, IsAwakeIn, MovesIn, RetouchesIn}
-use Rattle.wide_groups.proofs.WideCases.{retouched, none_retouched}
+use Rattle.wide_groups.specs.Moving.{touched_in, HasStaleOnly, IsAwakeIn, MovesIn, RetouchesIn}
+use Rattle.wide_groups.proofs.WideCases.{retouched, none_retouched, retouched_only}
 use Rattle.machine_parts.specs.Parts.{Stands, HasMember, IsStale}
-use Rattle.machine_laws.specs.Machines.{MachineData, Advances}
+use Rattle.machine_laws.specs.Machines.{MachineData, Advances, TouchesChanged}
 use Rattle.machine_parts.specs.Marking.{IsMarked}
 use Rattle.machine_parts.specs.Stepping.{ReadsChange}
 use Rattle.machine_laws.specs.Fitting.{IsPartOf, IsHeldIn, FitsGraph}
@@ -32,7 +32,7 @@ use Rattle.machine_laws.specs.Columns.{KeepsMarks, AdvancesInColumn, ColumnsStep
 use Rattle.machine_laws.specs.Laws.{StepsAreUnitSteps, JoiningStepsAreJoinSteps}
 use Rattle.machine_parts.proofs.CaseLemmas.{same_or_not, something}
 use Rattle.machine_laws.proofs.PartGroups.{member_of_part}
-use Rattle.machine_laws.proofs.HeldLemmas.{response_there, held_rests}
+use Rattle.machine_laws.proofs.HeldLemmas.{known_or_not, response_there, held_rests, held_at, coded_without}
 use Rattle.machine_laws.proofs.ResponseLemmas.{node_moves, input_stays, stale_stays, unmarked_stays, unmarked_response, member_is_storage}
 
 -- no members rest anywhere
@@ -69,12 +69,16 @@ fits_with g m fits marks state last moved placed wide counted waits rests stale_
     waits = waits;
     rests = rests;
     stale_only = stale_only;
-    held = held;
+    held = λ one is k part stands some stale. inl (held one is k part stands some stale);
   };
-  coded = λ is. fits.coded (none is);
+  coded = λ k part stands some stale.
+      elim (known_or_not wide) [
+        | inl (one, is) ↦ (one, is, held one is k part stands some stale)
+        | inr gone ↦ absurd (coded_without g m fits (none gone) k part stands some stale)
+      ];
   railed = fits.railed;
   sound = sound;
-  texts = λ is. fits.texts (none is);
+  texts = fits.texts;
 }
 
 module _ (g : GraphData) (wired : IsWired g) (old : MachineData) (fits : FitsGraph g old) (new : List Tern) where
@@ -168,7 +172,7 @@ module _ (g : GraphData) (wired : IsWired g) (old : MachineData) (fits : FitsGra
         IsHeldIn g new one part
     held_again one is k part stands some none =
         let (before, was, touches) = retouched joining old.wide wide old.state new retouches one is in
-        let held = fits.covers.held before was k part stands some none in
+        let held = held_at g old fits before was k part stands some none in
         let stale : IsStale old.parts k = record { part = part; stands = stands; some = some; none = none } in
         let group = held.group in
         let same = touches.stays.graph in
@@ -251,6 +255,18 @@ in_column joining old new advances = record {
   step = advances.step;
   marks = record { count = advances.marks.count; stays = advances.marks.stays; reads = advances.marks.reads };
 }
+
+-- after a plain step no more is touched than the ends of the switches that changed
+pub touches_changed : (old new : MachineData) → Advances false old new → TouchesChanged new old.state new.state
+touches_changed old new advances = retouched_only old.wide new.wide old.state new.state advances.wide
+
+-- so if none changed nothing is
+pub nothing_touched : (m : MachineData) (state : List Tern) → TouchesChanged m state state → touched_in m.wide ≡ []
+nothing_touched m state only = none_in (touched_in m.wide) (λ node there. (only node there).changed refl)
+  where
+    none_in : (nodes : List ℕ) → ((node : ℕ) → ¬ Contains nodes node) → nodes ≡ []
+    none_in [] none = refl
+    none_in (node ∷ nodes) none = absurd (none node (0, omega arith, refl))
 
 -- a step is the unit step
 pub steps_are_unit_steps : StepsAreUnitSteps

@@ -1,21 +1,33 @@
 -- A group that is stepped by vicinities: its responses are those in the graph of such groups, and what rested rests again after a step.
-use Rattle.std.proofs.Common.{◌≡◌, ℕ, ◌⊎◌, inl, inr, Option, None, Some, List, refl, sym, subst, ◌∙◌}
+use Rattle.std.proofs.Common.{◌≡◌, ◌≢◌, ℕ, ◌<◌, ◌≤◌, ◌⊎◌, inl, inr, Option, None, Some, List, ◌++◌, length, refl, sym, ap, subst, ◌∙◌, arith}
 use Rattle.std.specs.Prelude.{Contains, slice_index}
 use Rattle.std.proofs.lemmas.List.{get_or_default}
 use Rattle.ternary.specs.declared.tern.Tern.{Tern}
 use Rattle.strength_order.specs.declared.TheConstants.{INPUT_LEVEL}
-use Rattle.path_meaning.specs.Switching.{state_at}
-use Rattle.path_meaning.specs.Graphs.{GraphData, IsWired, IsStorage, level_of}
+use Rattle.path_meaning.specs.declared.switching.Switch.{Switch}
+use Rattle.path_meaning.specs.Path.{Joins}
+use Rattle.path_meaning.specs.Switching.{state_at, state_by}
+use Rattle.path_meaning.specs.Graphs.{GraphData, IsWired, IsStorage, nodes, level_of, place_at}
 use Rattle.path_meaning.specs.Step.{IsResponse}
+use Rattle.path_meaning.proofs.PathLemmas.{switch_fits}
 use Rattle.group_meaning.specs.Groups.{Group, AreJoined}
 use Rattle.group_meaning.proofs.GroupLemmas.{member_storage, switch_of_member}
 use Rattle.group_meaning.proofs.LinkLemmas.{Joins-sym}
+use Rattle.circuit_texts.specs.Sizes.{fault_in}
 use Rattle.group_rest.specs.Alike.{IsAlike}
 use Rattle.group_rest.proofs.AlikeGroups.{response_alike, end_alike}
-use Rattle.vicinity.specs.Touching.{IsStirred, SwitchChanges, RestsAsleep, RespondedAsleep}
+use Rattle.vicinity.specs.Touching.{IsAwake, IsStirred, SwitchChanges, RestsAsleep, RespondedAsleep}
 use Rattle.vicinity.specs.Wides.{WideData}
+use Rattle.vicinity.specs.Growing.{GrowsWide, grown_graph}
 use Rattle.vicinity.proofs.LiveGraphs.{joined_whole}
 use Rattle.vicinity.proofs.SleepingNodes.{asleep_rest}
+use Rattle.vicinity.proofs.GrowingLemmas.{IsAlike-grown, near_grown, state_before}
+use Rattle.machine_parts.specs.declared.part.HeldPart.{HeldPart}
+use Rattle.machine_parts.specs.Parts.{Stands}
+use Rattle.machine_laws.specs.Machines.{MachineData}
+use Rattle.machine_laws.specs.Fitting.{IsPartOf, IsHeldIn, FitsGraph}
+use Rattle.machine_laws.proofs.PartGroups.{one_group}
+use Rattle.machine_laws.proofs.AlikeParts.{alike_groups_keep_their_parts}
 
 -- an option is something or nothing
 pub known_or_not : {X : Type 0} (o : Option X) → ((x : X) × (o ≡ Some x)) ⊎ (o ≡ None)
@@ -66,3 +78,88 @@ module _ (g : GraphData) (wired : IsWired g) (wide : WideData) (wired_too : IsWi
       stirred node member (inr edge) =
           let joined = joined_whole wide.graph old edge.place node edge.other edge.joined in
           absurd (edge.changed (inputs_stay edge.other (edge_input edge.place node edge.other member joined edge.input)))
+
+-- on a graph that a machine fits each stale part is that of a group that is stepped by vicinities
+pub held_at : (g : GraphData) (m : MachineData) → FitsGraph g m → (wide : WideData) → m.wide ≡ Some wide → (k : ℕ) (part : HeldPart) → Stands m.parts k part →
+    0 < part.members → part.code ≡ None → IsHeldIn g m.state wide part
+held_at g m fits wide is k part stands some none =
+    let (one, known, held) = fits.coded k part stands some none in
+    let both : Some one ≡ Some wide = sym known ∙ is in
+    let same : one ≡ wide = cc in
+    subst (λ (w : WideData). IsHeldIn g m.state w part) same held
+
+-- so if none is known no part is stale
+pub coded_without : (g : GraphData) (m : MachineData) → FitsGraph g m → m.wide ≡ None → (k : ℕ) (part : HeldPart) → Stands m.parts k part →
+    0 < part.members → part.code ≢ None
+coded_without g m fits without k part stands some none =
+    let (one, known, held) = fits.coded k part stands some none in
+    let both : Some one ≡ None = sym known ∙ without in
+    absurd cc
+
+-- a group that stands in the graph of such groups as it does in the circuit's, before new nodes
+module _ (g : GraphData) (wired : IsWired g) (h : GraphData) (wired_too : IsWired h) (group : Group) (alike : IsAlike g h group)
+    (state more : List Tern) (counted : length state ≡ nodes g) where
+  -- the gate and the other end of a switch at a member are nodes of the circuit
+  switch_inside : (place node other : ℕ) (switch : Switch) → place_at h.places place ≡ Some switch → Joins switch node other →
+      Contains group.members node → (switch.gate < length state) × (other < length state)
+  switch_inside place node other switch stands joins member =
+      let inside = switch_of_member h group alike.there place node other switch stands joins member in
+      let fits = switch_fits g wired place switch (sym (alike.places place inside) ∙ stands) in (
+        omega (arith, fits.gate, counted),
+        elim joins [ inl ends ↦ omega (arith, fits.b, ends.1, counted) | inr ends ↦ omega (arith, fits.a, ends.1, counted) ],
+      )
+
+  -- so what rests there rests with new nodes behind
+  pub rests_more : (touched : List ℕ) → RestsAsleep h state group.members touched → RestsAsleep h (state ++ more) group.members touched
+  rests_more touched rests = asleep_rest h group touched state (state ++ more) wired_too alike.there responded stirred
+    where
+      responded : RespondedAsleep h state (state ++ more) group.members touched
+      responded node member asleep =
+          let inside : node < length state = omega (arith, (member_storage g group alike.here node member).inside, counted) in
+          subst (IsResponse h state node) (sym (state_before state more node inside)) (rests node member asleep)
+
+      stirred : (node : ℕ) → Contains group.members node → IsStirred h state (state ++ more) node → Contains touched node
+      stirred node member (inl changes) =
+          let (gate, other) = switch_inside changes.place node changes.other changes.switch changes.at_place changes.joins member in
+          absurd (changes.changed (ap (state_by changes.switch.kind) (state_before state more changes.switch.gate gate)))
+      stirred node member (inr edge) =
+          let joined = joined_whole h state edge.place node edge.other edge.joined in
+          let (gate, other) = switch_inside edge.place node edge.other joined.switch joined.at_place joined.joins member in
+          absurd (edge.changed (state_before state more edge.other other))
+
+  -- and in the graph that has the new nodes
+  pub rests_grown : (count : ℕ) (touched : List ℕ) → IsWired (grown_graph h count) → RestsAsleep h state group.members touched →
+      RestsAsleep (grown_graph h count) (state ++ more) group.members touched
+  rests_grown count touched wired_after rests node member asleep =
+      let still : ¬ IsAwake h (state ++ more) touched node =
+      λ awake. asleep (awake.0, awake.1, near_grown h count (state ++ more) awake.0 node awake.2) in
+      response_there h (grown_graph h count) group (state ++ more) wired_too wired_after (IsAlike-grown h count group alike.there) node member
+      (state_at (state ++ more) node) (rests_more touched rests node member still)
+
+-- a group that an edit leaves as it was is held still
+pub IsHeldIn-grown : (before g : GraphData) → IsWired before → IsWired g → (state more : List Tern) → length state ≡ nodes before → (count : ℕ)
+    (wide later : WideData) → GrowsWide count wide later → (part : HeldPart) (group : Group) → IsAlike before g group → IsPartOf before group part →
+    IsHeldIn before state wide part → IsHeldIn g (state ++ more) later part
+IsHeldIn-grown before g wired_before wired state more counted count wide later grows part group alike is_part held =
+    let same : held.group ≡ group = one_group before held.group group part held.is_part is_part in
+    let there : IsAlike before wide.graph group = subst (IsAlike before wide.graph) same held.alike in
+    let after : IsAlike wide.graph (grown_graph wide.graph count) group = IsAlike-grown wide.graph count group there.there in
+    let wired_after : IsWired (grown_graph wide.graph count) = subst IsWired grows.graph grows.wired in
+    let rested : RestsAsleep wide.graph state group.members wide.touched.list =
+    subst (λ (one : Group). RestsAsleep wide.graph state one.members wide.touched.list) same held.rests in
+    let rests = rests_grown before wired_before wide.graph held.wired group there state more counted count wide.touched.list wired_after rested in
+    record {
+      group = group;
+      is_part = alike_groups_keep_their_parts before g group part wired_before wired alike is_part;
+      untold = subst (λ (one : Group). fault_in one ≢ None) same held.untold;
+      few = subst (λ (one : Group). length one.members ≤ later.large) same (subst (λ bound. length held.group.members ≤ bound) (sym grows.large) held.few);
+      wired = grows.wired;
+      alike = subst (λ h. IsAlike g h group) (sym grows.graph) (record {
+        here = alike.there;
+        there = after.there;
+        places = λ place inside. after.places place inside ∙ (there.places place inside ∙ sym (alike.places place inside));
+        levels = λ node member. after.levels node member ∙ (there.levels node member ∙ sym (alike.levels node member));
+      });
+      rests = subst (λ touched. RestsAsleep later.graph (state ++ more) group.members touched) (sym grows.touched)
+          (subst (λ h. RestsAsleep h (state ++ more) group.members wide.touched.list) (sym grows.graph) rests);
+    }

@@ -1,5 +1,5 @@
 -- The texts whose codes a machine's parts have: they are kept, and stay kept.
-use Rattle.std.proofs.Common.{◌≡◌, ℕ, zero, suc, ◌<◌, Bool, true, false, inl, inr, ◌⊎◌, ◌||◌, List, [], ◌∷◌, ◌++◌, length, map, get_or, Some, None, refl, sym, ap, subst, ◌∙◌, arith}
+use Rattle.std.proofs.Common.{◌≡◌, ◌≢◌, ℕ, zero, suc, ◌<◌, Bool, true, false, inl, inr, ◌⊎◌, ◌||◌, List, [], ◌∷◌, ◌++◌, length, map, get_or, Some, None, refl, sym, ap, subst, ◌∙◌, arith}
 use Rattle.std.specs.Prelude.{Contains, slice_get}
 use Rattle.std.proofs.lemmas.Bool.{cases_lt}
 use Rattle.std.proofs.lemmas.List.Elements.{All-push}
@@ -23,14 +23,17 @@ use Rattle.group_rest.specs.Alike.{IsAlike}
 use Rattle.group_rest.specs.Rest.{Rests}
 use Rattle.group_rest.proofs.AlikeGroups.{alike_groups_have_one_text, alike_groups_rest_alike}
 use Rattle.analysis_cache.proofs.UseLemmas.{each_present}
+use Rattle.vicinity.specs.Wides.{WideData}
 use Rattle.machine_parts.specs.declared.part.HeldPart.{HeldPart}
 use Rattle.machine_parts.specs.Parts.{Stands}
 use Rattle.machine_laws.specs.Machines.{MachineData, groups_in}
-use Rattle.machine_laws.specs.Fitting.{IsPartOf, Covers, IsKeptBy}
+use Rattle.machine_laws.specs.Fitting.{IsPartOf, IsHeldIn, Covers, FitsGraph, AreUntold, IsKeptBy}
 use Rattle.machine_laws.specs.Editing.{is_touched_in, Edits}
 use Rattle.machine_laws.specs.Laws.{with_empty_place, EmptyPlacesAreCovered, EmptyPlacesKeepTexts, BuiltTextsAreKept, MoreTextsAreKept, StepsKeepTexts, PlacingKeepsTexts, FittingMachinesShareTexts, EditsKeepTexts}
 use Rattle.circuit_texts.specs.Sizes.{fault_in}
-use Rattle.machine_laws.proofs.HeldLemmas.{known_or_not}
+use Rattle.circuit_texts.specs.Told.{has_text, with_text}
+use Rattle.circuit_texts.proofs.ToldLemmas.{text_from_fit}
+use Rattle.machine_laws.proofs.FilterLemmas.{filter_keeps}
 use Rattle.machine_laws.proofs.PartGroups.{one_group}
 use Rattle.machine_laws.proofs.FittingLemmas.{none_rest}
 use Rattle.machine_laws.proofs.AlikeParts.{alike_groups_keep_their_parts}
@@ -70,21 +73,22 @@ group_there g groups are group is_group =
     let same : other ≡ group = same_by_member g other group is_other is_group (id_of group) member id in
     (i, inside, slice_get_read groups (length groups) i group refl inside (sym same ∙ (sym stands ∙ ap (get_or groups i) same)))
 
+-- the group of each stale part of a machine that fits a graph is too large for a text
+pub stale_untold : (g : GraphData) (m : MachineData) → FitsGraph g m → AreUntold g m.parts
+stale_untold g m fits k part group stands stale is_part =
+    let some : 0 < part.members = omega (arith, is_part.count, is_part.is_group.some) in
+    let (wide, is, held) = fits.coded k part stands some stale in
+    subst (λ it. fault_in it ≢ None) (one_group g held.group group part held.is_part is_part) held.untold
+
 -- all machines that fit a graph have its groups' texts
 pub fitting_machines_share_texts : FittingMachinesShareTexts
 fitting_machines_share_texts g kept one two fits_one fits_two known k part stands coded group is_part =
     let covers = fits_one.covers in
     let (i, inside, at) = group_there g covers.groups.groups covers.are.are group is_part.is_group in
     let has = covers.each i group at in
-    let some : 0 < has.part.members = omega (arith, has.is_part.count, has.is_part.is_group.some) in
-    known has.k has.part has.stands (λ stale.
-    elim (known_or_not one.wide) [
-      | inr none ↦ fits_one.coded none has.k has.part has.stands some stale
-      | inl (wide, is) ↦
-          let held = covers.held wide is has.k has.part has.stands some stale in
-          let same = one_group g held.group group has.part held.is_part has.is_part in
-          held.untold (subst (λ it. fault_in it ≡ None) (sym same) (fits_two.covers.known k part stands coded group is_part).fits)
-    ]) group has.is_part
+    known has.k has.part has.stands
+    (λ stale. stale_untold g one fits_one has.k has.part group has.stands stale has.is_part (fits_two.covers.known k part stands coded group is_part).fits)
+    group has.is_part
 
 -- what stands at a place of a list that is made item by item
 pub made_at : {A B : Type 0} (f : A → B) (xs : List A) (i : ℕ) (x : A) → slice_get xs i ≡ Some x → slice_get (map f xs) i ≡ Some (f x)
@@ -96,13 +100,17 @@ made_at f (first ∷ xs) (suc i) x at = made_at f xs i x at
 
 -- after a build all texts are kept
 pub built_texts_are_kept : BuiltTextsAreKept
-built_texts_are_kept g bound old new before after count m fits builds k part stands coded group is_part =
+built_texts_are_kept large g bound old new before after count m fits builds k part stands coded group is_part =
     let present = builds.present in
     let has = builds.has in
     let text = text_of_group g group in
-    let (i, inside, at) = group_there g has.groups has.are group is_part.is_group in
+    let has_one = text_from_fit group (fits.covers.known k part stands coded group is_part).fits in
+    let (n, within, at_all) = group_there g has.groups has.are group is_part.is_group in
+    let (i, inside, here) = filter_keeps has_text has.groups group (n, within, get_or_from_slice_get has.groups n group group at_all) has_one in
+    let at : slice_get (with_text has.groups) i ≡ Some group =
+    slice_get_read (with_text has.groups) (length (with_text has.groups)) i group refl inside (sym here) in
     let there : slice_get present i ≡ Some text =
-    ap (λ list. slice_get list i) has.texts_are ∙ made_at (text_of_group g) has.groups i group at in
+    ap (λ list. slice_get list i) has.texts_are ∙ made_at (text_of_group g) (with_text has.groups) i group at in
     let kept = each_present bound present old i text (slice_get_within present i text there) in
     ap (λ list. is_among list text) builds.kept
     ∙ subst (λ one. is_among (kept_after bound present old) one ≡ true) (get_or_from_slice_get present i text text there) kept
@@ -193,6 +201,25 @@ module _ (g : GraphData) (m : MachineData) (wired : IsWired g) (covers : Covers 
     pub text_before : text_of_group more group ≡ text_of_group g group
     text_before = (alike_groups_have_one_text g more group (more_alike group part_before.is_group)).1
 
+  -- a group that is stepped by vicinities is held
+  more_held : (wide : WideData) (part : HeldPart) → IsHeldIn g m.state wide part → IsHeldIn more m.state wide part
+  more_held wide part held =
+      let whole = more_alike held.group held.alike.here in
+      record {
+        group = held.group;
+        is_part = more_part held.group part held.is_part;
+        untold = held.untold;
+        few = held.few;
+        wired = held.wired;
+        alike = record {
+          here = whole.there;
+          there = held.alike.there;
+          places = λ place inside. held.alike.places place inside ∙ sym (whole.places place inside);
+          levels = λ node member. held.alike.levels node member ∙ sym (whole.levels node member);
+        };
+        rests = held.rests;
+      }
+
   covers_more : Covers more m
   covers_more = record {
     groups = covers.groups;
@@ -225,22 +252,10 @@ module _ (g : GraphData) (m : MachineData) (wired : IsWired g) (covers : Covers 
         ];
     stale_only = covers.stale_only;
     held = λ wide is k part stands some none.
-        let held = covers.held wide is k part stands some none in
-        let whole = more_alike held.group held.alike.here in
-        record {
-          group = held.group;
-          is_part = more_part held.group part held.is_part;
-          untold = held.untold;
-          few = held.few;
-          wired = held.wired;
-          alike = record {
-            here = whole.there;
-            there = held.alike.there;
-            places = λ place inside. held.alike.places place inside ∙ sym (whole.places place inside);
-            levels = λ node member. held.alike.levels node member ∙ sym (whole.levels node member);
-          };
-          rests = held.rests;
-        };
+        elim (covers.held wide is k part stands some none) [
+          | inl held ↦ inl (more_held wide part held)
+          | inr outside ↦ inr outside
+        ];
   }
 
 -- an empty place more

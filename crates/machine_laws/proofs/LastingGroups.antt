@@ -1,5 +1,5 @@
 -- The texts of a machine's parts, in the order of the nodes at which the parts begin, are those of the graph's groups if the machine fits it.
-use Rattle.std.proofs.Common.{None, ◌≡◌, ℕ, zero, suc, ◌<◌, List, [], ◌∷◌, length, map, Some, refl, sym, ap, ap₂, subst, ◌∙◌, arith}
+use Rattle.std.proofs.Common.{None, inr, ◌≡◌, ◌≢◌, ℕ, zero, suc, ◌<◌, List, [], ◌∷◌, length, map, Some, refl, sym, ap, ap₂, subst, ◌∙◌, arith}
 use Rattle.std.specs.Prelude.{Contains, Option, slice_get, slice_index}
 use Rattle.std.specs.List.{AllZip}
 use Rattle.std.proofs.lemmas.List.{get_or-take, length-take}
@@ -9,14 +9,19 @@ use Rattle.group_meaning.specs.Groups.{Group, IsGroup, id_of}
 use Rattle.group_meaning.proofs.UniqueGroups.{same_by_id, unique}
 use Rattle.group_meaning.proofs.AscendingLists.{same_ascending}
 use Rattle.group_text.specs.Texts.{GroupTextData, text_of_group}
+use Rattle.circuit_texts.specs.Sizes.{fault_in}
+use Rattle.circuit_texts.specs.Told.{has_text, with_text, told}
+use Rattle.circuit_texts.proofs.ToldLemmas.{text_from_fit, fit_from_text, ascending-filter}
 use Rattle.circuit_texts.proofs.PairedLists.{partner_second}
 use Rattle.machine_parts.specs.declared.part.HeldPart.{HeldPart}
 use Rattle.machine_parts.specs.Parts.{IsMemberAt}
 use Rattle.machine_laws.specs.Machines.{MachineData}
-use Rattle.machine_laws.specs.Fitting.{IsPartOf, FitsGraph}
+use Rattle.machine_laws.specs.Fitting.{IsPartOf, Covers, FitsGraph, AreUntold}
 use Rattle.machine_laws.specs.Beginnings.{Begins, AreInOrder, HasLast}
 use Rattle.machine_laws.proofs.PartGroups.{member_from_part, some_members}
+use Rattle.machine_laws.proofs.FilterLemmas.{filter_has, filter_keeps}
 use Rattle.machine_laws.proofs.KeptLemmas.{group_there, made_at}
+use Rattle.machine_laws.proofs.HeldLemmas.{held_at}
 use Rattle.machine_laws.proofs.FittingLemmas.{fits_with}
 
 -- the part of a group begins at the group's least node
@@ -59,9 +64,18 @@ texts_along g parts uses (group ∷ groups) are (place ∷ places) (text ∷ tex
     ap₂ (λ one more. one ∷ more) (are 0 group refl text (subst (λ node. Begins parts uses node text) first each.0))
     (texts_along g parts uses groups (λ i other at. are (suc i) other at) places texts rest each.1)
 
-module _ (g : GraphData) (m : MachineData) (fits : FitsGraph g m) (no_wide : m.wide ≡ None) where
+module _ (g : GraphData) (m : MachineData) (covers : Covers g m) (untold : AreUntold g m.parts) where
+  abbrev all_groups : List Group
+  all_groups = covers.groups.groups
+
+  -- those that have a text
   abbrev groups : List Group
-  groups = fits.covers.groups.groups
+  groups = with_text all_groups
+
+  is_group_at : (i : ℕ) (group : Group) → slice_get groups i ≡ Some group → Contains all_groups group × IsGroup g group × (fault_in group ≡ None)
+  is_group_at i group at =
+      let (there, has) = filter_has has_text all_groups group (at_Contains groups i group at) in
+      (there, subst (IsGroup g) there.2 (covers.are.are.each there.0 group there.1), fit_from_text group has)
 
   -- where a part begins that has a text, a group does, and the text is the group's
   group_of_start : (node : ℕ) (text : GroupTextData) → Begins m.parts m.uses node text →
@@ -70,29 +84,35 @@ module _ (g : GraphData) (m : MachineData) (fits : FitsGraph g m) (no_wide : m.w
       let part = begins.at.part in
       let stands = begins.at.stands in
       let some : 0 < part.members = begins.at.first.inside in
-      let (group, is_part) = fits.covers.whole begins.k part stands some in
-      let known = fits.covers.known begins.k part stands (fits.coded no_wide begins.k part stands some) group is_part in
+      let (group, is_part) = covers.whole begins.k part stands some in
+      let coded : part.code ≢ None = λ none.
+      let no_text : None ≡ Some text = sym (covers.textless begins.k part stands (inr none)) ∙ begins.has in
+      absurd cc in
+      let known = covers.known begins.k part stands coded group is_part in
       let both : Some text ≡ Some (text_of_group g group) = sym begins.has ∙ known.same in
       let same : text ≡ text_of_group g group = cc in
-      let (i, inside, at) = group_there g groups fits.covers.are.are group is_part.is_group in
+      let (n, within, at_all) = group_there g all_groups covers.are.are group is_part.is_group in
+      let (i, at) = Contains-at groups group (filter_keeps has_text all_groups group (at_Contains all_groups n group at_all) (text_from_fit group known.fits)) in
       (i, group, at, is_part.is_group, member_from_part g group part is_part 0 node begins.at.first, same)
 
-  -- and where a group begins, a part does that has the group's text
+  -- and where a group with a text begins, a part does that has the group's text
   Begins-group : (i : ℕ) (group : Group) → slice_get groups i ≡ Some group → Begins m.parts m.uses (id_of group) (text_of_group g group)
   Begins-group i group at =
-      let has = fits.covers.each i group at in
-      let coded = fits.coded no_wide has.k has.part has.stands (some_members has.is_part) in
+      let (there, is_group, fit) = is_group_at i group at in
+      let (n, at_all) = Contains-at all_groups group there in
+      let has = covers.each n group at_all in
+      let coded : has.part.code ≢ None = λ none. untold has.k has.part group has.stands none has.is_part fit in
       record {
         k = has.k;
         at = record { part = has.part; stands = has.stands; first = first_member g group has.part has.is_part };
-        has = (fits.covers.known has.k has.part has.stands coded group has.is_part).same;
+        has = (covers.known has.k has.part has.stands coded group has.is_part).same;
       }
 
   -- so the texts in order are those of the groups
   pub HasLast-order : (last : List GroupTextData) → AreInOrder m.parts m.uses last → HasLast g last
   HasLast-order last order others others_are =
       texts_along g m.parts m.uses groups own order.places last places_are order.each
-      ∙ ap (map (text_of_group g)) (unique g groups others fits.covers.are.are others_are)
+      ∙ ap (told g) (unique g all_groups others covers.are.are others_are)
     where
       to : (node : ℕ) → Contains order.places node → Contains (map id_of groups) node
       to node there =
@@ -108,17 +128,18 @@ module _ (g : GraphData) (m : MachineData) (fits : FitsGraph g m) (no_wide : m.w
           subst (Contains order.places) starts (order.all (id_of group) (text_of_group g group) (Begins-group i group group_at))
 
       places_are : order.places ≡ map id_of groups
-      places_are = same_ascending order.places (map id_of groups) order.ascending fits.covers.are.are.ascending to back
+      places_are =
+          same_ascending order.places (map id_of groups) order.ascending (ascending-filter has_text all_groups covers.are.are.ascending) to back
 
       own : (i : ℕ) (group : Group) → slice_get groups i ≡ Some group → (text : GroupTextData) → Begins m.parts m.uses (id_of group) text →
           text ≡ text_of_group g group
       own i group at text begins =
           let (j, other, other_at, is_other, starts, same) = group_of_start (id_of group) text begins in
-          let is_group : IsGroup g group =
-          subst (IsGroup g) (get_or_from_slice_get groups i group group at) (fits.covers.are.are.each i group (slice_get_within groups i group at)) in
+          let (there, is_group, fit) = is_group_at i group at in
           same ∙ ap (text_of_group g) (same_by_id g other group is_other is_group starts)
 
-  -- the texts of the last build may be any, for the machine to fit the graph
-  pub FitsGraph-last : (last : List GroupTextData) → FitsGraph g (record m { last = last })
-  FitsGraph-last last = fits_with g m fits m.marks m.state last m.moves m.placed m.wide fits.covers.counted fits.covers.waits fits.covers.rests fits.covers.stale_only
-      fits.covers.held (λ is. is) fits.sound
+-- the texts of the last build may be any, for the machine to fit the graph
+pub FitsGraph-last : (g : GraphData) (m : MachineData) → FitsGraph g m → (last : List GroupTextData) → FitsGraph g (record m { last = last })
+FitsGraph-last g m fits last =
+    fits_with g m fits m.marks m.state last m.moves m.placed m.wide fits.covers.counted fits.covers.waits fits.covers.rests fits.covers.stale_only
+    (held_at g m fits) (λ is. is) fits.sound

@@ -4,10 +4,12 @@ pub mod FittingLemmas
 pub mod PlacingLemmas
 pub mod FillingLemmas
 pub mod AlikeParts
+pub mod FilterLemmas
 pub mod KeptLemmas
 pub mod FinishingTexts
 pub mod SlotLemmas
 pub mod SeatingLemmas
+pub mod HeldParts
 pub mod ClearingLemmas
 pub mod FinishingGroups
 pub mod FinishingWaiting
@@ -19,3 +21,4 @@ pub mod TouchedLemmas
 pub mod CoveringLemmas
 pub mod LastingGroups
 pub mod PartGroups
+pub mod HoldingGroups

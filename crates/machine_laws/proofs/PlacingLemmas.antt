@@ -15,17 +15,18 @@ use Rattle.group_rest.proofs.RestingGroups.{unread_group_rests}
 use Rattle.machine_parts.specs.declared.part.HeldPart.{HeldPart}
 use Rattle.group_rest.specs.Alike.{IsAlike}
 use Rattle.vicinity.specs.Touching.{RestsAsleep}
-use Rattle.vicinity.specs.Wides.{WideData}
+use Rattle.vicinity.specs.Wides.{WideData, PlacesWide}
 use Rattle.wide_groups.specs.Moving.{HasStaleOnly, PlacesIn}
 use Rattle.wide_groups.proofs.WideCases.{placed_wide, none_placed}
 use Rattle.machine_parts.specs.Parts.{Stands, HasMember}
 use Rattle.machine_laws.specs.Machines.{MachineData, Places}
 use Rattle.machine_parts.specs.Marking.{IsMarked, MarksAll}
 use Rattle.machine_parts.specs.Stepping.{Concerns}
-use Rattle.machine_laws.specs.Fitting.{IsPartOf, IsHeldIn, Covers, FitsGraph}
+use Rattle.machine_laws.specs.Fitting.{IsPartOf, IsHeldIn, IsOutside, Covers, FitsGraph}
 use Rattle.machine_laws.specs.Laws.{PlacingKeepsCover, PlacingKeepsFit}
 use Rattle.machine_parts.proofs.CaseLemmas.{something}
 use Rattle.machine_laws.proofs.PartGroups.{member_of_part}
+use Rattle.machine_laws.proofs.HeldLemmas.{known_or_not, held_at, coded_without}
 use Rattle.machine_laws.proofs.FittingLemmas.{none_rest, same_machine}
 use Rattle.smallvec.specs.SmallVec.{SmallVec}
 use Rattle.machine_parts.specs.Evaluating.{Rooms}
@@ -74,11 +75,9 @@ module _ (g : GraphData) (wired : IsWired g) (node : ℕ) (value : Tern) (old ne
       ]
 
   -- a group that is stepped by vicinities rests again but for what is awake
-  held_again : (one : WideData) → new.wide ≡ Some one → (k : ℕ) (part : HeldPart) → Stands old.parts k part → 0 < part.members → part.code ≡ None →
+  held_placed : (before_it one : WideData) → PlacesWide node before_it one old.state new.state → (part : HeldPart) → IsHeldIn g old.state before_it part →
       IsHeldIn g new.state one part
-  held_again one is k part stands some none =
-      let (before_it, was, placed) = placed_wide old.wide new.wide old.state new.state places.wide one is in
-      let held = covers.held before_it was k part stands some none in
+  held_placed before_it one placed part held =
       let same = placed.stays.graph in
       record {
         group = held.group;
@@ -90,9 +89,19 @@ module _ (g : GraphData) (wired : IsWired g) (node : ℕ) (value : Tern) (old ne
         rests = subst (λ h. RestsAsleep h new.state held.group.members one.touched.list) (sym same) (placed.group held.group held.alike.there held.rests);
       }
 
+  -- and a part that waits has no member of such a group still
+  held_again : (one : WideData) → new.wide ≡ Some one → (k : ℕ) (part : HeldPart) → Stands old.parts k part → 0 < part.members → part.code ≡ None →
+      IsHeldIn g new.state one part ⊎ IsOutside one.graph part
+  held_again one is k part stands some none =
+      let (before_it, was, placed) = placed_wide node old.wide new.wide old.state new.state places.wide one is in
+      elim (covers.held before_it was k part stands some none) [
+        | inl held ↦ inl (held_placed before_it one placed part held)
+        | inr outside ↦ inr (subst (λ h. IsOutside h part) (sym placed.stays.graph) outside)
+      ]
+
   stale_only_again : (one : WideData) → new.wide ≡ Some one → HasStaleOnly old.parts one.graph
   stale_only_again one is =
-      let (before_it, was, placed) = placed_wide old.wide new.wide old.state new.state places.wide one is in
+      let (before_it, was, placed) = placed_wide node old.wide new.wide old.state new.state places.wide one is in
       subst (HasStaleOnly old.parts) (sym placed.stays.graph) (covers.stale_only before_it was)
 
   covers_again : (moved placed : ℕ) → Covers g (record old { marks = new.marks; state = new.state; moves = moved; placed = placed; wide = new.wide })
@@ -128,10 +137,17 @@ placing_keeps_fit g node value old new wired no_rail fits places =
     let vdd_stays = others_stay g wired node value old new fits.covers places 1 (λ same. absurd (omega (arith, no_rail, same))) in
     let again : FitsGraph g (record old { marks = new.marks; state = new.state; moves = new.moves; placed = new.placed; wide = new.wide }) = record {
       covers = covers_again g wired node value old new fits.covers places new.moves new.placed;
-      coded = λ is. fits.coded (none_placed old.wide new.wide old.state new.state places.wide is);
+      coded = λ k part stands some none.
+          elim (known_or_not new.wide) [
+            | inl (one, is) ↦
+                let (before, was, placed) = placed_wide node old.wide new.wide old.state new.state places.wide one is in
+                (one, is, held_placed g wired node value old new fits.covers places before one placed part (held_at g old fits before was k part stands some none))
+            | inr gone ↦
+                absurd (coded_without g old fits (none_placed node old.wide new.wide old.state new.state places.wide gone) k part stands some none)
+          ];
       railed = fits.railed;
       sound = record { gnd = gnd_stays ∙ fits.sound.gnd; vdd = vdd_stays ∙ fits.sound.vdd };
-      texts = λ is. fits.texts (none_placed old.wide new.wide old.state new.state places.wide is);
+      texts = fits.texts;
     } in
     subst (FitsGraph g) (same_machine old new places.groups places.parts places.uses places.texts places.last places.spare) again
 
@@ -139,7 +155,7 @@ placing_keeps_fit g node value old new wired no_rail fits places =
 pub Places-beside : (node : ℕ) (value : Tern) (old : MachineData) (marks : List Bool) (state : List Tern) (placed : ℕ) (wide : Option WideData) →
     state ≡ slice_set old.state node value → length marks ≡ length old.marks → ((k : ℕ) → IsMarked old.marks k → IsMarked marks k) →
     ((k : ℕ) → Concerns old.parts k node → IsMarked marks k) → ((k : ℕ) → IsMarked marks k → IsMarked old.marks k ⊎ Concerns old.parts k node) →
-    PlacesIn old.wide wide old.state state → Places node value old (record old { marks = marks; state = state; placed = placed; wide = wide })
+    PlacesIn node old.wide wide old.state state → Places node value old (record old { marks = marks; state = state; placed = placed; wide = wide })
 Places-beside node value old marks state placed wide state_is count stays concerns only wide_placed = record {
   wide = wide_placed;
   state = state_is;
@@ -157,7 +173,7 @@ pub Places-marked : (node : ℕ) (value : Tern) (old : MachineData) (waiting : L
     (room : Rooms) → IsMachine old.parts old.marks waiting (length old.state) lists owners numbers held most room → (owner : Option ℕ) →
     owner ≡ slice_index_or owners node None → (mid new : List Bool) → MarksAll (λ k. owner ≡ Some k) old.marks mid → (read : List ℕ) →
     read ≡ readers_of lists node → MarksAll (Contains read) mid new → (placed : ℕ) (wide : Option WideData) →
-    PlacesIn old.wide wide old.state (slice_set old.state node value) →
+    PlacesIn node old.wide wide old.state (slice_set old.state node value) →
     Places node value old (record old { marks = new; state = slice_set old.state node value; placed = placed; wide = wide })
 Places-marked node value old waiting lists owners numbers held most room machine owner owner_is mid new first read read_is second placed wide wide_placed =
     Places-beside node value old new (slice_set old.state node value) placed wide refl (second.count ∙ first.count)

@@ -18,6 +18,7 @@ use Rattle.machine_laws.specs.Machines.{MachineData}
 use Rattle.machine_laws.specs.Seating.{Renews, IsStalePartOf, HasAny, HasStale, IsNew, IsWithAny, members_in, RenewsAll, RenewsAt}
 use Rattle.machine_parts.proofs.PartLemmas.{same_part}
 use Rattle.machine_parts.proofs.MakingLemmas.{member_at_front, front_of_member}
+use Rattle.machine_laws.proofs.HeldParts.{KeepsKnown-same, KeepsKnown-then}
 use Rattle.machine_laws.proofs.ClearingLemmas.{KeepsRest-same, KeepsRest-then}
 use Rattle.machine_laws.proofs.FinishingGroups.{found}
 
@@ -202,6 +203,7 @@ module _ (g : GraphData) (groups : List Group) (are : AreGroups g groups) where
     has = λ group there has. absurd (omega (arith, has.among.1));
     count = omega arith;
     tidy = λ tidy. tidy;
+    wide = KeepsKnown-same m.parts m.wide;
     rest = KeepsRest-same m;
   }
 
@@ -245,6 +247,7 @@ module _ (g : GraphData) (groups : List Group) (are : AreGroups g groups) where
           ];
       count = first.count;
       tidy = first.tidy;
+      wide = first.wide;
       rest = first.rest;
     }
 
@@ -265,6 +268,13 @@ module _ (g : GraphData) (groups : List Group) (are : AreGroups g groups) where
             (member_stale other.members mid.parts has.k has.part has.stands has.is_new node (subst (λ (one : Group). Contains one.members node) same member)));
         is_new = has.is_new;
       }
+
+      stood_before : (k : ℕ) (part : HeldPart) → Stands new.parts k part → k < length mid.parts → 0 < part.members → Stands mid.parts k part
+      stood_before k part stands inside some =
+          elim (then.was k part stands some) [
+            | inl before ↦ before
+            | inr (last, is) ↦ absurd (omega (arith, last, inside))
+          ]
 
       renewed : RenewsAll groups (nodes ++ node ∷ []) old new
       renewed = record {
@@ -297,6 +307,7 @@ module _ (g : GraphData) (groups : List Group) (are : AreGroups g groups) where
             ];
         count = omega (arith, first.count, then.count);
         tidy = λ tidy. then.tidy (first.tidy tidy);
+        wide = KeepsKnown-then old.parts mid.parts new.parts old.wide mid.wide new.wide first.count stood_before first.wide then.wide;
         rest = KeepsRest-then old mid new first.rest then.rest;
       }
 

@@ -1,6 +1,6 @@
 -- On a graph that a machine fits each node moves to its steady state: a member of a marked part by the part's code, a member of any
 -- other part, which rests, and an input node by staying.
-use Rattle.std.proofs.Common.{◌≡◌, ℕ, ◌<◌, Bool, false, inl, inr, Some, None, Global, List, length, map, take, refl, sym, ap, subst, ◌∙◌, arith}
+use Rattle.std.proofs.Common.{◌≡◌, ℕ, ◌<◌, Bool, false, inl, inr, Some, Global, List, length, map, take, refl, sym, ap, subst, ◌∙◌, arith}
 use Rattle.std.specs.Prelude.{slice_index, slice_index_or, Contains}
 use Rattle.std.proofs.lemmas.Option.{slice_get_read}
 use Rattle.ternary.specs.declared.tern.Tern.{Tern}
@@ -31,7 +31,7 @@ use Rattle.part_words.specs.Noting.{after}
 use Rattle.machine_laws.specs.Fitting.{FitsGraph}
 use Rattle.machine_parts.proofs.CaseLemmas.{true_or_not, after-same}
 use Rattle.machine_parts.proofs.PartLemmas.{same_part, HasMember-from_Gives}
-use Rattle.machine_laws.proofs.HeldLemmas.{known_or_not, response_there}
+use Rattle.machine_laws.proofs.HeldLemmas.{known_or_not, response_there, held_at}
 use Rattle.machine_laws.proofs.PartGroups.{member_from_part, place_in_group, member_in_group, member_of_part}
 
 -- the node has this steady state, and moves to it
@@ -152,7 +152,7 @@ module _ (g : GraphData) (wired : IsWired g) (m : MachineData) (fits : FitsGraph
     MovesTo-held : (wide : WideData) → m.wide ≡ Some wide → (k node : ℕ) → HasMember m.parts k node → IsStale m.parts k → node < nodes g →
         MovesTo g joining m.state new node
     MovesTo-held wide is k node has stale in_range =
-        let held = fits.covers.held wide is k stale.part stale.stands stale.some stale.none in
+        let held = held_at g m fits wide is k stale.part stale.stands stale.some stale.none in
         let part = same_part m.parts k has.part stale.part has.stands stale.stands in
         let at_place : IsMemberAt stale.part has.place node = subst (λ p. IsMemberAt p has.place node) part has.member in
         let member = member_in_group g held.group stale.part held.is_part has.place node at_place in
@@ -179,10 +179,8 @@ module _ (g : GraphData) (wired : IsWired g) (m : MachineData) (fits : FitsGraph
     -- a member of a stale part moves so, since such groups are known
     MovesTo-stale : (k node : ℕ) → HasMember m.parts k node → IsStale m.parts k → node < nodes g → MovesTo g joining m.state new node
     MovesTo-stale k node has stale in_range =
-        elim (known_or_not m.wide) [
-          | inl (wide, is) ↦ MovesTo-held wide is k node has stale in_range
-          | inr none ↦ absurd (fits.coded none k stale.part stale.stands stale.some stale.none)
-        ]
+        let (wide, is, held) = fits.coded k stale.part stale.stands stale.some stale.none in
+        MovesTo-held wide is k node has stale in_range
 
     -- a member of a marked part moves to what the part's code gives
     MovesTo-coded : (k node : ℕ) (has : HasMember m.parts k node) → IsMarked m.marks k → (code : Rc CodeData Global) → has.part.code ≡ Some code →

@@ -1,6 +1,6 @@
 -- Where the stale parts of a machine get their codes, each part stays or comes.
 use Rattle.std.proofs.Common.{◌≡◌, ◌≢◌, ℕ, suc, ◌<◌, ◌≤◌, Bool, cond, inl, inr, ◌⊎◌, List, [], ◌∷◌, length, get_or, All, Option, Some, None, refl, sym, ap, subst, ◌∙◌, arith, nat_lt}
-use Rattle.std.specs.Prelude.{Contains, slice_get, slice_index, slice_index_or, count_by}
+use Rattle.std.specs.Prelude.{◌↔◌, Contains, slice_get, slice_index, slice_index_or, count_by}
 use Rattle.std.specs.List.{AllZip, sum_by}
 use Rattle.std.proofs.lemmas.Bool.{cases_lt}
 use Rattle.std.proofs.lemmas.List.{get_or_default}
@@ -20,11 +20,14 @@ use Rattle.machine_parts.specs.Making.{held, IsFormed, IsCodeRoom}
 use Rattle.machine_parts.specs.Evaluating.{Rooms, IsSeated}
 use Rattle.machine_parts.specs.Running.{IsRunnable, AreOwners, IsMachine}
 use Rattle.machine_parts.specs.Readers.{readers_of, ListsAll, HaveSameReaders}
-use Rattle.machine_laws.specs.Fitting.{IsPartOf, Covers}
+use Rattle.vicinity.specs.Wides.{WideData}
+use Rattle.wide_groups.specs.Moving.{HasStaleOnly}
+use Rattle.machine_laws.specs.Fitting.{IsPartOf, IsOutside, Covers, AreUntold}
 use Rattle.machine_laws.specs.Finishing.{IsFresh, IsSlotOf, AreWaiting}
 use Rattle.machine_parts.specs.Putting.{Puts}
 use Rattle.machine_parts.proofs.PartLemmas.{same_part}
 use Rattle.machine_laws.proofs.PartGroups.{one_group, member_of_part, member_from_part, place_in_group, some_members}
+use Rattle.machine_laws.proofs.HeldParts.{member_taken}
 use Rattle.machine_parts.proofs.MakingLemmas.{IsSeated-formed}
 use Rattle.machine_parts.proofs.MachineLemmas.{IsSeated-wider, IsMachine-with}
 use Rattle.machine_parts.proofs.NumberLists.{one_or_none}
@@ -65,10 +68,11 @@ IsMachine-wider parts marks waiting count lists new_lists owners numbers new_num
     IsMachine-with parts marks marks waiting count lists new_lists owners numbers new_numbers held most room wide refl same
     (omega (arith, ap length numbers_are)) values (omega (arith, changes)) (omega (arith, parts_are)) machine
 
--- a part that stays, with code if it has a member
-pub record StaysAt (old : List HeldPart) (k : ℕ) (part : HeldPart) : Type 0 where
+-- a part that stays: it isn't in a slot, and if it is stale its group is too large for a text
+pub record StaysAt (g : GraphData) (old : List HeldPart) (slots : List ℕ) (k : ℕ) (part : HeldPart) : Type 0 where
   pub stands : Stands old k part
-  pub coded : 0 < part.members → part.code ≢ None
+  pub no_slot : ¬ Contains slots k
+  pub untold : (group : Group) → part.code ≡ None → IsPartOf g group part → fault_in group ≢ None
 
 -- a part that got its code
 pub record ComesAt (g : GraphData) (old : List HeldPart) (some : List Group) (slots : List ℕ) (fresh : List HeldPart) (k : ℕ) (part : HeldPart) : Type 0 where
@@ -83,7 +87,7 @@ pub record ComesAt (g : GraphData) (old : List HeldPart) (some : List Group) (sl
 module _ (g : GraphData) (m : MachineData) (covers : Covers g m) (groups some : List Group) (slots : List ℕ) (waiting : AreWaiting g m.parts groups some slots)
     (fresh : List HeldPart) (fresh_are : AllZip (IsFresh g) some fresh) (new : List HeldPart) (puts : Puts slots fresh m.parts new) where
   -- each part stays or comes
-  pub stays_or_comes : (k : ℕ) (part : HeldPart) → Stands new k part → StaysAt m.parts k part ⊎ ComesAt g m.parts some slots fresh k part
+  pub stays_or_comes : (k : ℕ) (part : HeldPart) → Stands new k part → StaysAt g m.parts slots k part ⊎ ComesAt g m.parts some slots fresh k part
   stays_or_comes k part stands =
       elim (one_or_none slots k) [
         | inl there ↦
@@ -108,7 +112,8 @@ module _ (g : GraphData) (m : MachineData) (covers : Covers g m) (groups some : 
             let stood : Stands m.parts k part = Stands-at m.parts k part (sym (puts.stays k not_there) ∙ at-Stands new k part stands) in
             inl (record {
               stands = stood;
-              coded = λ has none. not_there (waiting.all k (record { part = part; stands = stood; some = has; none = none }));
+              no_slot = not_there;
+              untold = λ group none is_part fits. not_there (waiting.all k part group stood none is_part fits);
             })
       ]
 
@@ -166,11 +171,27 @@ module _ (g : GraphData) (m : MachineData) (covers : Covers g m) (groups some : 
   apart_new : AreApart m.parts → AreApart new
   apart_new apart k l node one two = apart k l node (HasMember-was k node one) (HasMember-was l node two)
 
-  pub none_stale_new : (k : ℕ) → ¬ IsStale new k
-  none_stale_new k stale =
+  -- the stale parts are those that aren't in a slot, and their groups are too large for a text
+  stale_stays : (k : ℕ) → IsStale new k → IsStale m.parts k × (¬ Contains slots k)
+  stale_stays k stale =
       elim (stays_or_comes k stale.part stale.stands) [
-        | inl stays ↦ stays.coded stale.some stale.none
-        | inr comes ↦ comes.is.coded stale.none
+        | inl stays ↦ (record { part = stale.part; stands = stays.stands; some = stale.some; none = stale.none }, stays.no_slot)
+        | inr comes ↦ absurd (comes.is.coded stale.none)
+      ]
+
+  stays_stale : (k : ℕ) → (¬ Contains slots k) → IsStale m.parts k → IsStale new k
+  stays_stale k no_slot stale = record {
+    part = stale.part;
+    stands = Stands-at new k stale.part (puts.stays k no_slot ∙ at-Stands m.parts k stale.part stale.stands);
+    some = stale.some;
+    none = stale.none;
+  }
+
+  pub untold_new : AreUntold g new
+  untold_new k part group stands none is_part =
+      elim (stays_or_comes k part stands) [
+        | inl stays ↦ stays.untold group none is_part
+        | inr comes ↦ absurd (comes.is.coded none)
       ]
 
   pub AreOwners-new : (count : ℕ) (owners : List (Option ℕ)) → AreOwners m.parts count owners → AreOwners new count owners
@@ -232,8 +253,8 @@ module _ (g : GraphData) (m : MachineData) (covers : Covers g m) (groups some : 
 
     pub IsRunnable-new : All (IsFormed count) fresh → All (IsCodeRoom wide.values) fresh →
         room.values ≤ wide.values → wide.changes ≡ room.changes → wide.parts ≡ room.parts →
-        ((k : ℕ) → ¬ IsMarked new_flags k) → IsRunnable new marks new_flags count new_lists wide
-    IsRunnable-new formed values_room values changes parts_are none = record {
+        ((k : ℕ) → IsMarked new_flags k ↔ (IsMarked flags k × (¬ Contains slots k))) → IsRunnable new marks new_flags count new_lists wide
+    IsRunnable-new formed values_room values changes parts_are released = record {
       counted = runs.counted ∙ sym puts.count;
       seated = λ k d inside.
           let part = get_or new k d in
@@ -249,8 +270,12 @@ module _ (g : GraphData) (m : MachineData) (covers : Covers g m) (groups some : 
                 (subst (IsCodeRoom wide.values) here (values_room comes.i part within))
           ];
       apart = apart_new runs.apart;
-      waits = λ k waits. absurd (none k waits);
-      stale = λ k stale. absurd (none_stale_new k stale);
+      waits = λ k waits.
+          let (before, no_slot) = (released k).0 waits in
+          stays_stale k no_slot (runs.waits k before);
+      stale = λ k stale.
+          let (before, no_slot) = stale_stays k stale in
+          (released k).1 (runs.stale k before, no_slot);
       readers_counted = listed.count ∙ runs.readers_counted;
       readers = readers_new;
       reads = reads_new;
@@ -258,22 +283,41 @@ module _ (g : GraphData) (m : MachineData) (covers : Covers g m) (groups some : 
       parts_room = omega (arith, runs.parts_room, puts.count, parts_are);
     }
 
+  -- the groups that are stepped by vicinities have no text, so their parts are in no slot
+  module _ (fit : All (λ group. fault_in group ≡ None) some) where
+    slot_outside : (wide : WideData) → m.wide ≡ Some wide → (k : ℕ) → Contains slots k → (part : HeldPart) → Stands m.parts k part →
+        IsOutside wide.graph part
+    slot_outside wide is k (i, inside, here) part stands =
+        let at : slice_get slots i ≡ Some k = slice_get_read slots (length slots) i k refl inside (sym here) in
+        let (group, group_at, slot) = partner_first (IsSlotOf g m.parts) some slots i k waiting.slots_are at in
+        let fits : fault_in group ≡ None =
+        subst (λ it. fault_in it ≡ None) (get_or_from_slice_get some i group group group_at) (fit i group (slice_get_within some i group group_at)) in
+        let same : slot.part ≡ part = same_part m.parts k slot.part part slot.stands stands in
+        elim (covers.held wide is k slot.part slot.stands (some_members slot.is_part) slot.stale) [
+          | inl held ↦
+              let one : held.group ≡ group = one_group g held.group group slot.part held.is_part slot.is_part in
+              absurd (held.untold (subst (λ it. fault_in it ≡ None) (sym one) fits))
+          | inr outside ↦ subst (IsOutside wide.graph) same outside
+        ]
+
+    -- and go on waiting
+    pub stale_only_roused : (wide : WideData) → m.wide ≡ Some wide → HasStaleOnly new wide.graph
+    stale_only_roused wide is node storage =
+        let (k, has, stale) = covers.stale_only wide is node storage in
+        elim (one_or_none slots k) [
+          | inl slot ↦
+              absurd (slot_outside wide is k slot stale.part stale.stands node (member_taken m.parts k stale.part stale.stands node has) storage)
+          | inr no_slot ↦ (k, HasMember-now k node has, stays_stale k no_slot stale)
+        ]
+
   -- the machine covers the graph with its new parts and their texts
   module _ (uses : List (Option GroupTextData)) (uses_counted : length uses ≡ length m.uses)
       (uses_stay : (k : ℕ) → ¬ Contains slots k → slice_index_or uses k None ≡ slice_index_or m.uses k None)
       (uses_come : (i k : ℕ) (group : Group) → slice_get slots i ≡ Some k → slice_get some i ≡ Some group →
       slice_index_or uses k None ≡ Some (text_of_group g group))
-      (fit : All (λ group. fault_in group ≡ None) some) (texts : ℕ) (no_wide : m.wide ≡ None) where
+      (fit : All (λ group. fault_in group ≡ None) some) (texts : ℕ) where
     abbrev pub roused : MachineData
     roused = record m { parts = new; uses = uses; texts = texts }
-
-    -- a part that stays isn't in a slot
-    no_slot : (k : ℕ) (part : HeldPart) → StaysAt m.parts k part → ¬ Contains slots k
-    no_slot k part stays (i, inside, here) =
-        let at : slice_get slots i ≡ Some k = slice_get_read slots (length slots) i k refl inside (sym here) in
-        let (group, group_at, was) = partner_first (IsSlotOf g m.parts) some slots i k waiting.slots_are at in
-        let same = same_part m.parts k was.part part was.stands stays.stands in
-        stays.coded (subst (λ (one : HeldPart). 0 < one.members) same (some_members was.is_part)) (ap (λ (one : HeldPart). one.code) (sym same) ∙ was.stale)
 
     pub Covers-roused : Covers g roused
     Covers-roused = record {
@@ -307,7 +351,7 @@ module _ (g : GraphData) (m : MachineData) (covers : Covers g m) (groups some : 
           elim (stays_or_comes k part stands) [
             | inl stays ↦
                 let was = covers.known k part stays.stands coded group is_part in
-                record { same = uses_stay k (no_slot k part stays) ∙ was.same; fits = was.fits }
+                record { same = uses_stay k stays.no_slot ∙ was.same; fits = was.fits }
             | inr comes ↦
                 let one = one_group g comes.group group part comes.is.is_part is_part in
                 let within = slice_get_within some comes.i comes.group comes.group_at in
@@ -320,7 +364,7 @@ module _ (g : GraphData) (m : MachineData) (covers : Covers g m) (groups some : 
           ];
       textless = λ k part stands no_text.
           elim (stays_or_comes k part stands) [
-            | inl stays ↦ uses_stay k (no_slot k part stays) ∙ covers.textless k part stays.stands no_text
+            | inl stays ↦ uses_stay k stays.no_slot ∙ covers.textless k part stays.stands no_text
             | inr comes ↦
                 elim no_text [
                   | inl none ↦ absurd (omega (arith, none, some_members comes.is.is_part))
@@ -335,7 +379,7 @@ module _ (g : GraphData) (m : MachineData) (covers : Covers g m) (groups some : 
           ];
       waits = λ k part stands has none.
           elim (stays_or_comes k part stands) [
-            | inl stays ↦ absurd (stays.coded has none)
+            | inl stays ↦ covers.waits k part stays.stands has none
             | inr comes ↦ absurd (comes.is.coded none)
           ];
       rests = λ k part stands unmarked.
@@ -343,12 +387,13 @@ module _ (g : GraphData) (m : MachineData) (covers : Covers g m) (groups some : 
             | inl stays ↦ covers.rests k part stays.stands unmarked
             | inr comes ↦ absurd (unmarked (covers.waits k comes.was.part comes.was.stands (some_members comes.was.is_part) comes.was.stale))
           ];
-      stale_only = λ wide is. absurd (cc (no_wide, is));
-      held = λ wide is. absurd (cc (no_wide, is));
+      stale_only = stale_only_roused fit;
+      held = λ wide is k part stands has none.
+          elim (stays_or_comes k part stands) [
+            | inl stays ↦ covers.held wide is k part stays.stands has none
+            | inr comes ↦ absurd (comes.is.coded none)
+          ];
     }
-
-    pub coded_roused : (k : ℕ) (part : HeldPart) → Stands new k part → 0 < part.members → part.code ≢ None
-    coded_roused k part stands has none = none_stale_new k (record { part = part; stands = stands; some = has; none = none })
 
     pub parts_roused : (k : ℕ) (part : HeldPart) → Stands m.parts k part → part.code ≢ None → Stands new k part
     parts_roused k part stands coded =

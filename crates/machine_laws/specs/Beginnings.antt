@@ -1,11 +1,12 @@
 -- The nodes at which parts begin, and the texts of parts in the order of these nodes.
 -- After Beatty and Bryant, "Fast Incremental Circuit Analysis Using Extracted Hierarchy", 1988.
-use Rattle.std.specs.Prelude.{◌≡◌, ℕ, List, map, Contains, Option, None, Some, slice_index_or}
+use Rattle.std.specs.Prelude.{◌≡◌, ℕ, List, Contains, Option, None, Some, slice_index_or}
 use Rattle.std.specs.List.{AllZip}
 use Rattle.std.specs.List.Sorted.{IsStrictlyIncreasing}
 use Rattle.path_meaning.specs.Graphs.{GraphData}
 use Rattle.group_meaning.specs.Groups.{Group, AreGroups}
-use Rattle.group_text.specs.Texts.{GroupTextData, text_of_group}
+use Rattle.group_text.specs.Texts.{GroupTextData}
+use Rattle.circuit_texts.specs.Told.{told}
 use Rattle.machine_parts.specs.declared.part.HeldPart.{HeldPart}
 use Rattle.machine_parts.specs.Parts.{Stands, IsMemberAt}
 
@@ -28,6 +29,6 @@ pub record AreInOrder (parts : List HeldPart) (uses : List (Option GroupTextData
   pub each : AllZip (Begins parts uses) places texts
   pub all : (node : ℕ) (text : GroupTextData) → Begins parts uses node text → Contains places node
 
--- these are the texts of the graph's groups, in order
+-- these are the texts of those of the graph's groups that have one, in order
 abbrev pub HasLast : GraphData → List GroupTextData → Type 0
-HasLast g texts = (groups : List Group) → AreGroups g groups → texts ≡ map (text_of_group g) groups
+HasLast g texts = (groups : List Group) → AreGroups g groups → texts ≡ told g groups

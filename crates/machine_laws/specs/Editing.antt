@@ -1,6 +1,6 @@
 -- What an edit of the graph does to a machine, and what gives its stale parts their codes.
 -- After Bryant, Beatty, Brace, Cho and Sheffler, "COSMOS: A Compiled Simulator for MOS Circuits", 1987.
-use Rattle.std.specs.Prelude.{◌≡◌, ◌≢◌, ℕ, ◌-◌, ◌↔◌, Bool, true, false, List, ◌++◌, length, replicate, None}
+use Rattle.std.specs.Prelude.{◌≡◌, ◌≢◌, ℕ, ◌-◌, ◌<◌, ◌↔◌, min, Bool, true, false, List, ◌++◌, length, replicate, None, Some}
 use Rattle.ternary.specs.declared.tern.Tern.{Tern}
 use Rattle.ternary.specs.declared.tern.Tern.TheVariants.{Unk}
 use Rattle.path_meaning.specs.Graphs.{GraphData, nodes}
@@ -11,7 +11,9 @@ use Rattle.machine_parts.specs.declared.part.HeldPart.{HeldPart}
 use Rattle.machine_parts.specs.Parts.{Stands}
 use Rattle.machine_laws.specs.Machines.{MachineData, groups_in}
 use Rattle.machine_parts.specs.Marking.{IsMarked}
-use Rattle.machine_laws.specs.Fitting.{IsPartOf, Covers, FitsGraph}
+use Rattle.vicinity.specs.Wides.{WideData}
+use Rattle.vicinity.specs.Growing.{GrowsWide}
+use Rattle.machine_laws.specs.Fitting.{IsPartOf, IsOutside, Covers, FitsGraph}
 use Rattle.machine_laws.specs.Beginnings.{HasLast}
 
 -- these states, and X for each node more
@@ -22,8 +24,15 @@ with_new_nodes state count = state ++ replicate (count - length state) Unk
 abbrev pub is_touched_in : GraphData → Change → MachineData → Group → Bool
 is_touched_in g change old group = is_touched_now g change (groups_in old.groups) group
 
+-- if the groups that are stepped by vicinities are known, they are those from before, in a graph with so many nodes; and they are, if each part
+-- stands that had one of their members
+pub record KeepsWide (count : ℕ) (old new : MachineData) : Type 0 where
+  pub known : (later : WideData) → new.wide ≡ Some later → (wide : WideData) × (old.wide ≡ Some wide) × GrowsWide count wide later
+  pub stays : (wide : WideData) → old.wide ≡ Some wide →
+      ((k : ℕ) (part : HeldPart) → Stands old.parts k part → (¬ IsOutside wide.graph part) → Stands new.parts k part) → new.wide ≢ None
+
 -- the graph was edited: the machine covers it, new nodes are X and all other nodes stay, each touched group is stale and marked, and the
--- part of every other group stays, with its code and its mark; the groups that are stepped by vicinities aren't known any more
+-- part of every other group stays, with its code and its mark; the groups that are stepped by vicinities are known still if it left them as they were
 pub record Edits (g : GraphData) (change : Change) (old new : MachineData) : Type 0 where
   pub covers : Covers g new
   pub state : new.state ≡ with_new_nodes old.state (nodes g)
@@ -38,7 +47,7 @@ pub record Edits (g : GraphData) (change : Change) (old new : MachineData) : Typ
   pub last : new.last ≡ old.last
   pub moves : new.moves ≡ old.moves
   pub placed : new.placed ≡ old.placed
-  pub wide : new.wide ≡ None
+  pub wide : KeepsWide (nodes g) old new
 
 -- the groups, the parts that had code, the marks, the states and the counts stay
 pub record KeepsCoded (old new : MachineData) : Type 0 where
@@ -48,19 +57,26 @@ pub record KeepsCoded (old new : MachineData) : Type 0 where
   pub state : new.state ≡ old.state
   pub moves : new.moves ≡ old.moves
   pub placed : new.placed ≡ old.placed
-  pub wide : new.wide ≡ old.wide
 
--- the stale parts got their codes: the machine fits the graph, whose groups' texts are those of the last build from now on, and states,
--- marks, and the parts that had code stay
+-- the stale parts got their codes, or are stepped by vicinities: the machine fits the graph, whose groups' texts are those of the last build
+-- from now on, and all else stays
 pub record Finishes (g : GraphData) (old new : MachineData) : Type 0 where
   pub fits : FitsGraph g new
   pub last : HasLast g new.last
   pub still : KeepsCoded old new
   pub open still use *
 
--- the stale parts got their codes, and the texts of the last build are still those from before
+-- the same, but the texts of the last build are still those from before
 pub record Rouses (g : GraphData) (old new : MachineData) : Type 0 where
   pub fits : FitsGraph g new
   pub last : new.last ≡ old.last
   pub still : KeepsCoded old new
   pub open still use *
+
+-- if each part that is stale now was one of the groups that were stepped by vicinities before, they are known as before, but that none of them
+-- has more members than so many either
+abbrev pub StaysKnown : ℕ → MachineData → MachineData → Type 0
+StaysKnown large old new =
+    (wide : WideData) → old.wide ≡ Some wide →
+    ((k : ℕ) (part : HeldPart) → Stands new.parts k part → 0 < part.members → part.code ≡ None → ¬ IsOutside wide.graph part) →
+    new.wide ≡ Some (record wide { large = min wide.large large })

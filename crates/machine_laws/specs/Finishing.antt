@@ -3,8 +3,9 @@ use Rattle.std.specs.Prelude.{◌≡◌, ◌≢◌, ℕ, Bool, false, List, [], 
 use Rattle.std.specs.List.{AllZip}
 use Rattle.path_meaning.specs.Graphs.{GraphData}
 use Rattle.group_meaning.specs.Groups.{Group}
+use Rattle.circuit_texts.specs.Sizes.{fault_in}
 use Rattle.machine_parts.specs.declared.part.HeldPart.{HeldPart}
-use Rattle.machine_parts.specs.Parts.{Stands, IsStale}
+use Rattle.machine_parts.specs.Parts.{Stands}
 use Rattle.machine_parts.specs.Marking.{AreOnce}
 use Rattle.machine_laws.specs.Fitting.{IsPartOf}
 
@@ -28,13 +29,15 @@ pub record HasCode (g : GraphData) (parts : List HeldPart) (group : Group) : Typ
   pub is_part : IsPartOf g group part
   pub coded : part.code ≢ None
 
--- these of the groups wait, in their order, with their parts' numbers: all stale parts are among these, and each other group has code
+-- these of the groups wait, in their order, with their parts' numbers: all stale parts of groups with a text are among these, and each other
+-- group with a text has code
 pub record AreWaiting (g : GraphData) (parts : List HeldPart) (groups some : List Group) (slots : List ℕ) : Type 0 where
   pub waits : Group → Bool
   pub some_are : some ≡ filter waits groups
-  pub others : (group : Group) → Contains groups group → waits group ≡ false → HasCode g parts group
+  pub others : (group : Group) → Contains groups group → waits group ≡ false → fault_in group ≡ None → HasCode g parts group
   pub slots_are : AllZip (IsSlotOf g parts) some slots
-  pub all : (k : ℕ) → IsStale parts k → Contains slots k
+  pub all : (k : ℕ) (part : HeldPart) (group : Group) → Stands parts k part → part.code ≡ None → IsPartOf g group part → fault_in group ≡ None →
+      Contains slots k
   pub once : AreOnce slots
 
 -- the first node of the map of the part with this number

@@ -1,10 +1,10 @@
 -- Which graphs a machine covers, and which it fits.
 -- After Bryant, Beatty, Brace, Cho and Sheffler, "COSMOS: A Compiled Simulator for MOS Circuits", 1987.
-use Rattle.std.specs.Prelude.{◌≡◌, ◌≢◌, ℕ, ◌<◌, ◌≤◌, ◌↔◌, ◌⊎◌, List, [], length, map, take, count_by, Contains, IsTrue, Option, Some, None, slice_get, slice_index_or}
+use Rattle.std.specs.Prelude.{◌≡◌, ◌≢◌, ℕ, ◌<◌, ◌≤◌, ◌↔◌, ◌⊎◌, List, [], length, take, count_by, Contains, IsTrue, Option, Some, None, slice_get, slice_index_or}
 use Rattle.std.specs.declared.rc.Rc.{Rc}
 use Rattle.std.proofs.Common.{Global}
 use Rattle.ternary.specs.declared.tern.Tern.{Tern}
-use Rattle.path_meaning.specs.Graphs.{GraphData, IsWired, nodes}
+use Rattle.path_meaning.specs.Graphs.{GraphData, IsStorage, IsWired, nodes}
 use Rattle.path_meaning.specs.Rails.{IsRailed, IsSound}
 use Rattle.group_meaning.specs.Groups.{Group, IsGroup, AreGroups}
 use Rattle.channel_groups.specs.Grouping.{GroupsData, AreOf}
@@ -17,6 +17,7 @@ use Rattle.vicinity.specs.Wides.{WideData}
 use Rattle.straight_code.specs.Code.{CodeData}
 use Rattle.group_analysis.specs.Meaning.{MeansText}
 use Rattle.circuit_texts.specs.Sizes.{fault_in}
+use Rattle.circuit_texts.specs.Told.{told}
 use Rattle.machine_parts.specs.declared.part.HeldPart.{HeldPart}
 use Rattle.machine_parts.specs.Parts.{Stands, AreApart, has_members}
 use Rattle.wide_groups.specs.Moving.{HasStaleOnly}
@@ -59,10 +60,18 @@ pub record IsHeldIn (g : GraphData) (state : List Tern) (wide : WideData) (part 
   pub alike : IsAlike g wide.graph group
   pub rests : RestsAsleep wide.graph state group.members wide.touched.list
 
+-- no member of the part is a storage node of this graph
+abbrev pub IsOutside : GraphData → HeldPart → Type 0
+IsOutside g part = (node : ℕ) → Contains (take part.members part.map.items) node → ¬ IsStorage g node
+
+-- the machine steps the part's group by vicinities
+abbrev pub IsHeld : GraphData → MachineData → HeldPart → Type 0
+IsHeld g m part = (wide : WideData) × (m.wide ≡ Some wide) × IsHeldIn g m.state wide part
+
 -- a machine covers a graph: its groups are those of the graph, each has a part, and each part with a member is that of a group; a
 -- part with code has its group's text, and one without members or code has none; one without code reads nothing, and is marked where it
--- has a member, so is stale; and the members of a part that isn't marked rest. If the groups are known that are stepped by vicinities, these are
--- just the groups of the stale parts
+-- has a member, so is stale; and the members of a part that isn't marked rest. If the groups are known that are stepped by vicinities, their
+-- members are those of stale parts, and each stale part is that of one of these groups or has no member of any
 pub record Covers (g : GraphData) (m : MachineData) : Type 0 where
   pub groups : GroupsData
   pub kept : m.groups ≡ Some groups
@@ -82,15 +91,20 @@ pub record Covers (g : GraphData) (m : MachineData) : Type 0 where
       Rests g m.state (take part.members part.map.items)
   pub stale_only : (wide : WideData) → m.wide ≡ Some wide → HasStaleOnly m.parts wide.graph
   pub held : (wide : WideData) → m.wide ≡ Some wide → (k : ℕ) (part : HeldPart) → Stands m.parts k part → 0 < part.members → part.code ≡ None →
-      IsHeldIn g m.state wide part
+      IsHeldIn g m.state wide part ⊎ IsOutside wide.graph part
 
--- a machine fits a graph: it covers it, no part is stale unless it is stepped by vicinities, the rails are held, and it counts the distinct texts
+-- a machine fits a graph: it covers it, no part is stale unless it is stepped by vicinities, the rails are held, and it counts the distinct texts of
+-- the groups that have one
 pub record FitsGraph (g : GraphData) (m : MachineData) : Type 0 where
   pub covers : Covers g m
-  pub coded : m.wide ≡ None → (k : ℕ) (part : HeldPart) → Stands m.parts k part → 0 < part.members → part.code ≢ None
+  pub coded : (k : ℕ) (part : HeldPart) → Stands m.parts k part → 0 < part.members → part.code ≡ None → IsHeld g m part
   pub railed : IsRailed g
   pub sound : IsSound m.state
-  pub texts : m.wide ≡ None → (groups : List Group) → AreGroups g groups → m.texts ≡ length (first_texts (map (text_of_group g) groups))
+  pub texts : (groups : List Group) → AreGroups g groups → m.texts ≡ length (first_texts (told g groups))
+
+-- the group of each stale part is too large for a text
+abbrev pub AreUntold : GraphData → List HeldPart → Type 0
+AreUntold g parts = (k : ℕ) (part : HeldPart) (group : Group) → Stands parts k part → part.code ≡ None → IsPartOf g group part → fault_in group ≢ None
 
 -- what so leads from a machine that fits a graph to another one is this for their states, and the other one fits the graph
 abbrev pub LeadsToFitting : (MachineData → MachineData → Type 0) → (GraphData → List Tern → List Tern → Type 0) → Type 0

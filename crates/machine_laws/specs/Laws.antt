@@ -58,8 +58,8 @@ EmptyPlacesKeepTexts =
 -- if a machine fits a graph whose build was done, all texts of its parts are kept
 abbrev pub BuiltTextsAreKept : Type 0
 BuiltTextsAreKept =
-    (g : GraphData) (bound : Option ℕ) (old new before after : List GroupTextData) (count : ℕ) (m : MachineData) → FitsGraph g m →
-    Builds g bound old new before after count → IsKeptBy g new m
+    (large : ℕ) (g : GraphData) (bound : Option ℕ) (old new before after : List GroupTextData) (count : ℕ) (m : MachineData) → FitsGraph g m →
+    Builds large g bound old new before after count → IsKeptBy g new m
 
 -- and they are after more texts were kept
 abbrev pub MoreTextsAreKept : Type 0

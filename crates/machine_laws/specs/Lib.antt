@@ -6,4 +6,5 @@ pub mod Columns
 pub mod Finishing
 pub mod Seating
 pub mod Beginnings
+pub mod Holding
 pub mod Words

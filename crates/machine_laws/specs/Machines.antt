@@ -1,15 +1,17 @@
 -- A machine as contracts see it, and what a step and a placing make of it.
 -- After Bryant, Beatty, Brace, Cho and Sheffler, "COSMOS: A Compiled Simulator for MOS Circuits", 1987.
-use Rattle.std.specs.Prelude.{ℕ, Bool, List, [], Option, None, Some, ◌≡◌, ◌⊎◌, length, slice_set}
+use Rattle.std.specs.Prelude.{ℕ, Bool, List, [], Option, None, Some, ◌≡◌, ◌⊎◌, length, slice_set, Contains}
 use Rattle.ternary.specs.declared.tern.Tern.{Tern}
 use Rattle.group_meaning.specs.Groups.{Group}
 use Rattle.channel_groups.specs.Grouping.{GroupsData}
 use Rattle.group_text.specs.Texts.{GroupTextData}
 use Rattle.machine_parts.specs.declared.part.HeldPart.{HeldPart}
+use Rattle.machine_parts.specs.Parts.{IsStale}
 use Rattle.machine_parts.specs.Marking.{IsMarked}
 use Rattle.machine_parts.specs.Stepping.{Remarks, Concerns}
+use Rattle.vicinity.specs.Touching.{SwitchChanges}
 use Rattle.vicinity.specs.Wides.{WideData}
-use Rattle.wide_groups.specs.Moving.{MovesIn, RetouchesIn, PlacesIn}
+use Rattle.wide_groups.specs.Moving.{graph_in, touched_in, MovesIn, RetouchesIn, PlacesIn}
 
 -- the groups that the machine has, if it was built for a graph; its parts, the text of each that has a group and code, and whether each
 -- is marked; the state of each node; the number of distinct texts; the texts of the groups at the last build, in order; how often a step
@@ -61,6 +63,15 @@ pub record Advances (joining : Bool) (old new : MachineData) : Type 0 where
   pub marks : Remarks joining old.parts old.marks old.state new.state new.marks
   pub placed : new.placed ≡ old.placed
 
+-- of the groups that are stepped by vicinities those nodes alone are touched at which a switch changed between these states
+abbrev pub TouchesChanged : MachineData → List Tern → List Tern → Type 0
+TouchesChanged m old new = (node : ℕ) → Contains (touched_in m.wide) node → SwitchChanges (graph_in m.wide) old new node
+
+-- nothing is left to do: stale parts alone are marked, since their groups are stepped by vicinities, and no node of these is touched
+pub record IsAtRest (m : MachineData) : Type 0 where
+  pub marks : (k : ℕ) → IsMarked m.marks k → IsStale m.parts k
+  pub untouched : touched_in m.wide ≡ []
+
 -- a node is placed: it has the value, the parts that it concerns are marked, and all else stays but the count of placed members
 pub record Places (node : ℕ) (value : Tern) (old new : MachineData) : Type 0 where
   pub state : new.state ≡ slice_set old.state node value
@@ -68,7 +79,7 @@ pub record Places (node : ℕ) (value : Tern) (old new : MachineData) : Type 0 w
   pub stays : (k : ℕ) → IsMarked old.marks k → IsMarked new.marks k
   pub concerns : (k : ℕ) → Concerns old.parts k node → IsMarked new.marks k
   pub only : (k : ℕ) → IsMarked new.marks k → IsMarked old.marks k ⊎ Concerns old.parts k node
-  pub wide : PlacesIn old.wide new.wide old.state new.state
+  pub wide : PlacesIn node old.wide new.wide old.state new.state
   pub build : KeepsBuild old new
   pub open build use *
   pub held : KeepsParts old new

@@ -1,9 +1,11 @@
 -- Parts that lose their group in an edit, and parts for new groups.
-use Rattle.std.specs.Prelude.{◌≡◌, ℕ, ◌+◌, ◌<◌, ◌≤◌, ◌⊎◌, ◌↔◌, List, [], ◌∷◌, ◌++◌, true, if◌then◌else◌, length, Contains, Option, None, Some, slice_set, slice_index_or}
-use Rattle.path_meaning.specs.Graphs.{GraphData}
+use Rattle.std.specs.Prelude.{◌≡◌, ℕ, take, ◌+◌, ◌<◌, ◌≤◌, ◌⊎◌, ◌↔◌, List, [], ◌∷◌, ◌++◌, true, if◌then◌else◌, length, Contains, Option, None, Some, slice_set, slice_index_or}
+use Rattle.std.specs.List.{AllZip}
+use Rattle.path_meaning.specs.Graphs.{GraphData, IsStorage}
 use Rattle.group_meaning.specs.Groups.{Group, AreGroups}
 use Rattle.machine_parts.specs.declared.part.HeldPart.{HeldPart}
 use Rattle.machine_parts.specs.Parts.{Stands, HasMember, has_members}
+use Rattle.vicinity.specs.Wides.{WideData}
 use Rattle.machine_laws.specs.Machines.{MachineData}
 use Rattle.machine_parts.specs.Marking.{IsMarked}
 
@@ -27,6 +29,12 @@ pub record IsStalePartOf (nodes : List ℕ) (part : HeldPart) : Type 0 where
   pub members : part.members ≡ length nodes
   pub reads : part.reads.items ≡ []
 
+-- a stale part for each of these groups came behind the others, in order
+pub record AddsStale (groups : List Group) (old new : List HeldPart) : Type 0 where
+  pub more : List HeldPart
+  pub are : AllZip (λ group part. IsStalePartOf group.members part) groups more
+  pub parts : new ≡ old ++ more
+
 -- there is a place for the text of each part; one without members or code has no text, and one without code reads nothing
 pub record IsTidy (m : MachineData) : Type 0 where
   pub counted : length m.uses ≡ length m.parts
@@ -37,7 +45,7 @@ pub record IsTidy (m : MachineData) : Type 0 where
 abbrev pub one_of : HeldPart → ℕ
 one_of part = if has_members part then 1 else 0
 
--- all but the parts, their texts and their marks stays
+-- all but the parts, their texts and their marks, and what is stepped by vicinities, stays
 pub record KeepsRest (old new : MachineData) : Type 0 where
   pub groups : new.groups ≡ old.groups
   pub state : new.state ≡ old.state
@@ -45,7 +53,23 @@ pub record KeepsRest (old new : MachineData) : Type 0 where
   pub moves : new.moves ≡ old.moves
   pub placed : new.placed ≡ old.placed
   pub spare : new.spare ≡ old.spare
-  pub wide : new.wide ≡ old.wide
+
+-- a storage node of the graph is a member of none of the parts any more that had it
+pub record Loses (g : GraphData) (old new : List HeldPart) : Type 0 where
+  pub node : ℕ
+  pub storage : IsStorage g node
+  pub gone : (k : ℕ) (part : HeldPart) → Stands old k part → Contains (take part.members part.map.items) node → ¬ Stands new k part
+
+-- if the groups that are stepped by vicinities are known, they are as before, and each part stands that had one of their members; if they
+-- aren't known any more, one of their members lost its part
+pub record KeepsKnown (old_parts new_parts : List HeldPart) (old new : Option WideData) : Type 0 where
+  pub known : (wide : WideData) → new ≡ Some wide → (old ≡ Some wide) × ((k : ℕ) (part : HeldPart) (node : ℕ) → Stands old_parts k part →
+      Contains (take part.members part.map.items) node → IsStorage wide.graph node → Stands new_parts k part)
+  pub lost : (wide : WideData) → old ≡ Some wide → (new ≡ Some wide) ⊎ ((new ≡ None) × Loses wide.graph old_parts new_parts)
+
+-- the same of two machines
+abbrev pub KeepsHeld : MachineData → MachineData → Type 0
+KeepsHeld old new = KeepsKnown old.parts new.parts old.wide new.wide
 
 -- the part with this number loses its group, and all other parts stay
 pub record Vacates (k : ℕ) (old new : MachineData) : Type 0 where
@@ -54,6 +78,7 @@ pub record Vacates (k : ℕ) (old new : MachineData) : Type 0 where
   pub parts : new.parts ≡ slice_set old.parts k part
   pub uses : new.uses ≡ slice_set old.uses k None
   pub marks : new.marks ≡ old.marks
+  pub wide : KeepsHeld old new
   pub rest : KeepsRest old new
 
 -- a part for a group with these members comes behind the others, stale and marked
@@ -64,6 +89,7 @@ pub record Seats (members : List ℕ) (old new : MachineData) : Type 0 where
   pub uses : (k : ℕ) → slice_index_or new.uses k None ≡ slice_index_or old.uses k None
   pub more_uses : length new.uses ≡ length old.uses + 1
   pub marks : new.marks ≡ old.marks ++ true ∷ []
+  pub wide : new.wide ≡ old.wide
   pub rest : KeepsRest old new
 
 -- no part has one of these nodes as a member any more: the parts that had one have no group, and all other parts stay
@@ -75,6 +101,7 @@ pub record Clears (nodes : List ℕ) (old new : MachineData) : Type 0 where
   pub tidy : IsTidy old → IsTidy new
   pub count : length new.parts ≡ length old.parts
   pub marks : new.marks ≡ old.marks
+  pub wide : KeepsHeld old new
   pub rest : KeepsRest old new
 
 -- a group has a stale part with these members, which is marked; a part that had one of them has no group, and all other parts stay
@@ -91,6 +118,7 @@ pub record Renews (members : List ℕ) (old new : MachineData) : Type 0 where
   pub is_new : IsStalePartOf members part
   pub count : length old.parts ≤ length new.parts
   pub tidy : IsTidy old → IsTidy new
+  pub wide : KeepsHeld old new
   pub rest : KeepsRest old new
 
 -- one of these nodes is a member of the group
@@ -143,6 +171,7 @@ pub record RenewsAll (all : List Group) (nodes : List ℕ) (old new : MachineDat
   pub has : (group : Group) → Contains all group → HasAny nodes group → HasStale group.members new.parts
   pub count : length old.parts ≤ length new.parts
   pub tidy : IsTidy old → IsTidy new
+  pub wide : KeepsHeld old new
   pub rest : KeepsRest old new
 
 -- if a part has the node as a member, or no group has, nothing changes; else the node's group has a new stale part

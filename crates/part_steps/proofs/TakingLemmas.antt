@@ -1,12 +1,11 @@
--- The changes of a step are taken over one by one.
-use Rattle.std.proofs.Common.{◌≡◌, ◌≢◌, ℕ, zero, suc, ◌⊎◌, refl, ◌+◌, ◌<◌, inl, inr, List, [], ◌∷◌, ◌++◌, length, take, get_or, sym, ap, subst, ◌∙◌, arith}
-use Rattle.std.specs.Prelude.{Contains, slice_set}
+-- The changes of a step: of which node each is, and that they are taken over, some first and others after them.
+use Rattle.std.proofs.Common.{◌≡◌, ◌≢◌, ℕ, zero, suc, ◌⊎◌, refl, ◌<◌, inl, inr, List, [], ◌∷◌, ◌++◌, length, take, get_or, sym, ap, ◌∙◌, arith}
+use Rattle.std.specs.Prelude.{Contains}
 use Rattle.std.proofs.lemmas.Bool.{cases_eq}
-use Rattle.std.proofs.lemmas.List.{get_or-set_same, get_or-set_other, get_or-take, get_or-map, length-set, length-take, take_more}
-use Rattle.std.proofs.lemmas.List.Elements.{Contains-push, Contains-push_cases, Contains-append_left, Contains-append_right, Contains-append_cases}
+use Rattle.std.proofs.lemmas.List.{get_or-take, get_or-map, length-take}
+use Rattle.std.proofs.lemmas.List.Elements.{Contains-append_left, Contains-append_right, Contains-append_cases}
 use Rattle.smallvec.specs.SmallVec.{SmallVec}
 use Rattle.ternary.specs.declared.tern.Tern.{Tern}
-use Rattle.ternary.specs.declared.tern.Tern.TheVariants.{Zero}
 use Rattle.path_meaning.specs.Switching.{state_at}
 use Rattle.part_words.specs.declared.change.Change.{Change}
 use Rattle.machine_parts.specs.Running.{AreAgreed, IsTaken}
@@ -55,40 +54,6 @@ Contains-from_take n xs x (k, inside, here) =
     let first : k < n = omega (arith, inside, length-take n xs) in
     let within : k < length xs = omega (arith, inside, length-take n xs) in
     (k, within, sym (get_or-take n xs k x first) ∙ here)
-
--- one change more is taken over
-IsTaken-push : (all done : List Change) (change : Change) (old mid : List Tern) → AreAgreed all →
-    ((other : Change) → Contains (done ++ change ∷ []) other → Contains all other) → change.node < length mid →
-    IsTaken done old mid → IsTaken (done ++ change ∷ []) old (slice_set mid change.node change.value)
-IsTaken-push all done change old mid agreed among inside so_far = record {
-  count = length-set mid change.node change.value ∙ so_far.count;
-  taken = λ other there.
-      elim (cases_eq other.node change.node) [
-        | inl same ↦
-            let value = agreed change other (among change (Contains-push done change)) (among other there) (sym same) in
-            ap (state_at (slice_set mid change.node change.value)) same ∙ (get_or-set_same mid change.node change.value Zero inside ∙ value)
-        | inr differs ↦
-            elim (Contains-push_cases done change other there) [
-              | inl before ↦ get_or-set_other mid change.node other.node change.value Zero differs ∙ so_far.taken other before
-              | inr same ↦ absurd (differs (ap (λ (c : Change). c.node) (sym same)))
-            ]
-      ];
-  stays = λ node none.
-      let differs : node ≢ change.node = λ same. none change (Contains-push done change) (sym same) in
-      get_or-set_other mid change.node node change.value Zero differs
-      ∙ so_far.stays node (λ other before. none other (Contains-append_left done (change ∷ []) other before));
-}
-
-pub IsTaken-more : (changes : List Change) (i : ℕ) (change : Change) (old mid : List Tern) → AreAgreed changes → i < length changes →
-    change ≡ get_or changes i change → change.node < length mid → IsTaken (take i changes) old mid →
-    IsTaken (take (i + 1) changes) old (slice_set mid change.node change.value)
-IsTaken-more changes i change old mid agreed i_inside is inside so_far =
-    let more : take (i + 1) changes ≡ take i changes ++ change ∷ [] =
-    take_more changes i change i_inside ∙ ap (λ c. take i changes ++ c ∷ []) (sym is) in
-    let among : (other : Change) → Contains (take i changes ++ change ∷ []) other → Contains changes other =
-    λ other there. Contains-from_take (i + 1) changes other (subst (λ xs. Contains xs other) (sym more) there) in
-    subst (λ xs. IsTaken xs old (slice_set mid change.node change.value)) (sym more)
-    (IsTaken-push changes (take i changes) change old mid agreed among inside so_far)
 
 -- the readers of a node that are read by its index
 pub readers_read : (readers : List (SmallVec ℕ)) (node : ℕ) (found : SmallVec ℕ) → node < length readers → found ≡ get_or readers node found →

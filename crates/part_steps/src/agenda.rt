@@ -1,5 +1,5 @@
 //! Which parts are marked, and the list of those that can be evaluated.
-ghost use Rattle.std.specs.Prelude.{◌≡◌, ℕ, ◌<◌, ◌++◌, ◌∷◌, true, false, slice_set, slice_index_or, length, map, replicate, vec_capacity, [], All, Contains, IfOk, IfSome, OnOk, OnErr};
+ghost use Rattle.std.specs.Prelude.{◌≡◌, ℕ, ◌<◌, ◌↔◌, ◌+◌, ◌++◌, ◌∷◌, true, false, slice_set, slice_index_or, length, map, replicate, vec_capacity, [], All, Contains, IfOk, IfSome, OnOk, OnErr};
 ghost use Rattle.std.specs.List.{range_with_len};
 ghost use Rattle.std.specs.Bool.{OnTrue};
 ghost use Rattle.std.specs.Option.{IfNone};
@@ -46,6 +46,18 @@ impl Agenda {
         })
     }
 
+    /// So many parts that can be evaluated, and behind them so many that are stale and wait. All are marked.
+    pub fn with_stale(alloc: Global, ready: usize, stale: usize) -> Result<Agenda, AllocError>
+        ensures marks { IfOk result (λ agenda. agenda.marks ≡ replicate (ready + stale) true) }
+        ensures waiting { IfOk result (λ agenda. agenda.waiting ≡ replicate ready false ++ replicate stale true) }
+    {
+        let mut agenda = Agenda::all(alloc, ready)?;
+        for _part in 0..stale {
+            agenda.wait_more()?;
+        }
+        Ok(agenda)
+    }
+
     /// How many parts are marked.
     pub fn marked(&self) -> usize
         ensures { result ≡ count_marked self.now.marks }
@@ -77,17 +89,24 @@ impl Agenda {
         &self.waiters
     }
 
-    /// The parts that wait can be evaluated from now on. All marks stay.
-    pub fn rouse(&mut self)
+    /// These parts can be evaluated from now on, and those of the others that wait go on waiting. All marks stay.
+    pub fn rouse(&mut self, these: &[usize])
+        requires { All (λ k. k < length self.old.marks) these.now }
         ensures marks { self.new.marks ≡ self.old.marks }
-        ensures waiting { (k : ℕ) → ¬ IsMarked self.new.waiting k }
+        ensures waiting { (k : ℕ) → IsMarked self.new.waiting k ↔ (IsMarked self.old.waiting k × (¬ Contains these.now k)) }
     {
-        while let Some(k) = self.waiters.pop() {
-            if self.waits[k] {
-                self.waits[k] = false;
-                self.stale -= 1;
-                self.work.push_reserved(k);
-            }
+        self.release_all(these);
+        keep_waiting(&self.waits, &mut self.waiters);
+    }
+
+    // Lets these parts go on without waiting.
+    fn release_all(&mut self, these: &[usize])
+        requires { All (λ k. k < length self.old.marks) these.now }
+        ensures marks { self.new.marks ≡ self.old.marks }
+        ensures waiting { (k : ℕ) → IsMarked self.new.waiting k ↔ (IsMarked self.old.waiting k × (¬ Contains these.now k)) }
+    {
+        for &k in these {
+            self.release(k);
         }
     }
 
@@ -152,6 +171,22 @@ impl Agenda {
         self.waits.push_reserved(true);
         self.stale += 1;
         Ok(())
+    }
+}
+
+// Takes those parts out of a list that don't wait.
+fn keep_waiting(waits: &[bool], list: &mut Vec<usize>)
+    requires { All (λ k. k < length waits.now) list.old.items }
+    ensures all { (k : ℕ) → IsMarked waits.now k → Contains list.old.items k → Contains list.new.items k }
+    ensures inside { All (λ k. k < length waits.now) list.new.items }
+{
+    let mut place = 0;
+    while place < list.len() {
+        if waits[list[place]] {
+            place += 1;
+        } else {
+            list.swap_remove(place);
+        }
     }
 }
 

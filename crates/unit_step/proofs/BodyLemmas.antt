@@ -1,34 +1,72 @@
--- The body of a plan's parts: the machine that starts so fits the graph, and the texts of the graph's groups are those of its last build.
-use Rattle.std.proofs.Common.{◌≡◌, ℕ, zero, suc, List, [], ◌∷◌, length, map, Some, Result, Ok, Err, IfOk, Vec, Global, refl, sym, subst, ◌∙◌, ap}
-use Rattle.std.specs.Prelude.{Option, zip, slice_get}
+-- The body of a plan's parts: the machine that starts so is ready, and the texts of the graph's groups are those of its last build.
+use Rattle.std.proofs.Common.{◌≡◌, ℕ, zero, suc, ◌+◌, ◌<◌, ◌≤◌, true, false, inl, inr, List, [], ◌∷◌, ◌++◌, length, map, get_or, replicate, All, Some, None, Result, Ok, Err, IfOk, Vec, Global, refl, sym, subst, ◌∙◌, ap, arith, length-append}
+use Rattle.std.specs.Prelude.{◌↔◌, not, Option, zip, slice_get, slice_index}
 use Rattle.std.specs.List.{AllZip}
+use Rattle.std.specs.Option.{option_and_then}
+use Rattle.std.specs.declared.rc.Rc.{Rc}
+use Rattle.std.proofs.lemmas.List.{map-append, length-replicate}
+use Rattle.std.proofs.lemmas.List.Elements.{All-nil, All-append, All-filter}
+use Rattle.std.proofs.lemmas.Option.{same_Some, none-some, slice_get_within, get_or_from_slice_get, slice_get-get_or}
+use Rattle.std.proofs.lemmas.Slice.Zip.{AllZip-long}
 use Rattle.ternary.specs.declared.memory.NoMemory.{NoMemory}
 use Rattle.ternary.specs.declared.tern.Tern.{Tern}
-use Rattle.path_meaning.specs.Graphs.{GraphData, nodes}
-use Rattle.path_meaning.specs.Rails.{IsRailed, IsSound}
+use Rattle.path_meaning.specs.Graphs.{GraphData, IsWired, nodes}
+use Rattle.group_meaning.specs.Groups.{Group, IsGroup}
 use Rattle.channel_groups.specs.Grouping.{GroupsData}
 use Rattle.group_text.specs.Texts.{GroupTextData}
+use Rattle.straight_code.specs.Code.{CodeData}
 use Rattle.straight_code.specs.declared.part.Part.{Part}
+use Rattle.straight_code.specs.Parts as straight
 use Rattle.circuit_texts.specs.Parts as made
-use Rattle.circuit_texts.proofs.MemberLemmas.{AreMembers-from_groups}
+use Rattle.circuit_texts.specs.Told.{has_text, with_text, without_text}
+use Rattle.circuit_texts.specs.Reading.{AreReads}
+use Rattle.circuit_texts.proofs.PairedLists.{partner_first}
+use Rattle.circuit_texts.proofs.PartLemmas.{IsPart-from_group}
 use Rattle.kept_parts.specs.Uses.{UsesData, texts_used}
+use Rattle.kept_parts.specs.Coded.{AreCoded}
 use Rattle.machine_parts.specs.declared.part.HeldPart.{HeldPart}
+use Rattle.machine_parts.specs.Parts.{AreApart, IsStale}
+use Rattle.machine_parts.specs.Marking.{IsMarked}
+use Rattle.machine_parts.specs.Making.{held, IsFormed}
+use Rattle.machine_parts.proofs.MakingLemmas.{formed_parts, reads_inside}
+use Rattle.part_steps.specs.Dense.{HaveCodes}
+use Rattle.machine_laws.specs.Beginnings.{AreInOrder, HasLast}
+use Rattle.machine_laws.specs.Finishing.{IsFresh}
+use Rattle.machine_laws.specs.Holding.{IsReady}
+use Rattle.machine_laws.specs.Seating.{IsStalePartOf}
+use Rattle.machine_laws.proofs.LastingGroups.{HasLast-order}
+use Rattle.machine_laws.proofs.RenewingLemmas.{members_inside, members_once}
 use Rattle.unit_step.specs.declared.planning.Plan.{Plan}
 use Rattle.unit_step.specs.declared.body.Body.{Body}
-use Rattle.machine_parts.specs.Making.{held}
-use Rattle.unit_step.specs.Bodies.{started, of_body}
+use Rattle.unit_step.specs.Bodies.{started, of_body, AreLastStale}
 use Rattle.unit_step.specs.Planning.{IsPlan}
-use Rattle.machine_laws.specs.Fitting.{FitsGraph}
-use Rattle.machine_laws.specs.Beginnings.{AreInOrder, HasLast}
 use Rattle.unit_step.specs.Lasting.{texts_lasting}
-use Rattle.machine_parts.proofs.MakingLemmas.{apart_parts}
-use Rattle.unit_step.proofs.BuildLemmas.{fresh_parts, FitsGraph-started}
-use Rattle.machine_laws.proofs.LastingGroups.{HasLast-order}
-use Rattle.std.proofs.lemmas.Option.{same_Some, none-some}
-use Rattle.std.specs.declared.rc.Rc.{Rc}
-use Rattle.straight_code.specs.Code.{CodeData}
-use Rattle.kept_parts.specs.Coded.{AreCoded}
-use Rattle.part_steps.specs.Dense.{HaveCodes}
+use Rattle.unit_step.proofs.BuildLemmas.{append_cases, fresh_parts, lists_inside, numbers_counted, apart_started, last_stale, IsReady-started}
+
+-- just the last parts wait, which are the stale ones
+pub waits_last : (parts : List HeldPart) (stale ready : ℕ) → ready + stale ≡ length parts → AreLastStale stale parts →
+    (k : ℕ) → IsMarked (replicate ready false ++ replicate stale true) k ↔ IsStale parts k
+waits_last parts stale ready long last k = (
+  λ marked. (last.1 k).1 (inside (marked_at ready stale k marked)),
+  λ is. marked_from ready stale k (omega (arith, ((last.1 k).0 is).1, long)) (omega (arith, ((last.1 k).0 is).0, long)),
+)
+  where
+    inside : (ready ≤ k) × (k < ready + stale) → k < length parts × length parts ≤ k + stale
+    inside (late, below) = (omega (arith, below, long), omega (arith, late, long))
+
+    marked_at : (ready stale k : ℕ) → IsMarked (replicate ready false ++ replicate stale true) k → (ready ≤ k) × (k < ready + stale)
+    marked_at zero zero k marked = absurd cc
+    marked_at zero (suc stale) zero marked = (omega arith, omega arith)
+    marked_at zero (suc stale) (suc k) marked = let (late, below) = marked_at zero stale k marked in (omega arith, omega (arith, below))
+    marked_at (suc ready) stale zero marked = absurd cc
+    marked_at (suc ready) stale (suc k) marked = let (late, below) = marked_at ready stale k marked in (omega (arith, late), omega (arith, below))
+
+    marked_from : (ready stale k : ℕ) → ready ≤ k → k < ready + stale → IsMarked (replicate ready false ++ replicate stale true) k
+    marked_from zero zero k late below = absurd (omega (arith, below))
+    marked_from zero (suc stale) zero late below = refl
+    marked_from zero (suc stale) (suc k) late below = marked_from zero stale k (omega arith) (omega (arith, below))
+    marked_from (suc ready) stale zero late below = absurd (omega (arith, late))
+    marked_from (suc ready) stale (suc k) late below = marked_from ready stale k (omega (arith, late)) (omega (arith, below))
 
 -- the part that is held under a number has the code of the part with this number
 held_code : (parts : List Part) (reads : List (Vec ℕ Global)) (k : ℕ) (one : HeldPart) → slice_get (map held (zip parts reads)) k ≡ Some one →
@@ -49,19 +87,141 @@ HaveCodes-held numbers parts reads are = record {
       are.each k n one number_is there ∙ ap (λ (shared : Rc CodeData Global). Some shared.value) same;
 }
 
--- a machine that starts with the parts of a plan fits the graph, whatever its last texts were
-pub FitsGraph-planned : (g : GraphData) (plan : Plan) → IsPlan g plan.state.items plan → length plan.state.items ≡ nodes g → IsRailed g →
-    IsSound plan.state.items → (parts : List Part) → AllZip (made.IsPartOf g) plan.groups.groups parts → (all : List HeldPart) →
-    all ≡ map held (zip parts plan.reads.items) → (last : List GroupTextData) (spare : ℕ) →
-    FitsGraph g (started (Some plan.groups) all plan.state.items (texts_used plan.uses) last spare)
-FitsGraph-planned g plan is_plan counted railed sound parts of all all_are last spare =
-    let groups = plan.groups.groups in
-    let reads = plan.reads.items in
-    let fresh = fresh_parts g groups is_plan.are.are.each parts reads of is_plan.reads in
-    let apart = apart_parts parts reads (AreMembers-from_groups g groups is_plan.are.are parts of).once in
-    rw all_are
-    (FitsGraph-started g groups (map held (zip parts reads)) fresh plan.groups refl is_plan.are is_plan.fit apart plan.state.items counted railed sound
-    (texts_used plan.uses) is_plan.texts last spare)
+-- and so with stale parts behind, which have no number
+HaveCodes-behind : (numbers : List (Option ℕ)) (n : ℕ) (front behind : List HeldPart) → length front ≡ length numbers →
+    All (λ (part : HeldPart). part.code ≡ None) behind → HaveCodes numbers front → HaveCodes (numbers ++ replicate n None) (front ++ behind)
+HaveCodes-behind numbers n front behind long stale have = record {
+  codes = have.codes;
+  each = λ k m part code number_is part_is has.
+      elim (append_cases front behind k part part_is) [
+        | inl at ↦
+            have.each k m part code
+            (front_number numbers (replicate n None) k (Some m) (omega (arith, slice_get_within front k part at, long)) number_is) at has
+        | inr (j, place, at) ↦
+            let none = subst (λ (one : HeldPart). one.code ≡ None) (get_or_from_slice_get behind j part part at) (stale j part (slice_get_within behind j part at)) in
+            let both : None ≡ Some code = sym none ∙ has in
+            absurd cc
+      ];
+}
+  where
+    front_number : (xs ys : List (Option ℕ)) (k : ℕ) (x : Option ℕ) → k < length xs → slice_get (xs ++ ys) k ≡ Some x → slice_get xs k ≡ Some x
+    front_number [] ys k x inside at = absurd (omega (arith, inside))
+    front_number (y ∷ xs) ys zero x inside at = at
+    front_number (y ∷ xs) ys (suc k) x inside at = front_number xs ys k x (omega (arith, inside)) at
+
+-- numbers with none behind them are those of texts with none behind them
+used_behind : (known : List GroupTextData) (numbers : List (Option ℕ)) (n : ℕ) →
+    texts_used (record { known = known; numbers = numbers ++ replicate n None }) ≡ texts_used (record { known = known; numbers = numbers }) ++ replicate n None
+used_behind known numbers n =
+    map-append (option_and_then (slice_get known)) numbers (replicate n None) ∙ ap (λ rest. map (option_and_then (slice_get known)) numbers ++ rest) (none n)
+  where
+    none : (n : ℕ) → map (option_and_then (slice_get known)) (replicate n None) ≡ replicate n None
+    none zero = refl
+    none (suc n) = ap (λ rest. None ∷ rest) (none n)
+
+-- the part of a group without a text is formed
+stale_formed : (g : GraphData) (groups : List Group) → All (IsGroup g) groups → (parts : List HeldPart) →
+    AllZip (λ group part. IsStalePartOf group.members part) groups parts → All (IsFormed (nodes g)) parts
+stale_formed g groups each parts stale k d inside =
+    let part = get_or parts k d in
+    let at : slice_get parts k ≡ Some part = slice_get-get_or parts k d inside in
+    let (group, group_at, is) = partner_first (λ group part. IsStalePartOf group.members part) groups parts k part stale at in
+    let is_group : IsGroup g group = subst (IsGroup g) (get_or_from_slice_get groups k group group group_at) (each k group (slice_get_within groups k group group_at)) in
+    record {
+      below = subst (All (λ node. node < nodes g)) (sym is.map) (members_inside g group is_group);
+      members = omega (arith, is.members, ap length is.map);
+      apart = subst (λ list. (i j : ℕ) → i < length list → j < length list → slice_index list i ≡ slice_index list j → i ≡ j) (sym is.map) (members_once g group is_group);
+      inputs = λ code has. absurd (none_coded part code is.code has);
+      outputs = λ code has. absurd (none_coded part code is.code has);
+    }
+  where
+    none_coded : (part : HeldPart) (code : Rc CodeData Global) → part.code ≡ None → part.code ≡ Some code → ⊥
+    none_coded part code none has =
+        let both : None ≡ Some code = sym none ∙ has in
+        absurd cc
+
+module _ (large : ℕ) (g : GraphData) (wired : IsWired g) (plan : Plan) (is_plan : IsPlan large g plan.state.items plan) (parts : List Part)
+    (of : AllZip (made.IsPartOf g) (with_text plan.groups.groups) parts) (behind : List HeldPart)
+    (stale : AllZip (λ group part. IsStalePartOf group.members part) (without_text plan.groups.groups) behind) where
+  abbrev told_groups : List Group
+  told_groups = with_text plan.groups.groups
+
+  abbrev front : List HeldPart
+  front = map held (zip parts plan.reads.items)
+
+  each_told : All (IsGroup g) told_groups
+  each_told = All-filter has_text (IsGroup g) plan.groups.groups is_plan.are.are.each
+
+  each_large : All (IsGroup g) (without_text plan.groups.groups)
+  each_large = All-filter (λ group. not (has_text group)) (IsGroup g) plan.groups.groups is_plan.are.are.each
+
+  front_fresh : AllZip (IsFresh g) told_groups front
+  front_fresh = fresh_parts g told_groups each_told parts plan.reads.items of is_plan.reads
+
+  is_stale : (k : ℕ) (d : HeldPart) → k < length behind → (members : List ℕ) × IsStalePartOf members (get_or behind k d)
+  is_stale k d inside =
+      let (group, at, is) = partner_first (λ group part. IsStalePartOf group.members part) (without_text plan.groups.groups) behind k (get_or behind k d) stale
+      (slice_get-get_or behind k d inside) in
+      (group.members, is)
+
+  reads_counted : length plan.reads.items ≡ length parts
+  reads_counted =
+      AllZip-long (λ group list. AreReads g group list.items) told_groups plan.reads.items is_plan.reads ∙ sym (AllZip-long (made.IsPartOf g) told_groups parts of)
+
+  front_counted : length front ≡ length plan.uses.numbers
+  front_counted =
+      AllZip-long (IsFresh g) told_groups front front_fresh ∙ sym (numbers_counted large g plan.state.items plan is_plan)
+
+  -- the parts fit the graph
+  pub formed_planned : All (IsFormed (nodes g)) (front ++ behind)
+  formed_planned =
+      let fits : All (straight.IsPart (nodes g)) parts = λ k d inside.
+      let part = get_or parts k d in
+      let (group, at, is) = partner_first (made.IsPartOf g) told_groups parts k part of (slice_get-get_or parts k d inside) in
+      let is_group : IsGroup g group = subst (IsGroup g) (get_or_from_slice_get told_groups k group group at) (each_told k group (slice_get_within told_groups k group at)) in
+      IsPart-from_group g wired group is_group part is in
+      All-append (IsFormed (nodes g)) front behind (formed_parts (nodes g) parts plan.reads.items fits)
+      (stale_formed g (without_text plan.groups.groups) each_large behind stale)
+
+  pub apart_planned : AreApart (front ++ behind)
+  apart_planned = apart_started g plan.groups is_plan.are front behind front_fresh stale
+
+  pub reads_planned : All (λ (part : HeldPart). All (λ node. node < nodes g) part.reads.items) (front ++ behind)
+  reads_planned =
+      All-append (λ (part : HeldPart). All (λ node. node < nodes g) part.reads.items) front behind
+      (reads_inside (nodes g) parts plan.reads.items (lists_inside g wired told_groups plan.reads.items is_plan.reads))
+      (λ k d inside. subst (All (λ node. node < nodes g)) (sym (is_stale k d inside).1.reads) (All-nil (λ node. node < nodes g)))
+
+  pub coded_planned : AreCoded plan.uses.numbers parts → HaveCodes (plan.uses.numbers ++ replicate (length behind) None) (front ++ behind)
+  coded_planned coded =
+      HaveCodes-behind plan.uses.numbers (length behind) front behind front_counted (λ k d inside. (is_stale k d inside).1.code)
+      (HaveCodes-held plan.uses.numbers parts plan.reads.items coded)
+
+  pub numbered_planned : length (plan.uses.numbers ++ replicate (length behind) None) ≡ length (front ++ behind)
+  numbered_planned =
+      omega (
+        arith,
+        length-append plan.uses.numbers (replicate (length behind) None),
+        length-replicate {A = Option ℕ} (length behind) None,
+        length-append front behind,
+        front_counted,
+      )
+
+  pub stale_planned : AreLastStale (length behind) (front ++ behind)
+  stale_planned = last_stale g plan.groups is_plan.are front behind front_fresh stale
+
+  -- a machine that starts with them is ready, whatever its last texts were
+  pub IsReady-planned : length plan.state.items ≡ nodes g → (uses : UsesData) → uses.known ≡ plan.uses.known →
+      uses.numbers ≡ plan.uses.numbers ++ replicate (length behind) None → (last : List GroupTextData) (spare : ℕ) →
+      IsReady g (started (Some plan.groups) (front ++ behind) plan.state.items (texts_used uses) last spare)
+  IsReady-planned counted uses known_are numbers_are last spare =
+      IsReady-started g plan.groups is_plan.are front behind front_fresh stale plan.state.items counted (texts_used uses)
+      (ap (λ (one : UsesData). texts_used one) (uses_same uses known_are numbers_are)
+      ∙ (used_behind plan.uses.known plan.uses.numbers (length behind) ∙ ap (λ texts. texts ++ replicate (length behind) None) is_plan.texts)) last spare
+    where
+      uses_same : (uses : UsesData) → uses.known ≡ plan.uses.known → uses.numbers ≡ plan.uses.numbers ++ replicate (length behind) None →
+          uses ≡ record { known = plan.uses.known; numbers = plan.uses.numbers ++ replicate (length behind) None }
+      uses_same uses known_are numbers_are = λ i. record { known = known_are i; numbers = numbers_are i }
 
 -- the machine that starts with a body of these parts, in this state and with these texts
 pub of_body-of : (groups : Option GroupsData) (parts : Vec HeldPart Global) (state : Vec Tern Global) (uses : UsesData) (body : Body) →
@@ -71,15 +231,15 @@ of_body-of groups parts state uses body groups_are parts_are state_is uses_are s
     started (groups_are i) (parts_are i).items (state_is i).items (texts_used (uses_are i)) (texts_lasting (uses_are i).known body.lasting) spare
 
 module _ (g : GraphData) (groups : Option GroupsData) (parts : Vec HeldPart Global) (state : Vec Tern Global) (uses : UsesData)
-    (fits : (last : List GroupTextData) (spare : ℕ) → FitsGraph g (started groups parts.items state.items (texts_used uses) last spare)) where
-  -- so it does with a body of them
-  pub FitsGraph-of_body : (result : Result Body NoMemory) → IfOk result (λ body. body.groups ≡ groups) → IfOk result (λ body. body.parts ≡ parts) →
+    (ready : (last : List GroupTextData) (spare : ℕ) → IsReady g (started groups parts.items state.items (texts_used uses) last spare)) where
+  -- so it is with a body of them
+  pub IsReady-of_body : (result : Result Body NoMemory) → IfOk result (λ body. body.groups ≡ groups) → IfOk result (λ body. body.parts ≡ parts) →
       IfOk result (λ body. body.state ≡ state) → IfOk result (λ body. body.uses ≡ uses) →
-      IfOk result (λ body. (spare : ℕ) → FitsGraph g (of_body body spare))
-  FitsGraph-of_body (Ok body) groups_are parts_are state_is uses_are = λ spare.
-      subst (FitsGraph g) (sym (of_body-of groups parts state uses body groups_are parts_are state_is uses_are spare))
-      (fits (texts_lasting uses.known body.lasting) spare)
-  FitsGraph-of_body (Err fault) groups_are parts_are state_is uses_are = tt
+      IfOk result (λ body. (spare : ℕ) → IsReady g (of_body body spare))
+  IsReady-of_body (Ok body) groups_are parts_are state_is uses_are = λ spare.
+      subst (IsReady g) (sym (of_body-of groups parts state uses body groups_are parts_are state_is uses_are spare))
+      (ready (texts_lasting uses.known body.lasting) spare)
+  IsReady-of_body (Err fault) groups_are parts_are state_is uses_are = tt
 
   -- and the last texts are those of the groups
   pub HasLast-of_body : (result : Result Body NoMemory) → IfOk result (λ body. body.uses ≡ uses) →
@@ -87,6 +247,7 @@ module _ (g : GraphData) (groups : Option GroupsData) (parts : Vec HeldPart Glob
       IfOk result (λ body. HasLast g (texts_lasting body.uses.known body.lasting))
   HasLast-of_body (Ok body) uses_are order =
       let last = texts_lasting uses.known body.lasting in
+      let one = ready last 0 in
       subst (λ (one : UsesData). HasLast g (texts_lasting one.known body.lasting)) (sym uses_are)
-      (HasLast-order g (started groups parts.items state.items (texts_used uses) last 0) (fits last 0) refl last order)
+      (HasLast-order g (started groups parts.items state.items (texts_used uses) last 0) one.covers one.untold last order)
   HasLast-of_body (Err fault) uses_are order = tt

@@ -1,32 +1,28 @@
--- A machine that covers a graph and has no stale part fits the graph: it counts the distinct texts of the graph's groups.
-use Rattle.std.proofs.Common.{◌≡◌, ◌≢◌, ℕ, zero, suc, ◌<◌, Bool, true, false, ◌||◌, inl, inr, List, [], ◌∷◌, length, map, filter, get_or, All, Option, Some, None, refl, sym, ap, subst, ◌∙◌, append-nil, arith}
-use Rattle.std.specs.Prelude.{Contains, slice_get, slice_index_or}
+-- A machine whose stale parts are those of groups without a text counts the distinct texts of the graph's groups.
+use Rattle.std.proofs.Common.{◌≡◌, ◌≢◌, ℕ, zero, suc, ◌<◌, Bool, true, false, ◌||◌, inl, inr, ◌⊎◌, List, [], ◌∷◌, length, map, get_or, Option, Some, None, refl, sym, ap, subst, ◌∙◌, arith}
+use Rattle.std.specs.Prelude.{slice_get, slice_index_or}
 use Rattle.std.proofs.lemmas.Bool.{cases_lt}
 use Rattle.std.proofs.lemmas.List.{get_or_default}
-use Rattle.std.proofs.lemmas.Option.{slice_get_read}
-use Rattle.smallvec.specs.SmallVec.{SmallVec}
+use Rattle.std.proofs.lemmas.Option.{slice_get_read, slice_get_within, get_or_from_slice_get}
 use Rattle.path_meaning.specs.Graphs.{GraphData}
-use Rattle.path_meaning.specs.Rails.{IsRailed, IsSound}
 use Rattle.group_meaning.specs.Groups.{Group}
 use Rattle.group_meaning.proofs.UniqueGroups.{unique}
 use Rattle.group_text.specs.Texts.{GroupTextData, text_of_group}
 use Rattle.group_text.specs.Compared.{same_text, same_text_decides}
-use Rattle.group_text.specs.FirstTexts.{is_among, first_texts, new_texts}
+use Rattle.group_text.specs.FirstTexts.{is_among, first_texts}
 use Rattle.circuit_texts.specs.Sizes.{fault_in}
-use Rattle.circuit_texts.specs.Building.{Fills}
+use Rattle.circuit_texts.specs.Told.{has_text, with_text, told}
+use Rattle.circuit_texts.proofs.ToldLemmas.{text_from_fit, fit_from_text}
 use Rattle.kept_parts.specs.Uses.{some_texts, count_distinct}
 use Rattle.kept_parts.proofs.PlaceLemmas.{or_true}
 use Rattle.machine_parts.specs.declared.part.HeldPart.{HeldPart}
 use Rattle.machine_parts.specs.Parts.{Stands}
 use Rattle.machine_laws.specs.Machines.{MachineData}
-use Rattle.machine_parts.specs.Marking.{IsMarked}
-use Rattle.machine_parts.specs.Evaluating.{Rooms}
-use Rattle.machine_parts.specs.Running.{IsRunnable}
-use Rattle.machine_laws.specs.Fitting.{Covers, FitsGraph, IsKeptBy}
-use Rattle.machine_laws.specs.Editing.{Rouses}
+use Rattle.machine_laws.specs.Fitting.{IsPartOf, Covers, AreUntold}
+use Rattle.machine_laws.specs.Holding.{IsReady}
+use Rattle.machine_laws.proofs.FilterLemmas.{filter_has, filter_keeps}
 use Rattle.machine_laws.proofs.KeptLemmas.{group_there}
-use Rattle.machine_laws.proofs.FinishingTexts.{new_texts-waiting, same_distinct}
-use Rattle.machine_laws.proofs.PartGroups.{some_members}
+use Rattle.machine_laws.proofs.FinishingTexts.{same_distinct}
 
 -- the text of a part is among those of the parts that have one
 pub among_some : (uses : List (Option GroupTextData)) (k : ℕ) (text : GroupTextData) → slice_index_or uses k None ≡ Some text →
@@ -83,35 +79,47 @@ both_ways true b to back = sym (to refl)
 both_ways false true to back = back refl
 both_ways false false to back = refl
 
--- no part of the machine is stale
-abbrev pub AllCoded : MachineData → Type 0
-AllCoded m = (k : ℕ) (part : HeldPart) → Stands m.parts k part → 0 < part.members → part.code ≢ None
+-- a part has code or has none
+code_or_none : (part : HeldPart) → (part.code ≢ None) ⊎ (part.code ≡ None)
+code_or_none part = by part.code
+  where
+    by : {X : Type 0} (found : Option X) → (found ≢ None) ⊎ (found ≡ None)
+    by None = inr refl
+    by (Some x) = inl (λ is. absurd cc)
 
--- if no part waits none is stale
-pub none_stale : (parts : List HeldPart) (marks waiting : List Bool) (count : ℕ) (lists : List (SmallVec ℕ)) (room : Rooms) →
-    IsRunnable parts marks waiting count lists room → ((k : ℕ) → ¬ IsMarked waiting k) → (k : ℕ) (part : HeldPart) → Stands parts k part →
-    0 < part.members → part.code ≢ None
-none_stale parts marks waiting count lists room runs none k part stands some is =
-    none k (runs.stale k (record { part = part; stands = stands; some = some; none = is }))
+module _ (g : GraphData) (m : MachineData) (covers : Covers g m) (untold : AreUntold g m.parts) where
+  abbrev told_groups : List Group
+  told_groups = with_text covers.groups.groups
 
-module _ (g : GraphData) (m : MachineData) (covers : Covers g m) (coded : AllCoded m) where
+  -- a part of a group with a text has code
+  coded_told : (k : ℕ) (part : HeldPart) (group : Group) → Stands m.parts k part → IsPartOf g group part → fault_in group ≡ None → part.code ≢ None
+  coded_told k part group stands is_part fits none = untold k part group stands none is_part fits
+
   -- the parts' texts are the groups' texts
-  pub same_texts : (text : GroupTextData) → is_among (some_texts m.uses) text ≡ is_among (map (text_of_group g) covers.groups.groups) text
+  pub same_texts : (text : GroupTextData) → is_among (some_texts m.uses) text ≡ is_among (told g covers.groups.groups) text
   same_texts text = both_ways _ _ to back
     where
-      to : is_among (some_texts m.uses) text ≡ true → is_among (map (text_of_group g) covers.groups.groups) text ≡ true
+      to : is_among (some_texts m.uses) text ≡ true → is_among (told g covers.groups.groups) text ≡ true
       to is =
           let (k, inside, here) = some_part m.uses text is in
           let within : k < length m.parts = omega (arith, inside, covers.uses_counted) in
           let (part, stands) = part_at m.parts k within in
           elim (cases_lt 0 part.members) [
             | inl some ↦
-                let (group, is_part) = covers.whole k part stands some in
-                let has = covers.known k part stands (coded k part stands some) group is_part in
-                let same : Some (text_of_group g group) ≡ Some text = sym has.same ∙ here in
-                let is_text : text_of_group g group ≡ text = cc in
-                let (i, there, at) = group_there g covers.groups.groups covers.are.are group is_part.is_group in
-                subst (λ one. is_among (map (text_of_group g) covers.groups.groups) one ≡ true) is_text (among_groups g covers.groups.groups i group at)
+                elim (code_or_none part) [
+                  | inl coded ↦
+                      let (group, is_part) = covers.whole k part stands some in
+                      let has = covers.known k part stands coded group is_part in
+                      let same : Some (text_of_group g group) ≡ Some text = sym has.same ∙ here in
+                      let is_text : text_of_group g group ≡ text = cc in
+                      let (n, there, at_all) = group_there g covers.groups.groups covers.are.are group is_part.is_group in
+                      let (i, within, at) = filter_keeps has_text covers.groups.groups group (n, there, get_or_from_slice_get covers.groups.groups n group group at_all) (text_from_fit group has.fits) in
+                      subst (λ one. is_among (told g covers.groups.groups) one ≡ true) is_text
+                      (among_groups g told_groups i group (slice_get_read told_groups (length told_groups) i group refl within (sym at)))
+                  | inr none ↦
+                      let no : None ≡ Some text = sym (covers.textless k part stands (inr none)) ∙ here in
+                      absurd cc
+                ]
             | inr none ↦
                 let no : None ≡ Some text = sym (covers.textless k part stands (inl (omega (arith, none)))) ∙ here in
                 absurd cc
@@ -121,69 +129,21 @@ module _ (g : GraphData) (m : MachineData) (covers : Covers g m) (coded : AllCod
           part_at [] k inside = absurd (omega (arith, inside))
           part_at (part ∷ parts) k inside = (get_or (part ∷ parts) k part, record { inside = inside; here = get_or_default (part ∷ parts) k _ part inside })
 
-      back : is_among (map (text_of_group g) covers.groups.groups) text ≡ true → is_among (some_texts m.uses) text ≡ true
+      back : is_among (told g covers.groups.groups) text ≡ true → is_among (some_texts m.uses) text ≡ true
       back is =
-          let (i, group, at, is_text) = some_group g covers.groups.groups text is in
-          let has = covers.each i group at in
-          let known = covers.known has.k has.part has.stands (coded has.k has.part has.stands (some_members has.is_part)) group has.is_part in
+          let (i, group, at, is_text) = some_group g told_groups text is in
+          let ((n, within, here), has_one) = filter_has has_text covers.groups.groups group (i, slice_get_within told_groups i group at, get_or_from_slice_get told_groups i group group at) in
+          let has = covers.each n group (slice_get_read covers.groups.groups (length covers.groups.groups) n group refl within (sym here)) in
+          let coded = coded_told has.k has.part group has.stands has.is_part (fit_from_text group has_one) in
+          let known = covers.known has.k has.part has.stands coded group has.is_part in
           among_some m.uses has.k text (known.same ∙ ap Some is_text)
 
-  pub FitsGraph-covered : m.texts ≡ count_distinct m.uses → IsRailed g → IsSound m.state → FitsGraph g m
-  FitsGraph-covered counts railed sound = record {
+  -- so the machine is ready
+  pub IsReady-covered : m.texts ≡ count_distinct m.uses → IsReady g m
+  IsReady-covered counts = record {
     covers = covers;
-    coded = λ none. coded;
-    railed = railed;
-    sound = sound;
-    texts = λ none groups are.
-        counts ∙ (same_distinct (some_texts m.uses) (map (text_of_group g) covers.groups.groups) same_texts
-        ∙ ap (λ list. length (first_texts (map (text_of_group g) list))) (unique g covers.groups.groups groups covers.are.are are));
-  }
-
-  -- no group is too large
-  all_fit : All (λ group. fault_in group ≡ None) covers.groups.groups
-  all_fit i d inside =
-      let group = get_or covers.groups.groups i d in
-      let at : slice_get covers.groups.groups i ≡ Some group = slice_get_read covers.groups.groups (length covers.groups.groups) i group refl inside (get_or_default covers.groups.groups i d group inside) in
-      let has = covers.each i group at in
-      (covers.known has.k has.part has.stands (coded has.k has.part has.stands (some_members has.is_part)) group has.is_part).fits
-
-  -- and where all texts are kept, none is new
-  pub Fills-none : (kept analysed : List GroupTextData) → IsKeptBy g kept m → Fills g kept kept analysed analysed 0
-  Fills-none kept analysed known = record {
-    fresh = [];
-    news = record {
-      texts = map (text_of_group g) covers.groups.groups;
-      has = record { groups = covers.groups.groups; are = covers.are.are; fit = all_fit; texts_are = refl };
-      fresh_are = sym (new_texts-waiting (text_of_group g) (λ group. false) kept covers.groups.groups old
-          ∙ ap (λ list. new_texts kept (map (text_of_group g) list)) (none_left covers.groups.groups));
-    };
-    kept = sym (append-nil kept);
-    analysed = sym (append-nil analysed);
-    number = refl;
-  }
-    where
-      old : (group : Group) → Contains covers.groups.groups group → false ≡ false → is_among kept (text_of_group g group) ≡ true
-      old group (i, inside, here) same =
-          let at : slice_get covers.groups.groups i ≡ Some group = slice_get_read covers.groups.groups (length covers.groups.groups) i group refl inside (sym here) in
-          let has = covers.each i group at in
-          known has.k has.part has.stands (coded has.k has.part has.stands (some_members has.is_part)) group has.is_part
-
-      none_left : (groups : List Group) → filter (λ group. false) groups ≡ []
-      none_left [] = refl
-      none_left (group ∷ groups) = none_left groups
-
-  -- so there is nothing to give
-  pub Rouses-coded : m.texts ≡ count_distinct m.uses → IsRailed g → IsSound m.state → Rouses g m m
-  Rouses-coded counts railed sound = record {
-    fits = FitsGraph-covered counts railed sound;
-    last = refl;
-    still = record {
-      groups = refl;
-      parts = λ k part stands some. stands;
-      marks = refl;
-      state = refl;
-      moves = refl;
-      placed = refl;
-      wide = refl;
-    };
+    untold = untold;
+    texts = λ groups are.
+        counts ∙ (same_distinct (some_texts m.uses) (told g covers.groups.groups) same_texts
+        ∙ ap (λ list. length (first_texts (told g list))) (unique g covers.groups.groups groups covers.are.are are));
   }

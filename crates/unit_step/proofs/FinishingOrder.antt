@@ -1,26 +1,38 @@
 -- What a finish leaves of what is kept is what a build leaves, with the texts of the last build in front: what it has analysed stands behind, and
 -- is among the present texts.
-use Rattle.std.proofs.Common.{None, ◌≡◌, ℕ, Bool, true, false, not, inl, inr, List, ◌++◌, length, map, get_or, All, Option, refl, sym, ap, subst, ◌∙◌, arith, length-append}
+use Rattle.std.proofs.Common.{None, Some, ◌≡◌, ℕ, Bool, true, false, not, inl, inr, List, ◌++◌, length, get_or, All, Option, refl, sym, ap, subst, ◌∙◌, arith, length-append}
 use Rattle.std.proofs.lemmas.List.{get_or_append_left}
 use Rattle.std.proofs.lemmas.List.Elements.{All-filter, All-weaker, filter_passes}
 use Rattle.path_meaning.specs.Graphs.{GraphData}
+use Rattle.path_meaning.specs.Rails.{IsRailed, IsSound}
+use Rattle.group_meaning.specs.Groups.{Group, AreGroups, id_of}
 use Rattle.group_meaning.proofs.UniqueGroups.{unique}
-use Rattle.group_text.specs.Texts.{GroupTextData, text_of_group}
+use Rattle.group_text.specs.Texts.{GroupTextData}
 use Rattle.group_text.specs.FirstTexts.{is_among, first_texts, new_texts}
 use Rattle.group_analysis.specs.Using.{used_texts, kept_after}
 use Rattle.analysis_cache.proofs.NewTextLemmas.{is_among-first, is_among-kept, is_among-themselves}
 use Rattle.analysis_cache.proofs.OrderLemmas.{kept_after-fresh, new_texts-used, used-append_new}
+use Rattle.circuit_texts.specs.Sizes.{NoneRefused}
+use Rattle.circuit_texts.specs.Told.{without_text, told}
 use Rattle.circuit_texts.specs.Building.{HasTexts, Builds, Fills, BuildsSome, IsCutOff}
 use Rattle.kept_parts.specs.Uses.{some_texts}
 use Rattle.kept_parts.proofs.PlaceLemmas.{or_true}
-use Rattle.machine_laws.specs.Machines.{MachineData}
-use Rattle.machine_laws.specs.Fitting.{FitsGraph}
-use Rattle.machine_laws.specs.Editing.{Finishes, Rouses}
+use Rattle.machine_parts.specs.declared.part.HeldPart.{HeldPart}
+use Rattle.machine_parts.specs.Parts.{Stands}
+use Rattle.machine_laws.specs.Machines.{MachineData, groups_in}
+use Rattle.machine_laws.specs.Fitting.{IsPartOf, Covers, FitsGraph}
+use Rattle.vicinity.specs.Wides.{WideData}
+use Rattle.wide_groups.specs.Staying.{HoldsNode}
+use Rattle.machine_laws.specs.Editing.{KeepsCoded, Finishes, Rouses}
 use Rattle.machine_laws.specs.Beginnings.{AreInOrder, HasLast}
 use Rattle.unit_step.specs.Lasting.{IsLeft}
-use Rattle.machine_laws.proofs.KeptLemmas.{among_more}
+use Rattle.unit_step.specs.Holding.{IsHolding, HoldsNext, wide_after}
+use Rattle.unit_step.specs.Waking.{Wakes}
+use Rattle.unit_step.specs.declared.holding.Holding.{Holding}
+use Rattle.machine_laws.proofs.KeptLemmas.{among_more, stale_untold}
 use Rattle.unit_step.proofs.FinishingFits.{same_texts}
 use Rattle.machine_laws.proofs.LastingGroups.{HasLast-order, FitsGraph-last}
+use Rattle.unit_step.proofs.HoldingLemmas.{FitsGraph-after, next_anew, next_known, untold_part}
 
 -- what holds of each of some items holds of each of a prefix of them
 all_front : {X : Type 0} (P : X → Type 0) (xs ys : List X) → All P (xs ++ ys) → All P xs
@@ -46,10 +58,10 @@ module _ (kept texts : List GroupTextData) where
       All-weaker (λ text. not (is_among kept text) ≡ true) (λ text. is_among kept text ≡ false) (λ text is. not_among (is_among kept text) is)
       (new_texts kept texts) (filter_passes (λ text. not (is_among kept text)) (first_texts texts))
 
-module _ (g : GraphData) (last kept : List GroupTextData) (there : All (λ text. is_among kept text ≡ true) last) where
+module _ (large : ℕ) (g : GraphData) (last kept : List GroupTextData) (there : All (λ text. is_among kept text ≡ true) last) where
   -- the same is new where the texts of the last build are in front
-  cut_off_some : (now before after : List GroupTextData) → BuildsSome g kept now before after →
-      BuildsSome g (used_texts last kept) (used_texts last now) before after
+  cut_off_some : (now before after : List GroupTextData) → BuildsSome large g kept now before after →
+      BuildsSome large g (used_texts last kept) (used_texts last now) before after
   cut_off_some now before after some =
       let texts = some.news.texts in
       let none : All (λ text. is_among kept text ≡ false) some.more =
@@ -68,15 +80,15 @@ module _ (g : GraphData) (last kept : List GroupTextData) (there : All (λ text.
       }
 
   -- so a build that was cut off was, with these texts in front
-  pub IsCutOff-used : (now before after : List GroupTextData) → IsCutOff g kept now before after →
-      IsCutOff g (used_texts last kept) (used_texts last now) before after
+  pub IsCutOff-used : (now before after : List GroupTextData) → IsCutOff large g kept now before after →
+      IsCutOff large g (used_texts last kept) (used_texts last now) before after
   IsCutOff-used now before after cut =
       elim cut [
         | inl (same, told) ↦ inl (ap (used_texts last) same, told)
         | inr some ↦ inr (cut_off_some now before after some)
       ]
 
-  module _ (filled before after : List GroupTextData) (count : ℕ) (fills : Fills g kept filled before after count) where
+  module _ (filled before after : List GroupTextData) (count : ℕ) (fills : Fills large g kept filled before after count) where
     -- the texts of the last build are kept still
     pub last_filled : All (λ text. is_among filled text ≡ true) last
     last_filled =
@@ -84,20 +96,20 @@ module _ (g : GraphData) (last kept : List GroupTextData) (there : All (λ text.
         (λ text is. ap (λ texts. is_among texts text) fills.kept ∙ among_more kept fills.fresh text is) last there
 
     -- and all texts of the machine's parts are
-    pub used_filled : (m : MachineData) → m.wide ≡ None → FitsGraph g m → All (λ text. is_among filled text ≡ true) (some_texts m.uses)
-    used_filled m none fits i d inside =
+    pub used_filled : (m : MachineData) → FitsGraph g m → All (λ text. is_among filled text ≡ true) (some_texts m.uses)
+    used_filled m fits i d inside =
         let texts = fills.news.texts in
         let text = get_or (some_texts m.uses) i d in
         let all = unique g fits.covers.groups.groups fills.news.has.groups fits.covers.are.are fills.news.has.are in
         let present : is_among texts text ≡ true =
-        ap (λ list. is_among list text) (fills.news.has.texts_are ∙ ap (map (text_of_group g)) (sym all))
-        ∙ (sym (same_texts g m fits.covers (fits.coded none) text) ∙ is_among-themselves (some_texts m.uses) i d inside) in
+        ap (λ list. is_among list text) (fills.news.has.texts_are ∙ ap (told g) (sym all))
+        ∙ (sym (same_texts g m fits.covers (stale_untold g m fits) text) ∙ is_among-themselves (some_texts m.uses) i d inside) in
         ap (λ list. is_among list text) (fills.kept ∙ ap (λ fresh. kept ++ fresh) fills.news.fresh_are)
         ∙ (is_among-kept kept texts text ∙ or_true (is_among kept text) (is_among texts text) present)
 
     -- once the texts that left were used, and what is past the bound was cut, the build is done
     pub Builds-left : (bound : Option ℕ) (present now : List GroupTextData) → HasLast g present → IsLeft bound last filled present now →
-        Builds g bound (used_texts last kept) (used_texts present now) before after count
+        Builds large g bound (used_texts last kept) (used_texts present now) before after count
     Builds-left bound present now has left =
         let texts = fills.news.texts in
         let same : present ≡ texts = has fills.news.has.groups fills.news.has.are ∙ sym fills.news.has.texts_are in
@@ -108,32 +120,57 @@ module _ (g : GraphData) (last kept : List GroupTextData) (there : All (λ text.
         (subst (All (λ text. is_among texts text ≡ true)) (sym fills.news.fresh_are) (new_among kept texts)) in
         record {
           present = present;
-          has = subst (HasTexts g) (sym same) fills.news.has;
+          has = subst (HasTexts large g) (sym same) fills.news.has;
           kept = left ∙ (ap (λ list. kept_after bound present (used_texts last list)) fills.kept ∙ kept_after-fresh bound present last kept fills.fresh fresh_there);
           analysed = fills.analysed ∙ ap (λ list. before ++ list) fresh_are;
           number = fills.number ∙ ap length fresh_are;
         }
 
+-- what is kept says nothing of the last texts, nor of what is stepped by vicinities
+keeps_same : (old mid : MachineData) (last : List GroupTextData) (wide : Option WideData) → KeepsCoded old mid →
+    KeepsCoded old (record mid { last = last; wide = wide })
+keeps_same old mid last wide keeps = record {
+  groups = keeps.groups;
+  parts = keeps.parts;
+  marks = keeps.marks;
+  state = keeps.state;
+  moves = keeps.moves;
+  placed = keeps.placed;
+}
+
 -- where the texts of the last build are those of the parts, in order, they are those of the graph's groups
-pub HasLast-settled : (g : GraphData) (old mid new : MachineData) → old.wide ≡ None → Rouses g old mid → new ≡ record mid { last = new.last } →
+pub HasLast-settled : (g : GraphData) (old mid new : MachineData) → Rouses g old mid → new ≡ record mid { last = new.last } →
     AreInOrder new.parts new.uses new.last → HasLast g new.last
-HasLast-settled g old mid new none rouses same order =
-    HasLast-order g mid rouses.fits (rouses.wide ∙ none) new.last (subst (λ (m : MachineData). AreInOrder m.parts m.uses new.last) same order)
+HasLast-settled g old mid new rouses same order =
+    HasLast-order g mid rouses.fits.covers (stale_untold g mid rouses.fits) new.last (subst (λ (m : MachineData). AreInOrder m.parts m.uses new.last) same order)
 
 -- so the machine is finished
-pub Finishes-settled : (g : GraphData) (old mid new : MachineData) → old.wide ≡ None → Rouses g old mid → new ≡ record mid { last = new.last } →
+pub Finishes-settled : (g : GraphData) (old mid new : MachineData) → Rouses g old mid → new ≡ record mid { last = new.last } →
     AreInOrder new.parts new.uses new.last → Finishes g old new
-Finishes-settled g old mid new none rouses same order =
+Finishes-settled g old mid new rouses same order =
     subst (Finishes g old) (sym same) (record {
-      fits = FitsGraph-last g mid rouses.fits (rouses.wide ∙ none) new.last;
-      last = HasLast-settled g old mid new none rouses same order;
-      still = record {
-        groups = rouses.groups;
-        parts = rouses.parts;
-        marks = rouses.marks;
-        state = rouses.state;
-        moves = rouses.moves;
-        placed = rouses.placed;
-        wide = rouses.wide;
-      };
+      fits = FitsGraph-last g mid rouses.fits new.last;
+      last = HasLast-settled g old mid new rouses same order;
+      still = keeps_same old mid new.last mid.wide rouses.still;
     })
+
+-- a machine whose groups without a text are held, as before or anew, is one that was woken
+pub Rouses-next : (large : ℕ) (g : GraphData) (old mid new : MachineData) (holding : Option Holding) → Covers g old → Wakes g old mid →
+    NoneRefused large g → IsRailed g → IsSound old.state → AreGroups g (groups_in old.groups) → HoldsNext large g old holding →
+    new ≡ record mid { wide = wide_after large mid.wide holding } → Rouses g old new
+Rouses-next large g old mid new holding covers wakes few railed sound are next same =
+    subst (Rouses g old) (sym same) (record {
+      fits = FitsGraph-after large g mid wakes.ready few railed (subst IsSound (sym wakes.state) sound) (groups_in old.groups) are holding known anew;
+      last = wakes.last;
+      still = keeps_same old mid mid.last (wide_after large mid.wide holding) wakes.still;
+    })
+  where
+    known : holding ≡ None → (k : ℕ) (part : HeldPart) (group : Group) → Stands mid.parts k part → part.code ≡ None → IsPartOf g group part →
+        HoldsNode mid.wide (id_of group)
+    known is k part group stands stale is_part =
+        let (l, untold) = untold_part g old covers part group is_part (wakes.ready.untold k part group stands stale is_part) in
+        subst (λ wide. HoldsNode wide (id_of group)) (sym wakes.wide) (next_known large g old holding next is l group untold)
+
+    anew : (one : Holding) → holding ≡ Some one → IsHolding large g (without_text (groups_in old.groups)) mid.state one
+    anew one is =
+        subst (λ state. IsHolding large g (without_text (groups_in old.groups)) state one) (sym wakes.state) (next_anew large g old holding next one is)

@@ -1,6 +1,6 @@
 -- A machine whose stale parts got their codes.
 use Rattle.std.proofs.Common.{◌≡◌, ℕ, zero, suc, ◌<◌, ◌≤◌, Bool, List, [], ◌∷◌, length, map, get_or, All, Option, Some, None, Vec, Global, refl, sym, ap, subst, ◌∙◌, arith}
-use Rattle.std.specs.Prelude.{Contains, slice_get, slice_index_or, unwrap_or, zip}
+use Rattle.std.specs.Prelude.{◌↔◌, Contains, slice_get, slice_index_or, unwrap_or, zip}
 use Rattle.std.specs.List.{AllZip}
 use Rattle.std.specs.Option.{option_and_then}
 use Rattle.std.proofs.lemmas.List.{length-map}
@@ -9,7 +9,6 @@ use Rattle.std.proofs.lemmas.Option.{slice_get_read, slice_get_within, get_or_fr
 use Rattle.std.proofs.lemmas.Slice.Zip.{AllZip-long}
 use Rattle.smallvec.specs.SmallVec.{SmallVec}
 use Rattle.path_meaning.specs.Graphs.{GraphData, IsWired, nodes}
-use Rattle.path_meaning.specs.Rails.{IsRailed, IsSound}
 use Rattle.group_meaning.specs.Groups.{Group, IsGroup, AreGroups}
 use Rattle.group_text.specs.Texts.{GroupTextData, text_of_group}
 use Rattle.straight_code.specs.declared.part.Part.{Part}
@@ -25,19 +24,19 @@ use Rattle.machine_parts.specs.Parts.{ReadsAt}
 use Rattle.machine_laws.specs.Machines.{MachineData}
 use Rattle.machine_parts.specs.Marking.{IsMarked}
 use Rattle.machine_parts.specs.Making.{held, IsFormed, IsCodeRoom}
-use Rattle.machine_laws.specs.Editing.{Rouses}
 use Rattle.machine_parts.specs.Evaluating.{Rooms}
 use Rattle.machine_parts.specs.Running.{IsMachine}
 use Rattle.machine_parts.specs.Readers.{readers_of, ListsAll}
-use Rattle.machine_laws.specs.Fitting.{IsPartOf, Covers}
+use Rattle.machine_laws.specs.Fitting.{Covers}
 use Rattle.machine_laws.specs.Finishing.{IsFresh, IsSlotOf, AreWaiting}
 use Rattle.machine_parts.specs.Putting.{Puts}
 use Rattle.machine_parts.proofs.PartLemmas.{same_part}
 use Rattle.machine_laws.proofs.KeptLemmas.{made_at}
 use Rattle.machine_parts.proofs.MakingLemmas.{formed_parts, reads_inside}
 use Rattle.unit_step.proofs.BuildLemmas.{fresh_parts, lists_inside}
-use Rattle.unit_step.proofs.FinishingFits.{FitsGraph-covered}
-use Rattle.machine_laws.proofs.StayingParts.{members_sum, members_count, none_stale_new, AreOwners-new, one_place, IsRunnable-new, Covers-roused, parts_roused}
+use Rattle.unit_step.specs.Waking.{Wakes}
+use Rattle.unit_step.proofs.FinishingFits.{IsReady-covered}
+use Rattle.machine_laws.proofs.StayingParts.{members_sum, members_count, untold_new, AreOwners-new, one_place, IsRunnable-new, Covers-roused, parts_roused}
 
 -- what stands in a list that is made item by item, where nothing makes nothing
 read_map : {A B : Type 0} (h : A → Option B) (xs : List (Option A)) (k : ℕ) →
@@ -124,13 +123,14 @@ module _ (g : GraphData) (m : MachineData) (covers : Covers g m) (groups some : 
   -- the machine can run
   pub IsMachine-roused : (lists new_lists : List (SmallVec ℕ)) (marks flags new_flags : List Bool) (owners numbers new_numbers : List (Option ℕ)) (held most : ℕ)
       (room wide : Rooms) → ListsAll slots fresh lists new_lists → All (IsCodeRoom wide.values) fresh →
-      room.values ≤ wide.values → wide.changes ≡ room.changes → wide.parts ≡ room.parts → ((k : ℕ) → ¬ IsMarked new_flags k) →
+      room.values ≤ wide.values → wide.changes ≡ room.changes → wide.parts ≡ room.parts →
+      ((k : ℕ) → IsMarked new_flags k ↔ (IsMarked flags k × (¬ Contains slots k))) →
       length new_numbers ≡ length numbers → IsMachine m.parts marks flags count lists owners numbers held most room →
       IsMachine new marks new_flags count new_lists owners new_numbers held most wide
-  IsMachine-roused lists new_lists marks flags new_flags owners numbers new_numbers held most room wide listed values_room values changes parts none counted machine =
+  IsMachine-roused lists new_lists marks flags new_flags owners numbers new_numbers held most room wide listed values_room values changes parts released counted machine =
       record {
         runs = IsRunnable-new g m covers groups some slots waiting fresh are_made.fresh_are new puts lists new_lists listed count room wide marks flags new_flags
-            machine.runs are_made.formed values_room values changes parts none;
+            machine.runs are_made.formed values_room values changes parts released;
         own = AreOwners-new g m covers groups some slots waiting fresh are_made.fresh_are new puts count owners machine.own;
         numbered = omega (arith, machine.numbered, puts.count, counted);
         number = machine.number ∙ sym (members_count g m covers groups some slots waiting fresh are_made.fresh_are new puts);
@@ -178,23 +178,20 @@ module _ (g : GraphData) (m : MachineData) (covers : Covers g m) (groups some : 
     abbrev pub woken : MachineData
     woken = record m { parts = new; uses = now_used; texts = count_distinct now_used }
 
-    pub Rouses-roused : m.wide ≡ None → IsRailed g → IsSound m.state → Rouses g m woken
-    Rouses-roused no_wide railed sound = record {
-      fits =
-          FitsGraph-covered g woken
-          (Covers-roused g m covers groups some slots waiting fresh are_made.fresh_are new puts now_used used_counted used_stay used_come fit (count_distinct now_used) no_wide)
-          (λ k part stands has none.
-          none_stale_new g m covers groups some slots waiting fresh are_made.fresh_are new puts k
-          (record { part = part; stands = stands; some = has; none = none }))
-          refl railed sound;
+    pub Wakes-roused : Wakes g m woken
+    Wakes-roused = record {
+      ready =
+          IsReady-covered g woken
+          (Covers-roused g m covers groups some slots waiting fresh are_made.fresh_are new puts now_used used_counted used_stay used_come fit (count_distinct now_used))
+          (untold_new g m covers groups some slots waiting fresh are_made.fresh_are new puts) refl;
       last = refl;
+      wide = refl;
       still = record {
         groups = refl;
-        parts = parts_roused g m covers groups some slots waiting fresh are_made.fresh_are new puts now_used used_counted used_stay used_come fit (count_distinct now_used) no_wide;
+        parts = parts_roused g m covers groups some slots waiting fresh are_made.fresh_are new puts now_used used_counted used_stay used_come fit (count_distinct now_used);
         marks = refl;
         state = refl;
         moves = refl;
         placed = refl;
-        wide = refl;
       };
     }

@@ -1,5 +1,6 @@
 pub mod BuildLemmas
 pub mod FinishingFits
+pub mod HoldingLemmas
 pub mod FinishingParts
 pub mod LeavingLemmas
 pub mod ListingLemmas
@@ -11,4 +12,5 @@ pub mod LeavingOrder
 pub mod UsedInTurn
 pub mod BodyLemmas
 pub mod LastingRoused
+pub mod DueLemmas
 pub mod FinishingOrder

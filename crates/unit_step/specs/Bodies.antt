@@ -1,5 +1,5 @@
 -- What a machine is made of.
-use Rattle.std.specs.Prelude.{◌≡◌, ℕ, Bool, true, is_some, length, replicate, ◌-◌, List, Option, None}
+use Rattle.std.specs.Prelude.{◌≡◌, ℕ, ◌<◌, ◌≤◌, ◌+◌, ◌↔◌, Bool, true, is_some, length, replicate, List, Option, None}
 use Rattle.kept_parts.specs.Uses.{texts_used, count_distinct}
 use Rattle.unit_step.specs.declared.body.Body.{Body}
 use Rattle.machine_laws.specs.Machines.{MachineData}
@@ -11,6 +11,7 @@ use Rattle.ternary.specs.declared.tern.Tern.{Tern}
 use Rattle.channel_groups.specs.Grouping.{GroupsData}
 use Rattle.group_text.specs.Texts.{GroupTextData}
 use Rattle.machine_parts.specs.declared.part.HeldPart.{HeldPart}
+use Rattle.machine_parts.specs.Parts.{IsStale}
 
 -- a machine that starts in this state with these parts, all of them marked, and these texts, and these at the last build: it was
 -- neither moved nor placed, and knows no groups that are stepped by vicinities
@@ -28,6 +29,10 @@ started groups parts state uses last spare = record {
   spare = spare;
   wide = None;
 }
+
+-- just the last parts are stale, so many of them
+abbrev pub AreLastStale : ℕ → List HeldPart → Type 0
+AreLastStale stale parts = (stale ≤ length parts) × ((k : ℕ) → IsStale parts k ↔ (k < length parts × length parts ≤ k + stale))
 
 -- all that was made is of the body's parts, which are all marked, and none of its groups is stepped by vicinities: a machine can start with it
 pub record CanStart (body : Body) : Type 0 where

@@ -3,3 +3,4 @@ pub mod Lasting
 pub mod Bodies
 pub mod Waking
 pub mod Listing
+pub mod Holding

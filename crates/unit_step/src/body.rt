@@ -6,13 +6,14 @@ ghost use Rattle.group_text.specs.FirstTexts.{is_among};
 ghost use Rattle.kept_parts.specs.Uses.{texts_used};
 ghost use Rattle.machine_parts.specs.Words.{AreApart, IsFormed};
 ghost use Rattle.unit_step.specs.Planning.{IsPlan};
-ghost use Rattle.machine_laws.specs.Words.{FitsGraph, AreInOrder, HasLast};
+ghost use Rattle.machine_laws.specs.Words.{IsReady, AreInOrder, HasLast};
 ghost use Rattle.unit_step.specs.Lasting.{texts_lasting};
-ghost use Rattle.unit_step.specs.Bodies.{CanStart, of_body};
+ghost use Rattle.unit_step.specs.Bodies.{AreLastStale, CanStart, of_body};
 ghost use Rattle.part_steps.specs.Dense.{AreDense, HasInputs, HaveCodes};
 
 use crate::lasting::Lasting;
 use crate::planning::Plan;
+use crate::seating::add_stale;
 use analysis_cache::Kept;
 use channel_groups::Groups;
 use kept_parts::{TextUses, parts_by_number};
@@ -62,16 +63,16 @@ impl Body {
         plan: Plan,
         kept: &Kept,
     ) -> Result<Body, NoMemory>
-        requires plan { IsPlan graph.now plan.state.items plan }
+        requires plan { (large : ℕ) × IsPlan large graph.now plan.state.items plan }
         requires kept { All (λ text. IsTrue (is_among (texts_of kept.now) text)) plan.uses.known }
         requires counted { length plan.state.items ≡ nodes graph.now }
         requires railed { IsRailed graph.now }
         requires sound { IsSound plan.state.items }
         ensures starts { IfOk result CanStart }
-        ensures fits { IfOk result (λ body. (spare : ℕ) → FitsGraph graph.now (of_body body spare)) }
+        ensures begins { IfOk result (λ body. (spare : ℕ) → IsReady graph.now (of_body body spare)) }
         ensures last { IfOk result (λ body. HasLast graph.now (texts_lasting body.uses.known body.lasting)) }
         ensures state { IfOk result (λ body. body.state ≡ plan.state) }
-        ensures uses { IfOk result (λ body. body.uses ≡ plan.uses) }
+        ensures known { IfOk result (λ body. body.uses.known ≡ plan.uses.known) }
     {
         graphs_are_wired(graph);
         let Plan {
@@ -79,22 +80,27 @@ impl Body {
             uses,
             maps,
             reads,
+            large,
             state,
         } = plan;
+        let mut uses = uses;
         let parts = parts_by_number(alloc, kept, &uses, maps)?;
-        let held = held_parts(alloc, parts, reads)?;
-        Body::of_parts(alloc, Some(groups), held, state, uses)
+        let mut held = held_parts(alloc, parts, reads)?;
+        add_stale(alloc, graph, &groups, &large, &mut held, &mut uses)?;
+        Body::of_parts(alloc, Some(groups), held, large.len(), state, uses)
     }
 
-    // The body of these parts, which have code, in this state.
+    // The body of these parts in this state, of which so many, the last ones, are stale.
     pub(crate) fn of_parts(
         alloc: Global,
         groups: Option<Groups>,
         parts: Vec<HeldPart>,
+        stale: usize,
         state: Vec<Tern>,
         uses: TextUses,
     ) -> Result<Body, NoMemory>
         requires formed { All (IsFormed (length state.items)) parts.items }
+        requires stale { AreLastStale stale parts.items }
         requires apart { AreApart parts.items }
         requires reads { All (λ part. All (λ node. node < length state.items) part.reads.items) parts.items }
         requires numbered { length uses.numbers ≡ length parts.items }
@@ -108,7 +114,7 @@ impl Body {
     {
         let nodes = state.len();
         let held = count_held(&parts);
-        let agenda = Agenda::all(alloc, parts.len())?;
+        let agenda = Agenda::with_stale(alloc, parts.len() - stale, stale)?;
         let readers = ReaderLists::of_parts(alloc, &parts, nodes)?;
         let owners = all_owners(alloc, &parts, nodes)?;
         let desk = desk_for(alloc, &parts)?;

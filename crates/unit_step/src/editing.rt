@@ -1,5 +1,5 @@
 //! Edits of the graph under a machine.
-ghost use Rattle.std.specs.Prelude.{◌≡◌, ℕ, ◌+◌, ◌*◌, ◌≤◌, ◌<◌, ◌-◌, ◌++◌, ◌↔◌, None, List, length, option_map, find, Contains, IfOk, IfErr, OnOk, OnErr};
+ghost use Rattle.std.specs.Prelude.{◌≡◌, ℕ, ◌+◌, ◌*◌, ◌≤◌, ◌<◌, ◌-◌, ◌++◌, ◌↔◌, List, length, option_map, find, Contains, IfOk, IfErr, OnOk, OnErr};
 ghost use Rattle.path_meaning.specs.Graphs.{nodes, IsWired};
 ghost use Rattle.group_meaning.specs.Groups.{Group, AreGroups};
 ghost use Rattle.channel_groups.specs.Grouping.{AreOf, has_member};
@@ -44,7 +44,8 @@ impl Machine {
     /// The machine of the graph after an edit, where it covered the graph before it.
     ///
     /// The groups that the edit touches, as `Groups::regroup` says, are stale and marked: they wait for
-    /// `finish`. Every other group keeps its part, with its code and its mark. New nodes are X, all other
+    /// `finish`. Every other group keeps its part, with its code and its mark. The groups that are stepped by
+    /// vicinities stay known if it touches none of them; else `finish` finds them again. New nodes are X, all other
     /// nodes stay. The work is that of `regroup`, and of the members and the reads of the touched groups: the
     /// bound on `regroup`'s steps holds whatever the answer, `found` being the groups of the graph. Out of
     /// memory, the machine is handed back for its states.
@@ -65,18 +66,10 @@ impl Machine {
             steps.new ≤ steps.old + 8 * touched_size graph.now change.now (groups_in self.groups) found }
     {
         let mut machine = self;
-        machine.forget_wide();
         match machine.follow(graph, change, steps) {
             Ok(()) => Ok(machine),
             Err(NoMemory) => Err(EditRefused { machine }),
         }
-    }
-
-    // The groups that are stepped by vicinities aren't known any more: `finish` finds them again.
-    fn forget_wide(&mut self)
-        ensures { self.new ≡ record self.old { wide = None } }
-    {
-        self.body.wide = None;
     }
 
     // Follows an edit of the graph. Out of memory only the states are as they are to be, or as before.
@@ -86,7 +79,6 @@ impl Machine {
         change: &Change,
         steps: &mut Steps<L>,
     ) -> Result<(), NoMemory>
-        requires none { self.old.wide ≡ None }
         requires covers { Covers (undo graph.now change.now) self.old }
         requires wired { IsWired (undo graph.now change.now) }
         requires room { nodes graph.now ≤ length self.old.state + self.old.spare }
@@ -116,7 +108,6 @@ impl Machine {
 
     // Seats a stale part for each group that has one of these nodes, which are members of no part.
     fn renew_all(&mut self, graph: &Graph, groups: &Groups, these: &[usize]) -> Result<(), NoMemory>
-        requires none { self.old.wide ≡ None }
         requires counted { length self.old.state ≡ nodes graph.now }
         requires groups { AreOf graph.now groups.now }
         requires free { (k node : ℕ) → Contains these.now node → ¬ HasMember self.old.parts k node }
@@ -141,7 +132,6 @@ impl Machine {
 
     // Seats a stale part for the group of this node, unless a part has it as a member.
     fn renew_at(&mut self, graph: &Graph, groups: &Groups, node: usize) -> Result<(), NoMemory>
-        requires none { self.old.wide ≡ None }
         requires counted { length self.old.state ≡ nodes graph.now }
         requires groups { AreOf graph.now groups.now }
         ensures ok { OnOk result (RenewsAt groups.now.groups node self.old self.new) }

@@ -1,22 +1,24 @@
 //! The codes of the parts that an edit made stale.
-ghost use Rattle.std.specs.Prelude.{◌≡◌, ℕ, ◌⊎◌, None, All, IsTrue, Err, IfOk, IfErr, OnOk, OnErr, slice_index_or};
+ghost use Rattle.std.specs.Prelude.{◌≡◌, ℕ, ◌⊎◌, None, Some, All, IsTrue, Err, IfOk, IfErr, IfSome, OnOk, OnErr, slice_index_or};
 ghost use Rattle.path_meaning.specs.Rails.{IsRailed, IsSound};
 ghost use Rattle.group_text.specs.FirstTexts.{is_among};
 ghost use Rattle.analysis_cache.specs.Words.{texts_of, IsGrown, HoldsKept, HoldsNearlyKept};
-ghost use Rattle.circuit_texts.specs.Words.{TellsTooLarge, Builds, Fills, IsCutOff};
+ghost use Rattle.circuit_texts.specs.Words.{NoneRefused, TellsRefused, Builds, Fills, IsCutOff};
 ghost use Rattle.group_analysis.specs.Using.{used_texts};
 ghost use Rattle.kept_parts.specs.Uses.{some_texts};
 ghost use Rattle.machine_parts.specs.declared.part.HeldPart.{HeldPart};
 ghost use Rattle.machine_parts.specs.Parts.{Stands};
-ghost use Rattle.machine_laws.specs.Words.{Covers, IsKeptBy, Finishes, Rouses, AreInOrder};
+ghost use Rattle.machine_laws.specs.Words.{Covers, IsKeptBy, Finishes, Rouses, StaysKnown, AreInOrder};
 ghost use Rattle.unit_step.specs.Lasting.{IsLeft};
-ghost use Rattle.unit_step.specs.Waking.{IsWaking};
+ghost use Rattle.unit_step.specs.Holding.{HoldsNext};
+ghost use Rattle.unit_step.specs.Waking.{AreDue, IsWaking, Wakes};
 
+use crate::holding::{Holding, holding_of};
 use crate::machine::Machine;
 use crate::rousing::{numbers_of, put_texts};
-use crate::waking::{Waking, ids_at, least_members, owners_of};
+use crate::waking::{Waking, holds_all, ids_at, least_members, owners_of};
 use analysis_cache::{Analyst, Kept};
-use circuit_texts::{BuildFault, GroupTexts, reads_at, texts_at};
+use circuit_texts::{BuildFault, GroupSizes, GroupTexts, reads_at, sizes_at, texts_at};
 use kept_parts::parts_of;
 use part_steps::{held_parts, needs_of, put_in, widen_for_codes};
 use path_meaning::{Graph, graphs_are_wired};
@@ -33,37 +35,41 @@ impl Machine {
     /// keeps. States, marks, and the parts that had code stay. The refusals are those of `build`; after them
     /// the machine is as before, and nothing was moved or cut.
     ///
-    /// It knows no groups that are stepped by vicinities: what is stale gets code, or is refused.
+    /// A group that is too large for a text is refused if it has more members than `large`. Else its part stays stale, and
+    /// the group is stepped by vicinities. If there are such groups that weren't stepped so before, all nodes of all such
+    /// groups are touched; else only the bound changes, if this one is smaller. The work is that of the parts that wait.
     ///
     /// An analyst that held exactly the texts that were kept holds exactly those that are kept, and after a refusal
     /// at most one besides.
     pub fn finish<A: Analyst>(
         &mut self,
         graph: &Graph,
+        large: usize,
         kept: &mut Kept,
         analyst: &mut A,
     ) -> Result<u64, BuildFault>
-        requires none { self.old.wide ≡ None }
         requires covers { Covers graph.now self.old }
         requires railed { IsRailed graph.now }
         requires sound { IsSound self.old.state }
         requires known { IsKeptBy graph.now (texts_of kept.old) self.old }
         requires last { All (λ text. IsTrue (is_among (texts_of kept.old) text)) self.old.last }
         ensures finishes { OnOk result (Finishes graph.now self.old self.new) }
-        ensures builds { IfOk result (Builds graph.now kept.old.bound (used_texts self.old.last (texts_of kept.old)) (used_texts self.new.last (texts_of kept.new))
+        ensures without { OnOk result (large ≡ 0 → self.old.wide ≡ None → self.new.wide ≡ None) }
+        ensures stays { OnOk result (StaysKnown large self.old self.new) }
+        ensures builds { IfOk result (Builds large graph.now kept.old.bound (used_texts self.old.last (texts_of kept.old)) (used_texts self.new.last (texts_of kept.new))
             (A.analysed analyst.old) (A.analysed analyst.new)) }
         ensures there { OnOk result (All (λ text. IsTrue (is_among (texts_of kept.new) text)) self.new.last) }
         ensures bound { kept.new.bound ≡ kept.old.bound }
-        ensures cut_off { result ≡ Err BuildFault.NoMemory → IsCutOff graph.now (used_texts self.old.last (texts_of kept.old)) (used_texts self.old.last (texts_of kept.new))
+        ensures cut_off { result ≡ Err BuildFault.NoMemory → IsCutOff large graph.now (used_texts self.old.last (texts_of kept.old)) (used_texts self.old.last (texts_of kept.new))
             (A.analysed analyst.old) (A.analysed analyst.new) }
         ensures refused { IfErr result (λ fault. (fault ≡ BuildFault.NoMemory)
-            ⊎ (TellsTooLarge graph.now fault × (kept.new ≡ kept.old) × (A.analysed analyst.new ≡ A.analysed analyst.old))) }
+            ⊎ (TellsRefused large graph.now fault × (kept.new ≡ kept.old) × (A.analysed analyst.new ≡ A.analysed analyst.old))) }
         ensures err { OnErr result (self.new ≡ self.old) }
         ensures grown { OnErr result (IsGrown kept.old kept.new) }
         ensures holds { OnOk result (HoldsKept kept.old (A.held analyst.old) → HoldsKept kept.new (A.held analyst.new)) }
         ensures nearly { OnErr result (HoldsKept kept.old (A.held analyst.old) → HoldsNearlyKept kept.new (A.held analyst.new)) }
     {
-        let fresh = self.wake(graph, kept, analyst)?;
+        let fresh = self.wake(graph, large, kept, analyst)?;
         self.settle_last(kept, analyst);
         Ok(fresh)
     }
@@ -73,38 +79,93 @@ impl Machine {
     fn wake<A: Analyst>(
         &mut self,
         graph: &Graph,
+        large: usize,
         kept: &mut Kept,
         analyst: &mut A,
     ) -> Result<u64, BuildFault>
-        requires none { self.old.wide ≡ None }
         requires covers { Covers graph.now self.old }
         requires railed { IsRailed graph.now }
         requires sound { IsSound self.old.state }
         requires known { IsKeptBy graph.now (texts_of kept.old) self.old }
         ensures rouses { OnOk result (Rouses graph.now self.old self.new) }
-        ensures fills { IfOk result (Fills graph.now (texts_of kept.old) (texts_of kept.new) (A.analysed analyst.old) (A.analysed analyst.new)) }
+        ensures without { OnOk result (large ≡ 0 → self.old.wide ≡ None → self.new.wide ≡ None) }
+        ensures stays { OnOk result (StaysKnown large self.old self.new) }
+        ensures fills { IfOk result (Fills large graph.now (texts_of kept.old) (texts_of kept.new) (A.analysed analyst.old) (A.analysed analyst.new)) }
         ensures bound { kept.new.bound ≡ kept.old.bound }
-        ensures cut_off { result ≡ Err BuildFault.NoMemory → IsCutOff graph.now (texts_of kept.old) (texts_of kept.new) (A.analysed analyst.old) (A.analysed analyst.new) }
+        ensures cut_off { result ≡ Err BuildFault.NoMemory → IsCutOff large graph.now (texts_of kept.old) (texts_of kept.new) (A.analysed analyst.old) (A.analysed analyst.new) }
         ensures refused { IfErr result (λ fault. (fault ≡ BuildFault.NoMemory)
-            ⊎ (TellsTooLarge graph.now fault × (kept.new ≡ kept.old) × (A.analysed analyst.new ≡ A.analysed analyst.old))) }
+            ⊎ (TellsRefused large graph.now fault × (kept.new ≡ kept.old) × (A.analysed analyst.new ≡ A.analysed analyst.old))) }
         ensures err { OnErr result (self.new ≡ self.old) }
         ensures grown { IsGrown kept.old kept.new }
         ensures holds { OnOk result (HoldsKept kept.old (A.held analyst.old) → HoldsKept kept.new (A.held analyst.new)) }
         ensures nearly { OnErr result (HoldsKept kept.old (A.held analyst.old) → HoldsNearlyKept kept.new (A.held analyst.new)) }
     {
-        if self.body.agenda.none_waits() {
-            return Ok(0);
-        }
-        let waking = self.waking(graph)?;
+        let sizes = self.due(graph, large, Some(large))?;
+        let holding = self.holding(graph, large, &sizes)?;
+        let waking = self.waking(graph, &sizes)?;
         let fresh = kept.fill(&waking.texts, analyst)?;
         self.rouse(graph, waking, kept)?;
+        self.hold(large, holding);
         Ok(fresh)
+    }
+
+    // The ids of the groups whose parts wait. With a bound those are passed over that are stepped by vicinities already,
+    // unless one of these has more members.
+    fn due(
+        &self,
+        graph: &Graph,
+        large: usize,
+        bound: Option<usize>,
+    ) -> Result<GroupSizes, BuildFault>
+        requires covers { Covers graph.now self.now }
+        requires bound { IfSome bound (λ most. most ≡ large) }
+        ensures due { IfOk result (AreDue graph.now self.now bound) }
+        ensures few { OnOk result (NoneRefused large graph.now) }
+        ensures refused { IfErr result (λ fault. (fault ≡ BuildFault.NoMemory) ⊎ TellsRefused large graph.now fault) }
+    {
+        let alloc = *self.body.parts.allocator();
+        let Some(groups) = &self.body.groups else {
+            unreachable!();
+        };
+        let nodes = least_members(
+            alloc,
+            &self.body.parts,
+            &self.body.agenda,
+            &self.body.wide,
+            bound,
+        )?;
+        let waiting = ids_at(alloc, graph, groups, &nodes)?;
+        sizes_at(alloc, groups, &waiting, large)
+    }
+
+    // The groups without a text anew, under the present state, unless each of those that are due is stepped by vicinities
+    // already.
+    fn holding(
+        &self,
+        graph: &Graph,
+        large: usize,
+        sizes: &GroupSizes,
+    ) -> Result<Option<Holding>, BuildFault>
+        requires covers { Covers graph.now self.now }
+        requires due { AreDue graph.now self.now (Some large) sizes.now }
+        ensures holds { IfOk result (HoldsNext large graph.now self.now) }
+        ensures refused { IfErr result (λ fault. (fault ≡ BuildFault.NoMemory) ⊎ TellsRefused large graph.now fault) }
+    {
+        if holds_all(&self.body.wide, &sizes.large) {
+            return Ok(None);
+        }
+        let all = self.due(graph, large, None)?;
+        let Some(groups) = &self.body.groups else {
+            unreachable!();
+        };
+        let alloc = *self.body.parts.allocator();
+        let holding = holding_of(alloc, graph, groups, large, &self.body.state, &all.large)?;
+        Ok(holding)
     }
 
     // The texts that the parts have now are those of the last build from now on: those that are gone are used,
     // in order, and what is past the bound is cut, but no text that a part has.
     fn settle_last<A: Analyst>(&mut self, kept: &mut Kept, analyst: &mut A)
-        requires none { self.old.wide ≡ None }
         requires textless { (k : ℕ) (part : HeldPart) → Stands self.old.parts k part → part.members ≡ 0 → slice_index_or self.old.uses k None ≡ None }
         requires last { All (λ text. IsTrue (is_among (texts_of kept.old) text)) self.old.last }
         requires used { All (λ text. IsTrue (is_among (texts_of kept.old) text)) (some_texts self.old.uses) }
@@ -125,37 +186,34 @@ impl Machine {
             .renew(&self.body.parts, &self.body.uses, &self.body.owners);
     }
 
-    // What is found of the groups whose parts wait.
-    fn waking(&self, graph: &Graph) -> Result<Waking, BuildFault>
+    // What is found of the groups that are due and have a text.
+    fn waking(&self, graph: &Graph, sizes: &GroupSizes) -> Result<Waking, BuildFault>
         requires covers { Covers graph.now self.now }
+        requires due { (large : ℕ) × AreDue graph.now self.now (Some large) sizes.now }
         ensures waking { IfOk result (IsWaking graph.now self.now.parts) }
-        ensures refused { IfErr result (λ fault. (fault ≡ BuildFault.NoMemory) ⊎ TellsTooLarge graph.now fault) }
+        ensures refused { IfErr result (λ fault. fault ≡ BuildFault.NoMemory) }
     {
         let alloc = *self.body.parts.allocator();
         let Some(groups) = &self.body.groups else {
             unreachable!();
         };
-        let nodes = least_members(alloc, &self.body.parts, &self.body.agenda)?;
-        let slots = owners_of(alloc, &self.body.owners, &nodes)?;
-        let ids = ids_at(alloc, graph, groups, &nodes)?;
-        let GroupTexts { texts, maps } = texts_at(alloc, graph, groups, &ids)?;
+        let slots = owners_of(alloc, &self.body.owners, &sizes.told)?;
+        let GroupTexts { texts, maps } = texts_at(alloc, graph, groups, &sizes.told)?;
+        let reads = reads_at(alloc, graph, groups, &sizes.told)?;
         Ok(Waking {
             slots,
             texts,
             maps,
-            reads: reads_at(alloc, graph, groups, &ids)?,
+            reads,
         })
     }
 
-    // Gives the parts that wait their codes, which are kept.
+    // Gives the parts that wait their codes, which are kept, if their groups have a text.
     fn rouse(&mut self, graph: &Graph, waking: Waking, kept: &Kept) -> Result<(), NoMemory>
-        requires none { self.old.wide ≡ None }
         requires covers { Covers graph.now self.old }
-        requires railed { IsRailed graph.now }
-        requires sound { IsSound self.old.state }
         requires waking { IsWaking graph.now self.old.parts waking }
         requires kept { All (λ text. IsTrue (is_among (texts_of kept.now) text)) waking.texts.items }
-        ensures rouses { OnOk result (Rouses graph.now self.old self.new) }
+        ensures wakes { OnOk result (Wakes graph.now self.old self.new) }
         ensures err { OnErr result (self.new ≡ self.old) }
     {
         graphs_are_wired(graph);
@@ -180,7 +238,7 @@ impl Machine {
         put_texts(&slots, &numbers, &mut self.body.uses);
         self.body.dense.put_all(&slots, seats);
         put_in(&slots, fresh, &mut self.body.parts);
-        self.body.agenda.rouse();
+        self.body.agenda.rouse(&slots);
         Ok(())
     }
 }

@@ -1,19 +1,25 @@
 //! Nodes that are added to a machine.
-ghost use Rattle.std.specs.Prelude.{◌≡◌, ◌+◌, ◌-◌, ◌++◌, ◌≤◌, length, replicate, vec_capacity, OnOk, OnErr};
+ghost use Rattle.std.specs.Prelude.{◌≡◌, ◌+◌, ◌-◌, ◌++◌, ◌≤◌, None, length, replicate, vec_capacity, OnOk, OnErr};
 ghost use Rattle.machine_laws.specs.Editing.{with_new_nodes};
+ghost use Rattle.wide_groups.specs.Staying.{GrowsIn};
 
+use crate::holding::widened;
 use crate::machine::Machine;
-use std::alloc::AllocError;
-use ternary::Tern;
+use std::mem;
+use ternary::{NoMemory, Tern};
 
 impl Machine {
-    // Adds nodes, up to so many: they are X, and no part has or reads them.
-    pub(crate) fn add_nodes(&mut self, nodes: usize) -> Result<(), AllocError>
+    // Adds nodes, up to so many: they are X, and no part has or reads them. The groups that are stepped by vicinities are
+    // known still, but out of memory they aren't.
+    pub(crate) fn add_nodes(&mut self, nodes: usize) -> Result<(), NoMemory>
         requires room { nodes ≤ length self.old.state + self.old.spare }
-        requires none { self.old.wide ≡ None }
-        ensures ok { OnOk result (self.new ≡ record self.old { state = with_new_nodes self.old.state nodes; spare = self.new.spare }) }
-        ensures err { OnErr result (self.new ≡ self.old) }
+        requires more { length self.old.state ≤ nodes }
+        ensures ok { OnOk result (self.new ≡ record self.old { state = with_new_nodes self.old.state nodes; spare = self.new.spare; wide = self.new.wide }) }
+        ensures wide { OnOk result (GrowsIn nodes self.old.wide self.new.wide) }
+        ensures err { OnErr result (self.new ≡ record self.old { wide = None }) }
     {
+        let known = mem::replace(&mut self.body.wide, None);
+        let wide = widened(known, nodes, &mut self.body.noted)?;
         let more = nodes.saturating_sub(self.body.state.len());
         self.body.owners.reserve(more)?;
         self.body.lasting.numbers.reserve(more)?;
@@ -21,6 +27,7 @@ impl Machine {
         grow(&mut self.body.state, nodes);
         grow_by(&mut self.body.owners, nodes, None);
         grow_by(&mut self.body.lasting.numbers, nodes, None);
+        self.body.wide = wide;
         Ok(())
     }
 }

@@ -7,8 +7,8 @@
 //! fits the graph again: in each part that isn't marked every member's state is its steady state, so such a part
 //! needs no evaluation until a node that it reads changes.
 //!
-//! Groups without code can be stepped by vicinities, beside the parts that have some; no machine is built with such
-//! groups yet.
+//! Groups that are too large for a text have no code: they are stepped by vicinities, beside the parts that have some. A
+//! build and a finish accept such groups up to a bound that is handed in, with 0 none.
 //!
 //! ```text
 //! an inverter a -> out, both 0, not marked       a is placed at 0 again: the part is marked
@@ -26,6 +26,7 @@ mod body;
 mod editing;
 mod finishing;
 mod growing;
+mod holding;
 mod lasting;
 mod laws;
 mod listing;

@@ -1,5 +1,5 @@
 //! The machine.
-ghost use Rattle.std.specs.Prelude.{◌≡◌, ◌≢◌, ℕ, Bool, List, [], ◌-◌, vec_len, vec_capacity, ◌+◌, ◌^◌, ◌<◌, ◌≤◌, ◌⊎◌, true, false, length, count_by, option_map, All, None, Some, Err, IsTrue, IfSome, IfNone, IfOk, IfErr, OnOk, OnErr, if◌then◌else◌};
+ghost use Rattle.std.specs.Prelude.{◌≡◌, ◌≢◌, ℕ, Bool, List, [], ◌-◌, vec_len, vec_capacity, ◌+◌, ◌^◌, ◌<◌, ◌≤◌, ◌⊎◌, true, false, length, count_by, option_map, All, None, Some, Err, IsTrue, is_some, IfSome, IfNone, IfOk, IfErr, OnOk, OnErr, if◌then◌else◌};
 ghost use Rattle.std.specs.Bool.{OnTrue, OnFalse};
 ghost use Rattle.ternary.specs.Counts.{raised};
 ghost use Rattle.path_meaning.specs.declared.TheConstants.{RAILS};
@@ -10,13 +10,14 @@ ghost use Rattle.analysis_cache.specs.Words.{texts_of, IsGrown, HoldsKept, Holds
 ghost use Rattle.group_text.specs.Words.{GroupTextData, is_among};
 ghost use Rattle.group_analysis.specs.Using.{used_texts};
 ghost use Rattle.machine_laws.specs.Words.{HasLast, AreSeated, Advances, Places, Covers, FitsGraph};
-ghost use Rattle.circuit_texts.specs.Words.{TellsTooLarge, Builds, IsCutOff};
+ghost use Rattle.circuit_texts.specs.Words.{TellsRefused, Builds, IsCutOff};
 ghost use Rattle.machine_parts.specs.Words.{HasMember, ReadsAt, AreApart, has_members, count_marked, marked_sum, instructions_of, MarksAll};
 ghost use Rattle.unit_step.specs.Bodies.{CanStart, of_body, fixed_of};
 ghost use Rattle.unit_step.specs.Listing.{nodes_told};
 ghost use Rattle.wide_groups.specs.Awake.{IsWorked};
 
 use crate::body::Body;
+use crate::holding::holding_of;
 use crate::lasting::Lasting;
 use crate::listing::list;
 use crate::planning::plan_of;
@@ -34,9 +35,11 @@ use std::sync::ledger::Ledger;
 use ternary::{Steps, Tern};
 use wide_groups::place;
 
-/// A compiled circuit: the parts of its groups, which of them are marked, and a state.
+/// A compiled circuit: the parts of its groups, which of them are marked, and a state; and the groups that are too
+/// large for a text, which are stepped by vicinities.
 ///
-/// A step runs the code of the marked parts alone. All its room is taken when the machine is made.
+/// A step runs the code of the marked parts alone, and of those groups it looks at what is awake alone. All its room is
+/// taken before, when the machine is built, edited or finished.
 pub struct Machine {
     pub(crate) body: Body,
     pub(crate) moves: u64,
@@ -63,13 +66,14 @@ impl Model for Machine {
 }
 
 impl Machine {
-    /// The machine of a graph, in this state: a part for each group, with the code of the group's text.
+    /// The machine of a graph, in this state: a part for each group, with the code of the group's text, if it has one.
+    /// The groups that are too large for a text are stepped by vicinities, and all their nodes are touched.
     ///
     /// Code comes from what is kept; texts that aren't kept are analysed first, each once, in the order
     /// of the groups, and kept; the count is their number. All texts of the groups are in front of what is kept
-    /// then, and what is past its bound is cut. Every part is marked. If some group is too large, the first
-    /// such group is told and nothing is analysed. Out of memory nothing was analysed, or a prefix of what
-    /// is new, and nothing is moved or cut.
+    /// then, and what is past its bound is cut. Every part is marked. A group that is too large for a text is
+    /// refused if it has more members than `large`: the first such group is told and nothing is analysed. Out of
+    /// memory nothing was analysed, or a prefix of what is new, and nothing is moved or cut.
     ///
     /// An analyst that held exactly the texts that were kept holds exactly those that are kept, and after a refusal
     /// at most one besides.
@@ -77,6 +81,7 @@ impl Machine {
         alloc: Global,
         graph: &Graph,
         state: &[Tern],
+        large: usize,
         kept: &mut Kept,
         analyst: &mut A,
     ) -> Result<(Machine, u64), BuildFault>
@@ -84,23 +89,26 @@ impl Machine {
         requires railed { IsRailed graph.now }
         requires sound { IsSound state.now }
         ensures fits { IfOk result (λ made. FitsGraph graph.now made.0) }
-        ensures none { IfOk result (λ made. made.0.wide ≡ None) }
+        ensures without { IfOk result (λ made. large ≡ 0 → made.0.wide ≡ None) }
         ensures fresh { IfOk result (λ made. (made.0.state ≡ state.now) × (made.0.moves ≡ 0) × (made.0.placed ≡ 0)) }
         ensures last { IfOk result (λ made. HasLast graph.now made.0.last) }
-        ensures builds { IfOk result (λ made. Builds graph.now kept.old.bound (texts_of kept.old) (texts_of kept.new) (A.analysed analyst.old) (A.analysed analyst.new) made.1) }
+        ensures builds { IfOk result (λ made. Builds large graph.now kept.old.bound (texts_of kept.old) (texts_of kept.new) (A.analysed analyst.old) (A.analysed analyst.new) made.1) }
         ensures bound { kept.new.bound ≡ kept.old.bound }
-        ensures cut_off { result ≡ Err BuildFault.NoMemory → IsCutOff graph.now (texts_of kept.old) (texts_of kept.new) (A.analysed analyst.old) (A.analysed analyst.new) }
+        ensures cut_off { result ≡ Err BuildFault.NoMemory → IsCutOff large graph.now (texts_of kept.old) (texts_of kept.new) (A.analysed analyst.old) (A.analysed analyst.new) }
         ensures refused { IfErr result (λ fault. (fault ≡ BuildFault.NoMemory)
-            ⊎ (TellsTooLarge graph.now fault × (kept.new ≡ kept.old) × (A.analysed analyst.new ≡ A.analysed analyst.old))) }
+            ⊎ (TellsRefused large graph.now fault × (kept.new ≡ kept.old) × (A.analysed analyst.new ≡ A.analysed analyst.old))) }
         ensures grown { OnErr result (IsGrown kept.old kept.new) }
         ensures holds { OnOk result (HoldsKept kept.old (A.held analyst.old) → HoldsKept kept.new (A.held analyst.new)) }
         ensures nearly { OnErr result (HoldsKept kept.old (A.held analyst.old) → HoldsNearlyKept kept.new (A.held analyst.new)) }
     {
-        let plan = plan_of(alloc, kept.keys(), graph, state)?;
+        let plan = plan_of(alloc, kept.keys(), graph, state, large)?;
+        let holding = holding_of(alloc, graph, &plan.groups, large, state, &plan.large)?;
         let fresh = kept.fill(plan.uses.known(), analyst)?;
         let body = Body::of_plan(alloc, graph, plan, kept)?;
         kept.put_first(body.uses.known(), analyst);
-        Ok((Machine::start(body), fresh))
+        let mut machine = Machine::start(body);
+        machine.hold(large, holding);
+        Ok((machine, fresh))
     }
 
     // The machine that starts with what was made for it. It takes no memory.
@@ -214,6 +222,13 @@ impl Machine {
         ensures bound { kept.new.bound ≡ kept.old.bound }
     {
         self.body.lasting.use_all(&self.body.uses, kept);
+    }
+
+    /// Whether some of its groups are stepped by vicinities, since they are too large for a text.
+    pub fn has_wide_groups(&self) -> bool
+        ensures { result ≡ is_some self.now.wide }
+    {
+        self.body.wide.is_some()
     }
 
     /// How often a step changed the state. It stays at `u64::MAX` once it is there.

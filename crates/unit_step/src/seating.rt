@@ -1,21 +1,27 @@
 //! Parts that lose their group in an edit, and parts for the groups that an edit makes.
-ghost use Rattle.std.specs.Prelude.{◌≡◌, ℕ, ◌+◌, ◌<◌, ◌∷◌, [], None, length, slice_index, slice_index_or, All, Contains, IfOk, OnOk, OnErr};
+ghost use Rattle.std.specs.Prelude.{◌≡◌, ℕ, ◌+◌, ◌++◌, ◌<◌, ◌∷◌, [], None, length, replicate, slice_index, slice_index_or, All, Contains, IfOk, OnOk, OnErr};
 ghost use Rattle.machine_parts.specs.Parts.{HasMember};
-ghost use Rattle.machine_laws.specs.Seating.{Disowns, Vacates, Seats, Clears, Renews, one_of, IsVacant, IsStalePartOf};
+ghost use Rattle.channel_groups.specs.Grouping.{AreOf, IsId};
+ghost use Rattle.circuit_texts.specs.Choosing.{chosen};
+ghost use Rattle.machine_laws.specs.Seating.{AddsStale, Disowns, Vacates, Seats, Clears, Renews, one_of, IsVacant, IsStalePartOf};
 
 use crate::machine::Machine;
+use channel_groups::{GroupId, Groups};
+use kept_parts::TextUses;
 use machine_parts::HeldPart;
 use part_steps::{own, widen_for_parts};
+use path_meaning::Graph;
 use std::alloc::{AllocError, Global};
 use std::mem;
 use ternary::NoMemory;
+use wide_groups::forget_with;
 
 impl Machine {
     // Takes a part's group away: it has no members and no code any more, and reads nothing.
     //
-    // The node at which it begins is noted first, for the next build, which can lack memory.
+    // The node at which it begins is noted first, for the next build, which can lack memory. If the group was stepped by
+    // vicinities, such groups aren't known any more.
     pub(crate) fn vacate(&mut self, k: usize) -> Result<(), AllocError>
-        requires none { self.old.wide ≡ None }
         requires inside { k < length self.old.parts }
         ensures ok { OnOk result (Vacates k self.old self.new) }
         ensures err { OnErr result (self.new ≡ self.old) }
@@ -30,13 +36,13 @@ impl Machine {
         self.body.uses.free(k);
         self.body.held -= count_one(&gone);
         self.body.most -= gone.members;
+        forget_with(&gone.map[..gone.members], &mut self.body.wide);
         Ok(())
     }
 
     // Seats a part for a group with these members, which are no members of other parts: it is stale and
     // marked.
     pub(crate) fn seat(&mut self, members: &[usize]) -> Result<(), NoMemory>
-        requires none { self.old.wide ≡ None }
         requires some { 0 < length members.now }
         requires inside { All (λ node. node < length self.old.state) members.now }
         requires once { (i j : ℕ) → i < length members.now → j < length members.now → slice_index members.now i ≡ slice_index members.now j → i ≡ j }
@@ -66,7 +72,6 @@ impl Machine {
 
     // Takes its group away from the part that has this node as a member, if there is one.
     fn vacate_owner(&mut self, node: usize) -> Result<(), AllocError>
-        requires none { self.old.wide ≡ None }
         ensures ok { OnOk result (Clears (node ∷ []) self.old self.new) }
         ensures err { OnErr result (self.new ≡ self.old) }
     {
@@ -78,9 +83,7 @@ impl Machine {
 
     // Takes their groups away from the parts that have these nodes as members.
     pub(crate) fn vacate_all(&mut self, nodes: &[usize]) -> Result<(), AllocError>
-        requires none { self.old.wide ≡ None }
         ensures ok { OnOk result (Clears nodes.now self.old self.new) }
-        ensures wide { self.new.wide ≡ None }
         ensures state { self.new.state ≡ self.old.state }
         ensures spare { self.new.spare ≡ self.old.spare }
         ensures last { self.new.last ≡ self.old.last }
@@ -93,7 +96,6 @@ impl Machine {
 
     // Seats a part for a group with these members, in place of the parts that have them.
     pub(crate) fn renew(&mut self, members: &[usize]) -> Result<(), NoMemory>
-        requires none { self.old.wide ≡ None }
         requires some { 0 < length members.now }
         requires inside { All (λ node. node < length self.old.state) members.now }
         requires once { (i j : ℕ) → i < length members.now → j < length members.now → slice_index members.now i ≡ slice_index members.now j → i ≡ j }
@@ -147,6 +149,28 @@ fn part_of(alloc: Global, members: &[usize]) -> Result<HeldPart, AllocError>
         members: members.len(),
         reads: Vec::new(alloc),
     })
+}
+
+// Adds a stale part for each of the groups with these ids, which have no text.
+pub(crate) fn add_stale(
+    alloc: Global,
+    graph: &Graph,
+    groups: &Groups,
+    ids: &[GroupId],
+    parts: &mut Vec<HeldPart>,
+    uses: &mut TextUses,
+) -> Result<(), AllocError>
+    requires groups { AreOf graph.now groups.now }
+    requires ids { All (λ id. IsId groups.now.groups id.node) ids.now }
+    ensures adds { OnOk result (AddsStale (chosen groups.now.groups ids.now) parts.old.items parts.new.items) }
+    ensures known { uses.new.known ≡ uses.old.known }
+    ensures numbers { OnOk result (uses.new.numbers ≡ uses.old.numbers ++ replicate (length ids.now) None) }
+{
+    for &id in ids {
+        parts.push(part_of(alloc, groups.group(id).members())?)?;
+        uses.add()?;
+    }
+    Ok(())
 }
 
 // Takes their owner from these nodes.

@@ -1,9 +1,13 @@
 //! What is found of the parts that wait before they get their codes.
-ghost use Rattle.std.specs.Prelude.{◌≡◌, ◌≢◌, ℕ, ◌<◌, None, Some, [], length, map, All, Contains, IfOk, slice_index_or};
+ghost use Rattle.std.specs.Prelude.{◌≡◌, ◌≢◌, ℕ, ◌<◌, ◌⊎◌, ◌↔◌, None, Some, [], true, length, map, All, Contains, IfOk, OnOk, slice_index_or};
+ghost use Rattle.std.specs.Bool.{OnTrue, OnFalse};
 ghost use Rattle.std.specs.List.Sorted.{IsStrictlyIncreasing};
 ghost use Rattle.channel_groups.specs.Grouping.{AreOf, IsId};
 ghost use Rattle.machine_parts.specs.Marking.{IsMarked};
 ghost use Rattle.machine_laws.specs.Finishing.{first_node};
+ghost use Rattle.wide_groups.specs.Staying.{HoldsNode, HoldsUpTo};
+ghost use Rattle.unit_step.specs.Holding.{IsPassed};
+ghost use Rattle.unit_step.specs.Waking.{AddsUnlessPassed};
 
 use channel_groups::{GroupId, Groups};
 use group_text::GroupText;
@@ -11,9 +15,11 @@ use machine_parts::HeldPart;
 use part_steps::Agenda;
 use path_meaning::{Graph, graphs_are_wired};
 use std::alloc::{AllocError, Global};
+use vicinity::Wide;
+use wide_groups::{holds_node, holds_up_to};
 
-// What is found of the groups whose parts wait: the parts' numbers, and for each group its text, the nodes that
-// the text's local nodes stand for, and the nodes that it reads.
+// What is found of those groups that have a text and whose parts wait: the numbers of their parts, and for each of
+// these groups its text, the nodes that the text's local nodes stand for, and the nodes that it reads.
 #[derive(Drop)]
 pub(crate) struct Waking {
     pub(crate) slots: Vec<usize>,
@@ -22,27 +28,81 @@ pub(crate) struct Waking {
     pub(crate) reads: Vec<Vec<usize>>,
 }
 
-// The least members of the parts that wait, in order.
+// The least members of the parts that wait, in order, but for those that are passed over with this bound.
 pub(crate) fn least_members(
     alloc: Global,
     parts: &[HeldPart],
     agenda: &Agenda,
+    wide: &Option<Wide>,
+    bound: Option<usize>,
 ) -> Result<Vec<usize>, AllocError>
     requires counted { length agenda.now.marks ≡ length parts.now }
     requires some { (k : ℕ) → IsMarked agenda.now.waiting k → 0 < length (slice_index_or (map (λ part. part.map.items) parts.now) k []) }
     ensures ascending { IfOk result (λ nodes. IsStrictlyIncreasing nodes.items) }
-    ensures all { IfOk result (λ nodes. (k : ℕ) → IsMarked agenda.now.waiting k → Contains nodes.items (first_node parts.now k)) }
+    ensures all { IfOk result (λ nodes. (k : ℕ) → IsMarked agenda.now.waiting k →
+        Contains nodes.items (first_node parts.now k) ⊎ IsPassed bound wide.now (first_node parts.now k)) }
     ensures only { IfOk result (λ nodes. (node : ℕ) → Contains nodes.items node → (k : ℕ) × IsMarked agenda.now.waiting k × (first_node parts.now k ≡ node)) }
 {
     let mut nodes = Vec::new(alloc);
     for &k in agenda.waiters() {
         if agenda.does_wait(k) {
-            nodes.push(least_member(parts, k))?;
+            add_unless_passed(least_member(parts, k), wide, bound, &mut nodes)?;
         }
     }
     nodes.sort_unstable();
     nodes.dedup();
     Ok(nodes)
+}
+
+// Adds a least member, unless it is passed over.
+fn add_unless_passed(
+    node: usize,
+    wide: &Option<Wide>,
+    bound: Option<usize>,
+    nodes: &mut Vec<usize>,
+) -> Result<(), AllocError>
+    ensures { OnOk result (AddsUnlessPassed bound wide.now node nodes.old.items nodes.new.items) }
+{
+    if is_passed(wide, bound, node) {
+        return Ok(());
+    }
+    nodes.push(node)?;
+    Ok(())
+}
+
+// Whether the group with this least node is passed over: it is stepped by vicinities already, and no such group has more
+// members than the bound.
+fn is_passed(wide: &Option<Wide>, bound: Option<usize>, node: usize) -> bool
+    ensures { (result ≡ true) ↔ IsPassed bound wide.now node }
+{
+    match bound {
+        Some(large) => holds_within(wide, large, node),
+        None => false,
+    }
+}
+
+// Whether this node is a member of a group that is stepped by vicinities, and no such group has more members than `large`.
+fn holds_within(wide: &Option<Wide>, large: usize, node: usize) -> bool
+    ensures { (result ≡ true) ↔ (HoldsUpTo large wide.now × HoldsNode wide.now node) }
+{
+    if holds_up_to(wide, large) {
+        return holds_node(wide, node);
+    }
+    false
+}
+
+// Whether each of the groups with these ids is stepped by vicinities already.
+pub(crate) fn holds_all(wide: &Option<Wide>, ids: &[GroupId]) -> bool
+    ensures all { OnTrue result (All (λ id. HoldsNode wide.now id.node) ids.now) }
+    ensures some { OnFalse result (¬ All (λ id. HoldsNode wide.now id.node) ids.now) }
+{
+    for &id in ids {
+        if holds_node(wide, id.node()) {
+            continue;
+        }
+        return false;
+    }
+    true
 }
 
 // The least member of a part.
@@ -54,18 +114,18 @@ fn least_member(parts: &[HeldPart], k: usize) -> usize
     parts[k].map[0]
 }
 
-// The parts that own these nodes.
+// The parts that own the least nodes of the groups with these ids.
 pub(crate) fn owners_of(
     alloc: Global,
     owners: &[Option<usize>],
-    nodes: &[usize],
+    ids: &[GroupId],
 ) -> Result<Vec<usize>, AllocError>
-    requires owned { All (λ node. slice_index_or owners.now node None ≢ None) nodes.now }
-    ensures { IfOk result (λ slots. map Some slots.items ≡ map (λ node. slice_index_or owners.now node None) nodes.now) }
+    requires owned { All (λ id. slice_index_or owners.now id.node None ≢ None) ids.now }
+    ensures { IfOk result (λ slots. map Some slots.items ≡ map (λ id. slice_index_or owners.now id.node None) ids.now) }
 {
     let mut slots = Vec::new(alloc);
-    for &node in nodes {
-        slots.push(owner_of(owners, node))?;
+    for &id in ids {
+        slots.push(owner_of(owners, id.node()))?;
     }
     Ok(slots)
 }

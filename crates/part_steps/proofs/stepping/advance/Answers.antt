@@ -15,6 +15,7 @@ use Rattle.machine_parts.specs.Running.{AreAgreed, IsTaken, ReadsAny}
 use Rattle.machine_parts.proofs.MarkLemmas.{marked_sum-within}
 use Rattle.machine_parts.proofs.SetMarks.{marked_inside}
 use Rattle.vicinity.specs.Wides.{WideData}
+use Rattle.vicinity.proofs.TouchLemmas.{none_twice}
 use Rattle.wide_groups.specs.Awake.{IsListedIn, CalmsIn, TurnedIn, ListsIn}
 use Rattle.wide_groups.specs.Moving.{RetouchesIn}
 use Rattle.wide_groups.proofs.WideCases.{listed_in, enough_in, listed_calm, listed_turned, holds_turned, TurnedIn-then, RetouchesIn-from}
@@ -150,17 +151,25 @@ returns-clause-marks g c =
     first second fourth xs done e.evaluated e.rest e.count again (MarksAll-both c.args.readers.now xs ys second third fourth read read_too)
 
 -- both together turn the lists
-both_turned : (g : Over) (c : After-take_over-2 g) → TurnedIn c.calm.new.wide c.take_over-2.new.wide c.args.state.now c.take_over-2.new.state
-both_turned g c =
+both_turned : (g : Over) (c : After-take_over-2 g) → AreAgreed (c.evaluate_all.new.desk.changes.items ++ c.evaluate_awake.new.noted.items) →
+    IsTaken c.evaluate_all.new.desk.changes.items c.args.state.now c.take_over.new.state →
+    TurnedIn c.calm.new.wide c.take_over-2.new.wide c.args.state.now c.take_over-2.new.state
+both_turned g c agreed first =
+    let xs = c.evaluate_all.new.desk.changes.items in
+    let ys = c.evaluate_awake.new.noted.items in
+    let next = subst (λ ys. IsTaken ys c.take_over.new.state c.take_over-2.new.state) c.deref-3.ensures.value c.take_over-2.ensures.taken in
     TurnedIn-then c.calm.new.wide c.take_over.new.wide c.take_over-2.new.wide c.args.state.now c.take_over.new.state c.take_over-2.new.state
+    (none_twice xs ys c.args.state.now c.take_over.new.state c.take_over-2.new.state
+    (λ one two here there. agreed one two (Contains-append_left xs ys one here) (Contains-append_right xs ys two there)) first next)
     c.take_over.ensures.turned c.take_over-2.ensures.turned
 
 pub returns-clause-retouches : goal.returns-clause-retouches
 returns-clause-retouches g c =
+    let at_end = goal.at.returns-clause-retouches g c in
     RetouchesIn-from c.args.joining c.args.wide.now c.calm.new.wide c.take_over-2.new.wide c.args.state.now c.take_over-2.new.state
     (subst ListsIn c.evaluate_awake.ensures.same c.touched_is_listed.ensures)
     (subst (λ (wide : Option WideData). CalmsIn c.args.joining wide c.calm.new.wide) c.evaluate_awake.ensures.same c.calm.ensures)
-    (both_turned g (goal.at.returns-clause-retouches g c).After-take_over-2) c.touched_is_listed-2.ensures
+    (both_turned g at_end.After-take_over-2 (agreed_all g at_end.After-evaluate_awake) (first_taken g at_end.After-take_over)) c.touched_is_listed-2.ensures
 
 pub returns-clause-holds : goal.returns-clause-holds
 returns-clause-holds g c =
@@ -168,7 +177,7 @@ returns-clause-holds g c =
     let old = c.args.state.now in
     let new = c.take_over-2.new.state in
     let count : length new ≡ length old = c.take_over-2.ensures.taken.count ∙ c.take_over.ensures.taken.count in
-    let turned = both_turned g at_end.After-take_over-2 in
+    let turned = both_turned g at_end.After-take_over-2 (agreed_all g at_end.After-evaluate_awake) (first_taken g at_end.After-take_over) in
     let listed : IsListedIn new c.take_over-2.new.wide =
     listed_turned c.calm.new.wide c.take_over-2.new.wide old new turned count (calm_listed g at_end.After-calm) in
     let retouches : RetouchesIn c.args.joining c.args.wide.now c.take_over-2.new.wide old new =

@@ -1,5 +1,5 @@
 -- One change more is taken over.
-use Rattle.std.proofs.Common.{refl, inl, ◌<◌, get_or, ◌∙◌, arith}
+use Rattle.std.proofs.Common.{refl, inl, ◌<◌, get_or, sym, subst, ◌∙◌, arith}
 use Rattle.std.specs.Prelude.{length}
 use Rattle.std.proofs.lemmas.List.{get_or_default}
 use Rattle.std.proofs.lemmas.List.Elements.{Contains-get_or}
@@ -7,8 +7,8 @@ use Rattle.ternary.specs.declared.tern.Tern.TheVariants.{Zero}
 use Rattle.part_words.specs.declared.change.Change.{Change}
 use Rattle.machine_parts.specs.Readers.{readers_of}
 use Rattle.machine_parts.proofs.MarkLemmas.{MarksAll-reached}
+use Rattle.vicinity.proofs.TouchLemmas.{IsTaken-more, NoneTwice, none_twice-next}
 use Rattle.wide_groups.proofs.WideCases.{TurnedIn-none, TurnedIn-then, listed_turned}
-use Rattle.part_steps.proofs.TakingLemmas.{IsTaken-more}
 use Rattle.part_steps.proofs.stepping.take_over.Goals as goal
 
 first : Change
@@ -59,11 +59,12 @@ loop-change-preserved c =
     let inside = c.requires.inside change (Contains-get_or changes i first test) in
     let here : change.node < length c.loop-change.state = omega (arith, inside, c.loop-change.invariant.taken.count) in
     let lists = c.of.ensures in
+    let once = none_twice-next changes i first c.args.state.now c.loop-change.state test here c.requires.agreed c.loop-change.invariant.taken in
     record {
       taken = rw c.write.ensures.state
-          (IsTaken-more changes i change c.args.state.now c.loop-change.state c.requires.agreed test is here c.loop-change.invariant.taken);
+          (IsTaken-more changes i first c.args.state.now c.loop-change.state test inside c.requires.agreed c.loop-change.invariant.taken);
       turned = TurnedIn-then c.args.wide.now c.loop-change.wide c.write.new.wide c.args.state.now c.loop-change.state c.write.new.state
-          c.loop-change.invariant.turned c.write.ensures.turned;
+          (subst (NoneTwice c.args.state.now c.loop-change.state) (sym c.write.ensures.state) once) c.loop-change.invariant.turned c.write.ensures.turned;
       marks = MarksAll-reached (λ (change : Change). readers_of c.args.readers.now change.node) changes i change c.of.result.now c.args.agenda.now.marks c.loop-change.agenda.marks
           c.mark_all.new.agenda.marks test is lists c.loop-change.invariant.marks c.mark_all.ensures.marks;
       waiting = c.mark_all.ensures.waiting ∙ c.loop-change.invariant.waiting;

@@ -3,5 +3,5 @@ use Rattle.std.proofs.Common.{◌≡◌, map, take, Some, None}
 use Rattle.std.specs.Prelude.{slice_index_or}
 use Rattle.unit_step.proofs.waking.owners_of.Given as goal
 
-abbrev pub invariant-loop-node : goal.invariant-loop-node
-invariant-loop-node l = map Some l.slots.items ≡ map (λ node. slice_index_or l.owners node None) (take l.node-index l.nodes)
+abbrev pub invariant-loop-id : goal.invariant-loop-id
+invariant-loop-id l = map Some l.slots.items ≡ map (λ id. slice_index_or l.owners id.node None) (take l.id-index l.ids)

@@ -1,5 +1,5 @@
 -- All that was made is of these parts, so the machine can run.
-use Rattle.std.proofs.Common.{◌≡◌, ℕ, true, false, length, ap, refl, sym, subst, ◌∙◌, arith}
+use Rattle.std.proofs.Common.{◌≡◌, ℕ, ◌+◌, ◌-◌, ◌++◌, true, false, length, ap, refl, sym, subst, ◌∙◌, arith}
 use Rattle.std.specs.Prelude.{All, Contains, replicate, count_by}
 use Rattle.machine_parts.specs.Parts.{ReadsAt, AreApart, has_members}
 use Rattle.part_steps.specs.Desks.{rooms}
@@ -10,6 +10,7 @@ use Rattle.part_steps.specs.Dense.{AreDense, HasInputs, HaveCodes}
 use Rattle.unit_step.specs.Lasting.{AreLasting}
 use Rattle.unit_step.proofs.LastingOrder.{AreInOrder-lasting}
 use Rattle.machine_parts.proofs.MakingLemmas.{IsMachine-started}
+use Rattle.unit_step.proofs.BodyLemmas.{waits_last}
 use Rattle.unit_step.proofs.body.Body.of_parts.Goals as goal
 
 pub all_owners-requires-clause-apart : goal.all_owners-requires-clause-apart
@@ -34,7 +35,9 @@ returns-clause-starts c =
     let room = rooms c.in_ok-desk.desk in
     let count : c.len.result ≡ length parts = omega (arith, c.len.ensures, c.args.parts.ok.0) in
     let nodes_are : c.len-nodes.result ≡ nodes = omega (arith, c.len-nodes.ensures, c.args.state.ok.0) in
-    let marks : c.in_ok-agenda.agenda.marks ≡ replicate (length parts) true = c.in_ok-agenda.ensures.marks ∙ ap (λ n. replicate n true) count in
+    let ready : c.args.stale + (c.len.result - c.args.stale) ≡ length parts = omega (arith, count, c.requires.stale.0) in
+    let marks : c.in_ok-agenda.agenda.marks ≡ replicate (length parts) true =
+    c.in_ok-agenda.ensures.marks ∙ ap (λ n. replicate n true) (omega (arith, ready)) in
     let readers = subst (λ list. (node k : ℕ) → ReadsAt list k node → Contains (readers_of lists node) k) c.deref-2.ensures.value
     c.in_ok-readers.ensures.readers in
     let reads = subst (λ list. (node k : ℕ) → Contains (readers_of lists node) k → ReadsAt list k node) c.deref-2.ensures.value
@@ -43,13 +46,14 @@ returns-clause-starts c =
     (subst (λ n. AreOwners c.deref-3.result.now n owners) nodes_are c.in_ok-owners.ensures) in
     let number = c.count_held-held.ensures ∙ ap (count_by has_members) c.deref.ensures.value in
     let fits = subst (λ list. HasRoomFor list room) c.deref-4.ensures.value c.in_ok-desk.ensures in
-    let waits : c.in_ok-agenda.agenda.waiting ≡ replicate (length parts) false = c.in_ok-agenda.ensures.waiting ∙ ap (λ n. replicate n false) count in
+    let waiting : c.in_ok-agenda.agenda.waiting ≡ replicate (c.len.result - c.args.stale) false ++ replicate c.args.stale true = c.in_ok-agenda.ensures.waiting in
+    let waits = waits_last parts c.args.stale (c.len.result - c.args.stale) (omega (arith, ready)) c.requires.stale in
     let dense = subst (λ list. AreDense list c.in_ok-dense.dense) c.deref-5.ensures.value c.in_ok-dense.ensures in
     record {
       marked = marks;
-      runs = rw (marks, waits, c.capacity.ensures)
+      runs = rw (marks, waiting, c.capacity.ensures)
           (IsMachine-started parts nodes lists owners c.args.uses.numbers c.count_held-held.result room.changes room c.requires.formed c.requires.apart
-          (c.in_ok-readers.ensures.count ∙ nodes_are) readers reads own (omega (arith, c.requires.numbered)) number refl fits);
+          (c.in_ok-readers.ensures.count ∙ nodes_are) readers reads own (omega (arith, c.requires.numbered)) number refl fits _ waits);
       dense = dense;
       without = refl;
       lasting = subst (λ list. AreLasting list c.args.uses.numbers nodes (length c.args.uses.known) c.in_ok-lasting.lasting) c.deref-6.ensures.value

@@ -1,85 +1,126 @@
--- The parts are those of the graph's groups, all marked, so the machine that starts fits the graph.
-use Rattle.std.proofs.Common.{ℕ, List, Some, length, map, refl, sym, ap, ◌∙◌}
+-- The parts are those of the graph's groups, all marked, so the machine that starts is ready.
+use Rattle.std.proofs.Common.{◌≡◌, ℕ, ◌++◌, List, All, None, Some, length, map, replicate, refl, sym, ap, subst, ◌∙◌, arith}
+use Rattle.std.specs.Prelude.{zip}
 use Rattle.std.specs.List.{AllZip}
 use Rattle.std.proofs.lemmas.List.{length-map}
 use Rattle.std.proofs.lemmas.Slice.Zip.{AllZip-long}
-use Rattle.path_meaning.specs.Graphs.{nodes}
-use Rattle.group_text.specs.Texts.{GroupTextData, text_of_group, local_nodes}
+use Rattle.group_meaning.specs.Groups.{id_of}
+use Rattle.channel_groups.specs.declared.group.GroupId.{GroupId}
+use Rattle.channel_groups.specs.Grouping.{IsId}
+use Rattle.group_text.specs.Texts.{GroupTextData, local_nodes}
 use Rattle.circuit_texts.specs.Parts.{IsPartOf}
+use Rattle.circuit_texts.specs.Choosing.{chosen}
 use Rattle.circuit_texts.specs.Reading.{AreReads}
-use Rattle.circuit_texts.proofs.MemberLemmas.{AreMembers-from_groups}
+use Rattle.circuit_texts.proofs.ChosenLemmas.{chosen-ids}
+use Rattle.circuit_texts.specs.Told.{told, with_text, without_text}
 use Rattle.kept_parts.specs.Uses.{texts_used}
-use Rattle.kept_parts.proofs.GroupParts.{parts_of_groups, parts_fit}
+use Rattle.kept_parts.proofs.GroupParts.{parts_of_groups}
+use Rattle.machine_parts.specs.Making.{held}
+use Rattle.machine_laws.specs.Holding.{IsReady}
+use Rattle.machine_laws.specs.Seating.{IsStalePartOf}
 use Rattle.unit_step.specs.Bodies.{started}
-use Rattle.machine_laws.specs.Fitting.{FitsGraph}
-use Rattle.machine_parts.proofs.MakingLemmas.{formed_parts, apart_parts, reads_inside, held_count}
-use Rattle.unit_step.proofs.BuildLemmas.{lists_inside, numbers_counted, all_numbered}
-use Rattle.unit_step.proofs.BodyLemmas.{HaveCodes-held, FitsGraph-planned, FitsGraph-of_body, HasLast-of_body}
-use Rattle.unit_step.proofs.body.Body.of_plan.Goals.{In_ok-parts, In_ok-held}
+use Rattle.unit_step.proofs.BuildLemmas.{numbers_counted, all_numbered}
+use Rattle.unit_step.proofs.BodyLemmas.{formed_planned, apart_planned, reads_planned, coded_planned, numbered_planned, stale_planned, IsReady-planned, IsReady-of_body, HasLast-of_body}
+use Rattle.unit_step.proofs.body.Body.of_plan.Goals.{In_ok-parts, In_ok-add_stale}
 use Rattle.unit_step.proofs.body.Body.of_plan.Goals as goal
 
 pub parts_by_number-requires-clause-maps : goal.parts_by_number-requires-clause-maps
 parts_by_number-requires-clause-maps c =
     let g = c.args.graph.now in
     let plan = c.args.plan in
-    let groups = plan.groups.groups in
+    let groups = with_text plan.groups.groups in
     sym (length-map plan.maps.items (λ nodes. nodes.items))
-    ∙ (ap length c.requires.plan.maps ∙ length-map groups (local_nodes g) ∙ sym (numbers_counted g plan.state.items plan c.requires.plan))
+    ∙ (ap length c.requires.plan.1.maps ∙ length-map groups (local_nodes g) ∙ sym (numbers_counted c.requires.plan.0 g plan.state.items plan c.requires.plan.1))
 
 pub parts_by_number-requires-clause-numbered : goal.parts_by_number-requires-clause-numbered
 parts_by_number-requires-clause-numbered c =
-    all_numbered c.args.graph.now c.args.plan.state.items c.args.plan c.requires.plan
+    all_numbered c.requires.plan.0 c.args.graph.now c.args.plan.state.items c.args.plan c.requires.plan.1
 
--- the parts are those of the groups
-of_groups : (c : In_ok-parts) → AllZip (IsPartOf c.args.graph.now) c.args.plan.groups.groups c.in_ok-parts.parts.items
+-- the parts with code are those of the groups that have a text
+of_groups : (c : In_ok-parts) → AllZip (IsPartOf c.args.graph.now) (with_text c.args.plan.groups.groups) c.in_ok-parts.parts.items
 of_groups c =
-    let texts = map (text_of_group c.args.graph.now) c.args.plan.groups.groups in
-    parts_of_groups c.args.graph.now c.args.plan.groups.groups texts _ c.in_ok-parts.parts.items refl c.requires.plan.maps
-    (c.in_ok-parts.ensures.made texts c.requires.plan.texts)
-
--- so the machine fits the graph
-fits : (c : In_ok-held) → AllZip (IsPartOf c.args.graph.now) c.args.plan.groups.groups c.in_ok-parts.parts.items →
-    (last : List GroupTextData) (spare : ℕ) →
-    FitsGraph c.args.graph.now
-    (started (Some c.args.plan.groups) c.in_ok-held.held.items c.args.plan.state.items (texts_used c.args.plan.uses) last spare)
-fits c of =
-    FitsGraph-planned c.args.graph.now c.args.plan c.requires.plan c.requires.counted c.requires.railed c.requires.sound c.in_ok-parts.parts.items of
-    c.in_ok-held.held.items c.in_ok-held.ensures
+    let texts = told c.args.graph.now c.args.plan.groups.groups in
+    parts_of_groups c.args.graph.now (with_text c.args.plan.groups.groups) texts _ c.in_ok-parts.parts.items refl c.requires.plan.1.maps
+    (c.in_ok-parts.ensures.made texts c.requires.plan.1.texts)
 
 pub held_parts-requires : goal.held_parts-requires
 held_parts-requires c =
-    AllZip-long (λ group list. AreReads c.args.graph.now group list.items) c.args.plan.groups.groups c.args.plan.reads.items c.requires.plan.reads
-    ∙ sym (AllZip-long (IsPartOf c.args.graph.now) c.args.plan.groups.groups c.in_ok-parts.parts.items
-    (of_groups (goal.at.held_parts-requires c).In_ok-parts))
+    let of = of_groups (goal.at.held_parts-requires c).In_ok-parts in
+    AllZip-long (λ group list. AreReads c.args.graph.now group list.items) (with_text c.args.plan.groups.groups) c.args.plan.reads.items c.requires.plan.1.reads
+    ∙ sym (AllZip-long (IsPartOf c.args.graph.now) (with_text c.args.plan.groups.groups) c.in_ok-parts.parts.items of)
+
+pub add_stale-requires-clause-groups : goal.add_stale-requires-clause-groups
+add_stale-requires-clause-groups c = c.requires.plan.1.are
+
+pub add_stale-requires-clause-ids : goal.add_stale-requires-clause-ids
+add_stale-requires-clause-ids c =
+    subst (All (λ (id : GroupId). IsId c.args.plan.groups.groups id.node)) (sym c.deref.ensures.value) c.requires.plan.1.ids
+
+-- the stale parts are those of the groups without a text
+stale_of : (c : In_ok-add_stale) → AllZip (λ group part. IsStalePartOf group.members part) (without_text c.args.plan.groups.groups) c.in_ok-add_stale.ensures.adds.more
+stale_of c =
+    subst (λ groups. AllZip (λ group part. IsStalePartOf group.members part) groups c.in_ok-add_stale.ensures.adds.more)
+    (ap (λ (ids : List GroupId). chosen c.args.plan.groups.groups ids) c.deref.ensures.value ∙ c.requires.plan.1.untold) c.in_ok-add_stale.ensures.adds.are
+
+-- so many are these as there are such groups
+stale_long : (c : In_ok-add_stale) → length c.in_ok-add_stale.ensures.adds.more ≡ length c.args.plan.large.items
+stale_long c =
+    let ids = c.args.plan.large.items in
+    AllZip-long (λ group part. IsStalePartOf group.members part) (without_text c.args.plan.groups.groups) c.in_ok-add_stale.ensures.adds.more (stale_of c)
+    ∙ (ap length (sym c.requires.plan.1.untold)
+    ∙ (sym (length-map (chosen c.args.plan.groups.groups ids) id_of)
+    ∙ (ap length (chosen-ids c.args.plan.groups.groups ids c.requires.plan.1.ids) ∙ length-map ids (λ (id : GroupId). id.node))))
+
+-- the parts with the stale ones behind
+parts_are : (c : In_ok-add_stale) → c.add_stale.new.parts.items ≡ map held (zip c.in_ok-parts.parts.items c.args.plan.reads.items) ++ c.in_ok-add_stale.ensures.adds.more
+parts_are c = c.in_ok-add_stale.ensures.adds.parts ∙ ap (λ list. list ++ c.in_ok-add_stale.ensures.adds.more) c.in_ok-held.ensures
+
+numbers_are : (c : In_ok-add_stale) → c.add_stale.new.uses.numbers ≡ c.args.plan.uses.numbers ++ replicate (length c.in_ok-add_stale.ensures.adds.more) None
+numbers_are c =
+    c.in_ok-add_stale.ensures.numbers
+    ∙ ap (λ n. c.args.plan.uses.numbers ++ replicate n None) (ap length c.deref.ensures.value ∙ sym (stale_long c))
 
 pub of_parts-requires : goal.of_parts-requires
 of_parts-requires c =
+    let at = goal.at.of_parts-requires c in
     let g = c.args.graph.now in
-    let groups = c.args.plan.groups.groups in
+    let plan = c.args.plan in
+    let is_plan = c.requires.plan.1 in
+    let large = c.requires.plan.0 in
     let parts = c.in_ok-parts.parts.items in
-    let reads = c.args.plan.reads.items in
-    let plan = c.requires.plan in
     let wired = c.graphs_are_wired.ensures in
-    let of = of_groups (goal.at.of_parts-requires c).In_ok-parts in
-    let numbers = numbers_counted g c.args.plan.state.items c.args.plan plan in
-    let lists = AllZip-long (λ group list. AreReads g group list.items) groups reads plan.reads ∙ sym (AllZip-long (IsPartOf g) groups parts of) in
-    rw (c.in_ok-held.ensures, c.requires.counted) (record {
-      formed = formed_parts (nodes g) parts reads (parts_fit g wired groups plan.are.are parts of);
-      apart = apart_parts parts reads (AreMembers-from_groups g groups plan.are.are parts of).once;
-      reads = reads_inside (nodes g) parts reads (lists_inside g wired groups reads plan.reads);
-      numbered = numbers ∙ sym (AllZip-long (IsPartOf g) groups parts of) ∙ sym (held_count parts reads lists);
-      coded = HaveCodes-held c.args.plan.uses.numbers parts reads c.in_ok-parts.ensures.coded;
+    let of = of_groups at.In_ok-parts in
+    let behind = c.in_ok-add_stale.ensures.adds.more in
+    let stale = stale_of at.In_ok-add_stale in
+    let count : c.len.result ≡ length behind = omega (arith, c.len.ensures, plan.large.ok.0, stale_long at.In_ok-add_stale) in
+    rw (parts_are at.In_ok-add_stale, numbers_are at.In_ok-add_stale, c.requires.counted, count) (record {
+      formed = formed_planned large g wired plan is_plan parts of behind stale;
+      stale = stale_planned large g wired plan is_plan parts of behind stale;
+      apart = apart_planned large g wired plan is_plan parts of behind stale;
+      reads = reads_planned large g wired plan is_plan parts of behind stale;
+      numbered = numbered_planned large g wired plan is_plan parts of behind stale;
+      coded = coded_planned large g wired plan is_plan parts of behind stale c.in_ok-parts.ensures.coded;
     })
 
-pub returns-clause-fits : goal.returns-clause-fits
-returns-clause-fits c =
-    let at = goal.at.returns-clause-fits c in
-    FitsGraph-of_body c.args.graph.now (Some c.args.plan.groups) c.in_ok-held.held c.args.plan.state c.args.plan.uses
-    (fits at.In_ok-held (of_groups at.In_ok-parts)) c.of_parts.result c.of_parts.ensures.groups c.of_parts.ensures.parts c.of_parts.ensures.state
+-- the machine that starts with the parts is ready
+ready : (c : In_ok-add_stale) → AllZip (IsPartOf c.args.graph.now) (with_text c.args.plan.groups.groups) c.in_ok-parts.parts.items →
+    (last : List GroupTextData) (spare : ℕ) →
+    IsReady c.args.graph.now (started (Some c.args.plan.groups) c.add_stale.new.parts.items c.args.plan.state.items (texts_used c.add_stale.new.uses) last spare)
+ready c of last spare =
+    subst (λ list. IsReady c.args.graph.now (started (Some c.args.plan.groups) list c.args.plan.state.items (texts_used c.add_stale.new.uses) last spare))
+    (sym (parts_are c))
+    (IsReady-planned c.requires.plan.0 c.args.graph.now c.graphs_are_wired.ensures c.args.plan c.requires.plan.1 c.in_ok-parts.parts.items of
+    c.in_ok-add_stale.ensures.adds.more (stale_of c) c.requires.counted c.add_stale.new.uses c.add_stale.ensures.known (numbers_are c) last spare)
+
+pub returns-clause-begins : goal.returns-clause-begins
+returns-clause-begins c =
+    let at = goal.at.returns-clause-begins c in
+    IsReady-of_body c.args.graph.now (Some c.args.plan.groups) c.add_stale.new.parts c.args.plan.state c.add_stale.new.uses
+    (ready at.In_ok-add_stale (of_groups at.In_ok-parts)) c.of_parts.result c.of_parts.ensures.groups c.of_parts.ensures.parts c.of_parts.ensures.state
     c.of_parts.ensures.uses
 
 pub returns-clause-last : goal.returns-clause-last
 returns-clause-last c =
     let at = goal.at.returns-clause-last c in
-    HasLast-of_body c.args.graph.now (Some c.args.plan.groups) c.in_ok-held.held c.args.plan.state c.args.plan.uses
-    (fits at.In_ok-held (of_groups at.In_ok-parts)) c.of_parts.result c.of_parts.ensures.uses c.of_parts.ensures.order
+    HasLast-of_body c.args.graph.now (Some c.args.plan.groups) c.add_stale.new.parts c.args.plan.state c.add_stale.new.uses
+    (ready at.In_ok-add_stale (of_groups at.In_ok-parts)) c.of_parts.result c.of_parts.ensures.uses c.of_parts.ensures.order

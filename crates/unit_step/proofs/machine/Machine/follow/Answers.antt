@@ -6,11 +6,11 @@ use Rattle.channel_groups.specs.Changes.{undo, nodes_before, nodes_after, touche
 use Rattle.group_meaning.specs.Groups.{Group, AreGroups}
 use Rattle.channel_groups.specs.Grouping.{GroupsData}
 use Rattle.unit_step.specs.contracts.machine.Machine.{the_view}
-use Rattle.vicinity.specs.Wides.{WideData}
+use Rattle.wide_groups.specs.Staying.{GrowsIn}
 use Rattle.machine_laws.specs.Machines.{MachineData, groups_in}
 use Rattle.machine_laws.specs.Editing.{with_new_nodes, Edits}
 use Rattle.machine_laws.specs.Seating.{Clears, IsWithAny, RenewsAll}
-use Rattle.machine_laws.proofs.CoveringLemmas.{counted_grown, grown_again, member_below, follows}
+use Rattle.machine_laws.proofs.CoveringLemmas.{few_before, counted_grown, grown_again, member_below, follows}
 use Rattle.unit_step.proofs.machine.Machine.follow.Given.{Over}
 use Rattle.unit_step.proofs.machine.Machine.follow.Goals.{In-Some}
 use Rattle.unit_step.proofs.machine.Machine.follow.Goals as goal
@@ -19,10 +19,12 @@ use Rattle.unit_step.proofs.machine.Machine.follow.Goals as goal
 grown : (g : Over) (c : In-Some g) → the_view c.self-2.inside ≡ record c.args.self.now {
   state = with_new_nodes c.args.self.now.state (nodes c.args.graph.now);
   spare = c.add_nodes.new.self.spare;
+  wide = c.add_nodes.new.self.wide;
 }
 grown g c =
     c.self-2.view_is ∙ c.in_ok-add_nodes.ensures.ok
-    ∙ ap (λ n. record c.args.self.now { state = with_new_nodes c.args.self.now.state n; spare = c.add_nodes.new.self.spare }) c.nodes.ensures
+    ∙ ap (λ n. record c.args.self.now { state = with_new_nodes c.args.self.now.state n; spare = c.add_nodes.new.self.spare; wide = c.add_nodes.new.self.wide })
+    c.nodes.ensures
 
 -- its states are those that are to be
 state_grown : (g : Over) (c : In-Some g) → c.self-2.inside.body.state.items ≡ with_new_nodes c.args.self.now.state (nodes c.args.graph.now)
@@ -80,6 +82,11 @@ returns-clause-state g c =
     (ap (λ (m : MachineData). m.state) c.self-3.view_is ∙ c.renew_all.ensures.state ∙ c.vacate_all.ensures.state
     ∙ state_grown g (goal.at.returns-clause-state g c).In-Some)
 
+-- there are no fewer nodes than before
+pub add_nodes-requires-clause-more : goal.add_nodes-requires-clause-more
+add_nodes-requires-clause-more g c =
+    omega (arith, few_before c.args.graph.now c.args.change.now, c.requires.covers.counted, c.nodes.ensures)
+
 pub members_with-requires-clause-below : goal.members_with-requires-clause-below
 members_with-requires-clause-below g c = λ group node there member.
     let covers = c.requires.covers in
@@ -120,16 +127,17 @@ returns-clause-ok g c =
     (subst (λ (groups : GroupsData). Contains found node ↔ IsWithAny groups.groups c.deref.result.now node) same (c.in_ok-nodes.ensures node)) in
     let nodes_are : all ≡ found ++ nodes_after graph change =
     c.in_ok-extend_from_slice.ensures.items ∙ ap (λ list. found ++ list) (c.deref-2.ensures.value ∙ c.in_ok-nodes_after.ensures) in
-    let begun = ap (λ (m : MachineData). record m { groups = c.replace.new.dest }) (grown g begin)
-    ∙ ap (λ (groups : Option GroupsData). record old { groups = groups; state = with_new_nodes old.state (nodes graph); spare = spare }) c.replace.ensures.after in
-    let still : Clears all (record old { groups = None; state = with_new_nodes old.state (nodes graph); spare = spare }) cleared =
-    subst (λ list. Clears list (record old { groups = None; state = with_new_nodes old.state (nodes graph); spare = spare }) cleared)
-    c.deref-3.ensures.value (subst (λ m. Clears c.deref-3.result.now m cleared) begun c.in_ok-vacate_all.ensures.ok) in
-    let clears = subst (λ (wide : Option WideData). Clears all (record old { groups = None; state = with_new_nodes old.state (nodes graph); spare = spare; wide = wide }) cleared)
-    c.requires.none still in
+    let begun = c.add_nodes.new.self.wide in
+    let begins = ap (λ (m : MachineData). record m { groups = c.replace.new.dest }) (grown g begin)
+    ∙ ap (λ (groups : Option GroupsData). record old { groups = groups; state = with_new_nodes old.state (nodes graph); spare = spare; wide = begun })
+    c.replace.ensures.after in
+    let clears : Clears all (record old { groups = None; state = with_new_nodes old.state (nodes graph); spare = spare; wide = begun }) cleared =
+    subst (λ list. Clears list (record old { groups = None; state = with_new_nodes old.state (nodes graph); spare = spare; wide = begun }) cleared)
+    c.deref-3.ensures.value (subst (λ m. Clears c.deref-3.result.now m cleared) begins c.in_ok-vacate_all.ensures.ok) in
+    let grows : GrowsIn (nodes graph) old.wide begun = subst (λ n. GrowsIn n old.wide begun) c.nodes.ensures c.in_ok-add_nodes.ensures.wide in
     let renews : RenewsAll now.groups all cleared made = subst (λ list. RenewsAll now.groups list cleared made) c.deref-4.ensures.value c.in_ok-renew_all.ensures.ok in
     subst (Edits graph change old) (ap (λ (m : MachineData). record m { groups = Some now }) (sym c.self-3.view_is))
-    (follows graph change old covers c.requires.wired c.graphs_are_wired.ensures now c.in_ok-regroup.ensures.ok spare found all found_are nodes_are
+    (follows graph change old covers c.requires.wired c.graphs_are_wired.ensures now c.in_ok-regroup.ensures.ok spare begun grows found all found_are nodes_are
     cleared made clears renews c.stale_parts_are_marked.ensures.apart c.stale_parts_are_marked.ensures.waits)
 
 pub returns-in_err-regroup-clause-ticks : goal.returns-in_err-regroup-clause-ticks
@@ -146,10 +154,3 @@ returns-in_err-renew_all-clause-ticks g c = ticks g (goal.at.returns-in_err-rene
 
 pub returns-clause-ticks : goal.returns-clause-ticks
 returns-clause-ticks g c = ticks g (goal.at.returns-clause-ticks g c).In-Some c.regroup.new.steps c.regroup.ensures.step
-
-pub vacate_all-requires : goal.vacate_all-requires
-vacate_all-requires g c =
-    record { none = ap (λ (m : MachineData). m.wide) (grown g (goal.at.vacate_all-requires g c).In-Some) ∙ c.requires.none }
-
-pub renew_all-requires-clause-none : goal.renew_all-requires-clause-none
-renew_all-requires-clause-none g c = c.vacate_all.ensures.wide

@@ -41,6 +41,3 @@ returns-clause-state c = c.loop-node.invariant.rest.state
 
 pub returns-clause-spare : goal.returns-clause-spare
 returns-clause-spare c = c.loop-node.invariant.rest.spare
-
-pub renew_at-requires-clause-none : goal.renew_at-requires-clause-none
-renew_at-requires-clause-none c = c.loop-node.invariant.rest.wide ∙ c.requires.none

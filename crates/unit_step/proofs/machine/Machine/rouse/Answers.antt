@@ -1,11 +1,10 @@
 -- The stale parts get their codes.
 use Rattle.std.proofs.Common.{◌≡◌, ℕ, ◌<◌, ◌⊎◌, Bool, List, length, map, All, Some, refl, sym, ap, subst, ◌∙◌, arith}
-use Rattle.std.specs.Prelude.{Contains, slice_get}
+use Rattle.std.specs.Prelude.{◌↔◌, Contains, slice_get, vec_capacity}
 use Rattle.std.specs.Vec.{with_items}
 use Rattle.std.proofs.lemmas.List.{length-map, with_items_is}
 use Rattle.std.proofs.lemmas.List.Elements.{All-weaker}
 use Rattle.smallvec.specs.SmallVec.{SmallVec}
-use Rattle.path_meaning.specs.Rails.{IsSound}
 use Rattle.group_text.specs.Texts.{GroupTextData, text_of_group}
 use Rattle.kept_parts.specs.Uses.{texts_used, count_distinct}
 use Rattle.kept_parts.proofs.GroupParts.{parts_of_groups}
@@ -17,21 +16,21 @@ use Rattle.machine_parts.specs.Making.{IsCodeRoom}
 use Rattle.part_steps.specs.Desks.{rooms}
 use Rattle.machine_parts.specs.Running.{IsMachine}
 use Rattle.machine_laws.specs.Fitting.{Covers}
-use Rattle.machine_laws.specs.Editing.{Rouses}
-use Rattle.unit_step.specs.Waking.{IsWaking}
+use Rattle.unit_step.specs.Waking.{IsWaking, Wakes}
 use Rattle.machine_parts.specs.Putting.{Puts}
-use Rattle.machine_parts.specs.Marking.{AreOnce}
+use Rattle.machine_parts.specs.Marking.{AreOnce, IsMarked}
 use Rattle.machine_parts.specs.Readers.{ListsAll, HaveSameReaders}
 use Rattle.part_steps.specs.Dense.{AreDense, AreSeatsOf}
 use Rattle.machine_laws.specs.Beginnings.{BeginsAt}
 use Rattle.unit_step.specs.Lasting.{AreLasting, texts_lasting}
 use Rattle.unit_step.proofs.LastingRoused.{AreLasting-numbered, AreLasting-noted, AreLasting-roused, texts_lasting-numbered, same_texts_left}
 use Rattle.machine_laws.proofs.FillingLemmas.{on_err}
-use Rattle.unit_step.proofs.FinishingRoused.{AreMade, AreMade-held, parts_counted, unlisted, known_inside, IsMachine-roused, Rouses-roused}
-use Rattle.machine_laws.proofs.StayingParts.{IsMachine-wider}
+use Rattle.unit_step.proofs.FinishingRoused.{AreMade, AreMade-held, parts_counted, unlisted, known_inside, IsMachine-roused, Wakes-roused}
+use Rattle.machine_laws.proofs.StayingParts.{IsMachine-wider, stale_only_roused}
 use Rattle.machine_parts.proofs.MachineLemmas.{HaveSameReaders-refl}
-use Rattle.unit_step.proofs.machine.Machine.rouse.Goals.{In_ok-fresh, After-numbers_of, In_ok-numbers, After-widen_for_codes, In_ok-seats, After-note_all}
-use Rattle.wide_groups.proofs.WideCases.{none_holds}
+use Rattle.unit_step.proofs.machine.Machine.rouse.Goals.{In_ok-fresh, After-numbers_of, In_ok-numbers, After-widen_for_codes, In_ok-seats, After-note_all, After-rouse}
+use Rattle.wide_groups.specs.Moving.{HasStaleOnly}
+use Rattle.wide_groups.proofs.StayingLemmas.{holds_parts}
 use Rattle.unit_step.proofs.machine.Machine.rouse.Goals as goal
 
 pub held_parts-requires : goal.held_parts-requires
@@ -126,7 +125,7 @@ invariant_of-self c =
           c.self.invariant.0,
       c.self.invariant.1,
       lasting_numbered (goal.at.invariant_of-self c).After-numbers_of,
-      none_holds _ _ _ i.body.wide (ap (λ (m : MachineData). m.wide) c.self.view_is ∙ c.requires.none),
+      c.self.invariant.3,
     )
 
 pub returns-in_err-numbers-clause-err : goal.returns-in_err-numbers-clause-err
@@ -139,7 +138,7 @@ invariant_of-self-in_err-widen_for_codes c =
       machine_wider (goal.at.invariant_of-self-in_err-widen_for_codes c).After-widen_for_codes i.body.readers (HaveSameReaders-refl i.body.readers),
       c.self.invariant.1,
       lasting_numbered (goal.at.invariant_of-self-in_err-widen_for_codes c).After-numbers_of,
-      none_holds _ _ _ i.body.wide (ap (λ (m : MachineData). m.wide) c.self.view_is ∙ c.requires.none),
+      c.self.invariant.3,
     )
 
 pub returns-in_err-widen_for_codes-clause-err : goal.returns-in_err-widen_for_codes-clause-err
@@ -152,7 +151,7 @@ invariant_of-self-in_err-seats c =
       machine_wider (goal.at.invariant_of-self-in_err-seats c).After-widen_for_codes i.body.readers (HaveSameReaders-refl i.body.readers),
       c.seats_for.ensures.same i.body.parts.items c.self.invariant.1,
       lasting_numbered (goal.at.invariant_of-self-in_err-seats c).After-numbers_of,
-      none_holds _ _ _ i.body.wide (ap (λ (m : MachineData). m.wide) c.self.view_is ∙ c.requires.none),
+      c.self.invariant.3,
     )
 
 pub returns-in_err-seats-clause-err : goal.returns-in_err-seats-clause-err
@@ -175,7 +174,7 @@ invariant_of-self-in_err-note_all c =
       machine_wider (goal.at.invariant_of-self-in_err-note_all c).After-widen_for_codes i.body.readers (HaveSameReaders-refl i.body.readers),
       c.seats_for.ensures.same i.body.parts.items c.self.invariant.1,
       lasting_noted (goal.at.invariant_of-self-in_err-note_all c).After-note_all,
-      none_holds _ _ _ i.body.wide (ap (λ (m : MachineData). m.wide) c.self.view_is ∙ c.requires.none),
+      c.self.invariant.3,
     )
 
 pub returns-in_err-note_all-clause-err : goal.returns-in_err-note_all-clause-err
@@ -214,7 +213,7 @@ invariant_of-self-in_err-list_all c =
       machine_wider (goal.at.invariant_of-self-in_err-list_all c).After-widen_for_codes c.list_all.new.self c.in_err-list_all.ensures.err,
       c.seats_for.ensures.same i.body.parts.items c.self.invariant.1,
       lasting_noted (goal.at.invariant_of-self-in_err-list_all c).After-note_all,
-      none_holds _ _ _ i.body.wide (ap (λ (m : MachineData). m.wide) c.self.view_is ∙ c.requires.none),
+      c.self.invariant.3,
     )
 
 pub returns-in_err-list_all-clause-err : goal.returns-in_err-list_all-clause-err
@@ -280,6 +279,15 @@ put_in-requires-clause-counted c =
     let made = parts_made (goal.at.put_in-requires-clause-counted c).In_ok-fresh in
     omega (arith, ap length c.deref-13.ensures.value, made.counted)
 
+-- all but the parts that got their codes wait still
+released : (c : After-rouse) → (k : ℕ) → IsMarked c.rouse.new.self.waiting k ↔ (IsMarked c.self.inside.body.agenda.waiting k × (¬ Contains c.args.waking.slots.items k))
+released c = rw c.deref-14.ensures.value at c.rouse.ensures.waiting
+
+pub rouse-requires : goal.rouse-requires
+rouse-requires c =
+    let made = parts_made (goal.at.rouse-requires c).In_ok-fresh in
+    rw c.deref-14.ensures.value (λ k d inside. omega (arith, made.inside k d inside, c.self.invariant.0.runs.counted))
+
 pub invariant_of-self-2 : goal.invariant_of-self-2
 invariant_of-self-2 c =
     let g = c.args.graph.now in
@@ -308,7 +316,7 @@ invariant_of-self-2 c =
     let base = IsMachine-roused g (the_view i) covers waking.groups waking.some slots waking.waiting fresh new (length i.body.state.items) made puts
     i.body.readers lists_now i.body.agenda.marks i.body.agenda.waiting c.rouse.new.self.waiting i.body.owners.items i.body.uses.numbers c.put_texts.new.uses.numbers
     i.body.held i.body.most (rooms i.body.desk) wide listed values_room (omega (arith, c.widen_for_codes.ensures.more_values))
-    c.widen_for_codes.ensures.changes c.widen_for_codes.ensures.done c.rouse.ensures.waiting (text_puts.count ∙ ap length c.numbers_of.ensures.numbered.numbers) c.self.invariant.0 in
+    c.widen_for_codes.ensures.changes c.widen_for_codes.ensures.done (released (goal.at.invariant_of-self-2 c).After-rouse) (text_puts.count ∙ ap length c.numbers_of.ensures.numbered.numbers) c.self.invariant.0 in
     let with_parts = subst (λ (list : List HeldPart). IsMachine list i.body.agenda.marks c.rouse.new.self.waiting (length i.body.state.items) lists_now i.body.owners.items
     c.put_texts.new.uses.numbers i.body.held i.body.most wide) (sym final_parts) base in
     let old_seats = c.seats_for.ensures.same i.body.parts.items c.self.invariant.1 in
@@ -333,14 +341,18 @@ invariant_of-self-2 c =
           (sym c.rouse.ensures.marks) with_parts,
       dense,
       lasting,
-      none_holds _ _ _ i.body.wide (ap (λ (m : MachineData). m.wide) c.self.view_is ∙ c.requires.none),
+      holds_parts i.body.parts.items parts_now i.body.state.items (vec_capacity i.body.noted) i.body.wide
+          (λ one is.
+          subst (λ list. HasStaleOnly list one.graph) (sym final_parts)
+          (stale_only_roused g (the_view i) covers waking.groups waking.some slots waking.waiting fresh made.fresh_are new puts waking.fit one is))
+          c.self.invariant.3,
     )
 
-pub returns-clause-rouses : goal.returns-clause-rouses
-returns-clause-rouses c =
+pub returns-clause-wakes : goal.returns-clause-wakes
+returns-clause-wakes c =
     let g = c.args.graph.now in
     let i = c.self.inside in
-    let found = (goal.at.returns-clause-rouses c).In_ok-fresh in
+    let found = (goal.at.returns-clause-wakes c).In_ok-fresh in
     let covers = covers_in found in
     let waking = waking_in found in
     let slots = c.args.waking.slots.items in
@@ -348,7 +360,7 @@ returns-clause-rouses c =
     let made = parts_made found in
     let numbers = c.in_ok-numbers.numbers.items in
     let texts = c.args.waking.texts.items in
-    let numbered = texts_numbered (goal.at.returns-clause-rouses c).In_ok-numbers in
+    let numbered = texts_numbered (goal.at.returns-clause-wakes c).In_ok-numbers in
     let new = c.put_in.new.all in
     let puts : Puts slots fresh i.body.parts.items new = rw (c.deref-13.ensures.value, c.deref_mut.ensures.value) at c.put_in.ensures in
     let text_puts : Puts slots (map Some numbers) c.numbers_of.new.uses.numbers c.put_texts.new.uses.numbers =
@@ -356,11 +368,9 @@ returns-clause-rouses c =
     let parts_now : List HeldPart = (with_items i.body.parts new).items in
     let final_parts = with_items_is i.body.parts new (omega (arith, c.put_in.auto.all, c.deref_mut.ensures.len)) in
     let v = the_view i in
-    let sound = subst (λ (m : MachineData). IsSound m.state) (sym c.self.view_is) c.requires.sound in
     let mid_are : texts_used c.numbers_of.new.uses ≡ v.uses = c.numbers_of.ensures.same in
-    let base = Rouses-roused g v covers waking.groups waking.some slots waking.waiting fresh new (length i.body.state.items) made puts
-    c.numbers_of.new.uses c.put_texts.new.uses numbers texts mid_are c.put_texts.ensures.known text_puts numbered waking.texts waking.fit
-    (ap (λ (m : MachineData). m.wide) c.self.view_is ∙ c.requires.none) c.requires.railed sound in
+    let base = Wakes-roused g v covers waking.groups waking.some slots waking.waiting fresh new (length i.body.state.items) made puts
+    c.numbers_of.new.uses c.put_texts.new.uses numbers texts mid_are c.put_texts.ensures.known text_puts numbered waking.texts waking.fit in
     let used = texts_used c.put_texts.new.uses in
     let last = texts_lasting c.put_texts.new.uses.known c.note_all.new.self in
     let last_is : last ≡ v.last =
@@ -368,7 +378,7 @@ returns-clause-rouses c =
     c.put_texts.ensures.known c.note_all.ensures.numbers c.self.invariant.2.inside in
     let machine : List HeldPart → List Bool → List GroupTextData → MachineData = λ list marks texts_left.
     record v { parts = list; uses = used; marks = marks; texts = count_distinct used; last = texts_left } in
-    let with_parts = subst (λ (list : List HeldPart). Rouses g v (machine list i.body.agenda.marks v.last)) (sym final_parts) base in
-    let with_marks = subst (λ (marks : List Bool). Rouses g v (machine parts_now marks v.last)) (sym c.rouse.ensures.marks) with_parts in
-    let with_last = subst (λ (texts_left : List GroupTextData). Rouses g v (machine parts_now c.rouse.new.self.marks texts_left)) (sym last_is) with_marks in
-    subst (λ (old : MachineData). Rouses g old (machine parts_now c.rouse.new.self.marks last)) c.self.view_is with_last
+    let with_parts = subst (λ (list : List HeldPart). Wakes g v (machine list i.body.agenda.marks v.last)) (sym final_parts) base in
+    let with_marks = subst (λ (marks : List Bool). Wakes g v (machine parts_now marks v.last)) (sym c.rouse.ensures.marks) with_parts in
+    let with_last = subst (λ (texts_left : List GroupTextData). Wakes g v (machine parts_now c.rouse.new.self.marks texts_left)) (sym last_is) with_marks in
+    subst (λ (old : MachineData). Wakes g old (machine parts_now c.rouse.new.self.marks last)) c.self.view_is with_last

@@ -1,6 +1,6 @@
 -- The new part comes behind the others, and its members are its own.
 use Rattle.std.proofs.Common.{◌≡◌, ◌+◌, ◌<◌, ◌++◌, ◌∷◌, [], ℕ, List, Option, None, length, refl, sym, ap, subst, ◌∙◌, arith}
-use Rattle.std.specs.Prelude.{Contains, slice_index_or, All}
+use Rattle.std.specs.Prelude.{Contains, slice_index_or, vec_capacity, All}
 use Rattle.std.proofs.lemmas.List.{with_items_is, length_push}
 use Rattle.channel_groups.proofs.StoreLemmas.{same_more}
 use Rattle.group_text.specs.Texts.{GroupTextData}
@@ -15,7 +15,7 @@ use Rattle.part_steps.specs.Dense.{AreDense}
 use Rattle.unit_step.specs.Lasting.{texts_lasting}
 use Rattle.machine_laws.proofs.SeatingLemmas.{IsMachine-roomier, IsMachine-seated}
 use Rattle.unit_step.proofs.LastingEdits.{AreLasting-same, AreLasting-seated}
-use Rattle.wide_groups.proofs.WideCases.{none_holds}
+use Rattle.machine_laws.proofs.HeldParts.{KeepsKnown-seated, holds_kept}
 use Rattle.unit_step.proofs.machine.Machine.seat.Goals as goal
 
 -- the numbers of the parts read as before
@@ -32,7 +32,7 @@ invariant_of-self-in_err-widen_for_parts c =
           c.widen_for_parts.ensures.values c.widen_for_parts.ensures.changes c.widen_for_parts.ensures.parts),
       c.make_room.ensures.same i.body.parts.items c.self.invariant.1,
       c.self.invariant.2,
-      none_holds _ _ _ i.body.wide (ap (λ (m : MachineData). m.wide) c.self.view_is ∙ c.requires.none),
+      c.self.invariant.3,
     )
 
 pub invariant_of-self-in_err-add : goal.invariant_of-self-in_err-add
@@ -46,7 +46,7 @@ invariant_of-self-in_err-add c =
       c.make_room.ensures.same i.body.parts.items c.self.invariant.1,
       rw (ap (λ (uses : UsesData). length uses.known) c.in_err-add.ensures.err, ap (λ (uses : UsesData). uses.numbers) c.in_err-add.ensures.err)
           c.self.invariant.2,
-      none_holds _ _ _ i.body.wide (ap (λ (m : MachineData). m.wide) c.self.view_is ∙ c.requires.none),
+      c.self.invariant.3,
     )
 
 pub invariant_of-self-in_err-wait_more : goal.invariant_of-self-in_err-wait_more
@@ -60,7 +60,7 @@ invariant_of-self-in_err-wait_more c =
       c.make_room.ensures.same i.body.parts.items c.self.invariant.1,
       rw c.add.ensures.known (AreLasting-same i.body.parts.items i.body.uses.numbers (length i.body.state.items) (length i.body.uses.known) i.body.lasting c.self.invariant.2
           c.add.new.self.numbers i.body.lasting (numbers_read i.body.uses c.add.new.self c.in_ok-add.ensures.ok) refl refl),
-      none_holds _ _ _ i.body.wide (ap (λ (m : MachineData). m.wide) c.self.view_is ∙ c.requires.none),
+      c.self.invariant.3,
     )
 
 pub invariant_of-self-2 : goal.invariant_of-self-2
@@ -96,7 +96,8 @@ invariant_of-self-2 c =
       dense,
       rw c.add.ensures.known (AreLasting-seated i.body.parts.items i.body.uses.numbers (length i.body.state.items) (length i.body.uses.known) i.body.lasting c.self.invariant.2
           e c.add.new.self.numbers (numbers_read i.body.uses c.add.new.self c.in_ok-add.ensures.ok)),
-      none_holds _ _ _ i.body.wide (ap (λ (m : MachineData). m.wide) c.self.view_is ∙ c.requires.none),
+      holds_kept i.body.parts.items (i.body.parts.items ++ e ∷ []) i.body.state.items (vec_capacity i.body.noted) i.body.wide i.body.wide
+          (KeepsKnown-seated i.body.parts.items e i.body.wide i.body.wide refl) c.self.invariant.3,
     )
 
 pub returns-clause-ok : goal.returns-clause-ok
@@ -120,8 +121,8 @@ returns-clause-ok c =
         moves = refl;
         placed = refl;
         spare = refl;
-        wide = refl;
       };
+      wide = refl;
     })
 
 pub returns-clause-counted : goal.returns-clause-counted

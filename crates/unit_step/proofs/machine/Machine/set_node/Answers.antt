@@ -46,12 +46,12 @@ state_is c =
     ∙ (c.place.ensures.state ∙ ap (λ list. slice_set list c.args.node c.args.value) c.deref_mut.ensures.value)
 
 -- what the placed node stirred is touched
-wide_placed : (c : After-mark_all) → PlacesIn c.self.inside.body.wide c.place.new.wide c.self.inside.body.state.items
+wide_placed : (c : After-mark_all) → PlacesIn c.args.node c.self.inside.body.wide c.place.new.wide c.self.inside.body.state.items
     (slice_set c.self.inside.body.state.items c.args.node c.args.value)
 wide_placed c =
     let i = c.self.inside in
-    subst (λ list. PlacesIn i.body.wide c.place.new.wide list (slice_set list c.args.node c.args.value)) c.deref_mut.ensures.value
-    (subst (PlacesIn i.body.wide c.place.new.wide c.deref_mut.result.now) c.place.ensures.state c.place.ensures.places)
+    subst (λ list. PlacesIn c.args.node i.body.wide c.place.new.wide list (slice_set list c.args.node c.args.value)) c.deref_mut.ensures.value
+    (subst (PlacesIn c.args.node i.body.wide c.place.new.wide c.deref_mut.result.now) c.place.ensures.state c.place.ensures.places)
 
 pub place-requires-clause-listed : goal.place-requires-clause-listed
 place-requires-clause-listed c =
@@ -89,7 +89,7 @@ invariant_of-self c =
       c.self.invariant.1,
       subst (λ n. AreLasting i.body.parts.items i.body.uses.numbers n (length i.body.uses.known) i.body.lasting) (sym count) c.self.invariant.2,
       subst (λ states. HoldsWide i.body.parts.items states (vec_capacity i.body.noted) c.place.new.wide) (sym state)
-          (holds_placed i.body.parts.items i.body.state.items _ _ i.body.wide c.place.new.wide (wide_placed at_end)
+          (holds_placed c.args.node i.body.parts.items i.body.state.items _ _ i.body.wide c.place.new.wide (wide_placed at_end)
           (length-set i.body.state.items c.args.node c.args.value) c.self.invariant.3),
     )
 

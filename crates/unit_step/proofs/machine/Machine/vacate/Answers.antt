@@ -1,6 +1,6 @@
 -- The part leaves its members and what it reads.
 use Rattle.std.proofs.Common.{◌≡◌, ℕ, Option, Vec, Global, ◌+◌, ◌-◌, ◌++◌, ◌≤◌, length, take, get_or, refl, sym, ap, subst, ◌∙◌, arith}
-use Rattle.std.specs.Prelude.{count_by, slice_set}
+use Rattle.std.specs.Prelude.{count_by, slice_set, vec_capacity}
 use Rattle.std.specs.List.{sum_by}
 use Rattle.std.proofs.lemmas.List.{with_items_is, get_or_default}
 use Rattle.std.proofs.lemmas.List.Sums.{get_or-le-sum_by}
@@ -17,8 +17,11 @@ use Rattle.part_steps.specs.Dense.{AreDense}
 use Rattle.unit_step.specs.Lasting.{starts_of, texts_numbered, texts_lasting}
 use Rattle.machine_laws.proofs.SeatingLemmas.{seat_of, members_there, reads_there, IsMachine-vacated}
 use Rattle.unit_step.proofs.LastingEdits.{AreLasting-same, AreLasting-vacated}
-use Rattle.unit_step.proofs.machine.Machine.vacate.Goals.{After-replace-gone}
-use Rattle.wide_groups.proofs.WideCases.{none_holds}
+use Rattle.vicinity.specs.Wides.{WideData}
+use Rattle.wide_groups.specs.Staying.{ForgetsWith}
+use Rattle.machine_laws.specs.Seating.{KeepsKnown}
+use Rattle.machine_laws.proofs.HeldParts.{KeepsKnown-vacated, holds_kept}
+use Rattle.unit_step.proofs.machine.Machine.vacate.Goals.{After-replace-gone, After-forget_with}
 use Rattle.unit_step.proofs.machine.Machine.vacate.Goals as goal
 
 -- the part that was taken out is the one with this number
@@ -37,6 +40,19 @@ gone_seat c =
     let i = c.self.inside in
     seat_of i.body.parts.items i.body.agenda.marks i.body.agenda.waiting (length i.body.state.items) i.body.readers i.body.owners.items i.body.uses.numbers i.body.held i.body.most
     (rooms i.body.desk) c.self.invariant.0 c.args.k c.replace-gone.result (gone_stands c)
+
+-- the groups that are stepped by vicinities are known still if none of its members is theirs
+forgot_in : (c : After-forget_with) →
+    ForgetsWith (take c.replace-gone.result.members c.replace-gone.result.map.items) c.self.inside.body.wide c.forget_with.new.wide
+forgot_in c =
+    subst (λ list. ForgetsWith (take c.replace-gone.result.members list) c.self.inside.body.wide c.forget_with.new.wide) c.deref-4.ensures.value c.forget_with.ensures
+
+kept_known : (c : After-replace-gone) (e : HeldPart) → IsVacant e → (new : Option WideData) →
+    ForgetsWith (take c.replace-gone.result.members c.replace-gone.result.map.items) c.self.inside.body.wide new →
+    KeepsKnown c.self.inside.body.parts.items (slice_set c.self.inside.body.parts.items c.args.k e) c.self.inside.body.wide new
+kept_known c e vacant new forgets =
+    KeepsKnown-vacated c.self.inside.body.parts.items c.args.k c.replace-gone.result e (gone_stands c) c.self.invariant.0.runs.apart vacant c.self.inside.body.wide
+    new forgets
 
 pub disown-requires : goal.disown-requires
 disown-requires c =
@@ -58,7 +74,7 @@ invariant_of-self c =
       c.self.invariant.1,
       AreLasting-same i.body.parts.items i.body.uses.numbers (length i.body.state.items) (length i.body.uses.known) i.body.lasting c.self.invariant.2 i.body.uses.numbers
           c.note.new.self (λ k. refl) (ap (λ (list : Vec (Option ℕ) Global). list.items) c.note.ensures.numbers) c.in_err-note.ensures.err,
-      none_holds _ _ _ i.body.wide (ap (λ (m : MachineData). m.wide) c.self.view_is ∙ c.requires.none),
+      c.self.invariant.3,
     )
 
 pub invariant_of-self-2 : goal.invariant_of-self-2
@@ -96,7 +112,8 @@ invariant_of-self-2 c =
           (rooms i.body.desk) c.self.invariant.0 k gone stands e vacant c.unlist.new.self c.disown.new.owners disowns unlists _ _ held most),
       dense,
       rw (c.free.ensures.numbers, c.free.ensures.known) lasting,
-      none_holds _ _ _ i.body.wide (ap (λ (m : MachineData). m.wide) c.self.view_is ∙ c.requires.none),
+      holds_kept i.body.parts.items (slice_set i.body.parts.items k e) i.body.state.items (vec_capacity i.body.noted) i.body.wide c.forget_with.new.wide
+          (kept_known was e vacant c.forget_with.new.wide (forgot_in (goal.at.invariant_of-self-2 c).After-forget_with)) c.self.invariant.3,
     )
 
 pub returns-clause-ok : goal.returns-clause-ok
@@ -119,6 +136,6 @@ returns-clause-ok c =
         moves = refl;
         placed = refl;
         spare = refl;
-        wide = refl;
       };
+      wide = kept_known (goal.at.returns-clause-ok c).After-replace-gone e vacant c.forget_with.new.wide (forgot_in (goal.at.returns-clause-ok c).After-forget_with);
     })

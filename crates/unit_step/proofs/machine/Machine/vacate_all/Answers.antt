@@ -1,5 +1,5 @@
 -- One node more is cleared.
-use Rattle.std.proofs.Common.{◌∙◌, ◌≡◌, ◌+◌, ◌++◌, ◌∷◌, [], take, get_or, sym, subst}
+use Rattle.std.proofs.Common.{◌≡◌, ◌+◌, ◌++◌, ◌∷◌, [], take, get_or, sym, subst}
 use Rattle.std.proofs.lemmas.List.{take_more}
 use Rattle.machine_laws.specs.Seating.{Clears}
 use Rattle.machine_laws.proofs.ClearingLemmas.{Clears-start, Clears-more}
@@ -16,6 +16,3 @@ loop-node-preserved c =
     subst (λ list. Clears list c.args.self.now c.vacate_owner.new.self) (sym more)
     (Clears-more (take i nodes) (get_or nodes i 0) c.args.self.now c.loop-node.self c.vacate_owner.new.self
     c.loop-node.invariant c.in_ok-vacate_owner.ensures.ok)
-
-pub vacate_owner-requires : goal.vacate_owner-requires
-vacate_owner-requires c = record { none = c.loop-node.invariant.rest.wide ∙ c.requires.none }

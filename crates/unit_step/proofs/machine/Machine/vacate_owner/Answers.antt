@@ -14,7 +14,7 @@ has c =
     c.self.invariant.0.own (ap (λ (m : MachineData). m.parts) c.self.view_is) c.deref.ensures.value c.args.node c.in-Some.k c.in-Some.ensures
 
 pub vacate-requires : goal.vacate-requires
-vacate-requires c = record { none = c.requires.none; inside = (has (goal.at.vacate-requires c).In-Some).stands.inside }
+vacate-requires c = record { inside = (has (goal.at.vacate-requires c).In-Some).stands.inside }
 
 pub returns-in-Some-clause-ok : goal.returns-in-Some-clause-ok
 returns-in-Some-clause-ok c =
