@@ -44,8 +44,8 @@ fn counted(changed: bool, joining: bool, settled: Settled) -> Settled
     }
 }
 
-// Whether a column's bit is set.
-fn has_bit(word: u64, lane: usize) -> bool
+/// Whether a column's bit is set.
+pub fn has_bit(word: u64, lane: usize) -> bool
     requires { lane < 64 }
     ensures { result ≡ is_in_lane lane word }
 {

@@ -15,5 +15,6 @@ mod counting;
 mod settling;
 mod stepping;
 
+pub use counting::has_bit;
 pub use settling::settle_lanes;
 pub use stepping::LaneStepper;

@@ -1,6 +1,8 @@
 -- Columns of words: the states of a column, and their rails.
-use Rattle.std.proofs.Common.{◌≡◌, ℕ, suc, ◌<◌, Bool, true, false, ◌||◌, List, [], ◌∷◌, length, map, get_or, refl, sym, ap, ap₂, ◌∙◌, arith}
-use Rattle.std.specs.Prelude.{zip}
+use Rattle.std.proofs.Common.{◌≡◌, ◌≢◌, ℕ, suc, ◌-◌, ◌*◌, ◌^◌, ◌%◌, ◌<◌, Bool, true, false, ◌||◌, ◌&&◌, List, [], ◌∷◌, length, map, get_or, bit_and, bit_or, w64, refl, sym, ap, ap₂, ◌∙◌, arith}
+use Rattle.std.specs.Prelude.{◌==◌, zip}
+use Rattle.std.proofs.lemmas.Bool.{and_parts}
+use Rattle.std.proofs.lemmas.Nat.Bits.{bit_at_clear_same, bit_at_clear_other, bit_at_set_same, bit_at_set_other}
 use Rattle.std.proofs.lemmas.List.{ext_get_or, get_or-map, length-map}
 use Rattle.std.proofs.lemmas.Slice.Zip.{get_or-zip}
 use Rattle.ternary.specs.declared.tern.Tern.{Tern}
@@ -8,9 +10,43 @@ use Rattle.ternary.specs.declared.tern.Tern.TheVariants.{Zero, One, Unk}
 use Rattle.ternary.specs.Tern.{may_one, may_zero}
 use Rattle.path_meaning.specs.Switching.{state_at}
 use Rattle.batch_words.specs.Lanes.{is_in_lane, lane_of, HasLane}
-use Rattle.batch_words.proofs.LaneLemmas.{lane_of-at, length-lane_of}
+use Rattle.batch_words.proofs.LaneLemmas.{lane-and, lane-none, lane_of-at, length-lane_of}
 use Rattle.batch_words.proofs.RunLemmas.{high_counted, high_at_node, low_at_node}
 use Rattle.lane_machine.specs.Columns.{state_with, state_in, column}
+
+-- ---- bits that are set or cleared
+
+pub lane-clear_here : (word lane : ℕ) → lane < 64 → is_in_lane lane (bit_and word (18446744073709551615 - 1 * 2 ^ lane % 18446744073709551616)) ≡ false
+unfolding is_in_lane
+lane-clear_here word lane inside = ap (λ bit. bit == 1) (bit_at_clear_same w64 word lane inside)
+
+pub lane-clear_other : (word lane : ℕ) → lane < 64 → (other : ℕ) → other < 64 → other ≢ lane →
+    is_in_lane other (bit_and word (18446744073709551615 - 1 * 2 ^ lane % 18446744073709551616)) ≡ is_in_lane other word
+unfolding is_in_lane
+lane-clear_other word lane inside other few differs = ap (λ bit. bit == 1) (bit_at_clear_other w64 word lane inside other few differs)
+
+pub lane-set_here : (word lane : ℕ) → lane < 64 → is_in_lane lane (bit_or word (1 * 2 ^ lane % 18446744073709551616)) ≡ true
+unfolding is_in_lane
+lane-set_here word lane inside = ap (λ bit. bit == 1) (bit_at_set_same w64 word lane inside)
+
+pub lane-set_other : (word lane : ℕ) → lane < 64 → (other : ℕ) → other ≢ lane →
+    is_in_lane other (bit_or word (1 * 2 ^ lane % 18446744073709551616)) ≡ is_in_lane other word
+unfolding is_in_lane
+lane-set_other word lane inside other differs = ap (λ bit. bit == 1) (bit_at_set_other w64 word lane inside other differs)
+
+-- a word with all used bits, or none of them
+pub lane-all_set : (word used : ℕ) → bit_and word used ≡ used → (lane : ℕ) → is_in_lane lane used ≡ true → is_in_lane lane word ≡ true
+lane-all_set word used same lane is = (and_parts (is_in_lane lane word) (is_in_lane lane used) (sym (lane-and lane word used) ∙ (ap (is_in_lane lane) same ∙ is))).0
+
+pub lane-none_set : (word used : ℕ) → bit_and word used ≡ 0 → (lane : ℕ) → is_in_lane lane used ≡ true → is_in_lane lane word ≡ false
+lane-none_set word used same lane is =
+    by (is_in_lane lane word) (ap (λ bit. is_in_lane lane word && bit) (sym is) ∙ (sym (lane-and lane word used) ∙ (ap (is_in_lane lane) same ∙ lane-none lane)))
+  where
+    by : (bit : Bool) → (bit && true) ≡ false → bit ≡ false
+    by true both = absurd (cc)
+    by false both = refl
+
+-- ---- columns
 
 -- the state with the rails of a state is that state
 pub state_with-rails : (s : Tern) → state_with (may_one s) (may_zero s) ≡ s

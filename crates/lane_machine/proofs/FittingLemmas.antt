@@ -185,7 +185,7 @@ FitsInLanes-placed g wired node high low old new even inside no_rail places fits
     let two : MachineData = record fit.machine { parts = old.parts; marks = new.marks; state = column_of new lane } in
     let placed : Places node value one two =
     Places-beside node value one new.marks (column_of new lane) one.placed one.wide next places.marks.count places.marks.stays places.marks.set places.marks.only
-    (subst (λ (wide : Option WideData). PlacesIn wide wide (column_of old lane) (column_of new lane)) (sym fit.without) tt) in
+    (subst (λ (wide : Option WideData). PlacesIn node wide wide (column_of old lane) (column_of new lane)) (sym fit.without) tt) in
     record {
       machine = two;
       without = fit.without;

@@ -5,3 +5,4 @@ mod TakingLemmas
 mod StepLemmas
 mod MakingLemmas
 mod FittingLemmas
+mod TurnLemmas

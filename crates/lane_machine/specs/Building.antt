@@ -5,9 +5,9 @@ use Rattle.group_text.specs.Texts.{GroupTextData}
 use Rattle.circuit_texts.specs.Building.{Builds, IsCutOff}
 
 -- a build was done, whatever the number of texts is that were new
-abbrev pub HasBuilt : GraphData → Option ℕ → List GroupTextData → List GroupTextData → List GroupTextData → List GroupTextData → Type 0
-HasBuilt g bound old new before after = (count : ℕ) × Builds g bound old new before after count
+abbrev pub HasBuilt : ℕ → GraphData → Option ℕ → List GroupTextData → List GroupTextData → List GroupTextData → List GroupTextData → Type 0
+HasBuilt large g bound old new before after = (count : ℕ) × Builds large g bound old new before after count
 
 -- a build ran out of memory: nothing was analysed, or a prefix of what is new; or all of it was done, and there was none for the columns
-abbrev pub IsCutInColumns : GraphData → Option ℕ → List GroupTextData → List GroupTextData → List GroupTextData → List GroupTextData → Type 0
-IsCutInColumns g bound old new before after = IsCutOff g old new before after ⊎ HasBuilt g bound old new before after
+abbrev pub IsCutInColumns : ℕ → GraphData → Option ℕ → List GroupTextData → List GroupTextData → List GroupTextData → List GroupTextData → Type 0
+IsCutInColumns large g bound old new before after = IsCutOff large g old new before after ⊎ HasBuilt large g bound old new before after

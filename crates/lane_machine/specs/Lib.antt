@@ -6,3 +6,5 @@ pub mod Making
 pub mod Building
 pub mod Placing
 pub mod Stepping
+pub mod Turns
+pub mod Moving

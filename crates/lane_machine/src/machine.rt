@@ -1,13 +1,10 @@
 //! The machine of columns.
-ghost use Rattle.std.specs.Prelude.{◌≡◌, ◌≢◌, ℕ, ◌^◌, ◌<◌, ◌≤◌, ◌⊎◌, true, false, length, replicate, slice_index_or, None, Err, IfOk, IfErr, OnOk};
+ghost use Rattle.std.specs.Prelude.{◌≡◌, ◌≢◌, ℕ, ◌^◌, ◌<◌, ◌≤◌, true, false, length, replicate, slice_index_or, None, IfOk};
 ghost use Rattle.path_meaning.specs.declared.TheConstants.{RAILS};
-ghost use Rattle.path_meaning.specs.Words.{nodes, IsWired, IsRailed, IsStep};
+ghost use Rattle.path_meaning.specs.Words.{nodes, IsWired, IsStep};
 ghost use Rattle.oscillation_x.specs.declared.settling.TheConstants.{MOST_LIMIT};
 ghost use Rattle.oscillation_x.specs.declared.settling.Settled.{Settled};
 ghost use Rattle.oscillation_x.specs.Settling.{IsJoinStep, StaysOrBecomesX, Settles};
-ghost use Rattle.analysis_cache.specs.Keeping.{texts_of};
-ghost use Rattle.circuit_texts.specs.Sizes.{TellsTooLarge};
-ghost use Rattle.lane_machine.specs.Building.{HasBuilt, IsCutInColumns};
 ghost use Rattle.batch_words.specs.Lanes.{is_in_lane};
 ghost use Rattle.machine_laws.specs.Words.{AreSeated, FitsGraph};
 ghost use Rattle.machine_parts.specs.Parts.{ReadsAt, IsStale, AreApart};
@@ -19,10 +16,8 @@ ghost use Rattle.lane_machine.specs.Placing.{PlacesWords};
 use crate::advance::advance;
 use crate::agenda::{Agenda, mark_all};
 use crate::evaluation::Desk;
-use crate::making::{desk_for, lists_of, some_state, used_lanes};
-use analysis_cache::{Analyst, Kept};
+use crate::making::{desk_for, lists_of, used_lanes};
 use batch_lanes::{LaneStepper, settle_lanes};
-use circuit_texts::BuildFault;
 use oscillation_x::{MOST_LIMIT, Settled};
 use path_meaning::{Graph, graphs_are_wired};
 use std::alloc::Global;
@@ -63,43 +58,8 @@ impl Model for LaneMachine {
 }
 
 impl LaneMachine {
-    /// The machine of a graph in these states, so many columns of them: a part for each group, with the code of
-    /// the group's text, and both rails of each node's states, bit i for column i.
-    ///
-    /// There are 1 to 64 columns; the bits from the last one on may be anything. Code comes from what is kept;
-    /// texts that aren't kept are analysed first, each once, in the order of the groups, and kept. Every part is
-    /// marked. If some group is too large, the first such group is told and nothing is analysed. Out of memory,
-    /// nothing was analysed, or a prefix of what is new; or all of it, if there was none for the columns alone.
-    pub fn build<A: Analyst>(
-        alloc: Global,
-        graph: &Graph,
-        lanes: u32,
-        hi: &[u64],
-        lo: &[u64],
-        kept: &mut Kept,
-        analyst: &mut A,
-    ) -> Result<LaneMachine, BuildFault>
-        requires some { 1 ≤ lanes }
-        requires few { lanes ≤ 64 }
-        requires highs { length hi.now ≡ nodes graph.now }
-        requires lows { length lo.now ≡ nodes graph.now }
-        requires railed { IsRailed graph.now }
-        requires sound { (lane : ℕ) → lane < lanes → HasSoundLane graph.now hi.now lo.now lane }
-        ensures fits { IfOk result (λ machine. FitsInLanes graph.now machine) }
-        ensures fresh { IfOk result (λ machine. (machine.lanes ≡ lanes) × (machine.hi ≡ hi.now) × (machine.lo ≡ lo.now)) }
-        ensures builds { OnOk result (HasBuilt graph.now kept.old.bound (texts_of kept.old) (texts_of kept.new) (A.analysed analyst.old) (A.analysed analyst.new)) }
-        ensures bound { kept.new.bound ≡ kept.old.bound }
-        ensures cut_off { result ≡ Err BuildFault.NoMemory → IsCutInColumns graph.now kept.old.bound (texts_of kept.old) (texts_of kept.new) (A.analysed analyst.old) (A.analysed analyst.new) }
-        ensures refused { IfErr result (λ fault. (fault ≡ BuildFault.NoMemory)
-            ⊎ (TellsTooLarge graph.now fault × (kept.new ≡ kept.old) × (A.analysed analyst.new ≡ A.analysed analyst.old))) }
-    {
-        let state = some_state(alloc, graph.nodes())?;
-        let (machine, _fresh) = Machine::build(alloc, graph, &state, kept, analyst)?;
-        Ok(LaneMachine::of_machine(alloc, graph, lanes, machine, hi, lo)?)
-    }
-
     // The machine of columns with the parts of a machine that fits a graph, all of them marked, in these states.
-    fn of_machine(
+    pub(crate) fn of_machine(
         alloc: Global,
         graph: &Graph,
         lanes: u32,

@@ -2,6 +2,7 @@
 use Rattle.std.proofs.Common.{◌≡◌, length, sym, subst, ◌∙◌, arith}
 use Rattle.machine_laws.specs.Columns.{AreSeated}
 use Rattle.machine_parts.specs.Parts.{ReadsAt, IsStale}
+use Rattle.machine_laws.proofs.HeldLemmas.{coded_without}
 use Rattle.lane_machine.specs.Columns.{FitsInLanes}
 use Rattle.lane_machine.proofs.FittingLemmas.{FitsInLanes-fresh, AreColumns-sound, if_made}
 use Rattle.lane_machine.proofs.machine.LaneMachine.of_machine.Goals as goal
@@ -20,7 +21,7 @@ of_parts-requires c =
       columns = AreColumns-sound g c.args.lanes hi c.args.lo.now (c.requires.lows ∙ sym c.requires.highs) c.requires.sound;
       seated = rw parts (subst (λ n. AreSeated n m.parts) counted c.into_parts.ensures.seated);
       apart = rw parts c.into_parts.ensures.apart;
-      fresh = rw parts (λ k (stale : IsStale m.parts k). fits.coded c.requires.without k stale.part stale.stands stale.some stale.none);
+      fresh = rw parts (λ k (stale : IsStale m.parts k). coded_without g m fits c.requires.without k stale.part stale.stands stale.some stale.none);
       reads = rw parts (λ k node (reads : ReadsAt m.parts k node). omega (arith, c.into_parts.ensures.reads k node reads, counted));
     }
 

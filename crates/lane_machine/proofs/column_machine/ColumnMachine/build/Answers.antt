@@ -1,0 +1,18 @@
+-- The machine fits the graph, and the words are the rails of sound states in each column.
+use Rattle.std.proofs.Common.{sym, ◌∙◌}
+use Rattle.lane_machine.proofs.FittingLemmas.{AreColumns-sound}
+use Rattle.lane_machine.proofs.TurnLemmas.{FitsInTurn-fresh}
+use Rattle.lane_machine.proofs.column_machine.ColumnMachine.build.Goals as goal
+
+pub of-requires-clause-is : goal.of-requires-clause-is
+of-requires-clause-is g c = record {
+  few = c.requires.few;
+  columns = AreColumns-sound c.args.graph.now c.args.lanes c.args.hi.now c.args.lo.now (c.requires.lows ∙ sym c.requires.highs) c.requires.sound;
+  counted = c.in_ok-machine.ensures.fits.covers.counted ∙ sym c.requires.highs;
+}
+
+pub returns-then-has_wide_groups-clause-fits : goal.returns-then-has_wide_groups-clause-fits
+returns-then-has_wide_groups-clause-fits g c =
+    rw c.in_ok-turns.ensures
+    (FitsInTurn-fresh c.args.graph.now c.in_ok-machine.machine c.args.lanes c.args.hi.now c.args.lo.now c.in_ok-machine.ensures.fits
+    (c.requires.lows ∙ sym c.requires.highs) c.requires.sound)

@@ -1,0 +1,283 @@
+//! One machine that takes the states of the columns in turn.
+ghost use Rattle.std.specs.Prelude.{◌≡◌, ◌≢◌, ◌^◌, ◌<◌, ◌≤◌, length, slice_set, IfOk};
+ghost use Rattle.std.specs.Bool.{OnTrue, OnFalse};
+ghost use Rattle.ternary.specs.Counts.{raised};
+ghost use Rattle.path_meaning.specs.declared.TheConstants.{RAILS};
+ghost use Rattle.path_meaning.specs.Words.{IsStep};
+ghost use Rattle.oscillation_x.specs.declared.settling.Settled.{Settled};
+ghost use Rattle.oscillation_x.specs.Settling.{IsJoinStep, StaysOrBecomesX};
+ghost use Rattle.machine_laws.specs.Words.{FitsGraph};
+ghost use Rattle.vicinity.specs.NodeSets.{IsIn};
+ghost use Rattle.lane_machine.specs.Columns.{column, HasStates};
+ghost use Rattle.lane_machine.specs.Turns.{HaveRun, IsLimit, IsLoaded, IsTurnMachine, MovesBy, RunsOne, WritesAt, words_of};
+
+use crate::bits::{state_in, with_bit};
+use crate::making::used_lanes;
+use crate::turning::Turning;
+use crate::uneven::{note, put_each, put_uneven, sift};
+use oscillation_x::{Settled, settle};
+use path_meaning::{Graph, RAILS};
+use std::alloc::{AllocError, Global};
+use std::marker::{Brand, Model};
+use std::mem::swap;
+use std::sync::ledger::{Blank, Ledger};
+use ternary::{Steps, Tern};
+use unit_step::Machine;
+use vicinity::NodeSet;
+
+/// A machine of one state that takes the states of up to 64 columns in turn, and both rails of each node's states,
+/// bit i for column i.
+///
+/// So columns move if some groups are stepped by vicinities, since what is touched belongs to one state. Some nodes are
+/// uneven: at all others each column has the machine's own state. Before a column moves, the uneven nodes at which the
+/// machine's state differs from it are placed; a node at which the state changes then becomes uneven, and afterwards
+/// the machine's states at the uneven nodes are written into the words.
+#[derive(Drop)]
+pub struct TurnMachine {
+    lanes: u32,
+    // the bits of the columns
+    used: u64,
+    machine: Machine,
+    hi: Vec<u64>,
+    lo: Vec<u64>,
+    uneven: NodeSet,
+    // room for those that stay uneven when all columns have moved
+    spare: NodeSet,
+}
+
+impl Model for TurnMachine {
+    ghost use Rattle.lane_machine.specs.Turns.{TurnData, IsTurning};
+
+    ghost Value = { TurnData };
+
+    ghost view = { λ m. record { lanes = m.lanes; machine = m.machine; hi = m.hi.items; lo = m.lo.items } };
+
+    ghost invariant = { λ m. IsTurning m.used m.uneven.inside m.spare.inside (record { lanes = m.lanes; machine = m.machine; hi = m.hi.items; lo = m.lo.items }) };
+}
+
+impl TurnMachine {
+    // A machine that takes so many columns with these words in turn. At the start each node may be uneven.
+    pub(crate) fn of(
+        alloc: Global,
+        lanes: u32,
+        machine: Machine,
+        hi: &[u64],
+        lo: &[u64],
+    ) -> Result<TurnMachine, AllocError>
+        requires some { 1 ≤ lanes }
+        requires is { IsTurnMachine (record { lanes = lanes; machine = machine; hi = hi.now; lo = lo.now }) }
+        ensures { IfOk result (λ made. made ≡ record { lanes = lanes; machine = machine; hi = hi.now; lo = lo.now }) }
+    {
+        let highs = Vec::from_slice(alloc, hi)?;
+        let lows = Vec::from_slice(alloc, lo)?;
+        let mut uneven = NodeSet::new(alloc, hi.len())?;
+        let spare = NodeSet::new(alloc, hi.len())?;
+        put_each(&mut uneven);
+        Ok(TurnMachine {
+            lanes,
+            used: used_lanes(lanes),
+            machine,
+            hi: highs,
+            lo: lows,
+            uneven,
+            spare,
+        })
+    }
+
+    // How many columns it has.
+    pub(crate) fn lanes(&self) -> u32
+        ensures value { result ≡ self.now.lanes }
+        ensures few { result ≤ 64 }
+        ensures is { IsTurnMachine self.now }
+    {
+        self.lanes
+    }
+
+    // The rail "may be 1" of each node, bit i for column i.
+    pub(crate) fn hi(&self) -> &[u64]
+        ensures { result.now ≡ self.now.hi }
+    {
+        &self.hi
+    }
+
+    // The rail "may be 0" of each node, bit i for column i.
+    pub(crate) fn lo(&self) -> &[u64]
+        ensures { result.now ≡ self.now.lo }
+    {
+        &self.lo
+    }
+
+    // Gives a node these words; all other nodes stay. It takes no memory.
+    pub(crate) fn place(&mut self, node: usize, hi: u64, lo: u64)
+        requires inside { node < length self.old.hi }
+        requires states { HasStates self.old.lanes hi lo }
+        ensures { self.new ≡ record self.old { hi = slice_set self.old.hi node hi; lo = slice_set self.old.lo node lo } }
+    {
+        self.hi[node] = hi;
+        self.lo[node] = lo;
+        let state = self.machine.state()[node];
+        put_uneven(self.used, hi, lo, state, node, &mut self.uneven);
+    }
+
+    // Has each column take a unit step, or settle, if there is a limit: then its place of `out` tells how.
+    pub(crate) fn run(&mut self, graph: &Graph, limit: Option<u64>, out: &mut [Settled])
+        requires limit { IsLimit limit }
+        requires places { length out.old ≡ self.old.lanes }
+        ensures { HaveRun graph.now limit self.old.lanes self.old self.new out.new }
+    {
+        // a call for the proof alone: in each column the words are the rails of states
+        let _lanes = self.lanes();
+        for lane in 0..out.len() {
+            out[lane] = self.run_one(graph, limit, lane);
+        }
+        self.even_out();
+    }
+
+    // Has a column move: the machine takes its states, moves, and gives them back.
+    fn run_one(&mut self, graph: &Graph, limit: Option<u64>, lane: usize) -> Settled
+        requires limit { IsLimit limit }
+        requires lane { lane < self.old.lanes }
+        ensures lanes { self.new.lanes ≡ self.old.lanes }
+        ensures runs { RunsOne graph.now limit lane self.old.machine self.new.machine self.old.hi self.old.lo self.new.hi self.new.lo result }
+    {
+        load(
+            &mut self.machine,
+            graph,
+            lane,
+            &self.hi,
+            &self.lo,
+            &self.uneven,
+        );
+        let settled = self.drive::<Brand>(graph, limit, Blank::new(1));
+        write(
+            self.machine.state(),
+            lane,
+            &self.uneven,
+            &mut self.hi,
+            &mut self.lo,
+        );
+        settled
+    }
+
+    // The machine takes a unit step, or settles, if there is a limit. The instructions that it runs aren't counted.
+    fn drive<L: Ledger>(&mut self, graph: &Graph, limit: Option<u64>, blank: Blank) -> Settled
+        requires name { blank.name ≡ L.name }
+        requires parts { blank.parts ≡ L.parts }
+        requires some { blank.parts ≢ 0 }
+        requires limit { IsLimit limit }
+        ensures words { words_of self.new ≡ words_of self.old }
+        ensures fits { FitsGraph graph.now self.old.machine → FitsGraph graph.now self.new.machine }
+        ensures moves { FitsGraph graph.now self.old.machine → MovesBy graph.now limit self.old.machine.state self.new.machine.state result }
+    {
+        let mut steps = Steps::<L>::new(blank);
+        match limit {
+            Some(limit) => settle(&mut Turning { turns: self }, graph, limit, &mut steps),
+            None => {
+                self.step(graph, &mut steps);
+                Settled {
+                    steps: 0,
+                    joined: false,
+                }
+            }
+        }
+    }
+
+    // The machine takes a unit step as `Stepper::step` does, and the nodes at which that changes its state become uneven.
+    pub(crate) fn step<L: Ledger>(&mut self, graph: &Graph, steps: &mut Steps<L>) -> bool
+        ensures words { words_of self.new ≡ words_of self.old }
+        ensures step { FitsGraph graph.now self.old.machine → IsStep graph.now self.old.machine.state self.new.machine.state }
+        ensures fits { FitsGraph graph.now self.old.machine → FitsGraph graph.now self.new.machine }
+        ensures nodes { length self.new.machine.state ≡ length self.old.machine.state }
+        ensures few { length self.new.machine.state < 2 ^ 63 }
+        ensures changed { OnTrue result (self.new.machine.state ≢ self.old.machine.state) }
+        ensures same { OnFalse result (self.new.machine.state ≡ self.old.machine.state) }
+        ensures moved { OnTrue result (self.new.machine.moves ≡ raised self.old.machine.moves 1) }
+        ensures rested { OnFalse result (self.new.machine.moves ≡ self.old.machine.moves) }
+        ensures placed { self.new.machine.placed ≡ self.old.machine.placed }
+    {
+        let mut changed = self.machine.listing(true);
+        let moved = self.machine.step_listed(graph, steps, &mut changed);
+        note(&mut self.machine, &mut changed, &mut self.uneven);
+        moved
+    }
+
+    // The machine takes a joining step as `Stepper::join_step` does, and the nodes at which that changes its state become
+    // uneven.
+    pub(crate) fn join_step<L: Ledger>(&mut self, graph: &Graph, steps: &mut Steps<L>) -> bool
+        ensures words { words_of self.new ≡ words_of self.old }
+        ensures step { FitsGraph graph.now self.old.machine → IsJoinStep graph.now self.old.machine.state self.new.machine.state }
+        ensures fits { FitsGraph graph.now self.old.machine → FitsGraph graph.now self.new.machine }
+        ensures unknown { StaysOrBecomesX self.old.machine.state self.new.machine.state }
+        ensures nodes { length self.new.machine.state ≡ length self.old.machine.state }
+        ensures few { length self.new.machine.state < 2 ^ 63 }
+        ensures changed { OnTrue result (self.new.machine.state ≢ self.old.machine.state) }
+        ensures same { OnFalse result (self.new.machine.state ≡ self.old.machine.state) }
+        ensures moved { OnTrue result (self.new.machine.moves ≡ raised self.old.machine.moves 1) }
+        ensures rested { OnFalse result (self.new.machine.moves ≡ self.old.machine.moves) }
+        ensures placed { self.new.machine.placed ≡ self.old.machine.placed }
+    {
+        let mut changed = self.machine.listing(true);
+        let moved = self.machine.join_step_listed(graph, steps, &mut changed);
+        note(&mut self.machine, &mut changed, &mut self.uneven);
+        moved
+    }
+
+    // The uneven nodes at which all columns have the machine's state are uneven no longer.
+    fn even_out(&mut self)
+        ensures { self.new ≡ self.old }
+    {
+        sift(
+            self.used,
+            self.machine.state(),
+            &self.hi,
+            &self.lo,
+            &mut self.uneven,
+            &mut self.spare,
+        );
+        swap(&mut self.uneven, &mut self.spare);
+    }
+}
+
+// The machine takes a column's states at these nodes, but for the rails: each at which its own differs is placed.
+fn load(machine: &mut Machine, graph: &Graph, lane: usize, hi: &[u64], lo: &[u64], these: &NodeSet)
+    requires lane { lane < 64 }
+    requires counted { length machine.old.state ≡ length hi.now }
+    requires even { length lo.now ≡ length hi.now }
+    requires inside { length these.now.inside ≡ length hi.now }
+    ensures { IsLoaded graph.now lane (IsIn these.now.inside) hi.now lo.now machine.old machine.new }
+{
+    these.lists_what_is_in_it();
+    let nodes = these.nodes_in();
+    for &node in nodes {
+        put(machine, graph, node, state_in(hi[node], lo[node], lane));
+    }
+}
+
+// A node is placed, if it is no rail and hasn't this state.
+fn put(machine: &mut Machine, graph: &Graph, node: usize, value: Tern)
+    requires { node < length machine.old.state }
+    ensures nodes { length machine.new.state ≡ length machine.old.state }
+    ensures here { RAILS ≤ node → machine.new.state ≡ slice_set machine.old.state node value }
+    ensures rails { node < RAILS → machine.new.state ≡ machine.old.state }
+    ensures fits { FitsGraph graph.now machine.old → FitsGraph graph.now machine.new }
+{
+    if node >= RAILS && machine.state()[node] != value {
+        machine.set_node(graph, node, value);
+    }
+}
+
+// Writes the states of a column at these nodes into the words.
+fn write(state: &[Tern], lane: usize, these: &NodeSet, hi: &mut [u64], lo: &mut [u64])
+    requires lane { lane < 64 }
+    requires counted { length state.now ≡ length hi.old }
+    requires even { length lo.old ≡ length hi.old }
+    requires inside { length these.now.inside ≡ length hi.old }
+    ensures { WritesAt (IsIn these.now.inside) lane state.now hi.old lo.old hi.new lo.new }
+{
+    these.lists_what_is_in_it();
+    let nodes = these.nodes_in();
+    for &node in nodes {
+        hi[node] = with_bit(hi[node], lane, state[node].may_one());
+        lo[node] = with_bit(lo[node], lane, state[node].may_zero());
+    }
+}
