@@ -1,5 +1,5 @@
 -- What a session's stage holds: the state alone, or the machine that moves it.
-use Rattle.std.specs.Prelude.{◌≡◌, ℕ, ◌-◌, ◌<◌, List, Option, None, Some, length, count_by, vec_len, vec_capacity}
+use Rattle.std.specs.Prelude.{ℕ, ◌-◌, ◌<◌, List, Option, None, Some, length, count_by, vec_len, vec_capacity}
 use Rattle.ternary.specs.declared.tern.Tern.{Tern}
 use Rattle.machine_parts.specs.Parts.{has_members}
 use Rattle.machine_laws.specs.Machines.{MachineData}
@@ -16,11 +16,6 @@ state_held (Built machine) = machine.state
 abbrev pub machine_held : Held → Option MachineData
 machine_held (Still state) = None
 machine_held (Built machine) = Some (without_room machine)
-
--- the machine, if there is one, steps no group by vicinities
-abbrev pub HasNoWide : Held → Type 0
-HasNoWide (Still state) = Unit {0}
-HasNoWide (Built machine) = machine.wide ≡ None
 
 -- for how many nodes more there is room
 abbrev pub spare_held : Held → ℕ

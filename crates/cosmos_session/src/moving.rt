@@ -1,6 +1,6 @@
 //! What a session's machine does: it takes states that are set, unit steps, and phases that end at rest.
 
-ghost use Rattle.std.specs.Prelude.{◌≡◌, ◌≢◌, ℕ, ◌<◌, ◌≤◌, false, List, None, length, slice_set};
+ghost use Rattle.std.specs.Prelude.{◌≡◌, ◌≢◌, ◌<◌, ◌≤◌, false, List, length, slice_set};
 ghost use Rattle.ternary.specs.declared.tern.Tern.{Tern};
 ghost use Rattle.std.specs.Bool.{OnTrue, OnFalse};
 ghost use Rattle.ternary.specs.Counts.{raised};
@@ -9,8 +9,7 @@ ghost use Rattle.path_meaning.specs.Step.{IsStep};
 ghost use Rattle.oscillation_x.specs.Moved.{ListsChanges};
 ghost use Rattle.oscillation_x.specs.Passing.{SteppingThrough};
 ghost use Rattle.oscillation_x.specs.Settling.{Settles};
-ghost use Rattle.machine_parts.specs.Marking.{IsMarked};
-ghost use Rattle.machine_laws.specs.Machines.{Advances};
+ghost use Rattle.machine_laws.specs.Machines.{Advances, IsAtRest};
 ghost use Rattle.machine_laws.specs.Fitting.{FitsGraph};
 ghost use Rattle.unit_step.specs.Listing.{nodes_told};
 ghost use Rattle.session_meaning.specs.Machines.{without_room};
@@ -30,7 +29,6 @@ pub(crate) fn place(machine: &mut Machine, graph: &Graph, node: usize, value: Te
     requires no_rail { RAILS ≤ node }
     ensures state { machine.new.state ≡ slice_set machine.old.state node value }
     ensures puts { PutsNode graph.now node value (without_room machine.old) (without_room machine.new) }
-    ensures without { machine.old.wide ≡ None → machine.new.wide ≡ None }
 {
     machine.set_node(graph, node, value);
 }
@@ -38,10 +36,8 @@ pub(crate) fn place(machine: &mut Machine, graph: &Graph, node: usize, value: Te
 /// Takes a unit step of a graph that the machine fits, and shows the state behind it if it changed.
 pub(crate) fn take_step<O: Onlooker>(machine: &mut Machine, graph: &Graph, onlooker: &mut O)
     requires fits { FitsGraph graph.now machine.old }
-    requires without { machine.old.wide ≡ None }
     requires knows { O.knows onlooker.old machine.old.state }
     ensures takes { TakesStep graph.now machine.old machine.new }
-    ensures without { machine.new.wide ≡ None }
     ensures seen { SeesStates O.see (SteppingThrough graph.now 1 machine.old.state) machine.old.state machine.new.state (O.seen onlooker.old) (O.seen onlooker.new) }
     ensures knows { O.knows onlooker.new machine.new.state }
 {
@@ -61,8 +57,9 @@ fn show<O: Onlooker>(machine: &mut Machine, changed: &mut Option<Vec<usize>>, on
     unfailing(onlooker.see(&Watched { machine, changed }));
 }
 
-/// Settles in a graph that the machine fits, and shows each state that it passes through. Where it comes to
-/// rest in time, no part is marked: one step more changes nothing, counts for nothing, and leaves no mark.
+/// Settles in a graph that the machine fits, and shows each state that it passes through. If it comes to rest in time,
+/// no part is marked but those whose groups are stepped by vicinities, and no node of these is touched: one step more
+/// changes nothing, counts for nothing, and leaves no other mark and nothing touched.
 pub(crate) fn settle_to_rest<O: Onlooker>(
     machine: &mut Machine,
     graph: &Graph,
@@ -70,12 +67,10 @@ pub(crate) fn settle_to_rest<O: Onlooker>(
     onlooker: &mut O,
 ) -> Settled
     requires fits { FitsGraph graph.now machine.old }
-    requires without { machine.old.wide ≡ None }
     requires low { 1 ≤ limit }
     requires high { limit ≤ MOST_LIMIT }
     requires knows { O.knows onlooker.old machine.old.state }
     ensures takes { TakesPhase graph.now limit machine.old machine.new result.steps result.joined }
-    ensures without { machine.new.wide ≡ None }
     ensures seen { SeesStates O.see (PhaseThrough graph.now limit machine.old.state result.steps) machine.old.state machine.new.state (O.seen onlooker.old) (O.seen onlooker.new) }
     ensures knows { O.knows onlooker.new machine.new.state }
 {
@@ -96,6 +91,7 @@ fn is_at_rest(settled: Settled, limit: u64) -> bool
 
 // One unit step, without counting the instructions that the machine runs. It lists the nodes at which the state
 // changes, if there is a list, and answers whether it does.
+#[tactic(auto, using(machine_laws::proofs::FittingLemmas::touches_changed))]
 fn step_uncounted<L: Ledger>(
     machine: &mut Machine,
     graph: &Graph,
@@ -106,10 +102,8 @@ fn step_uncounted<L: Ledger>(
     requires parts { blank.parts ≡ L.parts }
     requires some { blank.parts ≢ 0 }
     requires fits { FitsGraph graph.now machine.old }
-    requires without { machine.old.wide ≡ None }
     ensures advances { Advances false machine.old machine.new }
     ensures step { TakesStep graph.now machine.old machine.new }
-    ensures without { machine.new.wide ≡ None }
     ensures changed { OnTrue result (machine.new.state ≢ machine.old.state) }
     ensures same { OnFalse result (machine.new.state ≡ machine.old.state) }
     ensures listed { ListsChanges (nodes_told changed.new (length machine.new.state)) machine.old.state machine.new.state }
@@ -137,7 +131,6 @@ fn settle_uncounted<L: Ledger, O: Onlooker>(
     ensures moves { machine.new.moves ≡ raised machine.old.moves result.steps }
     ensures placed { machine.new.placed ≡ machine.old.placed }
     ensures last { machine.new.last ≡ machine.old.last }
-    ensures without { machine.old.wide ≡ None → machine.new.wide ≡ None }
     ensures seen { SeesStates O.see (PhaseThrough graph.now limit machine.old.state result.steps) machine.old.state machine.new.state (O.seen onlooker.old) (O.seen onlooker.new) }
     ensures knows { O.knows onlooker.new machine.new.state }
 {
@@ -150,21 +143,20 @@ fn settle_uncounted<L: Ledger, O: Onlooker>(
     unfailing(settle_seen(&mut watched, graph, limit, &mut steps, onlooker))
 }
 
-// One unit step from a steady state: it leaves the state and the counts, and no mark.
+// One unit step from a steady state: it leaves the state and the counts, no mark but those of stale parts, and nothing
+// touched.
 fn rest_uncounted<L: Ledger>(machine: &mut Machine, graph: &Graph, blank: Blank)
     requires name { blank.name ≡ L.name }
     requires parts { blank.parts ≡ L.parts }
     requires some { blank.parts ≢ 0 }
     requires fits { FitsGraph graph.now machine.old }
     requires steady { IsStep graph.now machine.old.state machine.old.state }
-    requires without { machine.old.wide ≡ None }
     ensures state { machine.new.state ≡ machine.old.state }
     ensures fits { FitsGraph graph.now machine.new }
     ensures moves { machine.new.moves ≡ machine.old.moves }
     ensures placed { machine.new.placed ≡ machine.old.placed }
     ensures last { machine.new.last ≡ machine.old.last }
-    ensures rests { (k : ℕ) → ¬ IsMarked machine.new.marks k }
-    ensures without { machine.new.wide ≡ None }
+    ensures rests { IsAtRest machine.new }
 {
     let _changed = step_uncounted::<L>(machine, graph, blank, &mut None);
 }

@@ -16,7 +16,10 @@ impl Session {
         ensures { Readies self.old self.new (A.analysed analyst.old) (A.analysed analyst.new) result }
     {
         let graph = self.circuit.graph();
-        match self.stage.build(self.alloc, graph, &mut self.kept, analyst) {
+        match self
+            .stage
+            .build(self.alloc, graph, self.large, &mut self.kept, analyst)
+        {
             Ok(fresh) => {
                 self.fresh = self.fresh.saturating_add(fresh);
                 Ok(())

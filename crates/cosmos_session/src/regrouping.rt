@@ -9,7 +9,7 @@ ghost use Rattle.analysis_cache.specs.Keeping.{texts_of};
 ghost use Rattle.machine_laws.specs.Editing.{with_new_nodes, Edits};
 ghost use Rattle.session_meaning.specs.Machines.{AreAmong, kept_in, last_in};
 ghost use Rattle.session_meaning.specs.Stages.{before_place, before_level, EditsFrom};
-ghost use Rattle.cosmos_session.specs.Held.{state_held, machine_held, spare_held, HasNoWide, IsSparse};
+ghost use Rattle.cosmos_session.specs.Held.{state_held, machine_held, spare_held, IsSparse};
 
 use crate::stage::Held;
 use analysis_cache::Kept;
@@ -75,7 +75,6 @@ pub(crate) fn regrouped(held: Held, graph: &Graph, change: &Change, kept: &mut K
     ensures last { AreAmong (last_in (machine_held result)) (texts_of kept.new) }
     ensures bound { kept.new.bound ≡ kept.old.bound }
     ensures dense { IfSome (machine_held result) (λ machine. ¬ IsSparse machine) }
-    ensures without { HasNoWide result }
 {
     match held {
         Held::Still(mut state) => {

@@ -40,7 +40,7 @@ impl Session {
     // no group is too large.
     fn tell_report<L: Lines>(&mut self, out: &mut L) -> Result<(), ApplyFault>
         requires built { IsBuilt self.old }
-        requires texts { (texts : List GroupTextData) × HasTexts self.old.core.circuit.graph texts }
+        requires texts { (texts : List GroupTextData) × HasTexts self.old.core.large self.old.core.circuit.graph texts }
         requires line { COLUMN_ROOM + REPORT_LINE_ROOM ≤ L.room out.old }
         ensures report { IsDoneAndSent IsReported L.hear L.part self.old.core self.new.core (L.heard out.old) (L.heard out.new) result }
         ensures machine { self.new.machine ≡ self.old.machine }

@@ -25,7 +25,8 @@ use unit_step::Machine;
 /// A simulation session: a circuit, the state of its nodes, the nodes that are watched, the clocks,
 /// the limit of a phase, how many waveform lines there were, whether some expectation was not met, the vectors
 /// that names stand for, the names under which states are kept, the texts whose analyses are kept, the most
-/// recently used first, perhaps a bound on their number, and how many were analysed since the last report.
+/// recently used first, perhaps a bound on their number, how many members a group without a text may have, and how
+/// many texts were analysed since the last report.
 ///
 /// Beside these data contracts see the machine that moves the state, if there is one: it is built
 /// at the first command that wants it, and lives through edits of the circuit.
@@ -42,6 +43,7 @@ pub struct Session {
     pub(crate) vectors: Vectors,
     pub(crate) saves: Vec<(Name, StateList)>,
     pub(crate) kept: Kept,
+    pub(crate) large: usize,
     pub(crate) fresh: u64,
 }
 
@@ -52,9 +54,9 @@ impl Model for Session {
 
     ghost Value = { HeldSession };
 
-    ghost view = { λ session. record { core = record { circuit = session.circuit; state = session.stage.state; watched = session.watched.items; clocks = session.clocks.items; limit = session.limit; count = session.count; missed = session.missed; vectors = session.vectors; saves = session.saves.items; bound = session.kept.bound; kept = kept_in session.stage.machine (texts_of session.kept); fresh = session.fresh }; machine = session.stage.machine } };
+    ghost view = { λ session. record { core = record { circuit = session.circuit; state = session.stage.state; watched = session.watched.items; clocks = session.clocks.items; limit = session.limit; count = session.count; missed = session.missed; vectors = session.vectors; saves = session.saves.items; bound = session.kept.bound; large = session.large; kept = kept_in session.stage.machine (texts_of session.kept); fresh = session.fresh }; machine = session.stage.machine } };
 
-    ghost invariant = { λ session. IsHeldSession (record { core = record { circuit = session.circuit; state = session.stage.state; watched = session.watched.items; clocks = session.clocks.items; limit = session.limit; count = session.count; missed = session.missed; vectors = session.vectors; saves = session.saves.items; bound = session.kept.bound; kept = kept_in session.stage.machine (texts_of session.kept); fresh = session.fresh }; machine = session.stage.machine })
+    ghost invariant = { λ session. IsHeldSession (record { core = record { circuit = session.circuit; state = session.stage.state; watched = session.watched.items; clocks = session.clocks.items; limit = session.limit; count = session.count; missed = session.missed; vectors = session.vectors; saves = session.saves.items; bound = session.kept.bound; large = session.large; kept = kept_in session.stage.machine (texts_of session.kept); fresh = session.fresh }; machine = session.stage.machine })
         × AreAmong (last_in session.stage.machine) (texts_of session.kept) };
 }
 
@@ -82,6 +84,7 @@ impl Session {
             vectors,
             saves: Vec::new(alloc),
             kept,
+            large: 0,
             fresh: 0,
         })
     }
@@ -125,6 +128,13 @@ impl Session {
         ensures { result.now ≡ self.now.core.watched }
     {
         &self.watched
+    }
+
+    /// How many members a group without a text may have; with 0 each group is to have a text.
+    pub fn large(&self) -> usize
+        ensures { result ≡ self.now.core.large }
+    {
+        self.large
     }
 
     /// The clocks, in the order of the line that set them.

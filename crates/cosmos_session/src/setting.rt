@@ -30,6 +30,7 @@ impl Session {
             Setup::Limit(number) => self.set_limit(*number),
             Setup::Clock(list) => self.set_clocks(list),
             Setup::Keep(number) => self.set_bound(*number),
+            Setup::Widen(number) => self.set_large(*number),
             Setup::Save(name) => self.save(name),
             Setup::Vector(name, words) => self.set_vector(name, words),
         }
@@ -81,6 +82,15 @@ impl Session {
         ensures machine { self.new.machine ≡ self.old.machine }
     {
         self.kept.set_bound(Some(number));
+        Ok(())
+    }
+
+    // `wide`: sets how many members a group without a text may have. The next build goes by it.
+    fn set_large(&mut self, number: u64) -> Result<(), ApplyFault>
+        ensures quiet { Quietly self.old (family.Setup (asked.Widen number)) self.new result }
+        ensures machine { self.new.machine ≡ self.old.machine }
+    {
+        self.large = number as usize;
         Ok(())
     }
 

@@ -7,7 +7,7 @@ ghost use Rattle.path_meaning.specs.Rails.{IsRailed, IsSound};
 ghost use Rattle.oscillation_x.specs.Passing.{SteppingThrough};
 ghost use Rattle.channel_groups.specs.Changes.{undo};
 ghost use Rattle.analysis_cache.specs.Keeping.{texts_of, IsGrown};
-ghost use Rattle.circuit_texts.specs.Sizes.{TellsTooLarge};
+ghost use Rattle.circuit_texts.specs.Sizes.{TellsRefused};
 ghost use Rattle.circuit_texts.specs.Building.{Builds, IsCutOff};
 ghost use Rattle.unit_step.specs.declared.editing.TheConstants.{NEW_NODES};
 ghost use Rattle.machine_parts.specs.Parts.{has_members};
@@ -45,13 +45,11 @@ pub(crate) struct Stage {
 
 impl Model for Stage {
     ghost use Rattle.session_meaning.specs.Stages.{StageData};
-    ghost use Rattle.cosmos_session.specs.Held.{state_held, machine_held, spare_held, HasNoWide};
+    ghost use Rattle.cosmos_session.specs.Held.{state_held, machine_held, spare_held};
 
     ghost Value = { StageData };
 
     ghost view = { λ stage. record { state = state_held stage.held; machine = machine_held stage.held; spare = spare_held stage.held } };
-
-    ghost invariant = { λ stage. HasNoWide stage.held };
 }
 
 impl Stage {
@@ -152,6 +150,7 @@ impl Stage {
         &mut self,
         alloc: Global,
         graph: &Graph,
+        large: usize,
         kept: &mut Kept,
         analyst: &mut A,
     ) -> Result<u64, BuildFault>
@@ -160,22 +159,22 @@ impl Stage {
         requires sound { IsSound self.old.state }
         requires serves { IfSome self.old.machine (Serves graph.now self.old.state (texts_of kept.old)) }
         requires last { AreAmong (last_in self.old.machine) (texts_of kept.old) }
-        ensures built { OnOk result (BuiltFrom graph.now self.old self.new) }
-        ensures builds { IfOk result (Builds graph.now kept.old.bound (kept_in self.old.machine (texts_of kept.old)) (kept_in self.new.machine (texts_of kept.new))
+        ensures built { OnOk result (BuiltFrom large graph.now self.old self.new) }
+        ensures builds { IfOk result (Builds large graph.now kept.old.bound (kept_in self.old.machine (texts_of kept.old)) (kept_in self.new.machine (texts_of kept.new))
             (A.analysed analyst.old) (A.analysed analyst.new)) }
         ensures last { OnOk result (AreAmong (last_in self.new.machine) (texts_of kept.new)) }
         ensures bound { kept.new.bound ≡ kept.old.bound }
-        ensures cut_off { result ≡ Err BuildFault.NoMemory → IsCutOff graph.now (kept_in self.old.machine (texts_of kept.old)) (kept_in self.old.machine (texts_of kept.new))
+        ensures cut_off { result ≡ Err BuildFault.NoMemory → IsCutOff large graph.now (kept_in self.old.machine (texts_of kept.old)) (kept_in self.old.machine (texts_of kept.new))
             (A.analysed analyst.old) (A.analysed analyst.new) }
         ensures refused { IfErr result (λ fault. (fault ≡ BuildFault.NoMemory)
-            ⊎ (TellsTooLarge graph.now fault × (kept.new ≡ kept.old) × (A.analysed analyst.new ≡ A.analysed analyst.old))) }
+            ⊎ (TellsRefused large graph.now fault × (kept.new ≡ kept.old) × (A.analysed analyst.new ≡ A.analysed analyst.old))) }
         ensures err { OnErr result (self.new ≡ self.old) }
         ensures grown { OnErr result (IsGrown kept.old kept.new) }
     {
         match &mut self.held {
-            Held::Built(machine) => machine.finish(graph, kept, analyst),
+            Held::Built(machine) => machine.finish(graph, large, kept, analyst),
             Held::Still(state) => {
-                let (machine, fresh) = Machine::build(alloc, graph, state, kept, analyst)?;
+                let (machine, fresh) = Machine::build(alloc, graph, state, large, kept, analyst)?;
                 self.held = Held::Built(machine);
                 Ok(fresh)
             }
@@ -196,7 +195,6 @@ impl Stage {
     }
 
     /// Has the machine, which fits the graph, take a unit step, and shows the state behind it if it changed.
-    #[tactic(auto, using(session_meaning::proofs::RoomLemmas::fits_inside))]
     pub(crate) fn step<O: Onlooker>(&mut self, graph: &Graph, onlooker: &mut O)
         requires fits { FitsIn graph.now self.old.machine }
         requires knows { O.knows onlooker.old self.old.state }
@@ -211,7 +209,6 @@ impl Stage {
     }
 
     /// Has the machine, which fits the graph, settle, and shows each state that it passes through.
-    #[tactic(auto, using(session_meaning::proofs::RoomLemmas::fits_inside))]
     pub(crate) fn settle<O: Onlooker>(
         &mut self,
         graph: &Graph,
@@ -249,8 +246,7 @@ impl Stage {
     /// How many distinct texts the groups of the machine, which is there, have.
     pub(crate) fn texts(&self) -> usize
         requires { is_some self.now.machine ≡ true }
-        ensures value { IfSome self.now.machine (λ machine. result ≡ machine.texts) }
-        ensures without { IfSome self.now.machine (λ machine. machine.wide ≡ None) }
+        ensures { IfSome self.now.machine (λ machine. result ≡ machine.texts) }
     {
         match &self.held {
             Held::Built(machine) => machine.texts(),

@@ -13,7 +13,7 @@ use Rattle.line_words.specs.Decimals.{decimal_of}
 use Rattle.line_words.specs.LineFaults.{line_fault, is_comment}
 use Rattle.line_words.specs.Words.{is_word, words_of}
 use Rattle.line_words.proofs.VisibleLemmas.{words_of-visible}
-use Rattle.script_lang.specs.declared.TheConstants.{MOST_TIMES}
+use Rattle.script_lang.specs.declared.TheConstants.{LEAST_WIDE, MOST_TIMES}
 use Rattle.script_lang.specs.declared.verb.Verb.{Verb}
 use Rattle.script_lang.specs.declared.verb.Verb.TheVariants as verb
 use Rattle.script_lang.specs.declared.command.Command.{Command}
@@ -23,14 +23,14 @@ use Rattle.script_lang.specs.declared.command.Edit.TheVariants.{Input, Store, Ad
 use Rattle.script_lang.specs.declared.command.Give.TheVariants.{Set, Charge, Back}
 use Rattle.script_lang.specs.declared.value.Value.{Value}
 use Rattle.script_lang.specs.declared.command.Setup.{Setup}
-use Rattle.script_lang.specs.declared.command.Setup.TheVariants.{Watch, Limit, Clock, Keep, Save, Vector}
+use Rattle.script_lang.specs.declared.command.Setup.TheVariants.{Watch, Limit, Clock, Keep, Widen, Save, Vector}
 use Rattle.script_lang.specs.declared.command.Run.TheVariants.{Step, Phase, Cycle, Report}
 use Rattle.script_lang.specs.declared.command.Tell.TheVariants.{Expect, Show, Look}
 use Rattle.script_lang.specs.declared.command.ScriptFault.{ScriptFault}
 use Rattle.script_lang.specs.declared.command.ScriptFault.TheVariants.{BadValue, BadNumber}
-use Rattle.script_lang.specs.Parts.{all_of, assignment_of, beats_of, is_equals, parts_of, states_of, times_of, times_within, value_read}
-use Rattle.script_lang.specs.Commands.{add_by, add_with, by_terminals, assignments_given, clocks_given, command_by, commanded, commanded_by, del_by, kind_by, kind_given, name_given, names_given, number_given, reading_of_words, some_command, store_by, strength_by, times_given, vector_by, verb_of, wire_by, wire_with}
-use Rattle.script_lang.specs.Forms.{AreAssignments, AreBeats, AreNames, AreTerminalNames, IsFormed, IsFormedEdit, IsFormedSetup, IsTimes}
+use Rattle.script_lang.specs.Parts.{all_of, assignment_of, beats_of, is_equals, parts_of, states_of, ranged_of, value_read, within_from}
+use Rattle.script_lang.specs.Commands.{add_by, add_with, by_terminals, assignments_given, clocks_given, command_by, commanded, commanded_by, del_by, kind_by, kind_given, name_given, names_given, number_given, reading_of_words, some_command, store_by, ranged_given, strength_by, vector_by, verb_of, wire_by, wire_with}
+use Rattle.script_lang.specs.Forms.{AreAssignments, AreBeats, AreNames, AreTerminalNames, IsFormed, IsFormedEdit, IsFormedSetup}
 use Rattle.line_words.specs.Visible.{IsVisibleName}
 use Rattle.script_lang.proofs.GivenLemmas.{holds_alone, holds_in, holds_of, holds_of_two, pair_given, terminals_given}
 
@@ -131,17 +131,17 @@ formed_clocks (word ∷ words) list are is =
     (omega (arith, all.0), all.1)
 
 -- a number that is given is in its range
-formed_times : (words : List (List ℕ)) (number : ℕ) → times_given words ≡ Ok number → IsTimes number
-formed_times [] number is = cc
-formed_times (word ∷ other ∷ words) number is = cc
-formed_times (word ∷ []) number is = in_range (decimal_of word) (given_some (times_of word) BadNumber number is)
+formed_ranged : (least : ℕ) (words : List (List ℕ)) (number : ℕ) → ranged_given least words ≡ Ok number → (least ≤ number) × (number ≤ MOST_TIMES)
+formed_ranged least [] number is = cc
+formed_ranged least (word ∷ other ∷ words) number is = cc
+formed_ranged least (word ∷ []) number is = in_range (decimal_of word) (given_some (ranged_of least word) BadNumber number is)
   where
-    in_range : (decimal : Option ℕ) → option_and_then times_within decimal ≡ Some number → IsTimes number
+    in_range : (decimal : Option ℕ) → option_and_then (within_from least) decimal ≡ Some number → (least ≤ number) × (number ≤ MOST_TIMES)
     in_range None within = cc
     in_range (Some n) within =
-        let both = cond_some (nat_le 1 n && nat_le n MOST_TIMES) n number within in
-        let bounds = and_parts (nat_le 1 n) (nat_le n MOST_TIMES) both.0 in
-        subst IsTimes both.1 (leb-true 1 n bounds.0, leb-true n MOST_TIMES bounds.1)
+        let both = cond_some (nat_le least n && nat_le n MOST_TIMES) n number within in
+        let bounds = and_parts (nat_le least n) (nat_le n MOST_TIMES) both.0 in
+        subst (λ it. (least ≤ it) × (it ≤ MOST_TIMES)) both.1 (leb-true least n bounds.0, leb-true n MOST_TIMES bounds.1)
 
 -- a name alone is a word
 formed_name : (words : List (List ℕ)) (name : List ℕ) → All IsVisibleName words → name_given words ≡ Ok name → IsVisibleName name
@@ -229,12 +229,12 @@ formed_by (Some verb.Charge) words made are is =
     holds_in IsFormed family.Give Charge (assignments_given false words) made (λ list given. formed_assignments false words list are given) is
 formed_by (Some verb.Watch) words made are is =
     holds_in IsFormed family.Setup Watch (names_given words) made (λ names given. formed_names words names are given) is
-formed_by (Some verb.Limit) words made are is = holds_in IsFormed family.Setup Limit (times_given words) made (formed_times words) is
+formed_by (Some verb.Limit) words made are is = holds_in IsFormed family.Setup Limit (ranged_given 1 words) made (formed_ranged 1 words) is
 formed_by (Some verb.Step) words made are is = holds_alone IsFormed (family.Run Step) words made tt is
 formed_by (Some verb.Phase) words made are is = holds_alone IsFormed (family.Run Phase) words made tt is
 formed_by (Some verb.Clock) words made are is =
     holds_in IsFormed family.Setup Clock (clocks_given words) made (λ list given. formed_clocks words list are given) is
-formed_by (Some verb.Cycle) words made are is = holds_in IsFormed family.Run Cycle (times_given words) made (formed_times words) is
+formed_by (Some verb.Cycle) words made are is = holds_in IsFormed family.Run Cycle (ranged_given 1 words) made (formed_ranged 1 words) is
 formed_by (Some verb.Expect) words made are is =
     holds_in IsFormed family.Tell Expect (assignments_given true words) made (λ list given. formed_assignments true words list are given) is
 formed_by (Some verb.Show) words made are is =
@@ -249,7 +249,9 @@ formed_by (Some verb.Kind) words made are is = edit_formed (kind_by words) made 
 formed_by (Some verb.Wire) words made are is =
     edit_formed (wire_by words) made (λ edit given. formed_terminals wire_with words edit (formed_wire edit) are given) is
 formed_by (Some verb.Report) words made are is = holds_alone IsFormed (family.Run Report) words made tt is
-formed_by (Some verb.Keep) words made are is = holds_in IsFormed family.Setup Keep (times_given words) made (formed_times words) is
+formed_by (Some verb.Keep) words made are is = holds_in IsFormed family.Setup Keep (ranged_given 1 words) made (formed_ranged 1 words) is
+formed_by (Some verb.Wide) words made are is =
+    holds_in IsFormed family.Setup Widen (ranged_given LEAST_WIDE words) made (formed_ranged LEAST_WIDE words) is
 formed_by (Some verb.Save) words made are is =
     holds_in IsFormed family.Setup Save (name_given words) made (λ name given. formed_name words name are given) is
 formed_by (Some verb.Vector) words made are is =

@@ -14,13 +14,14 @@ use Rattle.script_lang.specs.declared.command.Command.TheVariants as family
 use Rattle.script_lang.specs.declared.command.Edit.{Edit}
 use Rattle.script_lang.specs.declared.command.Edit.TheVariants.{Input, Store, Add, Del, Strength, Kind, Wire}
 use Rattle.script_lang.specs.declared.command.Give.TheVariants.{Set, Charge, Back}
-use Rattle.script_lang.specs.declared.command.Setup.TheVariants.{Watch, Limit, Clock, Keep, Save, Vector}
+use Rattle.script_lang.specs.declared.command.Setup.TheVariants.{Watch, Limit, Clock, Keep, Widen, Save, Vector}
 use Rattle.script_lang.specs.declared.command.Run.TheVariants.{Step, Phase, Cycle, Report}
 use Rattle.script_lang.specs.declared.command.Tell.TheVariants.{Expect, Show, Look}
 use Rattle.script_lang.specs.declared.command.ScriptFault.{ScriptFault}
 use Rattle.script_lang.specs.declared.command.ScriptFault.TheVariants.{NoMemory, BadValue, BadNumber}
-use Rattle.script_lang.specs.Parts.{all_of, assignment_of, beats_of, kind_of, times_of}
-use Rattle.script_lang.specs.Commands.{verb_of, name_given, names_given, assignments_given, clocks_given, times_given, kind_given, number_given, commanded, commanded_by, alone, by_pair, by_terminals, store_by, add_by, add_with, del_by, strength_by, kind_by, wire_by, wire_with, vector_by, command_by, some_command, reading_of_words, reading_by, reading_of}
+use Rattle.script_lang.specs.declared.TheConstants.{LEAST_WIDE}
+use Rattle.script_lang.specs.Parts.{all_of, assignment_of, beats_of, kind_of, ranged_of}
+use Rattle.script_lang.specs.Commands.{verb_of, name_given, names_given, assignments_given, clocks_given, ranged_given, kind_given, number_given, commanded, commanded_by, alone, by_pair, by_terminals, store_by, add_by, add_with, del_by, strength_by, kind_by, wire_by, wire_with, vector_by, command_by, some_command, reading_of_words, reading_by, reading_of}
 use Rattle.script_lang.specs.Forms.{IsFormed}
 use Rattle.script_lang.proofs.FormLemmas.{formed_words}
 
@@ -60,10 +61,10 @@ clocks-named : (words : List (List ℕ)) → clocks_given words ≢ Err NoMemory
 clocks-named [] same = cc
 clocks-named (word ∷ words) same = missing (all_of beats_of (word ∷ words)) BadValue (λ e. cc) same
 
-times-named : (words : List (List ℕ)) → times_given words ≢ Err NoMemory
-times-named [] same = cc
-times-named (word ∷ []) same = missing (times_of word) BadNumber (λ e. cc) same
-times-named (word ∷ other ∷ words) same = cc
+ranged-named : (least : ℕ) (words : List (List ℕ)) → ranged_given least words ≢ Err NoMemory
+ranged-named least [] same = cc
+ranged-named least (word ∷ []) same = missing (ranged_of least word) BadNumber (λ e. cc) same
+ranged-named least (word ∷ other ∷ words) same = cc
 
 alone-named : (command : Command) (words : List (List ℕ)) → alone command words ≢ Err NoMemory
 alone-named command [] same = cc
@@ -134,11 +135,11 @@ command-named (Some verb.Store) words same = commanded-named family.Edit (store_
 command-named (Some verb.Set) words same = family-named family.Give Set (assignments_given false words) (assignments-named false words) same
 command-named (Some verb.Charge) words same = family-named family.Give Charge (assignments_given false words) (assignments-named false words) same
 command-named (Some verb.Watch) words same = family-named family.Setup Watch (names_given words) (names-named words) same
-command-named (Some verb.Limit) words same = family-named family.Setup Limit (times_given words) (times-named words) same
+command-named (Some verb.Limit) words same = family-named family.Setup Limit (ranged_given 1 words) (ranged-named 1 words) same
 command-named (Some verb.Step) words same = alone-named (family.Run Step) words same
 command-named (Some verb.Phase) words same = alone-named (family.Run Phase) words same
 command-named (Some verb.Clock) words same = family-named family.Setup Clock (clocks_given words) (clocks-named words) same
-command-named (Some verb.Cycle) words same = family-named family.Run Cycle (times_given words) (times-named words) same
+command-named (Some verb.Cycle) words same = family-named family.Run Cycle (ranged_given 1 words) (ranged-named 1 words) same
 command-named (Some verb.Expect) words same = family-named family.Tell Expect (assignments_given true words) (assignments-named true words) same
 command-named (Some verb.Show) words same = family-named family.Tell Show (names_given words) (names-named words) same
 command-named (Some verb.Look) words same = family-named family.Tell Look (names_given words) (names-named words) same
@@ -148,7 +149,8 @@ command-named (Some verb.Strength) words same = commanded-named family.Edit (str
 command-named (Some verb.Kind) words same = commanded-named family.Edit (kind_by words) (type-named words) same
 command-named (Some verb.Wire) words same = commanded-named family.Edit (wire_by words) (terminals-named wire_with wire-named words) same
 command-named (Some verb.Report) words same = alone-named (family.Run Report) words same
-command-named (Some verb.Keep) words same = family-named family.Setup Keep (times_given words) (times-named words) same
+command-named (Some verb.Keep) words same = family-named family.Setup Keep (ranged_given 1 words) (ranged-named 1 words) same
+command-named (Some verb.Wide) words same = family-named family.Setup Widen (ranged_given LEAST_WIDE words) (ranged-named LEAST_WIDE words) same
 command-named (Some verb.Save) words same = family-named family.Setup Save (name_given words) (name-named words) same
 command-named (Some verb.Vector) words same = commanded-named family.Setup (vector_by words) (vector-named words) same
 command-named (Some verb.Back) words same = family-named family.Give Back (name_given words) (name-named words) same

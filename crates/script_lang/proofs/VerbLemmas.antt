@@ -12,12 +12,13 @@ use Rattle.script_lang.specs.declared.command.Edit.{Edit}
 use Rattle.script_lang.specs.declared.command.Edit.TheVariants.{Input, Store, Add, Del, Strength, Kind, Wire}
 use Rattle.script_lang.specs.declared.command.Give.TheVariants.{Set, Charge, Back}
 use Rattle.script_lang.specs.declared.command.Setup.{Setup}
-use Rattle.script_lang.specs.declared.command.Setup.TheVariants.{Watch, Limit, Clock, Keep, Save, Vector}
+use Rattle.script_lang.specs.declared.command.Setup.TheVariants.{Watch, Limit, Clock, Keep, Widen, Save, Vector}
 use Rattle.script_lang.specs.declared.command.Run.TheVariants.{Step, Phase, Cycle, Report}
 use Rattle.script_lang.specs.declared.command.Tell.TheVariants.{Expect, Show, Look}
 use Rattle.script_lang.specs.declared.command.ScriptFault.{ScriptFault}
 use Rattle.script_lang.specs.declared.command.ScriptFault.TheVariants.{BadNumber}
-use Rattle.script_lang.specs.Commands.{add_by, add_with, by_terminals, assignments_given, clocks_given, command_by, commanded, commanded_by, del_by, kind_by, kind_given, name_given, names_given, number_given, reading_of_words, some_command, store_by, strength_by, times_given, vector_by, verb_of, wire_by, wire_with, word_of, word_of_edit, word_of_setup}
+use Rattle.script_lang.specs.declared.TheConstants.{LEAST_WIDE}
+use Rattle.script_lang.specs.Commands.{add_by, add_with, by_terminals, assignments_given, clocks_given, command_by, commanded, commanded_by, del_by, kind_by, kind_given, name_given, names_given, number_given, reading_of_words, some_command, ranged_given, store_by, strength_by, vector_by, verb_of, wire_by, wire_with, word_of, word_of_edit, word_of_setup}
 use Rattle.script_lang.proofs.GivenLemmas.{holds_alone, holds_in, holds_of, holds_of_two, pair_given, terminals_given}
 
 -- the word of a verb
@@ -42,6 +43,7 @@ text_of verb.Kind = codes "type"
 text_of verb.Wire = codes "wire"
 text_of verb.Report = codes "report"
 text_of verb.Keep = codes "keep"
+text_of verb.Wide = codes "wide"
 text_of verb.Save = codes "save"
 text_of verb.Back = codes "back"
 text_of verb.Vector = codes "vector"
@@ -81,9 +83,10 @@ verb_word word =
     (found_by word verb.Wire _
     (found_by word verb.Report _
     (found_by word verb.Keep _
+    (found_by word verb.Wide _
     (found_by word verb.Save _
     (found_by word verb.Back _
-    (found_by word verb.Vector None tt))))))))))))))))))))))
+    (found_by word verb.Vector None tt)))))))))))))))))))))))
 
 -- ---- the word of what was made
 
@@ -155,11 +158,11 @@ command_word verb.Store words made is = edit_word (codes "store") (store_by word
 command_word verb.Set words made is = holds_in (Has (codes "set")) family.Give Set (assignments_given false words) made (λ _ _. refl) is
 command_word verb.Charge words made is = holds_in (Has (codes "charge")) family.Give Charge (assignments_given false words) made (λ _ _. refl) is
 command_word verb.Watch words made is = holds_in (Has (codes "watch")) family.Setup Watch (names_given words) made (λ _ _. refl) is
-command_word verb.Limit words made is = holds_in (Has (codes "limit")) family.Setup Limit (times_given words) made (λ _ _. refl) is
+command_word verb.Limit words made is = holds_in (Has (codes "limit")) family.Setup Limit (ranged_given 1 words) made (λ _ _. refl) is
 command_word verb.Step words made is = holds_alone (Has (codes "step")) (family.Run Step) words made refl is
 command_word verb.Phase words made is = holds_alone (Has (codes "phase")) (family.Run Phase) words made refl is
 command_word verb.Clock words made is = holds_in (Has (codes "clock")) family.Setup Clock (clocks_given words) made (λ _ _. refl) is
-command_word verb.Cycle words made is = holds_in (Has (codes "cycle")) family.Run Cycle (times_given words) made (λ _ _. refl) is
+command_word verb.Cycle words made is = holds_in (Has (codes "cycle")) family.Run Cycle (ranged_given 1 words) made (λ _ _. refl) is
 command_word verb.Expect words made is = holds_in (Has (codes "expect")) family.Tell Expect (assignments_given true words) made (λ _ _. refl) is
 command_word verb.Show words made is = holds_in (Has (codes "show")) family.Tell Show (names_given words) made (λ _ _. refl) is
 command_word verb.Look words made is = holds_in (Has (codes "look")) family.Tell Look (names_given words) made (λ _ _. refl) is
@@ -171,7 +174,8 @@ command_word verb.Kind words made is = edit_word (codes "type") (kind_by words) 
 command_word verb.Wire words made is =
     edit_word (codes "wire") (wire_by words) made (λ edit given. terminals_word wire_with (codes "wire") words edit (wire_word edit) given) is
 command_word verb.Report words made is = holds_alone (Has (codes "report")) (family.Run Report) words made refl is
-command_word verb.Keep words made is = holds_in (Has (codes "keep")) family.Setup Keep (times_given words) made (λ _ _. refl) is
+command_word verb.Keep words made is = holds_in (Has (codes "keep")) family.Setup Keep (ranged_given 1 words) made (λ _ _. refl) is
+command_word verb.Wide words made is = holds_in (Has (codes "wide")) family.Setup Widen (ranged_given LEAST_WIDE words) made (λ _ _. refl) is
 command_word verb.Save words made is = holds_in (Has (codes "save")) family.Setup Save (name_given words) made (λ _ _. refl) is
 command_word verb.Vector words made is = holds_of (Has (codes "vector")) family.Setup (vector_by words) made (vector_word words) is
 command_word verb.Back words made is = holds_in (Has (codes "back")) family.Give Back (name_given words) made (λ _ _. refl) is

@@ -9,6 +9,7 @@ use Rattle.line_words.specs.declared.line_check.LineFault.TheVariants as of_line
 use Rattle.line_words.specs.Decimals.{decimal_of}
 use Rattle.line_words.specs.LineFaults.{line_fault, is_comment}
 use Rattle.line_words.specs.Words.{words_of}
+use Rattle.script_lang.specs.declared.TheConstants.{LEAST_WIDE}
 use Rattle.script_lang.specs.declared.value.Value.{Value}
 use Rattle.script_lang.specs.declared.verb.Verb.{Verb}
 use Rattle.script_lang.specs.declared.verb.Verb.TheVariants as verb
@@ -19,14 +20,14 @@ use Rattle.script_lang.specs.declared.command.Edit.TheVariants.{Input, Store, Ad
 use Rattle.script_lang.specs.declared.command.Give.{Give}
 use Rattle.script_lang.specs.declared.command.Give.TheVariants.{Set, Charge, Back}
 use Rattle.script_lang.specs.declared.command.Setup.{Setup}
-use Rattle.script_lang.specs.declared.command.Setup.TheVariants.{Watch, Limit, Clock, Keep, Save, Vector}
+use Rattle.script_lang.specs.declared.command.Setup.TheVariants.{Watch, Limit, Clock, Keep, Widen, Save, Vector}
 use Rattle.script_lang.specs.declared.command.Run.{Run}
 use Rattle.script_lang.specs.declared.command.Run.TheVariants.{Step, Phase, Cycle, Report}
 use Rattle.script_lang.specs.declared.command.Tell.{Tell}
 use Rattle.script_lang.specs.declared.command.Tell.TheVariants.{Expect, Show, Look}
 use Rattle.script_lang.specs.declared.command.ScriptFault.{ScriptFault}
 use Rattle.script_lang.specs.declared.command.ScriptFault.TheVariants.{LineTooLong, BadByte, BadCommand, FewWords, ManyWords, BadValue, BadNumber}
-use Rattle.script_lang.specs.Parts.{all_of, assignment_of, beats_of, kind_of, times_of}
+use Rattle.script_lang.specs.Parts.{all_of, assignment_of, beats_of, kind_of, ranged_of}
 
 -- the verb that a word is, compared byte by byte
 abbrev pub verb_of : List ℕ → Option Verb
@@ -51,9 +52,10 @@ verb_of word =
     else (if bytes_eq word (codes "wire") then Some verb.Wire
     else (if bytes_eq word (codes "report") then Some verb.Report
     else (if bytes_eq word (codes "keep") then Some verb.Keep
+    else (if bytes_eq word (codes "wide") then Some verb.Wide
     else (if bytes_eq word (codes "save") then Some verb.Save
     else (if bytes_eq word (codes "back") then Some verb.Back
-    else (if bytes_eq word (codes "vector") then Some verb.Vector else None))))))))))))))))))))))
+    else (if bytes_eq word (codes "vector") then Some verb.Vector else None)))))))))))))))))))))))
 
 -- one name alone
 abbrev pub name_given : List (List ℕ) → Result (List ℕ) ScriptFault
@@ -76,11 +78,11 @@ abbrev pub clocks_given : List (List ℕ) → Result (List (List ℕ × List Ter
 clocks_given [] = Err FewWords
 clocks_given (word ∷ words) = ok_or (all_of beats_of (word ∷ words)) BadValue
 
--- a number from 1 to `MOST_TIMES`
-abbrev pub times_given : List (List ℕ) → Result ℕ ScriptFault
-times_given [] = Err FewWords
-times_given (word ∷ []) = ok_or (times_of word) BadNumber
-times_given (word ∷ other ∷ words) = Err ManyWords
+-- a number from the least one to `MOST_TIMES`
+abbrev pub ranged_given : ℕ → List (List ℕ) → Result ℕ ScriptFault
+ranged_given least [] = Err FewWords
+ranged_given least (word ∷ []) = ok_or (ranged_of least word) BadNumber
+ranged_given least (word ∷ other ∷ words) = Err ManyWords
 
 -- a word that is a transistor's kind
 abbrev pub kind_given : List ℕ → Result SwitchKind ScriptFault
@@ -170,11 +172,11 @@ command_by (Some verb.Store) words = commanded family.Edit (store_by words)
 command_by (Some verb.Set) words = commanded family.Give (commanded Set (assignments_given false words))
 command_by (Some verb.Charge) words = commanded family.Give (commanded Charge (assignments_given false words))
 command_by (Some verb.Watch) words = commanded family.Setup (commanded Watch (names_given words))
-command_by (Some verb.Limit) words = commanded family.Setup (commanded Limit (times_given words))
+command_by (Some verb.Limit) words = commanded family.Setup (commanded Limit (ranged_given 1 words))
 command_by (Some verb.Step) words = alone (family.Run Step) words
 command_by (Some verb.Phase) words = alone (family.Run Phase) words
 command_by (Some verb.Clock) words = commanded family.Setup (commanded Clock (clocks_given words))
-command_by (Some verb.Cycle) words = commanded family.Run (commanded Cycle (times_given words))
+command_by (Some verb.Cycle) words = commanded family.Run (commanded Cycle (ranged_given 1 words))
 command_by (Some verb.Expect) words = commanded family.Tell (commanded Expect (assignments_given true words))
 command_by (Some verb.Show) words = commanded family.Tell (commanded Show (names_given words))
 command_by (Some verb.Look) words = commanded family.Tell (commanded Look (names_given words))
@@ -184,7 +186,8 @@ command_by (Some verb.Strength) words = commanded family.Edit (strength_by words
 command_by (Some verb.Kind) words = commanded family.Edit (kind_by words)
 command_by (Some verb.Wire) words = commanded family.Edit (wire_by words)
 command_by (Some verb.Report) words = alone (family.Run Report) words
-command_by (Some verb.Keep) words = commanded family.Setup (commanded Keep (times_given words))
+command_by (Some verb.Keep) words = commanded family.Setup (commanded Keep (ranged_given 1 words))
+command_by (Some verb.Wide) words = commanded family.Setup (commanded Widen (ranged_given LEAST_WIDE words))
 command_by (Some verb.Save) words = commanded family.Setup (commanded Save (name_given words))
 command_by (Some verb.Vector) words = commanded family.Setup (vector_by words)
 command_by (Some verb.Back) words = commanded family.Give (commanded Back (name_given words))
@@ -231,6 +234,7 @@ word_of_setup (Watch names) = codes "watch"
 word_of_setup (Limit number) = codes "limit"
 word_of_setup (Clock list) = codes "clock"
 word_of_setup (Keep number) = codes "keep"
+word_of_setup (Widen number) = codes "wide"
 word_of_setup (Save name) = codes "save"
 word_of_setup (Vector name words) = codes "vector"
 

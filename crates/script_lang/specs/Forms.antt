@@ -1,7 +1,7 @@
 -- Well-formed commands.
 use Rattle.std.specs.Prelude.{ℕ, ◌<◌, ◌≤◌, List, length, All}
 use Rattle.ternary.specs.declared.tern.Tern.{Tern}
-use Rattle.script_lang.specs.declared.TheConstants.{MOST_TIMES}
+use Rattle.script_lang.specs.declared.TheConstants.{LEAST_WIDE, MOST_TIMES}
 use Rattle.script_lang.specs.declared.value.Value.{Value}
 use Rattle.script_lang.specs.declared.command.Command.{Command}
 use Rattle.script_lang.specs.declared.command.Command.TheVariants as family
@@ -10,7 +10,7 @@ use Rattle.script_lang.specs.declared.command.Edit.TheVariants.{Input, Store, Ad
 use Rattle.script_lang.specs.declared.command.Give.{Give}
 use Rattle.script_lang.specs.declared.command.Give.TheVariants.{Set, Charge, Back}
 use Rattle.script_lang.specs.declared.command.Setup.{Setup}
-use Rattle.script_lang.specs.declared.command.Setup.TheVariants.{Watch, Limit, Clock, Keep, Save, Vector}
+use Rattle.script_lang.specs.declared.command.Setup.TheVariants.{Watch, Limit, Clock, Keep, Widen, Save, Vector}
 use Rattle.script_lang.specs.declared.command.Run.{Run}
 use Rattle.script_lang.specs.declared.command.Run.TheVariants.{Step, Phase, Cycle, Report}
 use Rattle.script_lang.specs.declared.command.Tell.{Tell}
@@ -37,6 +37,10 @@ AreTerminalNames gate source drain = IsVisibleName gate × IsVisibleName source 
 abbrev pub IsTimes : ℕ → Type 0
 IsTimes number = (1 ≤ number) × (number ≤ MOST_TIMES)
 
+-- a number of `wide`: from `LEAST_WIDE` to `MOST_TIMES`
+abbrev pub IsWidth : ℕ → Type 0
+IsWidth number = (LEAST_WIDE ≤ number) × (number ≤ MOST_TIMES)
+
 -- an edit is well formed: its names are names
 abbrev pub IsFormedEdit : Edit → Type 0
 IsFormedEdit (Input names) = AreNames names
@@ -53,12 +57,13 @@ IsFormedGive (Set list) = AreAssignments list
 IsFormedGive (Charge list) = AreAssignments list
 IsFormedGive (Back name) = IsVisibleName name
 
--- and what sets: its number of times is in range
+-- and what sets: its number is in range
 abbrev pub IsFormedSetup : Setup → Type 0
 IsFormedSetup (Watch names) = AreNames names
 IsFormedSetup (Limit number) = IsTimes number
 IsFormedSetup (Clock list) = AreBeats list
 IsFormedSetup (Keep number) = IsTimes number
+IsFormedSetup (Widen number) = IsWidth number
 IsFormedSetup (Save name) = IsVisibleName name
 IsFormedSetup (Vector name words) = IsVisibleName name × AreNames words
 

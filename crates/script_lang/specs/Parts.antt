@@ -65,13 +65,13 @@ states_of letters = all_of of_letter letters
 abbrev pub beats_of : List ℕ → Option (List ℕ × List Tern)
 beats_of word = option_and_then (λ parts. option_map (λ states. (parts.0, states)) (states_of parts.1)) (parts_of word)
 
--- the number, if it is from 1 to `MOST_TIMES`
-abbrev pub times_within : ℕ → Option ℕ
-times_within number = if nat_le 1 number && nat_le number MOST_TIMES then Some number else None
+-- the number, if it is from the least one to `MOST_TIMES`
+abbrev pub within_from : ℕ → ℕ → Option ℕ
+within_from least number = if nat_le least number && nat_le number MOST_TIMES then Some number else None
 
--- a number from 1 to `MOST_TIMES`
-abbrev pub times_of : List ℕ → Option ℕ
-times_of word = option_and_then times_within (decimal_of word)
+-- a number from the least one to `MOST_TIMES`
+abbrev pub ranged_of : ℕ → List ℕ → Option ℕ
+ranged_of least word = option_and_then (within_from least) (decimal_of word)
 
 -- the kind of a transistor that a word names: `n` or `e` n-channel, `p` p-channel, `d` depletion
 abbrev pub kind_of : List ℕ → Option SwitchKind

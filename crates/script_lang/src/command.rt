@@ -72,6 +72,8 @@ pub enum Setup {
     Clock(ClockList),
     /// `keep N`: sets the bound on the number of texts whose analyses are kept, from the next build on.
     Keep(u64),
+    /// `wide N`: sets how many members a group may have, from the next build on.
+    Widen(u64),
     /// `save NAME`: keeps the present states of all nodes under the name.
     Save(Name),
     /// `vector NAME WORD..`: gives the name to the nodes that the words stand for, in the place of those

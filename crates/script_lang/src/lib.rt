@@ -31,5 +31,8 @@ pub use parts::beats;
 pub use reader::read_command;
 pub use value::Value;
 
-/// The greatest number of `limit`, of `cycle` and of `keep`.
+/// The greatest number of `limit`, of `cycle`, of `keep` and of `wide`.
 pub const MOST_TIMES: u64 = 1_000_000;
+
+/// The least number of `wide`: as many members a group with a text may have.
+pub const LEAST_WIDE: u64 = 200;

@@ -1,6 +1,6 @@
 //! The parts of a script's words: assignments, letters of clocks, numbers.
 ghost use Rattle.std.specs.Prelude.{◌≡◌, IfOk, MatchOption, option_map};
-ghost use Rattle.script_lang.specs.Parts.{assignment_of, beats_of, kind_of, parts_of, states_of, times_of, HasNoEquals, IsLastEquals};
+ghost use Rattle.script_lang.specs.Parts.{assignment_of, beats_of, kind_of, parts_of, states_of, ranged_of, HasNoEquals, IsLastEquals};
 
 use crate::MOST_TIMES;
 use crate::lists::{Name, StateList};
@@ -41,11 +41,11 @@ pub fn beats(alloc: Global, word: &[u8]) -> Result<Option<(Name, StateList)>, No
     Ok(Some((Name::from_slice(alloc, name)?, states)))
 }
 
-/// The number of a word, from 1 to the most that there may be, or None if it is no such one.
-pub(crate) fn times(word: &[u8]) -> Option<u64>
-    ensures { result ≡ times_of word.now }
+/// The number of a word, from the least one to the most that there may be, or None if it is no such one.
+pub(crate) fn number_from(word: &[u8], least: u64) -> Option<u64>
+    ensures { result ≡ ranged_of least word.now }
 {
-    decimal(word).filter(|&times| 1 <= times && times <= MOST_TIMES)
+    decimal(word).filter(|&number| least <= number && number <= MOST_TIMES)
 }
 
 /// The kind of a transistor that a word names.

@@ -1,13 +1,14 @@
 //! Reading a line of a script.
 ghost use Rattle.std.specs.Prelude.{◌≡◌, ◌⊎◌, Err, Ok, IfErr, IfOk, IfSome};
 ghost use Rattle.script_lang.specs.Parts.{all_of, assignment_of, beats_of};
-ghost use Rattle.script_lang.specs.Commands.{alone, assignments_given, clocks_given, command_by, name_given, names_given, reading_of, reading_of_words, store_by, times_given, vector_by};
+ghost use Rattle.script_lang.specs.Commands.{alone, assignments_given, clocks_given, command_by, name_given, names_given, reading_of, reading_of_words, store_by, ranged_given, vector_by};
 ghost use Rattle.script_lang.specs.Forms.{IsFormed};
 
+use crate::LEAST_WIDE;
 use crate::command::{Command, Edit, Give, Run, ScriptFault, Setup, Tell};
 use crate::edits::{read_add, read_del, read_kind, read_strength, read_wire};
 use crate::lists::{ClockList, Name, NameList, ValueList};
-use crate::parts::{assignment, beats, times};
+use crate::parts::{assignment, beats, number_from};
 use crate::verb::{Verb, verb_named};
 use line_words::{LineFault, Words, check_line, decimal, is_comment, words};
 use std::alloc::Global;
@@ -71,7 +72,7 @@ fn read_verb(
                 .map(Setup::Watch)
                 .map(Command::Setup),
         ),
-        Some(Verb::Limit) => Ok(read_times(words).map(Setup::Limit).map(Command::Setup)),
+        Some(Verb::Limit) => Ok(read_number(words, 1).map(Setup::Limit).map(Command::Setup)),
         Some(Verb::Step) => Ok(read_alone(Command::Run(Run::Step), words)),
         Some(Verb::Phase) => Ok(read_alone(Command::Run(Run::Phase), words)),
         Some(Verb::Clock) => Ok(
@@ -79,7 +80,7 @@ fn read_verb(
                 .map(Setup::Clock)
                 .map(Command::Setup),
         ),
-        Some(Verb::Cycle) => Ok(read_times(words).map(Run::Cycle).map(Command::Run)),
+        Some(Verb::Cycle) => Ok(read_number(words, 1).map(Run::Cycle).map(Command::Run)),
         Some(Verb::Expect) => {
             let list = read_assignments(alloc, words, true)?;
             Ok(list.map(Tell::Expect).map(Command::Tell))
@@ -92,7 +93,12 @@ fn read_verb(
         Some(Verb::Kind) => Ok(read_kind(words).map(Command::Edit)),
         Some(Verb::Wire) => Ok(read_wire(alloc, words)?.map(Command::Edit)),
         Some(Verb::Report) => Ok(read_alone(Command::Run(Run::Report), words)),
-        Some(Verb::Keep) => Ok(read_times(words).map(Setup::Keep).map(Command::Setup)),
+        Some(Verb::Keep) => Ok(read_number(words, 1).map(Setup::Keep).map(Command::Setup)),
+        Some(Verb::Wide) => Ok(
+            read_number(words, LEAST_WIDE)
+                .map(Setup::Widen)
+                .map(Command::Setup),
+        ),
         Some(Verb::Save) => Ok(
             read_name(alloc, words)?
                 .map(Setup::Save)
@@ -212,16 +218,16 @@ fn all_clocks(alloc: Global, words: Words<'_>) -> Result<Option<ClockList>, NoMe
     Ok(Some(list))
 }
 
-// Reads a number from 1 to the most that there may be.
-fn read_times(mut words: Words<'_>) -> Result<u64, ScriptFault>
-    ensures { result ≡ times_given words.entry }
+// Reads a number from the least one to the most that there may be.
+fn read_number(mut words: Words<'_>, least: u64) -> Result<u64, ScriptFault>
+    ensures { result ≡ ranged_given least words.entry }
 {
     let Some(word) = words.next() else {
         return Err(ScriptFault::FewWords);
     };
     match words.next() {
         Some(_) => Err(ScriptFault::ManyWords),
-        None => times(word).ok_or(ScriptFault::BadNumber),
+        None => number_from(word, least).ok_or(ScriptFault::BadNumber),
     }
 }
 

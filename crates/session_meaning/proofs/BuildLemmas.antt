@@ -74,8 +74,9 @@ module _ (session : HeldSession) (spare : ℕ) (bound : Option ℕ) (stage : Sta
     last-refused among =
         subst (λ (s : StageData). AreAmong (last_in s.machine) new) (sym same) (still_among (last_in session.machine) table more new grown among)
 
-  module _ (kept : List GroupTextData) (fresh count : ℕ) (asked told : List GroupTextData) (built : BuiltFrom session.core.circuit.graph before stage)
-      (builds : Builds session.core.circuit.graph session.core.bound session.core.kept kept asked told count) where
+  module _ (kept : List GroupTextData) (fresh count : ℕ) (asked told : List GroupTextData)
+      (built : BuiltFrom session.core.large session.core.circuit.graph before stage)
+      (builds : Builds session.core.large session.core.circuit.graph session.core.bound session.core.kept kept asked told count) where
     -- if it was done, a session is one too
     pub held-built : IsHeldSession session →
         IsHeldSession (record { core = record session.core { state = stage.state; bound = bound; kept = kept; fresh = fresh }; machine = stage.machine })
@@ -84,7 +85,7 @@ module _ (session : HeldSession) (spare : ℕ) (bound : Option ℕ) (stage : Sta
       machine = subst (λ (m : Option MachineData). IfSome m (Serves session.core.circuit.graph stage.state kept)) (sym built.there) (record {
         covers = built.fits.covers;
         same = built.same ∙ sym built.state;
-        known = built_texts_are_kept session.core.circuit.graph session.core.bound session.core.kept kept asked told count built.machine built.fits builds;
+        known = built_texts_are_kept session.core.large session.core.circuit.graph session.core.bound session.core.kept kept asked told count built.machine built.fits builds;
       });
     }
 
@@ -104,5 +105,12 @@ module _ (session : HeldSession) (spare : ℕ) (bound : Option ℕ) (stage : Sta
             used = λ i. record session.core { state = built.state i; bound = same i; kept = builds.kept i; fresh = number i };
           };
           analysed = builds.analysed;
-          machine = record { machine = built.machine; there = built.there; fits = built.fits; moves = built.moves; placed = built.placed };
+          machine = record {
+            machine = built.machine;
+            there = built.there;
+            fits = built.fits;
+            moves = built.moves;
+            placed = built.placed;
+            stays = built.stays;
+          };
         }

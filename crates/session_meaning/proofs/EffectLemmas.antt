@@ -23,7 +23,7 @@ use Rattle.netlist.specs.Edits.{with_input, node_named, is_size}
 use Rattle.group_text.specs.Texts.{GroupTextData}
 use Rattle.group_text.specs.FirstTexts.{first_texts}
 use Rattle.circuit_texts.specs.declared.texts.BuildFault.{BuildFault}
-use Rattle.circuit_texts.specs.Sizes.{TellsTooLarge}
+use Rattle.circuit_texts.specs.Sizes.{TellsRefused}
 use Rattle.circuit_texts.specs.Building.{HasTexts}
 use Rattle.group_text.specs.FirstTexts.{new_texts}
 use Rattle.script_lang.specs.declared.command.Command.{Command}
@@ -152,7 +152,7 @@ beats_exist (place ∷ places) session ready =
 -- ---- all commands
 
 -- each command that has the circuit built has an effect if the circuit has texts
-run_exists : (session : SessionData) → IsReady session → (run : Run) → (texts : List GroupTextData) × HasTexts session.circuit.graph texts →
+run_exists : (session : SessionData) → IsReady session → (run : Run) → (texts : List GroupTextData) × HasTexts session.large session.circuit.graph texts →
     (new : SessionData) × (lines : List Line) × RunEffect session run new lines
 run_exists session ready Step has =
     let found = exists session.circuit.graph ready.netlist.wired session.state in
@@ -162,13 +162,13 @@ run_exists session ready Phase has = phase_exists session ready
 run_exists session ready (Cycle times) has = beats_exist (places_in (places_of session.clocks) times) session ready
 run_exists session ready Report has = (
   record session { fresh = 0 },
-  Reported (length has.0) (length (first_texts has.0)) session.fresh ∷ [],
+  Reported (length has.1.groups) (length (first_texts has.0)) session.fresh ∷ [],
   record { texts = has.0; has = has.1; moved = refl; wrote = refl },
 )
 
 -- so every command has an effect if it isn't refused, and the circuit has texts if it was built
 effect_exists : (session : SessionData) → IsReady session → (command : Command) →
-    (builds command ≡ true → (texts : List GroupTextData) × HasTexts session.circuit.graph texts) →
+    (builds command ≡ true → (texts : List GroupTextData) × HasTexts session.large session.circuit.graph texts) →
     (new : SessionData) × (lines : List Line) × Effect session command new lines
 effect_exists session ready (family.Edit edit) has = (with_circuit session (circuit_after session.circuit session.vectors edit), [], (refl, refl))
 effect_exists session ready (family.Give give) has =
@@ -186,7 +186,7 @@ ready-build old mid texts build ready =
 -- how a formed command ends: it is refused by the data, or for the size of a group, or it is done
 pub data Ends (session : SessionData) (command : Command) : Type 0 where
   refused : (refusal : Refusal) → refusal_of session command ≡ Some refusal → Ends session command
-  too_large : (fault : BuildFault) → refusal_of session command ≡ None → builds command ≡ true → TellsTooLarge session.circuit.graph fault →
+  too_large : (fault : BuildFault) → refusal_of session command ≡ None → builds command ≡ true → TellsRefused session.large session.circuit.graph fault →
       Ends session command
   performed : (new : SessionData) (lines : List Line) (texts : List GroupTextData) → Performs session command new lines texts → Ends session command
 
@@ -199,7 +199,7 @@ still_ends session command ready still allowed =
 
 -- one that builds is done where moreover the circuit's groups have texts
 built_ends : (session : SessionData) (command : Command) (texts : List GroupTextData) → IsReady session → builds command ≡ true →
-    refusal_of session command ≡ None → HasTexts session.circuit.graph texts → Ends session command
+    refusal_of session command ≡ None → HasTexts session.large session.circuit.graph texts → Ends session command
 built_ends session command texts ready building allowed has =
     let fresh : List GroupTextData = new_texts session.kept texts in
     let mid : SessionData = with_present session texts in
@@ -209,10 +209,10 @@ built_ends session command texts ready building allowed has =
 
 -- each formed command ends
 pub ends : (session : SessionData) (command : Command) → IsReady session → IsFormed command → Ends session command
-ends session command ready formed = by (refusal_of session command) (builds command) refl refl (texts_or_size session.circuit.graph ready.netlist.wired)
+ends session command ready formed = by (refusal_of session command) (builds command) refl refl (texts_or_size session.large session.circuit.graph ready.netlist.wired)
   where
     by : (found : Option Refusal) (building : Bool) → refusal_of session command ≡ found → builds command ≡ building →
-        ((texts : List GroupTextData) × HasTexts session.circuit.graph texts) ⊎ ((fault : BuildFault) × TellsTooLarge session.circuit.graph fault) →
+        ((texts : List GroupTextData) × HasTexts session.large session.circuit.graph texts) ⊎ ((fault : BuildFault) × TellsRefused session.large session.circuit.graph fault) →
         Ends session command
     by (Some refusal) building is does size = refused refusal is
     by None false is does size = still_ends session command ready does is

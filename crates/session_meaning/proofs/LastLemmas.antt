@@ -36,13 +36,13 @@ still_among texts kept more new grown among =
     subst (AreAmong texts) (sym grown) (λ k d inside. among_more kept more _ (among k d inside))
 
 -- the texts of the last build are the present ones, if nothing was edited since
-pub last_present : (g : GraphData) (last present : List GroupTextData) → HasLast g last → HasTexts g present → last ≡ present
-last_present g last present is has = is has.groups has.are ∙ sym has.texts_are
+pub last_present : (large : ℕ) (g : GraphData) (last present : List GroupTextData) → HasLast g last → HasTexts large g present → last ≡ present
+last_present large g last present is has = is has.groups has.are ∙ sym has.texts_are
 
-module _ (g : GraphData) (bound : Option ℕ) (old new before after : List GroupTextData) (count : ℕ) (machine : MachineData)
-    (last : HasLast g machine.last) (builds : Builds g bound old new before after count) where
+module _ (large : ℕ) (g : GraphData) (bound : Option ℕ) (old new before after : List GroupTextData) (count : ℕ) (machine : MachineData)
+    (last : HasLast g machine.last) (builds : Builds large g bound old new before after count) where
   same : machine.last ≡ builds.present
-  same = last_present g machine.last builds.present last builds.has
+  same = last_present large g machine.last builds.present last builds.has
 
   -- they are kept after the build
   pub last_kept : AreAmong machine.last new
@@ -59,17 +59,17 @@ module _ (g : GraphData) (bound : Option ℕ) (old new before after : List Group
       ∙ sym builds.kept
 
   -- so a build without a machine leaves what it promises
-  pub builds_anew : Builds g bound (used_texts [] old) (used_texts machine.last new) before after count
+  pub builds_anew : Builds large g bound (used_texts [] old) (used_texts machine.last new) before after count
   builds_anew =
-      subst (λ (texts : List GroupTextData). Builds g bound texts (used_texts machine.last new) before after count) (kept_alone old)
-      (subst (λ (texts : List GroupTextData). Builds g bound old texts before after count) (sym front_already) builds)
+      subst (λ (texts : List GroupTextData). Builds large g bound texts (used_texts machine.last new) before after count) (kept_alone old)
+      (subst (λ (texts : List GroupTextData). Builds large g bound old texts before after count) (sym front_already) builds)
 
 -- a build without a machine that was cut off
-pub cut_off_alone : (g : GraphData) (old new before after : List GroupTextData) → IsCutOff g old new before after →
-    IsCutOff g (used_texts [] old) (used_texts [] new) before after
-cut_off_alone g old new before after cut_off =
-    subst (λ (texts : List GroupTextData). IsCutOff g texts (used_texts [] new) before after) (kept_alone old)
-    (subst (λ (texts : List GroupTextData). IsCutOff g old texts before after) (kept_alone new) cut_off)
+pub cut_off_alone : (large : ℕ) (g : GraphData) (old new before after : List GroupTextData) → IsCutOff large g old new before after →
+    IsCutOff large g (used_texts [] old) (used_texts [] new) before after
+cut_off_alone large g old new before after cut_off =
+    subst (λ (texts : List GroupTextData). IsCutOff large g texts (used_texts [] new) before after) (kept_alone old)
+    (subst (λ (texts : List GroupTextData). IsCutOff large g old texts before after) (kept_alone new) cut_off)
 
 -- a machine's texts are among those of the table if they are with the last ones in front
 pub table_keeps : (g : GraphData) (last shown kept : List GroupTextData) (machine : MachineData) → shown ≡ used_texts last kept → AreAmong last kept →

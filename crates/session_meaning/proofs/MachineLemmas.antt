@@ -13,8 +13,8 @@ use Rattle.path_meaning.specs.Step.{IsStep}
 use Rattle.oscillation_x.specs.Settling.{Settles}
 use Rattle.group_text.specs.Texts.{GroupTextData}
 use Rattle.machine_parts.specs.declared.part.HeldPart.{HeldPart}
-use Rattle.machine_parts.specs.Parts.{HasMember}
-use Rattle.machine_laws.specs.Machines.{MachineData}
+use Rattle.machine_parts.specs.Parts.{HasMember, IsStale}
+use Rattle.machine_laws.specs.Machines.{MachineData, TouchesChanged}
 use Rattle.machine_parts.specs.Marking.{IsMarked}
 use Rattle.machine_parts.specs.Stepping.{Concerns, ReadsChange}
 use Rattle.machine_laws.specs.Fitting.{Covers, FitsGraph, IsKeptBy}
@@ -280,8 +280,11 @@ module _ (session : HeldSession) (spare : ℕ) (stage : StageData) (count : ℕ)
       moved = λ changed. moves.leads.moved (λ same. changed (sym moves.to ∙ same ∙ moves.from)) ∙ ap (λ n. raised n 1) (ap moves_of (sym moves.was));
       rested = λ same. moves.leads.rested (moves.to ∙ same ∙ sym moves.from) ∙ ap moves_of (sym moves.was);
       placed = moves.leads.placed ∙ ap placed_of (sym moves.was);
-      marks = λ k marked. subst (λ (state : List Tern). ReadsChange moves.after.parts session.core.state state k) moves.to
-          (subst (λ (state : List Tern). ReadsChange moves.after.parts state moves.after.state k) moves.from (moves.leads.marks k marked));
+      marks = λ k marked. subst (λ (state : List Tern). ReadsChange moves.after.parts session.core.state state k ⊎ IsStale moves.after.parts k) moves.to
+          (subst (λ (state : List Tern). ReadsChange moves.after.parts state moves.after.state k ⊎ IsStale moves.after.parts k) moves.from
+          (moves.leads.marks k marked));
+      touched = subst (TouchesChanged moves.after session.core.state) moves.to
+          (subst (λ (state : List Tern). TouchesChanged moves.after state moves.after.state) moves.from moves.leads.touched);
     }
 
   module _ (steps : ℕ) (joined : Bool)

@@ -1,12 +1,12 @@
--- The moves of a machine through phases: they add up along the lines, and where the last line tells of rest no part is marked.
-use Rattle.std.proofs.Common.{◌≡◌, ℕ, ◌+◌, ◌<◌, Bool, false, List, [], ◌∷◌, ◌++◌, Option, None, Some, refl, sym, ap, subst, ◌∙◌, arith, append_assoc}
+-- The moves of a machine through phases: they add up along the lines, and where the last line tells of rest stale parts alone are marked.
+use Rattle.std.proofs.Common.{◌≡◌, ℕ, ◌+◌, ◌<◌, ◌⊎◌, Bool, false, List, [], ◌∷◌, ◌++◌, Option, None, Some, refl, sym, ap, subst, ◌∙◌, arith, append_assoc}
 use Rattle.std.specs.List.{range_with_len}
 use Rattle.std.proofs.lemmas.List.Sums.{sum_by-append}
 use Rattle.ternary.specs.declared.tern.Tern.{Tern}
 use Rattle.ternary.specs.Counts.{raised}
 use Rattle.ternary.proofs.CountsLemmas.{raised-more, raised-none}
-use Rattle.machine_laws.specs.Machines.{MachineData}
-use Rattle.machine_parts.specs.Marking.{IsMarked}
+use Rattle.machine_laws.specs.Machines.{MachineData, TouchesChanged, IsAtRest}
+use Rattle.machine_parts.specs.Parts.{IsStale}
 use Rattle.machine_parts.specs.Stepping.{ReadsChange}
 use Rattle.script_lang.specs.declared.command.Run.{Run}
 use Rattle.script_lang.specs.declared.command.Run.TheVariants.{Phase, Cycle}
@@ -60,7 +60,7 @@ moves-none limit found machine there = record {
   there = there;
   moves = ap moves_of (sym there) ∙ raised-none (moves_of found);
   placed = ap placed_of (sym there);
-  rests = λ ends k marked. absurd (ends_nowhere limit ends);
+  rests = λ ends. absurd (ends_nowhere limit ends);
 }
 
 -- one more line
@@ -86,7 +86,7 @@ moves-from limit other old mid new lines same moved placed moves = record {
   there = moves.there;
   moves = moves.moves ∙ ap (λ (n : ℕ). raised n (steps_in lines)) moved;
   placed = moves.placed ∙ placed;
-  rests = subst (λ (n : ℕ). EndsAtRest n lines → (k : ℕ) → ¬ IsMarked moves.machine.marks k) same moves.rests;
+  rests = subst (λ (n : ℕ). EndsAtRest n lines → IsAtRest moves.machine) same moves.rests;
 }
 
 -- a state that the machine settled is a phase that it did
@@ -108,7 +108,7 @@ phase-moves old new steps joined settled =
     one : steps ≡ steps_in (wave_by new.core steps joined ∷ [])
     one = omega arith
 
-    rests : EndsAtRest old.core.limit (wave_by new.core steps joined ∷ []) → (k : ℕ) → ¬ IsMarked settled.machine.marks k
+    rests : EndsAtRest old.core.limit (wave_by new.core steps joined ∷ []) → IsAtRest settled.machine
     rests ends =
         let wave : Line = Wave ends.n ends.k false ends.values in
         let both : Some (wave_by new.core steps joined) ≡ Some wave = ap last_line ends.last ∙ last_line-behind ends.front wave in
@@ -228,7 +228,9 @@ module _ (old mid new : HeldSession) (asked told : List GroupTextData) (ready : 
         moved = λ changed. steps.moved (λ same. changed (same ∙ state)) ∙ ap (λ (n : ℕ). raised n 1) counts_moves;
         rested = λ same. steps.rested (same ∙ sym state) ∙ counts_moves;
         placed = steps.placed ∙ counts_placed;
-        marks = λ k marked. subst (λ (before : List Tern). ReadsChange steps.machine.parts before new.core.state k) state (steps.marks k marked);
+        marks = λ k marked. subst (λ (before : List Tern). ReadsChange steps.machine.parts before new.core.state k ⊎ IsStale steps.machine.parts k) state
+            (steps.marks k marked);
+        touched = subst (λ (before : List Tern). TouchesChanged steps.machine before new.core.state) state steps.touched;
       }
 
   -- phases of a command after it

@@ -184,9 +184,9 @@ module _ {H : Type 0} (hear : H → Told → H) (part : H → Told → H → Typ
   names_node old new command before after asked told refusals now (Err (Refused refusal)) obeys = tt
   names_node old new command before after asked told refusals now (Err (GroupNodes node count)) obeys =
       subst (λ (session : HeldSession). node < nodes session.core.circuit.graph) (sym obeys.0.keeps.same)
-      (told_node old.core.circuit.graph (build.GroupNodes node count) node count obeys.0.first (inl refl))
+      (told_node old.core.large old.core.circuit.graph (build.GroupNodes node count) node count obeys.0.first (inl refl))
   names_node old new command before after asked told refusals now (Err (GroupSwitches node count)) obeys =
       subst (λ (session : HeldSession). node < nodes session.core.circuit.graph) (sym obeys.0.keeps.same)
-      (told_node old.core.circuit.graph (build.GroupSwitches node count) node count obeys.0.first (inr refl))
+      (told_node old.core.large old.core.circuit.graph (build.GroupSwitches node count) node count obeys.0.first (inr refl))
   names_node old new command before after asked told refusals now (Err WriteFault) obeys = tt
   names_node old new command before after asked told refusals now (Err NoMemory) obeys = tt

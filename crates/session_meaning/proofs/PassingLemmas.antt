@@ -28,7 +28,7 @@ use Rattle.script_lang.specs.declared.command.Give.TheVariants.{Set, Charge, Bac
 use Rattle.script_lang.specs.declared.command.Run.{Run}
 use Rattle.script_lang.specs.declared.command.Run.TheVariants.{Step, Phase, Cycle, Report}
 use Rattle.script_lang.specs.declared.command.Setup.{Setup}
-use Rattle.script_lang.specs.declared.command.Setup.TheVariants.{Watch, Limit, Clock, Keep, Save, Vector}
+use Rattle.script_lang.specs.declared.command.Setup.TheVariants.{Watch, Limit, Clock, Keep, Widen, Save, Vector}
 use Rattle.script_lang.specs.declared.command.Tell.{Tell}
 use Rattle.script_lang.specs.declared.value.Value.{Value}
 use Rattle.group_text.specs.Texts.{GroupTextData}
@@ -280,6 +280,7 @@ set_up_same old (Watch names) = refl
 set_up_same old (Limit number) = refl
 set_up_same old (Clock list) = refl
 set_up_same old (Keep number) = refl
+set_up_same old (Widen number) = refl
 set_up_same old (Save name) = refl
 set_up_same old (Vector name words) = refl
 

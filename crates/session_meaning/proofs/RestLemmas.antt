@@ -1,5 +1,6 @@
--- A phase that comes to rest in time: its state is steady, so that one step more changes nothing and leaves no mark.
-use Rattle.std.proofs.Common.{◌≡◌, ℕ, zero, suc, ◌<◌, Bool, false, List, refl, sym, ap, subst, arith}
+-- A phase that comes to rest in time: its state is steady, so that one step more changes nothing, leaves no mark but those of stale parts,
+-- and nothing touched.
+use Rattle.std.proofs.Common.{◌≡◌, ℕ, zero, suc, ◌<◌, inl, inr, Bool, false, List, refl, sym, ap, subst, arith}
 use Rattle.std.specs.Prelude.{IsTrue}
 use Rattle.ternary.specs.declared.tern.Tern.{Tern}
 use Rattle.path_meaning.specs.Switching.{state_at}
@@ -8,8 +9,8 @@ use Rattle.path_meaning.specs.Step.{IsStep}
 use Rattle.path_meaning.proofs.UniqueSteps.{unique}
 use Rattle.oscillation_x.specs.Settling.{Settles, Joining}
 use Rattle.oscillation_x.proofs.SettlingLemmas.{Stepping-steady}
-use Rattle.machine_laws.specs.Machines.{MachineData}
-use Rattle.machine_parts.specs.Marking.{IsMarked}
+use Rattle.machine_laws.specs.Machines.{MachineData, TouchesChanged, IsAtRest}
+use Rattle.machine_laws.proofs.FittingLemmas.{nothing_touched}
 use Rattle.session_meaning.specs.Stages.{TakesStep}
 
 -- without joining steps the state stays
@@ -35,8 +36,13 @@ module _ (g : GraphData) (old new : MachineData) (takes : TakesStep g old new) (
   pub steady_moves : new.moves ≡ old.moves
   steady_moves = takes.rested steady_stays
 
-  -- and leaves no mark: no node that a part reads changed
-  pub steady_rests : (k : ℕ) → ¬ IsMarked new.marks k
-  steady_rests k marked =
-      let reads = takes.marks k marked in
-      reads.changed (ap (λ (state : List Tern). state_at state reads.node) steady_stays)
+  -- and leaves no mark but those of stale parts, and nothing touched: no node that a part reads changed, and no switch
+  pub steady_rests : IsAtRest new
+  steady_rests = record {
+    marks = λ k marked.
+        elim (takes.marks k marked) [
+          | inl reads ↦ absurd (reads.changed (ap (λ (state : List Tern). state_at state reads.node) steady_stays))
+          | inr stale ↦ stale
+        ];
+    untouched = nothing_touched new old.state (subst (TouchesChanged new old.state) steady_stays takes.touched);
+  }

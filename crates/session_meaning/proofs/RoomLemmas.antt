@@ -1,12 +1,12 @@
 -- What holds of a machine holds of it without its room, and the other way round: no fact but the room itself speaks of it.
-use Rattle.std.proofs.Common.{◌≡◌, ℕ, Bool, List, Some, None, refl, sym, subst, rules}
+use Rattle.std.proofs.Common.{◌≡◌, ℕ, ◌<◌, Bool, false, List, Some, None, refl, sym, subst, rules}
 use Rattle.ternary.specs.declared.tern.Tern.{Tern}
 use Rattle.path_meaning.specs.Graphs.{GraphData}
 use Rattle.channel_groups.specs.declared.change.Change.{Change}
 use Rattle.machine_parts.specs.Parts.{HasMember}
-use Rattle.machine_laws.specs.Machines.{MachineData, Places}
+use Rattle.machine_laws.specs.Machines.{MachineData, Places, IsAtRest}
 use Rattle.machine_laws.specs.Fitting.{Covers, FitsGraph}
-use Rattle.machine_laws.specs.Editing.{Edits, Finishes}
+use Rattle.machine_laws.specs.Editing.{Edits, Finishes, StaysKnown}
 use Rattle.session_meaning.specs.Machines.{FitsIn, without_room}
 use Rattle.session_meaning.specs.Stages.{BuiltFrom, PutsNode, TakesStep, TakesPhase}
 
@@ -57,10 +57,10 @@ fits_inside g machine built =
     fits-whole g machine (subst (FitsGraph g) is built.fits)
 
 -- its stale parts got their codes
-pub built_finished : (g : GraphData) (old new : MachineData) (before after : ℕ) → Finishes g old new →
-    BuiltFrom g (record { state = old.state; machine = Some (without_room old); spare = before })
+pub built_finished : (large : ℕ) (g : GraphData) (old new : MachineData) (before after : ℕ) → Finishes g old new → StaysKnown large old new →
+    BuiltFrom large g (record { state = old.state; machine = Some (without_room old); spare = before })
     (record { state = new.state; machine = Some (without_room new); spare = after })
-built_finished g old new before after finishes = record {
+built_finished large g old new before after finishes stays = record {
   machine = without_room new;
   there = refl;
   fits = fits-told g new finishes.fits;
@@ -68,14 +68,15 @@ built_finished g old new before after finishes = record {
   state = finishes.state;
   moves = finishes.moves;
   placed = finishes.placed;
+  stays = stays;
 }
 
 -- or it was built
-pub built_anew : (g : GraphData) (state : List Tern) (machine : MachineData) (before after : ℕ) → FitsGraph g machine → machine.state ≡ state →
-    machine.moves ≡ 0 → machine.placed ≡ 0 →
-    BuiltFrom g (record { state = state; machine = None; spare = before })
+pub built_anew : (large : ℕ) (g : GraphData) (state : List Tern) (machine : MachineData) (before after : ℕ) → FitsGraph g machine →
+    machine.state ≡ state → machine.moves ≡ 0 → machine.placed ≡ 0 →
+    BuiltFrom large g (record { state = state; machine = None; spare = before })
     (record { state = machine.state; machine = Some (without_room machine); spare = after })
-built_anew g state machine before after fits same moves placed = record {
+built_anew large g state machine before after fits same moves placed = record {
   machine = without_room machine;
   there = refl;
   fits = fits-told g machine fits;
@@ -83,6 +84,7 @@ built_anew g state machine before after fits same moves placed = record {
   state = same;
   moves = moves;
   placed = placed;
+  stays = tt;
 }
 
 -- it takes steps and phases
@@ -91,7 +93,11 @@ step-told g old new takes = search rules
 
 pub phase-told : (g : GraphData) (limit : ℕ) (old new : MachineData) (steps : ℕ) (joined : Bool) → TakesPhase g limit old new steps joined →
     TakesPhase g limit (without_room old) (without_room new) steps joined
-phase-told g limit old new steps joined takes = search rules
+phase-told g limit old new steps joined takes =
+    let rests : joined ≡ false → steps < limit → IsAtRest (without_room new) = λ unjoined few.
+    let at_rest = takes.rests unjoined few in
+    record { marks = at_rest.marks; untouched = at_rest.untouched } in
+    search (rules, rests)
 
 -- and it lives through edits
 pub edits-told : (g : GraphData) (change : Change) (old new : MachineData) → Edits g change old new →

@@ -2,6 +2,7 @@
 -- The plan: a step, a phase and a report are determined, since a state has one step and settles in one way, and a graph's groups have one list of
 -- texts; a cycle is phases; each other command's effect is a function.
 use Rattle.std.proofs.Common.{◌≡◌, ℕ, Bool, false, List, [], ◌∷◌, ◌++◌, length, refl, sym, ap, subst, ◌∙◌}
+use Rattle.group_meaning.proofs.UniqueGroups.{unique}
 use Rattle.path_meaning.proofs.UniqueSteps as step
 use Rattle.oscillation_x.proofs.UniqueSettling.{settling_is_unique}
 use Rattle.group_text.specs.Texts.{GroupTextData}
@@ -59,9 +60,14 @@ beats_unique (place ∷ places) old new other lines more (mid, front, back, phas
 report_unique : (old new other : SessionData) (lines more : List Line) → IsReported old new lines → IsReported old other more →
     (new ≡ other) × (lines ≡ more)
 report_unique old new other lines more one two =
-    let texts : one.texts ≡ two.texts = HasTexts-unique old.circuit.graph one.texts two.texts one.has two.has in (
+    let texts : one.texts ≡ two.texts = HasTexts-unique old.large old.circuit.graph one.texts two.texts one.has two.has in
+    let groups : length one.has.groups ≡ length two.has.groups =
+    ap length (unique old.circuit.graph one.has.groups two.has.groups one.has.are two.has.are) in (
       one.moved ∙ sym two.moved,
-      one.wrote ∙ ap (λ (all : List GroupTextData). Reported (length all) (length (first_texts all)) old.fresh ∷ []) texts ∙ sym two.wrote,
+      one.wrote
+          ∙ ap (λ (count : ℕ). Reported count (length (first_texts one.texts)) old.fresh ∷ []) groups
+          ∙ ap (λ (all : List GroupTextData). Reported (length two.has.groups) (length (first_texts all)) old.fresh ∷ []) texts
+          ∙ sym two.wrote,
     )
 
 -- so a command that has the circuit built has one effect

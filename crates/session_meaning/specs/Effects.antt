@@ -26,7 +26,7 @@ use Rattle.script_lang.specs.declared.command.Edit.TheVariants.{Input, Store, Ad
 use Rattle.script_lang.specs.declared.command.Give.{Give}
 use Rattle.script_lang.specs.declared.command.Give.TheVariants.{Set, Charge, Back}
 use Rattle.script_lang.specs.declared.command.Setup.{Setup}
-use Rattle.script_lang.specs.declared.command.Setup.TheVariants.{Watch, Limit, Clock, Keep, Save, Vector}
+use Rattle.script_lang.specs.declared.command.Setup.TheVariants.{Watch, Limit, Clock, Keep, Widen, Save, Vector}
 use Rattle.script_lang.specs.declared.command.Run.{Run}
 use Rattle.script_lang.specs.declared.command.Run.TheVariants.{Step, Phase, Cycle, Report}
 use Rattle.script_lang.specs.declared.command.Tell.{Tell}
@@ -138,12 +138,12 @@ shown_line session name = Shown name (map (state_at session.state) (nodes_named 
 abbrev pub with_circuit : SessionData → CircuitData → SessionData
 with_circuit old c = record old { circuit = c; state = old.state ++ replicate (nodes c.graph - length old.state) Unk }
 
--- a report: how many groups there are, how many distinct texts they have, and how many texts were analysed since the last report
+-- a report: how many groups there are, how many distinct texts those have that have one, and how many texts were analysed since the last report
 pub record IsReported (old new : SessionData) (lines : List Line) : Type 0 where
   pub texts : List GroupTextData
-  pub has : HasTexts old.circuit.graph texts
+  pub has : HasTexts old.large old.circuit.graph texts
   pub moved : new ≡ record old { fresh = 0 }
-  pub wrote : lines ≡ Reported (length texts) (length (first_texts texts)) old.fresh ∷ []
+  pub wrote : lines ≡ Reported (length has.groups) (length (first_texts texts)) old.fresh ∷ []
 
 -- ---- by families
 
@@ -169,6 +169,7 @@ setup_after old (Watch names) = record old { watched = old.watched ++ all_named 
 setup_after old (Limit number) = record old { limit = number }
 setup_after old (Clock list) = record old { clocks = map (clock_of old.circuit) list }
 setup_after old (Keep number) = record old { bound = Some number }
+setup_after old (Widen number) = record old { large = number }
 setup_after old (Save name) = record old { saves = with_save old.saves name old.state }
 setup_after old (Vector name words) = record old { vectors = with_vector old.circuit old.vectors name words }
 

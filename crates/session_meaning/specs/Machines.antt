@@ -9,10 +9,12 @@ use Rattle.group_text.specs.Texts.{GroupTextData}
 use Rattle.group_text.specs.FirstTexts.{is_among}
 use Rattle.group_analysis.specs.Using.{used_texts}
 use Rattle.machine_parts.specs.declared.part.HeldPart.{HeldPart}
-use Rattle.machine_laws.specs.Machines.{MachineData}
+use Rattle.machine_laws.specs.Machines.{MachineData, TouchesChanged, IsAtRest}
+use Rattle.machine_parts.specs.Parts.{IsStale}
 use Rattle.machine_parts.specs.Marking.{IsMarked}
 use Rattle.machine_parts.specs.Stepping.{Concerns, ReadsChange}
 use Rattle.machine_laws.specs.Fitting.{Covers, FitsGraph, IsKeptBy}
+use Rattle.machine_laws.specs.Editing.{StaysKnown}
 use Rattle.script_lang.specs.declared.value.Value.{Value}
 use Rattle.script_lang.specs.declared.command.Command.{Command}
 use Rattle.script_lang.specs.declared.command.Command.TheVariants as family
@@ -90,8 +92,9 @@ pub record EndsAtRest (limit : ℕ) (lines : List Line) : Type 0 where
   pub last : lines ≡ front ++ Wave n k false values ∷ []
   pub few : k < limit
 
--- a step was done by the machine, which fits the circuit: it moved once if something changed, and those parts alone are marked that
--- read a node which did
+-- a step was done by the machine, which fits the circuit: it moved once if something changed, those parts alone are marked that read a
+-- node which did or are stale, since their groups are stepped by vicinities, and of these's nodes those alone are touched at which a switch
+-- changed
 pub record StepsMachine (old new : HeldSession) : Type 0 where
   pub machine : MachineData
   pub there : new.machine ≡ Some machine
@@ -99,16 +102,17 @@ pub record StepsMachine (old new : HeldSession) : Type 0 where
   pub moved : new.core.state ≢ old.core.state → machine.moves ≡ raised (moves_of old.machine) 1
   pub rested : new.core.state ≡ old.core.state → machine.moves ≡ moves_of old.machine
   pub placed : machine.placed ≡ placed_of old.machine
-  pub marks : (k : ℕ) → IsMarked machine.marks k → ReadsChange machine.parts old.core.state new.core.state k
+  pub marks : (k : ℕ) → IsMarked machine.marks k → ReadsChange machine.parts old.core.state new.core.state k ⊎ IsStale machine.parts k
+  pub touched : TouchesChanged machine old.core.state new.core.state
 
--- phases with these lines were done by a machine: it made each step of them that changed something, no member was placed, and where
--- the last of them came to rest no part is marked
+-- phases with these lines were done by a machine: it made each step of them that changed something, no member was placed, and if the
+-- last of them came to rest it is at rest
 pub record MovesMachine (limit : ℕ) (old new : Option MachineData) (lines : List Line) : Type 0 where
   pub machine : MachineData
   pub there : new ≡ Some machine
   pub moves : machine.moves ≡ raised (moves_of old) (steps_in lines)
   pub placed : machine.placed ≡ placed_of old
-  pub rests : EndsAtRest limit lines → (k : ℕ) → ¬ IsMarked machine.marks k
+  pub rests : EndsAtRest limit lines → IsAtRest machine
 
 -- the phases of a command were done by the machine, which fits the circuit, from the data after its build
 pub record SettlesMachine (old : HeldSession) (run : Run) (new : HeldSession) : Type 0 where
@@ -161,13 +165,20 @@ abbrev pub PlacesOthersIn : List Tern → List Tern → Option MachineData → O
 PlacesOthersIn before after None new = new ≡ None
 PlacesOthersIn before after (Some machine) new = PlacesOthers before after machine new
 
--- there is a machine, which fits the circuit, and neither moved nor had a member placed
+-- if a machine was there and each part that is stale now is one of the groups that it stepped by vicinities, these are known as before, but that
+-- none of them has more members than so many either
+abbrev pub StaysKnownIn : ℕ → Option MachineData → MachineData → Type 0
+StaysKnownIn large old machine = IfSome old (λ before. StaysKnown large before machine)
+
+-- there is a machine, which fits the circuit, and neither moved nor had a member placed; the groups that it steps by vicinities are known
+-- still, if no others came to be stepped so
 pub record BuildsMachine (old new : HeldSession) : Type 0 where
   pub machine : MachineData
   pub there : new.machine ≡ Some machine
   pub fits : FitsGraph new.core.circuit.graph machine
   pub moves : machine.moves ≡ moves_of old.machine
   pub placed : machine.placed ≡ placed_of old.machine
+  pub stays : StaysKnownIn old.core.large old.machine machine
 
 -- the machine was there before, and neither moved since nor had a member placed
 pub record Survives (old : Option MachineData) (machine : MachineData) : Type 0 where

@@ -12,7 +12,7 @@ use Rattle.session_meaning.specs.declared.fault.ApplyFault.TheVariants.{Refused,
 use Rattle.group_text.specs.Texts.{GroupTextData}
 use Rattle.circuit_texts.specs.declared.texts.BuildFault.{BuildFault}
 use Rattle.circuit_texts.specs.declared.texts.BuildFault.TheVariants as build
-use Rattle.circuit_texts.specs.Sizes.{TellsTooLarge}
+use Rattle.circuit_texts.specs.Sizes.{TellsRefused}
 use Rattle.circuit_texts.specs.Building.{IsCutOff}
 use Rattle.session_meaning.specs.Preparing.{Prepares, builds}
 use Rattle.session_meaning.specs.Sessions.{SessionData, HeldSession, places_of}
@@ -57,14 +57,14 @@ pub record RefusesSize {H : Type 0} (old : HeldSession) (command : Command) (new
     (fault : BuildFault) : Type 0 where
   pub allowed : refusal_of old.core command ≡ None
   pub building : builds command ≡ true
-  pub first : TellsTooLarge old.core.circuit.graph fault
+  pub first : TellsRefused old.core.large old.core.circuit.graph fault
   pub keeps : Keeps old new before after asked told
 
 -- all is as before, but that a prefix of the texts that a build analyses may be kept
 pub record Stays {H : Type 0} (old new : HeldSession) (before after : H) (asked told : List GroupTextData) : Type 0 where
   pub core : new.core ≡ record old.core { kept = new.core.kept }
   pub machine : new.machine ≡ old.machine
-  pub cut_off : IsCutOff old.core.circuit.graph old.core.kept new.core.kept asked told
+  pub cut_off : IsCutOff old.core.large old.core.circuit.graph old.core.kept new.core.kept asked told
   pub unheard : after ≡ before
 
 -- the phases at a prefix of these places were done, and none of those after it

@@ -35,7 +35,7 @@ with_present old present =
 -- the present circuit was built: what isn't kept of its groups' texts was analysed, and all of them were used
 pub record IsBuild (old mid : SessionData) (texts : List GroupTextData) : Type 0 where
   pub present : List GroupTextData
-  pub has : HasTexts old.circuit.graph present
+  pub has : HasTexts old.large old.circuit.graph present
   pub news : texts ≡ new_texts old.kept present
   pub used : mid ≡ with_present old present
 

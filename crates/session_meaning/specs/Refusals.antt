@@ -28,7 +28,7 @@ use Rattle.script_lang.specs.declared.command.Edit.TheVariants.{Input, Store, Ad
 use Rattle.script_lang.specs.declared.command.Give.{Give}
 use Rattle.script_lang.specs.declared.command.Give.TheVariants.{Set, Charge, Back}
 use Rattle.script_lang.specs.declared.command.Setup.{Setup}
-use Rattle.script_lang.specs.declared.command.Setup.TheVariants.{Watch, Limit, Clock, Keep, Save, Vector}
+use Rattle.script_lang.specs.declared.command.Setup.TheVariants.{Watch, Limit, Clock, Keep, Widen, Save, Vector}
 use Rattle.script_lang.specs.declared.command.Run.{Run}
 use Rattle.script_lang.specs.declared.command.Run.TheVariants.{Step, Phase, Cycle, Report}
 use Rattle.script_lang.specs.declared.command.Tell.{Tell}
@@ -202,6 +202,7 @@ refusal_of_setup session (Limit number) = None
 refusal_of_setup session (Clock list) =
     or_else (length_refusal list) (first_refusal (λ item. set_refusal session.circuit (node_of session.circuit.names item.0)) list)
 refusal_of_setup session (Keep number) = None
+refusal_of_setup session (Widen number) = None
 refusal_of_setup session (Save name) = save_refusal session.saves name
 refusal_of_setup session (Vector name words) = vector_refusal (vector_fault session.circuit session.vectors name words)
 

@@ -21,8 +21,8 @@ pub record ClockData : Type 0 where
 
 -- the circuit, the state of its nodes, the nodes that are watched, the clocks, the limit of a phase, how many waveform lines there
 -- were, whether some `expect` was not met, the names of vectors, with their nodes, the names under which states are kept, with these, the
--- bound on the number of texts that are kept, if there is one, the texts of groups whose analyses are kept, the most recently used first,
--- and how many were analysed since the last report
+-- bound on the number of texts that are kept, if there is one, how many members a group without a text may have (with 0 there may be none),
+-- the texts of groups whose analyses are kept, the most recently used first, and how many were analysed since the last report
 pub record SessionData : Type 0 where
   pub circuit : CircuitData
   pub state : List Tern
@@ -34,6 +34,7 @@ pub record SessionData : Type 0 where
   pub vectors : List (List ℕ × List ℕ)
   pub saves : List (List ℕ × List Tern)
   pub bound : Option ℕ
+  pub large : ℕ
   pub kept : List GroupTextData
   pub fresh : ℕ
 
@@ -42,8 +43,8 @@ pub record HeldSession : Type 0 where
   pub core : SessionData
   pub machine : Option MachineData
 
--- at the start Gnd is 0, Vdd is 1 and every other node X; nothing is watched, there are no clocks, nothing was missed, nothing is kept, and
--- there is no bound
+-- at the start Gnd is 0, Vdd is 1 and every other node X; nothing is watched, there are no clocks, nothing was missed, nothing is kept,
+-- there is no bound on that, and a group without a text is refused
 abbrev pub start_of : CircuitData → SessionData
 start_of circuit = record {
   circuit = circuit;
@@ -56,6 +57,7 @@ start_of circuit = record {
   vectors = [];
   saves = [];
   bound = None;
+  large = 0;
   kept = [];
   fresh = 0;
 }

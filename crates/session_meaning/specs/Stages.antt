@@ -9,11 +9,11 @@ use Rattle.oscillation_x.specs.Settling.{Settles}
 use Rattle.group_text.specs.Texts.{GroupTextData}
 use Rattle.circuit_texts.specs.declared.texts.BuildFault.{BuildFault}
 use Rattle.circuit_texts.specs.declared.texts.BuildFault.TheVariants as build
-use Rattle.circuit_texts.specs.Sizes.{TellsTooLarge}
+use Rattle.circuit_texts.specs.Sizes.{TellsRefused}
 use Rattle.circuit_texts.specs.Building.{IsCutOff}
 use Rattle.machine_parts.specs.declared.part.HeldPart.{HeldPart}
-use Rattle.machine_parts.specs.Parts.{HasMember}
-use Rattle.machine_laws.specs.Machines.{MachineData, Places}
+use Rattle.machine_parts.specs.Parts.{HasMember, IsStale}
+use Rattle.machine_laws.specs.Machines.{MachineData, Places, TouchesChanged, IsAtRest}
 use Rattle.machine_parts.specs.Marking.{IsMarked}
 use Rattle.machine_parts.specs.Stepping.{ReadsChange}
 use Rattle.machine_laws.specs.Fitting.{Covers, FitsGraph, IsKeptBy}
@@ -27,7 +27,7 @@ use Rattle.session_meaning.specs.Sessions.{SessionData, HeldSession, ClockData}
 use Rattle.told_lines.specs.Lines.{Line}
 use Rattle.session_meaning.specs.Effects.{IsPhase, AreBeats, moved_to}
 use Rattle.session_meaning.specs.Preparing.{IsBuild}
-use Rattle.session_meaning.specs.Machines.{ConcernsGiven, ConcernsOther, BuildsMachine, MovesMachine, moves_of, placed_of}
+use Rattle.session_meaning.specs.Machines.{ConcernsGiven, ConcernsOther, BuildsMachine, MovesMachine, StaysKnownIn, moves_of, placed_of}
 
 -- each of these names has so many nodes at most
 abbrev pub AreShortLists : CircuitData → List (List ℕ × List ℕ) → ℕ → List (List ℕ) → Type 0
@@ -40,8 +40,9 @@ pub record StageData : Type 0 where
   pub spare : ℕ
 
 -- the machine that is there fits the graph: it is the one from before with its stale parts made, or a new one; its state is the one from
--- before, and it neither moved nor had a member placed
-pub record BuiltFrom (g : GraphData) (old new : StageData) : Type 0 where
+-- before, and it neither moved nor had a member placed; the groups that it steps by vicinities are known still, if no others came to be
+-- stepped so
+pub record BuiltFrom (large : ℕ) (g : GraphData) (old new : StageData) : Type 0 where
   pub machine : MachineData
   pub there : new.machine ≡ Some machine
   pub fits : FitsGraph g machine
@@ -49,6 +50,7 @@ pub record BuiltFrom (g : GraphData) (old new : StageData) : Type 0 where
   pub state : new.state ≡ old.state
   pub moves : machine.moves ≡ moves_of old.machine
   pub placed : machine.placed ≡ placed_of old.machine
+  pub stays : StaysKnownIn large old.machine machine
 
 -- how a graph was before another switch, or none, came to stand at a place
 abbrev pub before_place : GraphData → ℕ → Change
@@ -127,7 +129,8 @@ TicksIn g clocks None new = new ≡ None
 TicksIn g clocks (Some machine) new = (next : MachineData) × (new ≡ Some next) × Ticks g clocks machine next
 
 -- a machine took a unit step of the graph: it moved once if something changed, those parts alone are marked that read a node which
--- did, and the texts of the last build are the same
+-- did or are stale, of the groups that are stepped by vicinities those nodes alone are touched at which a switch changed, and the texts of the
+-- last build are the same
 pub record TakesStep (g : GraphData) (old new : MachineData) : Type 0 where
   pub step : IsStep g old.state new.state
   pub fits : FitsGraph g new
@@ -135,17 +138,18 @@ pub record TakesStep (g : GraphData) (old new : MachineData) : Type 0 where
   pub rested : new.state ≡ old.state → new.moves ≡ old.moves
   pub placed : new.placed ≡ old.placed
   pub last : new.last ≡ old.last
-  pub marks : (k : ℕ) → IsMarked new.marks k → ReadsChange new.parts old.state new.state k
+  pub marks : (k : ℕ) → IsMarked new.marks k → ReadsChange new.parts old.state new.state k ⊎ IsStale new.parts k
+  pub touched : TouchesChanged new old.state new.state
 
--- a machine settled: it made each step that changed something, where it came to rest in time no part is marked, and the texts of the last
--- build are the same
+-- a machine settled: it made each step that changed something, if it came to rest in time it is at rest, and the texts of the last build
+-- are the same
 pub record TakesPhase (g : GraphData) (limit : ℕ) (old new : MachineData) (steps : ℕ) (joined : Bool) : Type 0 where
   pub settles : Settles g old.state limit new.state steps joined
   pub fits : FitsGraph g new
   pub moves : new.moves ≡ raised old.moves steps
   pub placed : new.placed ≡ old.placed
   pub last : new.last ≡ old.last
-  pub rests : joined ≡ false → steps < limit → (k : ℕ) → ¬ IsMarked new.marks k
+  pub rests : joined ≡ false → steps < limit → IsAtRest new
 
 -- there was a machine and there is one, whose states are these, and this leads from the one to the other
 pub record MovesBy (Leads : MachineData → MachineData → Type 0) (old new : StageData) : Type 0 where
@@ -168,11 +172,11 @@ pub record Readied (old new : HeldSession) (asked told : List GroupTextData) : T
 pub record CutOff (old new : HeldSession) (asked told : List GroupTextData) : Type 0 where
   pub core : new.core ≡ record old.core { kept = new.core.kept }
   pub machine : new.machine ≡ old.machine
-  pub cut_off : IsCutOff old.core.circuit.graph old.core.kept new.core.kept asked told
+  pub cut_off : IsCutOff old.core.large old.core.circuit.graph old.core.kept new.core.kept asked told
 
 -- the circuit can't be built: the first group that is too large is told, and all is as before
 pub record TooLarge (old new : HeldSession) (asked told : List GroupTextData) (fault : BuildFault) : Type 0 where
-  pub first : TellsTooLarge old.core.circuit.graph fault
+  pub first : TellsRefused old.core.large old.core.circuit.graph fault
   pub same : new ≡ old
   pub unasked : told ≡ asked
 
@@ -212,7 +216,7 @@ pub record IsSettled (old new : HeldSession) (steps : ℕ) (joined : Bool) : Typ
   pub there : new.machine ≡ Some machine
   pub moves : machine.moves ≡ raised (moves_of old.machine) steps
   pub placed : machine.placed ≡ placed_of old.machine
-  pub rests : joined ≡ false → steps < old.core.limit → (k : ℕ) → ¬ IsMarked machine.marks k
+  pub rests : joined ≡ false → steps < old.core.limit → IsAtRest machine
 
 -- a phase was done by the machine
 pub record PhaseMoves (old new : HeldSession) : Type 0 where

@@ -4,6 +4,8 @@ ghost use Rattle.std.specs.Prelude.{◌≡◌};
 ghost use Rattle.session_meaning.specs.Laws.{CommandsPassThroughOneList, CommandsPerformOneThing, EffectsAreUnique, SavesComeBack};
 ghost use Rattle.session_meaning.specs.Machines.{OnlyEditsLoseMachines};
 ghost use Rattle.session_meaning.specs.declared.TheConstants.{MOST_WATCHED, MOST_SAVES, FIRST_LIMIT};
+ghost use Rattle.script_lang.specs.declared.TheConstants.{LEAST_WIDE};
+ghost use Rattle.group_text.specs.declared.text.TheConstants.{MOST_MEMBERS};
 
 /// A law: where an accepted command found a machine and leaves none, it edited the circuit.
 pub fn only_edits_lose_the_machine()
@@ -11,10 +13,12 @@ pub fn only_edits_lose_the_machine()
 {}
 
 /// A law: the watch list has up to 256 entries, up to 64 names keep states, and the limit of a phase is 100 at the start.
+/// The least bound that `wide` sets is as large as a group with code may be, so no bound leaves a group between the two.
 pub fn limits_are_as_stated()
     ensures watched { MOST_WATCHED ≡ 256 }
     ensures saves { MOST_SAVES ≡ 64 }
     ensures limit { FIRST_LIMIT ≡ 100 }
+    ensures wide { LEAST_WIDE ≡ MOST_MEMBERS }
 {}
 
 /// A law: what `save` keeps of all nodes comes back, whole if no node was made since, whatever came between.

@@ -1,10 +1,5 @@
-use Rattle.wide_groups.proofs.WideCases.{placed_none}
 use Rattle.session_meaning.proofs.RoomLemmas.{puts_told}
 use Rattle.cosmos_session.proofs.moving.place.Goals as goal
-
-pub returns-clause-without : goal.returns-clause-without
-returns-clause-without c =
-    placed_none c.args.machine.now.wide c.set_node.new.self.wide c.args.machine.now.state c.set_node.new.self.state c.set_node.ensures.places.wide
 
 pub returns-clause-puts : goal.returns-clause-puts
 returns-clause-puts c =

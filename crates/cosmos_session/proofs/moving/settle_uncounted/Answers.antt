@@ -1,9 +1,7 @@
--- The look doesn't fail. What stays fixed in each step is the texts of the last build, whether groups are
--- stepped by vicinities, and which machine it is.
+-- The look doesn't fail. What stays fixed in each step is the texts of the last build, and which machine it is.
 use Rattle.std.proofs.Common.{Bool, List, ap, rules}
 use Rattle.std.specs.Borrow.{GName}
 use Rattle.group_text.specs.Texts.{GroupTextData}
-use Rattle.wide_groups.proofs.WideCases.{still_none}
 use Rattle.session_meaning.proofs.PassingLemmas.{settled_seen}
 use Rattle.cosmos_session.proofs.moving.settle_uncounted.Goals as goal
 
@@ -27,11 +25,3 @@ returns-clause-knows g c = search (rules, rw c.unfailing.ensures at c.settle_see
 
 pub returns-clause-last : goal.returns-clause-last
 returns-clause-last g c = search (rules, ap (λ (fixed : (List GroupTextData × Bool) × GName). fixed.0.0) c.settle_seen.ensures.fixed)
-
-pub returns-clause-without : goal.returns-clause-without
-returns-clause-without g c =
-    search (
-      rules,
-      still_none c.args.machine.now.wide c.settle_seen.new.m.machine.now.wide
-          (ap (λ (fixed : (List GroupTextData × Bool) × GName). fixed.0.1) c.settle_seen.ensures.fixed),
-    )

@@ -17,8 +17,8 @@ invariant_of-self g c =
     let session = the_view c.self.inside in
     let graph = session.core.circuit.graph in
     let kept = kept_in c.build.new.self.machine (texts_of c.build.new.kept) in
-    let built : BuiltFrom graph c.self.inside.stage c.build.new.self = rw c.graph-graph.ensures.value at c.in-Ok.ensures.built in
-    let builds : Builds graph session.core.bound session.core.kept kept (g.A.Analyst.analysed c.args.analyst.now) (g.A.Analyst.analysed c.build.new.analyst) c.in-Ok.fresh =
+    let built : BuiltFrom session.core.large graph c.self.inside.stage c.build.new.self = rw c.graph-graph.ensures.value at c.in-Ok.ensures.built in
+    let builds : Builds session.core.large graph session.core.bound session.core.kept kept (g.A.Analyst.analysed c.args.analyst.now) (g.A.Analyst.analysed c.build.new.analyst) c.in-Ok.fresh =
     rw c.graph-graph.ensures.value at c.in-Ok.ensures.builds in (
       held-built session c.self.inside.stage.spare c.build.new.kept.bound c.build.new.self kept c.saturating_add-self-inside.result _ _ _ built builds
           c.self.invariant.0,
@@ -40,8 +40,8 @@ returns-in-Ok g c =
     let session = the_view c.self.inside in
     let graph = session.core.circuit.graph in
     let kept = kept_in c.build.new.self.machine (texts_of c.build.new.kept) in
-    let built : BuiltFrom graph c.self.inside.stage c.build.new.self = rw c.graph-graph.ensures.value at c.in-Ok.ensures.built in
-    let builds : Builds graph session.core.bound session.core.kept kept (g.A.Analyst.analysed c.args.analyst.now) (g.A.Analyst.analysed c.build.new.analyst) c.in-Ok.fresh =
+    let built : BuiltFrom session.core.large graph c.self.inside.stage c.build.new.self = rw c.graph-graph.ensures.value at c.in-Ok.ensures.built in
+    let builds : Builds session.core.large graph session.core.bound session.core.kept kept (g.A.Analyst.analysed c.args.analyst.now) (g.A.Analyst.analysed c.build.new.analyst) c.in-Ok.fresh =
     rw c.graph-graph.ensures.value at c.in-Ok.ensures.builds in
     let counted : c.saturating_add-self-inside.result ≡ raised session.core.fresh c.in-Ok.fresh = omega arith in
     rw (← c.self.view_is)

@@ -10,7 +10,7 @@ use Rattle.cosmos_session.proofs.session.Session.report.Goals as goal
 pub tell_report-requires-clause-texts : goal.tell_report-requires-clause-texts
 tell_report-requires-clause-texts g c =
     let build = c.in_ok-prepare.ensures.build in
-    subst (λ (s : SessionData). (list : List GroupTextData) × HasTexts s.circuit.graph list) (sym build.used) (build.present, build.has)
+    subst (λ (s : SessionData). (list : List GroupTextData) × HasTexts s.large s.circuit.graph list) (sym build.used) (build.present, build.has)
 
 pub returns-clause-obeys : goal.returns-clause-obeys
 returns-clause-obeys g c =

@@ -1,7 +1,10 @@
--- Of a report nothing is seen, and the state stays.
+-- What is seen of a phase is the command's; of a report nothing is seen, and the state stays.
 use Rattle.session_meaning.proofs.OutcomeLemmas.{on_ok}
 use Rattle.session_meaning.proofs.PassingLemmas.{knows-report, nothing_seen, unseen_yet}
 use Rattle.cosmos_session.proofs.session.Session.run.Goals as goal
+
+pub returns-in-Phase-clause-seen : goal.returns-in-Phase-clause-seen
+returns-in-Phase-clause-seen g c = rw c.in-Phase.is c.phase.ensures.seen
 
 pub returns-in-Report-clause-seen : goal.returns-in-Report-clause-seen
 returns-in-Report-clause-seen g c = on_ok _ c.report.result (rw c.in-Report.is (nothing_seen g.O.Observer.begin g.O.Observer.see g.O.Observer.rest (g.O.Observer.seen c.args.onlooker.now)))

@@ -12,11 +12,11 @@ pub returns-clause-report : goal.returns-clause-report
 returns-clause-report g c =
     let session = the_view c.self.inside in
     let built : FitsIn session.core.circuit.graph session.machine = subst IsBuilt (sym c.self.view_is) c.requires.built in
-    let texts : (list : List GroupTextData) × HasTexts session.core.circuit.graph list =
-    subst (λ (s : HeldSession). (list : List GroupTextData) × HasTexts s.core.circuit.graph list) (sym c.self.view_is) c.requires.texts in
+    let texts : (list : List GroupTextData) × HasTexts session.core.large session.core.circuit.graph list =
+    subst (λ (s : HeldSession). (list : List GroupTextData) × HasTexts s.core.large s.core.circuit.graph list) (sym c.self.view_is) c.requires.texts in
     rw (← c.self.view_is) (record {
       lines = Reported c.groups-groups.result c.texts-texts.result session.core.fresh ∷ [];
-      done = reported session.core session.machine c.groups-groups.result c.texts-texts.result built c.texts-texts.ensures.without (texts.0) (texts.1)
-          c.groups-groups.ensures c.texts-texts.ensures.value;
+      done = reported session.core session.machine c.groups-groups.result c.texts-texts.result built (texts.0) (texts.1)
+          c.groups-groups.ensures c.texts-texts.ensures;
       sent = c.tell_line.ensures.sent;
     })

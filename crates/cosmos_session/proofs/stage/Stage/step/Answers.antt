@@ -1,11 +1,17 @@
 -- There is a machine, and its step is the stage's.
-use Rattle.std.proofs.Common.{◌≡◌, None, Some, refl, sym, ap, ◌∙◌}
-use Rattle.session_meaning.specs.Machines.{without_room}
+use Rattle.std.proofs.Common.{◌≡◌, None, Some, refl, sym, ap, subst, ◌∙◌}
+use Rattle.session_meaning.specs.Machines.{FitsIn, without_room}
 use Rattle.session_meaning.specs.Stages.{StageData}
-use Rattle.session_meaning.proofs.RoomLemmas.{step-told}
+use Rattle.session_meaning.proofs.RoomLemmas.{fits_inside, step-told}
 use Rattle.cosmos_session.specs.Held.{machine_held}
 use Rattle.cosmos_session.proofs.stage.Stage.step.Goals as goal
 use Rattle.cosmos_session.proofs.stage.Stage.step.Goals.{in-Built, in-Still}
+
+pub take_step-requires-clause-fits : goal.take_step-requires-clause-fits
+take_step-requires-clause-fits g c =
+    let same : Some (without_room c.in-Built.machine) ≡ c.args.self.now.machine =
+    sym (ap machine_held c.in-Built.is) ∙ ap (λ (stage : StageData). stage.machine) c.self.view_is in
+    fits_inside c.args.graph.now c.in-Built.machine (subst (FitsIn c.args.graph.now) (sym same) c.requires.fits)
 
 pub returns-clause-moves : goal.returns-clause-moves
 returns-clause-moves g c =
