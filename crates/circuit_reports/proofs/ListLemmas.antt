@@ -47,13 +47,13 @@ module _ (c : CircuitData) (listing : ListingData) (is : IsListing listing) (fai
 -- and so is what was told of a group that is too large: nothing was analysed for it
 pub told_too_large : (c : CircuitData) (fault : BuildFault) (old new : Option (List ℕ)) (before after : List GroupTextData) (result : Result end.End Stop) →
     (fault ≡ NoMemory) ⊎ (TellsTooLarge c.graph fault × (after ≡ before)) → (fault ≡ NoMemory → result ≡ Err Memory) →
-    IsTold (IsTooLarge c NetWhole status.NetRefused) old new result → IsToldBy (IsCompiled c) old new before after result
+    IsTold (IsTooLarge 0 c NetWhole status.NetRefused) old new result → IsToldBy (IsCompiled c) old new before after result
 told_too_large c fault old new before after result (inl want) stops told =
-    let stopped : IsTold (IsTooLarge c NetWhole status.NetRefused) old new (Err Memory) =
-    subst (IsTold (IsTooLarge c NetWhole status.NetRefused) old new) (stops want) told in
+    let stopped : IsTold (IsTooLarge 0 c NetWhole status.NetRefused) old new (Err Memory) =
+    subst (IsTold (IsTooLarge 0 c NetWhole status.NetRefused) old new) (stops want) told in
     subst (IsToldBy (IsCompiled c) old new before after) (sym (stops want))
-    (told_as (IsTooLarge c NetWhole status.NetRefused) (IsCompiled c) old new (Err Memory) (λ answer right. inr right) stopped)
+    (told_as (IsTooLarge 0 c NetWhole status.NetRefused) (IsCompiled c) old new (Err Memory) (λ answer right. inr right) stopped)
 told_too_large c fault old new before after result (inr first) stops told =
     subst (λ (analysed : List GroupTextData). IsToldBy (IsCompiled c) old new before analysed result) (sym first.1)
-    (told_by_none (IsTooLarge c NetWhole status.NetRefused) (IsCompiled c) old new before result
+    (told_by_none (IsTooLarge 0 c NetWhole status.NetRefused) (IsCompiled c) old new before result
     (λ answer right. (inr right, ap (λ (told : Answer). told.texts) right.told)) told)

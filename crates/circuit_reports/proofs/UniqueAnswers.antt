@@ -74,8 +74,8 @@ listed_alike circuit answer other one two =
       texts = ap (λ (it : Answer). it.texts) one.told ∙ ap (distinct_texts circuit) groups ∙ sym (ap (λ (it : Answer). it.texts) two.told);
     }
 
-refused_alike : (circuit : CircuitData) (answer other : Answer) → IsTooLarge circuit NetWhole status.NetRefused answer →
-    IsTooLarge circuit NetWhole status.NetRefused other → AreAlike answer other
+refused_alike : (circuit : CircuitData) (answer other : Answer) → IsTooLarge 0 circuit NetWhole status.NetRefused answer →
+    IsTooLarge 0 circuit NetWhole status.NetRefused other → AreAlike answer other
 refused_alike circuit answer other one two = record {
   status = ap (λ (it : Answer). it.status) one.told ∙ sym (ap (λ (it : Answer). it.status) two.told);
   texts = ap (λ (it : Answer). it.texts) one.told ∙ sym (ap (λ (it : Answer). it.texts) two.told);

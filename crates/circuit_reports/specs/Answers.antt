@@ -86,7 +86,7 @@ pub record IsListed (circuit : CircuitData) (answer : Answer) : Type 0 where
 
 -- the answer of a compilation: a faithful listing, or the refusal of a group that is too large
 abbrev pub IsCompiled : CircuitData → Answer → Type 0
-IsCompiled circuit answer = IsListed circuit answer ⊎ IsTooLarge circuit NetWhole status.NetRefused answer
+IsCompiled circuit answer = IsListed circuit answer ⊎ IsTooLarge 0 circuit NetWhole status.NetRefused answer
 
 -- the answer of a request for a part of a sample: its text
 abbrev pub IsGenerated : GenPart → Sample → Answer → Type 0

@@ -257,6 +257,7 @@ set_up_few old (setup.Watch names) = omega arith
 set_up_few old (setup.Limit number) = omega arith
 set_up_few old (setup.Clock list) = omega arith
 set_up_few old (setup.Keep number) = omega arith
+set_up_few old (setup.Widen number) = omega arith
 set_up_few old (setup.Save name) = omega arith
 set_up_few old (setup.Vector name words) = omega arith
 

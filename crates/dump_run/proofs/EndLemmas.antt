@@ -81,7 +81,7 @@ module _ (cut : Option ℕ) (start : SessionData) (lines : List (ℕ × List ℕ
   pub cut_short : (ended : Halt) → ended ≢ halt.End → DumpsHalt cut start lines new before mid asked told ended → IsCutShort new.circuit ended
   cut_short halt.End other halts = absurd (other refl)
   cut_short (halt.Refused number code) other halts = tt
-  cut_short (halt.TooLarge number size) other halts = halts.0
+  cut_short (halt.TooLarge number size) other halts = (new.large, halts.0)
 
   pub run_end : (ending : end.End) (ended : Halt) → DumpsHalt cut start lines new before mid asked told ended → ended ≡ halt.End → before.refused ≡ None →
       status_of ending ≡ status_told new None → DumpsRun cut start lines new before mid asked told (Ok ending)

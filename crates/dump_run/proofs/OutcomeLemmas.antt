@@ -36,7 +36,7 @@ module _ (cut : Option ℕ) (begun : Bool) (session : SessionData) (line : ℕ �
       elim (command_ends session command ready (plain-sound.formed session.circuit session.vectors line.1 command asks.asked)) [
         | refused_so refusal is ↦ dump-refused (plain_cause (refusal_code refusal)) (as_ever (refused command refusal asks is refl) alone)
         | large_so fault allowed building first ↦
-            let caused = size_caused session.circuit fault first in
+            let caused = size_caused session.large session.circuit fault first in
             dump-refused caused.0 (as_ever (too_large command fault asks allowed building first caused.1) alone)
         | performed_so new wrote texts performs ↦
             let through = command_passes session ready command in

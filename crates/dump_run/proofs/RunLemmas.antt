@@ -3,7 +3,7 @@
 use Rattle.std.proofs.Common.{◌≡◌, ℕ, inl, inr, Bool, true, false, ◌||◌, List, [], ◌∷◌, ◌++◌, Option, None, Some, Result, Ok, Err, refl, sym, ap, subst, ◌∙◌, append_assoc, append-nil}
 use Rattle.group_text.specs.Texts.{GroupTextData}
 use Rattle.circuit_texts.specs.declared.texts.BuildFault.{BuildFault}
-use Rattle.circuit_texts.specs.Sizes.{TellsTooLarge}
+use Rattle.circuit_texts.specs.Sizes.{TellsRefused}
 use Rattle.script_lang.specs.declared.command.Command.{Command}
 use Rattle.wave_print.specs.declared.faults.FaultCode.{FaultCode}
 use Rattle.wave_dump.specs.Scenes.{Scene}
@@ -182,7 +182,7 @@ module _ {cut : Option ℕ} {start : SessionData} {all : List (ℕ × List ℕ)}
   -- to a line for whose command the circuit is too large
   abbrev HasOutgrown : Option ℕ → HeldSession → Sheet → List GroupTextData → BuildFault → Type 0
   HasOutgrown at new more further fault =
-      TellsTooLarge new.core.circuit.graph fault
+      TellsRefused new.core.large new.core.circuit.graph fault
       × ((cause : Cause) → size_cause new.core.circuit fault ≡ Some cause →
       HasDumped at start all new.core before more asked further (Some (record { line = line.0; cause = cause })))
 
@@ -190,7 +190,7 @@ module _ {cut : Option ℕ} {start : SessionData} {all : List (ℕ × List ℕ)}
       DumpsTurn cut line now new after more told further (Ok (TooLarge fault)) → HasOutgrown cut new more further fault
   outgrown_by new more further fault out =
       let keeps = out.refuses.keeps in (
-        subst (λ (session : HeldSession). TellsTooLarge session.core.circuit.graph fault) (sym keeps.same) out.refuses.first,
+        subst (λ (session : HeldSession). TellsRefused session.core.large session.core.circuit.graph fault) (sym keeps.same) out.refuses.first,
         λ cause named.
             dumped_kept new more further (Some (record { line = line.0; cause = cause })) keeps
             (refused_here cause

@@ -24,7 +24,7 @@ use Rattle.run_ends.specs.declared.stop.Stop.{Stop}
 use Rattle.run_ends.specs.declared.stop.Stop.TheVariants.{Memory}
 use Rattle.run_ends.specs.Causes.{Cause, plain_cause, size_cause}
 use Rattle.run_ends.specs.Ends.{status_of}
-use Rattle.circuit_texts.specs.Sizes.{TellsTooLarge}
+use Rattle.circuit_texts.specs.Sizes.{TellsRefused}
 use Rattle.script_meaning.specs.declared.halt.Halt.{Halt}
 use Rattle.script_meaning.specs.declared.halt.Halt.TheVariants as halt
 use Rattle.script_meaning.specs.declared.turn.Turn.{Turn}
@@ -113,7 +113,7 @@ DumpsHalt cut start lines new before after asked told halt.End = HasDumped cut s
 DumpsHalt cut start lines new before after asked told (halt.Refused number code) =
     HasDumped cut start lines new before after asked told (Some (record { line = number; cause = plain_cause code }))
 DumpsHalt cut start lines new before after asked told (halt.TooLarge number fault) =
-    TellsTooLarge new.circuit.graph fault
+    TellsRefused new.large new.circuit.graph fault
     × ((cause : Cause) → size_cause new.circuit fault ≡ Some cause →
     HasDumped cut start lines new before after asked told (Some (record { line = number; cause = cause })))
 

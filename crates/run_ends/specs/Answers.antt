@@ -7,7 +7,7 @@ use Rattle.wave_print.specs.declared.faults.FaultPlace.{FaultPlace}
 use Rattle.wave_print.specs.declared.faults.FaultCode.{FaultCode}
 use Rattle.group_text.specs.Texts.{GroupTextData}
 use Rattle.circuit_texts.specs.declared.texts.BuildFault.{BuildFault}
-use Rattle.circuit_texts.specs.Sizes.{TellsTooLarge}
+use Rattle.circuit_texts.specs.Sizes.{TellsRefused}
 use Rattle.run_ends.specs.declared.status.Status.{Status}
 use Rattle.run_ends.specs.Causes.{Cause, plain_cause, size_cause, cause_line}
 
@@ -29,10 +29,10 @@ IsRefusalFor place cause status answer = answer ≡ plain_answer status (cause_l
 abbrev pub IsRefusal : FaultPlace → FaultCode → Status → Answer → Type 0
 IsRefusal place code status answer = IsRefusalFor place (plain_cause code) status answer
 
--- the answer is the line of the first group that is too large
-pub record IsTooLarge (circuit : CircuitData) (place : FaultPlace) (status : Status) (answer : Answer) : Type 0 where
+-- the answer is the line of the first group that is refused with this bound
+pub record IsTooLarge (large : ℕ) (circuit : CircuitData) (place : FaultPlace) (status : Status) (answer : Answer) : Type 0 where
   pub fault : BuildFault
-  pub first : TellsTooLarge circuit.graph fault
+  pub first : TellsRefused large circuit.graph fault
   pub cause : Cause
   pub named : size_cause circuit fault ≡ Some cause
   pub told : IsRefusalFor place cause status answer

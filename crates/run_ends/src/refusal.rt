@@ -1,7 +1,7 @@
 //! The lines of refusals, and the notes of their cures.
 
-ghost use Rattle.std.specs.Prelude.{◌≡◌, ◌≢◌, ◌⊎◌, Err, IfOk, IfErr};
-ghost use Rattle.circuit_texts.specs.Sizes.{TellsTooLarge};
+ghost use Rattle.std.specs.Prelude.{◌≡◌, ◌≢◌, ◌⊎◌, ℕ, Err, IfOk, IfErr};
+ghost use Rattle.circuit_texts.specs.Sizes.{TellsRefused};
 ghost use Rattle.run_ends.specs.Answers.{IsRefusal, IsRefusalFor, IsTooLarge};
 ghost use Rattle.run_ends.specs.Ends.{IsTold, status_of};
 ghost use Rattle.run_ends.specs.Stops.{faults_written, IsRefusedOnce};
@@ -79,8 +79,8 @@ fn note_at<S: Sink>(alloc: Global, place: FaultPlace, code: FaultCode, word: &[u
     note_cure(alloc, file, line, code.text(), word, out);
 }
 
-/// Writes the line of the first group of a circuit that is too large, and ends the run so; lack of memory
-/// stops it. The cure is noted besides, with the name of the group.
+/// Writes the line of the first group of a circuit that is too large under some bound, and ends the run so; lack of
+/// memory stops it. The cure is noted besides, with the name of the group.
 pub fn refuse_size<S: Sink>(
     alloc: Global,
     place: FaultPlace,
@@ -89,9 +89,9 @@ pub fn refuse_size<S: Sink>(
     end: End,
     out: &mut S,
 ) -> Result<End, Stop>
-    requires { (fault ≡ BuildFault.NoMemory) ⊎ TellsTooLarge circuit.now.graph fault }
-    ensures told { IsTold
-        (IsTooLarge circuit.now place (status_of end)) (S.written out.old) (S.written out.new) result }
+    requires { (fault ≡ BuildFault.NoMemory) ⊎ ((large : ℕ) × TellsRefused large circuit.now.graph fault) }
+    ensures told { (large : ℕ) → (fault ≡ BuildFault.NoMemory) ⊎ TellsRefused large circuit.now.graph fault
+        → IsTold (IsTooLarge large circuit.now place (status_of end)) (S.written out.old) (S.written out.new) result }
     ensures memory { fault ≡ BuildFault.NoMemory → result ≡ Err Stop.Memory }
     ensures same { IfOk result (λ ended. ended ≡ end) }
     ensures no_read { IfErr result (λ stop. stop ≢ Stop.Read) }

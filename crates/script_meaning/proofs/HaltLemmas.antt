@@ -81,7 +81,7 @@ module _ {H : Type 0} (hear : H → Told → H) (part : H → Told → H → Typ
   pub cut_short : (halt : Halt) → halt ≢ End → HaltsAt hear reading cut start lines new before mid asked told halt → IsCutShort new.circuit halt
   cut_short End other halts = absurd (other refl)
   cut_short (Refused number code) other halts = tt
-  cut_short (TooLarge number size) other halts = halts.first
+  cut_short (TooLarge number size) other halts = (new.large, halts.first)
 
   -- and the line of that refusal was told
   told_cut_short : (last : H) (result : Result end.End Stop) (halt : Halt) → HaltsAt hear reading cut start lines new before mid asked told halt →

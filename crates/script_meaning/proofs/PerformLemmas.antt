@@ -2,7 +2,7 @@
 use Rattle.std.proofs.Common.{◌≡◌, Bool, true, false, List, None, refl, sym, subst, ◌∙◌}
 use Rattle.group_text.specs.Texts.{GroupTextData}
 use Rattle.circuit_texts.specs.declared.texts.BuildFault.{BuildFault}
-use Rattle.circuit_texts.specs.Sizes.{TellsTooLarge}
+use Rattle.circuit_texts.specs.Sizes.{TellsRefused}
 use Rattle.told_lines.specs.Lines.{Line}
 use Rattle.script_lang.specs.declared.command.Command.{Command}
 use Rattle.session_meaning.specs.Sessions.{SessionData}
@@ -32,7 +32,7 @@ performs-allowed old new command lines texts performs =
 
 -- nor is its circuit too large
 pub performs-fits : (old new : SessionData) (command : Command) (lines : List Line) (texts : List GroupTextData) (fault : BuildFault) →
-    Performs old command new lines texts → builds command ≡ true → ¬ TellsTooLarge old.circuit.graph fault
+    Performs old command new lines texts → builds command ≡ true → ¬ TellsRefused old.large old.circuit.graph fault
 performs-fits old new command lines texts fault performs is told =
     let built : IsBuild old performs.mid texts = subst (λ building. BuildsIf building old performs.mid texts) is performs.prepares in
-    not_both old.circuit.graph fault built.present told built.has
+    not_both old.large old.circuit.graph fault built.present told built.has

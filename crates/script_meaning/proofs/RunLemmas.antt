@@ -5,7 +5,7 @@ use Rattle.std.proofs.Common.{◌≡◌, ◌≢◌, ℕ, inl, inr, Bool, true, f
 use Rattle.line_words.specs.Files.{is_cut}
 use Rattle.group_text.specs.Texts.{GroupTextData}
 use Rattle.circuit_texts.specs.declared.texts.BuildFault.{BuildFault}
-use Rattle.circuit_texts.specs.Sizes.{TellsTooLarge}
+use Rattle.circuit_texts.specs.Sizes.{TellsRefused}
 use Rattle.script_lang.specs.declared.command.Command.{Command}
 use Rattle.script_lang.specs.declared.command.ScriptFault.{ScriptFault}
 use Rattle.script_lang.specs.declared.command.ScriptFault.TheVariants as script
@@ -56,7 +56,7 @@ module _ (reading : Reading) (sound : IsSound reading) (cut : Option ℕ) (sessi
       elim (command_ends session command ready (sound.formed session.circuit session.vectors line.1 command asks.asked)) [
         | refused_so refusal is ↦ outcome-refused (plain_cause (refusal_code refusal)) (refused command refusal asks is refl)
         | large_so fault allowed building first ↦
-            let caused = size_caused session.circuit fault first in
+            let caused = size_caused session.large session.circuit fault first in
             outcome-refused caused.0 (too_large command fault asks allowed building first caused.1)
         | performed_so new wrote texts performs ↦
             let rest = goes new (ready-performs session new command wrote texts ready performs) in
@@ -236,12 +236,12 @@ module _ {H : Type 0} {hear : H → Told → H} (part : H → Told → H → Typ
   outgrown_by new more further fault out =
       let keeps = out.refuses.keeps in
       record {
-        first = subst (λ (session : HeldSession). TellsTooLarge session.core.circuit.graph fault) (sym keeps.same) out.refuses.first;
+        first = subst (λ (session : HeldSession). TellsRefused session.core.large session.core.circuit.graph fault) (sym keeps.same) out.refuses.first;
         halted = λ other cause tells named.
             obeyed_kept new more further (Some (record { line = line.0; cause = cause })) keeps
             (refused_here cause
             (too_large out.command other out.asks out.refuses.allowed out.refuses.building
-            (subst (λ (session : HeldSession). TellsTooLarge session.core.circuit.graph other) keeps.same tells)
+            (subst (λ (session : HeldSession). TellsRefused session.core.large session.core.circuit.graph other) keeps.same tells)
             (subst (λ (session : HeldSession). size_cause session.core.circuit other ≡ Some cause) keeps.same named)));
       }
 

@@ -4,7 +4,7 @@ use Rattle.group_text.specs.Texts.{GroupTextData}
 use Rattle.script_lang.specs.declared.command.Command.{Command}
 use Rattle.session_meaning.specs.Sessions.{SessionData}
 use Rattle.told_lines.specs.Lines.{Line}
-use Rattle.session_meaning.proofs.UniqueBuilds.{TellsTooLarge-unique}
+use Rattle.session_meaning.proofs.UniqueBuilds.{TellsRefused-unique}
 use Rattle.session_meaning.proofs.UniqueEffects.{performs_unique}
 use Rattle.run_ends.specs.Causes.{Cause, plain_cause}
 use Rattle.script_meaning.specs.Codes.{refusal_code}
@@ -47,7 +47,7 @@ cause_unique (too_large command fault asks allowed building told named) (unread 
 cause_unique (too_large command fault asks allowed building told named) (refused other refusal asked found also) =
     let same : command ≡ other = same_command asks asked in absurd (cc (same, found, allowed))
 cause_unique {session = session} (too_large command fault asks allowed building told named) (too_large other further asked clear builds tells called) =
-    let same : fault ≡ further = TellsTooLarge-unique session.circuit.graph fault further told tells in
+    let same : fault ≡ further = TellsRefused-unique session.large session.circuit.graph fault further told tells in
     cc (same, named, called)
 
 -- so it runs in one way

@@ -4,7 +4,7 @@ use Rattle.std.specs.Prelude.{◌≡◌, ℕ, ◌⊎◌, List, [], ◌∷◌, �
 use Rattle.netlist.specs.Circuits.{CircuitData}
 use Rattle.group_text.specs.Texts.{GroupTextData}
 use Rattle.circuit_texts.specs.declared.texts.BuildFault.{BuildFault}
-use Rattle.circuit_texts.specs.Sizes.{TellsTooLarge}
+use Rattle.circuit_texts.specs.Sizes.{TellsRefused}
 use Rattle.told_lines.specs.Lines.{Told}
 use Rattle.told_lines.specs.Hearing.{hear_all, HearsFront, of_column}
 use Rattle.session_meaning.specs.Sessions.{SessionData}
@@ -30,8 +30,8 @@ pub record HasObeyed {H : Type 0} (hear : H → Told → H) (reading : Reading) 
 -- they were obeyed to the line with this number, which is refused since a group of the circuit is too large, the first of which is told
 pub record HasOutgrown {H : Type 0} (hear : H → Told → H) (reading : Reading) (cut : Option ℕ) (start : SessionData) (lines : List (ℕ × List ℕ))
     (new : SessionData) (before after : H) (asked told : List GroupTextData) (number : ℕ) (fault : BuildFault) : Type 0 where
-  pub first : TellsTooLarge new.circuit.graph fault
-  pub halted : (other : BuildFault) (cause : Cause) → TellsTooLarge new.circuit.graph other → size_cause new.circuit other ≡ Some cause →
+  pub first : TellsRefused new.large new.circuit.graph fault
+  pub halted : (other : BuildFault) (cause : Cause) → TellsRefused new.large new.circuit.graph other → size_cause new.circuit other ≡ Some cause →
       HasObeyed hear reading cut start lines new before after asked told (Some (record { line = number; cause = cause }))
 
 -- how the lines of a script end: all were obeyed, or the line with a number is refused under a code or for the size of a group
@@ -57,11 +57,11 @@ TellsHalt hear part reading cut start lines new before after asked told (Ok halt
 TellsHalt hear part reading cut start lines new before after asked told (Err stop) =
     (after ≡ before) ⊎ BreaksOff hear part reading cut start lines before after
 
--- the lines ended at one that is refused: where a group of the circuit is too large, the first of these is told
+-- the lines ended at one that is refused: if a group of the circuit is too large under some bound, the first such group is told
 abbrev pub IsCutShort : CircuitData → Halt → Type 0
 IsCutShort circuit End = ⊥
 IsCutShort circuit (Refused number code) = Unit {0}
-IsCutShort circuit (TooLarge number size) = TellsTooLarge circuit.graph size
+IsCutShort circuit (TooLarge number size) = (large : ℕ) × TellsRefused large circuit.graph size
 
 -- the line of a refusal was heard, which ends the run so; where it stopped, nothing was heard, or a part of it
 abbrev pub TellsRefusal : {H : Type 0} → (H → Told → H) → (H → Told → H → Type 0) → H → H → RefusedLine → Result end.End Stop → Type 0

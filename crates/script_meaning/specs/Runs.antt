@@ -5,7 +5,7 @@ use Rattle.line_words.specs.Files.{is_cut}
 use Rattle.netlist.specs.Circuits.{CircuitData}
 use Rattle.group_text.specs.Texts.{GroupTextData}
 use Rattle.circuit_texts.specs.declared.texts.BuildFault.{BuildFault}
-use Rattle.circuit_texts.specs.Sizes.{TellsTooLarge}
+use Rattle.circuit_texts.specs.Sizes.{TellsRefused}
 use Rattle.script_lang.specs.declared.command.Command.{Command}
 use Rattle.script_lang.specs.declared.command.ScriptFault.{ScriptFault}
 use Rattle.script_lang.specs.declared.command.ScriptFault.TheVariants.{NoMemory}
@@ -86,7 +86,7 @@ pub data IsRefused (reading : Reading) (cut : Option ℕ) (session : SessionData
   refused : (command : Command) (refusal : Refusal) → Asks reading cut session line command → refusal_of session command ≡ Some refusal →
       cause ≡ plain_cause (refusal_code refusal) → IsRefused reading cut session line cause
   too_large : (command : Command) (fault : BuildFault) → Asks reading cut session line command → refusal_of session command ≡ None →
-      builds command ≡ true → TellsTooLarge session.circuit.graph fault → size_cause session.circuit fault ≡ Some cause →
+      builds command ≡ true → TellsRefused session.large session.circuit.graph fault → size_cause session.circuit fault ≡ Some cause →
       IsRefused reading cut session line cause
 
 -- a script runs from some data: to its end, past a line that asks for nothing, past a command's line with what the command does, or to a

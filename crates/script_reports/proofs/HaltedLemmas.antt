@@ -72,14 +72,14 @@ module _ (script : List ℕ) (circuit : CircuitData) (new : SessionData) (old la
   -- and of a line for which the circuit is too large
   pub told_size : (number : ℕ) (fault : BuildFault) (result : Result end.End Stop) →
       HasOutgrown hear_nothing plain_reading (cut_line script) (start_of circuit) (lines_in script) new tt tt asked told number fault →
-      IsTold (IsTooLarge new.circuit (Script number) ScriptRefused) old last result → IsToldBy Is old last asked told result
+      IsTold (IsTooLarge new.large new.circuit (Script number) ScriptRefused) old last result → IsToldBy Is old last asked told result
   told_size number fault result outgrown written =
-      told_too_large new.circuit (Script number) ScriptRefused Is old last asked told result
+      told_too_large new.large new.circuit (Script number) ScriptRefused Is old last asked told result
       (λ large cause first named line. told_line number cause result (outgrown.halted large cause first named) line) written
 
 -- lines that end since a group is too large tell the first such group
 pub halted_size : (script : List ℕ) (circuit : CircuitData) (new : SessionData) (asked told : List GroupTextData) (halt : Halt) →
-    HaltsAt hear_nothing plain_reading (cut_line script) (start_of circuit) (lines_in script) new tt tt asked told halt → TellsSize new.circuit.graph halt
+    HaltsAt hear_nothing plain_reading (cut_line script) (start_of circuit) (lines_in script) new tt tt asked told halt → TellsSize new halt
 halted_size script circuit new asked told End halts = tt
 halted_size script circuit new asked told (Refused number code) halts = tt
 halted_size script circuit new asked told (TooLarge number fault) halts = halts.first

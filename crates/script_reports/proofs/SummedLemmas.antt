@@ -1,5 +1,5 @@
 -- What was counted of the lines of a script is told by their summary, and the refusal that ended them by its line.
-use Rattle.std.proofs.Common.{◌≡◌, ℕ, inl, inr, List, [], ◌++◌, Option, None, Some, Result, Ok, Err, refl, sym, ap, subst, ◌∙◌}
+use Rattle.std.proofs.Common.{◌≡◌, ℕ, inl, inr, List, ◌++◌, Option, None, Some, Result, Ok, Err, refl, sym, ap, subst, ◌∙◌}
 use Rattle.std.specs.Io.KnownBytes.{append_known}
 use Rattle.port_edge.specs.Sending.{WritesPart}
 use Rattle.group_text.specs.Texts.{GroupTextData}
@@ -75,8 +75,8 @@ module _ (cut : Option ℕ) (start : SessionData) (lines : List (ℕ × List ℕ
   -- and that of a line for whose command the circuit is too large
   pub told_outgrown : (number : ℕ) (fault : BuildFault) (result : Result end.End Stop) →
       HasOutgrown counted plain_reading cut start lines now before after asked told number fault →
-      IsTold (IsTooLarge now.circuit (Script number) ScriptRefused) old new result →
+      IsTold (IsTooLarge now.large now.circuit (Script number) ScriptRefused) old new result →
       IsToldBy (IsSummedUp before.nodes before.switches cut start lines) old new asked told result
   told_outgrown number fault result outgrown written =
-      told_too_large now.circuit (Script number) ScriptRefused (IsSummedUp before.nodes before.switches cut start lines) old new asked told result
+      told_too_large now.large now.circuit (Script number) ScriptRefused (IsSummedUp before.nodes before.switches cut start lines) old new asked told result
       (λ large cause first named line. told_halted number cause result (outgrown.halted large cause first named) line) written

@@ -5,7 +5,7 @@ use Rattle.group_meaning.specs.Groups.{AreGroups}
 use Rattle.channel_groups.specs.Grouping.{GroupsData}
 use Rattle.netlist.specs.Names.{node_of}
 use Rattle.wave_print.specs.declared.faults.FaultPlace.TheVariants.{Script}
-use Rattle.circuit_texts.specs.Sizes.{TellsTooLarge}
+use Rattle.circuit_texts.specs.Sizes.{TellsRefused}
 use Rattle.told_lines.specs.Lines.{Told}
 use Rattle.session_meaning.specs.Sessions.{SessionData}
 use Rattle.script_meaning.specs.declared.halt.Halt.{Halt}
@@ -23,16 +23,16 @@ abbrev pub AreGroupsOf : GraphData → GroupsData → Type 0
 AreGroupsOf graph groups = AreGroups graph groups.groups × (groups.nodes ≡ nodes graph)
 
 -- where the lines ended since a group of the circuit is too large, the first such group is told
-abbrev pub TellsSize : GraphData → Halt → Type 0
-TellsSize graph End = Unit {0}
-TellsSize graph (Refused number code) = Unit {0}
-TellsSize graph (TooLarge number fault) = TellsTooLarge graph fault
+abbrev pub TellsSize : SessionData → Halt → Type 0
+TellsSize end End = Unit {0}
+TellsSize end (Refused number code) = Unit {0}
+TellsSize end (TooLarge number fault) = TellsRefused end.large end.circuit.graph fault
 
 -- the answer is the line of the refusal that ended the lines
 abbrev pub IsHaltRefused : SessionData → Halt → Answer → Type 0
 IsHaltRefused end End = λ answer. ⊥
 IsHaltRefused end (Refused number code) = IsRefusal (Script number) code ScriptRefused
-IsHaltRefused end (TooLarge number fault) = IsTooLarge end.circuit (Script number) ScriptRefused
+IsHaltRefused end (TooLarge number fault) = IsTooLarge end.large end.circuit (Script number) ScriptRefused
 
 -- the answer explains the node of this name in these data, if all lines were obeyed; else it is the line of the refusal that ended them
 abbrev pub IsHaltExplained : List ℕ → SessionData → Halt → Answer → Type 0

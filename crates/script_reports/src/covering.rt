@@ -46,7 +46,7 @@ fn cover_at<S: Sink + Drop>(
     cover: &Cover,
     out: &mut Printer<S>,
 ) -> Result<End, Stop>
-    requires size { TellsSize session.now.core.circuit.graph halt }
+    requires size { TellsSize session.now.core halt }
     requires noted { halt ≡ Halt.End → length cover.now ≡ length session.now.core.state }
     ensures told { IsTold (IsHaltCovered cover.now session.now.core halt) out.old.page.written out.new.page.written result }
     ensures no_read { IfErr result (λ stop. stop ≢ Stop.Read) }

@@ -51,7 +51,7 @@ fn explain_at<S: Sink + Drop>(
     name: &str,
     out: &mut Printer<S>,
 ) -> Result<End, Stop>
-    requires { TellsSize session.now.core.circuit.graph halt }
+    requires { TellsSize session.now.core halt }
     ensures told { IsTold (IsHaltExplained name.now session.now.core halt)
         out.old.page.written out.new.page.written result }
     ensures no_read { IfErr result (λ stop. stop ≢ Stop.Read) }

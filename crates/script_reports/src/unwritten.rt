@@ -46,7 +46,7 @@ pub(crate) fn refuse_at<S: Sink + Drop>(
     out: &mut Printer<S>,
 ) -> Result<End, Stop>
     requires short { halt ≢ Halt.End }
-    requires size { TellsSize session.now.core.circuit.graph halt }
+    requires size { TellsSize session.now.core halt }
     ensures told { IsTold (IsHaltRefused session.now.core halt) out.old.page.written out.new.page.written result }
     ensures no_read { IfErr result (λ stop. stop ≢ Stop.Read) }
     ensures write { out.new.faults ≡ faults_written out.old.faults result }

@@ -1,5 +1,5 @@
 -- The words of the clauses, from one place.
-pub use Rattle.circuit_texts.specs.Sizes.{TellsTooLarge}
+pub use Rattle.circuit_texts.specs.Sizes.{TellsRefused}
 pub use Rattle.run_ends.specs.Ends.{status_of}
 pub use Rattle.run_ends.specs.Stops.{faults_written, IsRefusedOnce}
 pub use Rattle.script_lang.specs.Forms.{IsFormed}

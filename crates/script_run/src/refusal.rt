@@ -1,8 +1,8 @@
 //! The line of the refusal at which a script ended.
 
-ghost use Rattle.std.specs.Prelude.{◌≡◌, ◌≢◌, Some, IfErr};
+ghost use Rattle.std.specs.Prelude.{◌≡◌, ◌≢◌, ℕ, Some, IfErr};
 ghost use Rattle.run_ends.specs.Causes as spec;
-ghost use Rattle.script_run.specs.Words.{faults_written, IsCutShort, IsRefusedOnce, TellsCutShort, TellsRefusal, TellsTooLarge};
+ghost use Rattle.script_run.specs.Words.{faults_written, IsCutShort, IsRefusedOnce, TellsCutShort, TellsRefusal, TellsRefused};
 
 use circuit_texts::BuildFault;
 use netlist::Circuit;
@@ -47,10 +47,10 @@ pub fn refuse_halt<L: Lines>(
     }
 }
 
-/// Why a line is refused since the first group of a circuit that is too large is this one: the code, the name of the
-/// group's least node, and the count of what it has too many of.
+/// Why a line is refused, if this is the first group of the circuit that is too large under some bound: the code, the
+/// name of the group's least node, and the count of what it has too many of.
 pub fn size_cause(circuit: &Circuit, size: BuildFault) -> (FaultCode, &[u8], u64)
-    requires { TellsTooLarge circuit.now.graph size }
+    requires { (large : ℕ) × TellsRefused large circuit.now.graph size }
     ensures { spec.size_cause circuit.now size ≡ Some (record { code = result.0; name = result.1.now; count = result.2 }) }
 {
     match size {

@@ -4,7 +4,7 @@ use Rattle.std.specs.Prelude.{option_map}
 use Rattle.group_text.specs.Texts.{GroupTextData}
 use Rattle.netlist.specs.Circuits.{CircuitData}
 use Rattle.circuit_texts.specs.declared.texts.BuildFault.{BuildFault}
-use Rattle.circuit_texts.specs.Sizes.{TellsTooLarge}
+use Rattle.circuit_texts.specs.Sizes.{TellsRefused}
 use Rattle.talk_port.specs.Talks.{TalkData, SaysPart, said_next}
 use Rattle.told_lines.specs.Lines.{Line, text_of}
 use Rattle.told_lines.specs.Hearing.{of_column}
@@ -116,8 +116,8 @@ module _ (number : ℕ) (line : List ℕ) (old new : HeldSession) (before mid : 
     unchanged : circuit ≡ old.core.circuit
     unchanged = present ∙ ap (λ (held : HeldSession). held.core.circuit) outgrown.refuses.keeps.same
 
-    pub large_told : TellsTooLarge circuit.graph size
-    large_told = subst (λ (one : CircuitData). TellsTooLarge one.graph size) (sym unchanged) outgrown.refuses.first
+    pub large_told : (large : ℕ) × TellsRefused large circuit.graph size
+    large_told = (old.core.large, subst (λ (one : CircuitData). TellsRefused old.core.large one.graph size) (sym unchanged) outgrown.refuses.first)
 
     pub large_said : {E : Type 0} (after : Option TalkData) (result : Result (Unit {0}) E) →
         (cause : Cause) × (size_cause circuit size ≡ Some cause) × Tries (cause_line (Heard number) cause) mid.talk after result →

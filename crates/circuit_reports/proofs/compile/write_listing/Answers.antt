@@ -10,7 +10,7 @@ list_circuit-requires g c = λ node inside.
     record { some = name.some; visible = name.visible }
 
 pub refuse_size-requires : goal.refuse_size-requires
-refuse_size-requires g c = elim c.in-Err.ensures.refused [ inl is ↦ inl is | inr first ↦ inr first.0 ]
+refuse_size-requires g c = elim c.in-Err.ensures.refused [ inl is ↦ inl is | inr first ↦ inr (0, first.0) ]
 
 pub returns-in-Ok-clause-told : goal.returns-in-Ok-clause-told
 returns-in-Ok-clause-told g c =
@@ -24,4 +24,5 @@ pub returns-in-Err-clause-told : goal.returns-in-Err-clause-told
 returns-in-Err-clause-told g c =
     told_too_large c.args.circuit.now c.in-Err.fault (g.S.Sink.written c.args.out.now) (g.S.Sink.written c.refuse_size.new.out)
     (g.A.Analyst.analysed c.args.analyst.now) (g.A.Analyst.analysed c.list_circuit.new.analyst) c.refuse_size.result
-    c.in-Err.ensures.refused c.refuse_size.ensures.memory c.refuse_size.ensures.told
+    c.in-Err.ensures.refused c.refuse_size.ensures.memory
+    (c.refuse_size.ensures.told 0 (elim c.in-Err.ensures.refused [ inl is ↦ inl is | inr first ↦ inr first.0 ]))

@@ -12,14 +12,14 @@ name_of-name-requires-in-GroupSwitches g c =
     node-inside c.args.circuit.now.graph c.args.fault c.in-GroupSwitches.node c.in-GroupSwitches.count c.requires (inr c.in-GroupSwitches.is)
 
 pub returns-in-GroupNodes-clause-told : goal.returns-in-GroupNodes-clause-told
-returns-in-GroupNodes-clause-told g c =
+returns-in-GroupNodes-clause-told g c = λ large refused.
     told_nodes c.args.circuit.now c.args.place (status_of c.args.end) c.args.fault c.in-GroupNodes.node c.in-GroupNodes.count c.name_of-name.result.now
-    c.requires c.name_of-name.ensures.name (g.S.Sink.written c.args.out.now) (g.S.Sink.written c.refuse_named.new.out) c.refuse_named.result
+    large refused c.name_of-name.ensures.name (g.S.Sink.written c.args.out.now) (g.S.Sink.written c.refuse_named.new.out) c.refuse_named.result
     c.in-GroupNodes.is c.refuse_named.ensures.told
 
 pub returns-in-GroupSwitches-clause-told : goal.returns-in-GroupSwitches-clause-told
-returns-in-GroupSwitches-clause-told g c =
+returns-in-GroupSwitches-clause-told g c = λ large refused.
     told_switches c.args.circuit.now c.args.place (status_of c.args.end) c.args.fault c.in-GroupSwitches.node c.in-GroupSwitches.count
-    c.name_of-name-in-GroupSwitches.result.now c.requires c.name_of-name-in-GroupSwitches.ensures.name (g.S.Sink.written c.args.out.now)
+    c.name_of-name-in-GroupSwitches.result.now large refused c.name_of-name-in-GroupSwitches.ensures.name (g.S.Sink.written c.args.out.now)
     (g.S.Sink.written c.refuse_named-in-GroupSwitches.new.out) c.refuse_named-in-GroupSwitches.result c.in-GroupSwitches.is
     c.refuse_named-in-GroupSwitches.ensures.told

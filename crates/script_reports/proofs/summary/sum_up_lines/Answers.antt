@@ -1,7 +1,7 @@
 -- What was counted of the script is told by its summary, and the line that ended it by its refusal.
 use Rattle.std.proofs.Common.{◌≡◌, inr, subst, sym}
 use Rattle.line_words.specs.Files as file
-use Rattle.circuit_texts.specs.Sizes.{TellsTooLarge}
+use Rattle.circuit_texts.specs.Sizes.{TellsRefused}
 use Rattle.netlist.specs.Circuits.{CircuitData}
 use Rattle.run_ends.specs.Causes.{plain_cause}
 use Rattle.told_lines.specs.Sums.{counted}
@@ -22,7 +22,8 @@ ended g c halt is = rw is at c.in_ok-count_lines.ensures.halts
 pub refuse_size-requires : goal.refuse_size-requires
 refuse_size-requires g c =
     let halts = ended g (goal.at.refuse_size-requires g c).In_ok-count_lines _ c.in-TooLarge.is in
-    inr (subst (λ (circuit : CircuitData). TellsTooLarge circuit.graph c.in-TooLarge.fault) (sym c.circuit.ensures.value) halts.first)
+    let large = c.count_lines.new.session.core.large in
+    inr (large, subst (λ (circuit : CircuitData). TellsRefused large circuit.graph c.in-TooLarge.fault) (sym c.circuit.ensures.value) halts.first)
 
 pub returns-in-End-clause-told : goal.returns-in-End-clause-told
 returns-in-End-clause-told g c =
@@ -36,6 +37,6 @@ returns-in-Refused-clause-told g c =
 
 pub returns-in-TooLarge-clause-told : goal.returns-in-TooLarge-clause-told
 returns-in-TooLarge-clause-told g c =
-    told_outgrown _ _ _ _ _ _ _ _ _ _ c.in-TooLarge.line c.in-TooLarge.fault c.refuse_size.result
-    (ended g (goal.at.returns-in-TooLarge-clause-told g c).In_ok-count_lines _ c.in-TooLarge.is)
-    (rw (← c.circuit.ensures.value) c.refuse_size.ensures.told)
+    let halts = ended g (goal.at.returns-in-TooLarge-clause-told g c).In_ok-count_lines _ c.in-TooLarge.is in
+    told_outgrown _ _ _ _ _ _ _ _ _ _ c.in-TooLarge.line c.in-TooLarge.fault c.refuse_size.result halts
+    ((rw c.circuit.ensures.value at c.refuse_size.ensures.told) c.count_lines.new.session.core.large (inr halts.first))

@@ -18,25 +18,25 @@ use Rattle.script_reports.specs.Explaining.{TellsSize, IsHaltRefused}
 use Rattle.script_reports.proofs.HaltedLemmas.{printed_refusal}
 use Rattle.script_reports.proofs.unwritten.refuse_at.Goals as goal
 
-cut_short : (circuit : CircuitData) (halt : Halt) → halt ≢ End → TellsSize circuit.graph halt → IsCutShort circuit halt
-cut_short circuit End other tells = absurd (other refl)
-cut_short circuit (Refused number code) other tells = tt
-cut_short circuit (TooLarge number fault) other tells = tells
+cut_short : (session : SessionData) (halt : Halt) → halt ≢ End → TellsSize session halt → IsCutShort session.circuit halt
+cut_short session End other tells = absurd (other refl)
+cut_short session (Refused number code) other tells = tt
+cut_short session (TooLarge number fault) other tells = (session.large, tells)
 
-told_short : (session : SessionData) (halt : Halt) (page after : Page) (result : Result end.End Stop) → TellsSize session.circuit.graph halt →
+told_short : (session : SessionData) (halt : Halt) (page after : Page) (result : Result end.End Stop) → TellsSize session halt →
     TellsCutShort print PrintsPart session.circuit halt page after result → IsTold (IsHaltRefused session halt) page.written after.written result
 told_short session End page after result size told = absurd told
 told_short session (Refused number code) page after result size told =
     printed_refusal page after (record { line = number; cause = plain_cause code }) result told
 told_short session (TooLarge number fault) page after result size (cause, named, told) =
-    told_as (IsRefusalFor (Script number) cause ScriptRefused) (IsTooLarge session.circuit (Script number) ScriptRefused) page.written after.written result
+    told_as (IsRefusalFor (Script number) cause ScriptRefused) (IsTooLarge session.large session.circuit (Script number) ScriptRefused) page.written after.written result
     (λ answer is. record { fault = fault; first = size; cause = cause; named = named; told = is })
     (printed_refusal page after (record { line = number; cause = cause }) result told)
 
 pub refuse_halt-requires : goal.refuse_halt-requires
 refuse_halt-requires g c =
     subst (λ (circuit : CircuitData). IsCutShort circuit c.args.halt) (sym c.circuit.ensures.value)
-    (cut_short c.args.session.now.core.circuit c.args.halt c.requires.short c.requires.size)
+    (cut_short c.args.session.now.core c.args.halt c.requires.short c.requires.size)
 
 pub returns-clause-told : goal.returns-clause-told
 returns-clause-told g c =

@@ -1,7 +1,7 @@
 -- The group's least node has a name, by which it is told.
 use Rattle.std.proofs.Common.{inl, inr, subst}
 use Rattle.circuit_texts.specs.declared.texts.BuildFault.{BuildFault}
-use Rattle.circuit_texts.specs.Sizes.{TellsTooLarge}
+use Rattle.circuit_texts.specs.Sizes.{TellsRefused}
 use Rattle.run_ends.proofs.SizeLemmas.{node-inside, no_want, nodes_named, switches_named}
 use Rattle.script_run.proofs.refusal.size_cause.Goals as goal
 
@@ -15,7 +15,8 @@ name_of-requires-in-GroupSwitches c =
 
 pub unreachable-requires : goal.unreachable-requires
 unreachable-requires c =
-    no_want c.args.circuit.now (subst (λ (size : BuildFault). TellsTooLarge c.args.circuit.now.graph size) c.in-NoMemory.is c.requires)
+    no_want c.requires.0 c.args.circuit.now
+    (subst (λ (size : BuildFault). TellsRefused c.requires.0 c.args.circuit.now.graph size) c.in-NoMemory.is c.requires.1)
 
 pub returns-in-GroupNodes : goal.returns-in-GroupNodes
 returns-in-GroupNodes c =

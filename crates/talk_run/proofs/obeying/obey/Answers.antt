@@ -1,6 +1,6 @@
 -- What a line came to is what is said of it.
 use Rattle.std.proofs.Common.{Ok, Err}
-use Rattle.talk_run.proofs.ObeyedLemmas.{accepted_said, refused_said, large_said, stopped_said, turn_unheard}
+use Rattle.talk_run.proofs.ObeyedLemmas.{accepted_said, refused_said, large_told, large_said, stopped_said, turn_unheard}
 use Rattle.talk_run.proofs.obeying.obey.Goals as goal
 
 pub returns-in-Ok-Accepted-clause-said : goal.returns-in-Ok-Accepted-clause-said
@@ -19,6 +19,12 @@ returns-in-Ok-Accepted-clause-hearing g c =
     turn_unheard c.args.line.number c.args.line.bytes.now c.args.session.now c.run_line.new.session c.args.out.now.spoken c.run_line.new.out.spoken
     (g.A.Analyst.analysed c.args.analyst.now) (g.A.Analyst.analysed c.run_line.new.analyst)
     (Ok c.in-Ok-Accepted.field-0) c.in-Ok-Accepted.ensures.turn
+
+pub size_cause-code-requires : goal.size_cause-code-requires
+size_cause-code-requires g c =
+    large_told c.args.line.number c.args.line.bytes.now c.args.session.now c.run_line.new.session c.args.out.now.spoken c.run_line.new.out.spoken
+    (g.A.Analyst.analysed c.args.analyst.now) (g.A.Analyst.analysed c.run_line.new.analyst) _
+    c.in-Ok-TooLarge.size c.in-Ok-TooLarge.field-0-is c.in-Ok-TooLarge.ensures.turn c.circuit.result.now c.circuit.ensures.value
 
 pub returns-in-Ok-TooLarge-clause-said : goal.returns-in-Ok-TooLarge-clause-said
 returns-in-Ok-TooLarge-clause-said g c =
