@@ -1,6 +1,6 @@
 -- Once the circuit is built, calm lines have nothing analysed, and leave what is kept.
 -- The plan: a build puts the present texts in front of what is kept, where a further build finds them; and no effect of a calm command
--- changes the circuit, the bound or what is kept. While a node is stuck a line stays calm, and one that builds still builds.
+-- changes the circuit, a bound or what is kept. While a node is stuck a line stays calm, and one that builds still builds.
 use Rattle.std.proofs.Common.{◌≡◌, ℕ, Bool, true, false, inl, inr, List, [], ◌++◌, All, Option, Some, None, Result, Ok, Err, refl, sym, ap, subst, ◌∙◌}
 use Rattle.std.proofs.lemmas.List.Elements.{All-head, All-tail}
 use Rattle.ternary.specs.declared.tern.Tern.{Tern}
@@ -26,14 +26,14 @@ use Rattle.script_meaning.specs.declared.turn.Turn.TheVariants.{Accepted}
 use Rattle.script_meaning.specs.Turns.{TakesTurn}
 use Rattle.fault_sim.specs.Masks.{masked_of, masked_reading_by, masked_reading}
 use Rattle.fault_meaning.specs.Early.{unsettles, IsCalm, IsBuilding}
-use Rattle.fault_meaning.proofs.OnceLemmas.{mask_alike, set_unbound}
+use Rattle.fault_meaning.proofs.OnceLemmas.{mask_alike, set_unbounded}
 
 -- ---- builds
 
 -- a build would find no new text, and leave what is kept
 pub record IsCurrent (session : SessionData) : Type 0 where
   pub present : List GroupTextData
-  pub has : HasTexts session.circuit.graph present
+  pub has : HasTexts session.large session.circuit.graph present
   pub known : new_texts session.kept present ≡ []
   pub same : kept_after session.bound present session.kept ≡ session.kept
 
@@ -49,10 +49,11 @@ built_current old mid texts build =
 
 -- ---- effects
 
--- the circuit, the bound and what is kept are as before
+-- the circuit, both bounds and what is kept are as before
 record LeavesBuilt (old new : SessionData) : Type 0 where
   circuit : new.circuit ≡ old.circuit
   bound : new.bound ≡ old.bound
+  large : new.large ≡ old.large
   kept : new.kept ≡ old.kept
 
 -- where the new data are the old ones but for what isn't among these
@@ -63,18 +64,20 @@ leaves_by old new next same left = subst (LeavesBuilt old) (sym same) left
 effect_leaves : (old new : SessionData) (command : Command) (lines : List Line) → unsettles command ≡ false → Effect old command new lines →
     LeavesBuilt old new
 effect_leaves old new (family.Edit edit) lines calm effect = absurd (cc)
-effect_leaves old new (family.Give give) lines calm effect = leaves_by old new _ effect.0 (record { circuit = refl; bound = refl; kept = refl })
+effect_leaves old new (family.Give give) lines calm effect = leaves_by old new _ effect.0 (record { circuit = refl; bound = refl; large = refl; kept = refl })
 effect_leaves old new (family.Setup setup) lines calm effect =
     let left = setup_leaves old setup in
-    leaves_by old new _ effect.0 (record { circuit = left.circuit; bound = set_unbound old setup calm; kept = left.kept })
+    let bounds = set_unbounded old setup calm in
+    leaves_by old new _ effect.0 (record { circuit = left.circuit; bound = bounds.0; large = bounds.1; kept = left.kept })
 effect_leaves old new (family.Run run) lines calm effect =
-    let left = run_leaves old new run lines effect in record { circuit = left.circuit; bound = left.bound; kept = left.kept }
-effect_leaves old new (family.Tell tell) lines calm effect = leaves_by old new _ effect.0 (record { circuit = refl; bound = refl; kept = refl })
+    let left = run_leaves old new run lines effect in record { circuit = left.circuit; bound = left.bound; large = left.large; kept = left.kept }
+effect_leaves old new (family.Tell tell) lines calm effect = leaves_by old new _ effect.0 (record { circuit = refl; bound = refl; large = refl; kept = refl })
 
 left_current : (old new : SessionData) → LeavesBuilt old new → IsCurrent old → IsCurrent new
 left_current old new left current = record {
   present = current.present;
-  has = subst (λ (circuit : CircuitData). HasTexts circuit.graph current.present) (sym left.circuit) current.has;
+  has = subst (λ (large : ℕ). HasTexts large new.circuit.graph current.present) (sym left.large)
+      (subst (λ (circuit : CircuitData). HasTexts old.large circuit.graph current.present) (sym left.circuit) current.has);
   known = ap (λ kept. new_texts kept current.present) left.kept ∙ current.known;
   same = ap (λ (bound : Option ℕ). kept_after bound current.present new.kept) left.bound
       ∙ ap (kept_after old.bound current.present) left.kept ∙ current.same ∙ sym left.kept;
@@ -110,7 +113,7 @@ record GoesOn (old new : SessionData) (texts : List GroupTextData) : Type 0 wher
 
 prepares_calm : (does : Bool) (old mid : SessionData) (texts : List GroupTextData) → IsCurrent old → BuildsIf does old mid texts → GoesOn old mid texts
 prepares_calm true old mid texts current build =
-    let present : build.present ≡ current.present = HasTexts-unique old.circuit.graph build.present current.present build.has current.has in
+    let present : build.present ≡ current.present = HasTexts-unique old.large old.circuit.graph build.present current.present build.has current.has in
     record {
       current = built_current old mid texts build;
       none = build.news ∙ ap (new_texts old.kept) present ∙ current.known;

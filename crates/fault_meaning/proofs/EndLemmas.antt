@@ -74,7 +74,7 @@ module _ (stuck : Option (ℕ × Tern)) (script : List ℕ) (start : SessionData
       HasOutgrown compared (masked_reading stuck) (cut_line script) start (lines_in script) new (uncompared rows) now asked told number size →
       JudgesLines stuck script start good new asked told (verdict_of now (Some number))
   judged_outgrown number size outgrown =
-      let caused = size_caused new.circuit size outgrown.first in
+      let caused = size_caused new.large new.circuit size outgrown.first in
       judged_obeyed (Some number) (Some (record { line = number; cause = caused.0 })) refl
       (outgrown.halted size caused.0 outgrown.first caused.1)
 

@@ -357,4 +357,4 @@ pub cut_short : (c : CircuitData) (script : List ℕ) (kept : List GroupTextData
     RunsTo c script kept None new asked mid good halt → IsCutShort new.circuit halt
 cut_short c script kept new asked mid good End other ran = absurd (other refl)
 cut_short c script kept new asked mid good (Refused number code) other ran = tt
-cut_short c script kept new asked mid good (TooLarge number size) other outgrown = outgrown.first
+cut_short c script kept new asked mid good (TooLarge number size) other outgrown = (new.large, outgrown.first)

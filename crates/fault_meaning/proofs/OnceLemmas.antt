@@ -1,6 +1,6 @@
 -- No text of a group is analysed twice for a list of faults.
 -- The plan: a build has no text analysed that is kept, and without a bound keeps what it has analysed; no command lets go of what is kept, and
--- none but `keep` sets a bound; and each run goes on from what the last one keeps.
+-- none but `keep` bounds it; and each run goes on from what the last one keeps.
 use Rattle.std.proofs.Common.{◌≡◌, ◌≢◌, ℕ, ◌⊎◌, inl, inr, Bool, true, false, ◌||◌, List, [], ◌∷◌, ◌++◌, All, Option, Some, None, option_map, Result, Ok, Err, refl, sym, ap, subst, ◌∙◌, append_assoc, append-nil, true≢false}
 use Rattle.std.specs.List.{IsDistinct}
 use Rattle.std.proofs.lemmas.List.Elements.{All-nil, All-cons, All-head, All-tail}
@@ -23,7 +23,7 @@ use Rattle.script_lang.specs.declared.command.Edit.TheVariants.{Input, Del, Kind
 use Rattle.script_lang.specs.declared.command.Give.TheVariants.{Set}
 use Rattle.script_lang.specs.declared.value.Value.TheVariants.{Letter}
 use Rattle.script_lang.specs.declared.command.Setup.{Setup}
-use Rattle.script_lang.specs.declared.command.Setup.TheVariants.{Clock, Keep}
+use Rattle.script_lang.specs.declared.command.Setup.TheVariants.{Clock, Keep, Widen}
 use Rattle.script_lang.specs.declared.command.ScriptFault.{ScriptFault}
 use Rattle.script_lang.specs.Commands.{reading_of}
 use Rattle.session_meaning.specs.Sessions.{SessionData}
@@ -150,9 +150,14 @@ both_new kept some mid more new first second = record {
 
 -- ---- a command
 
+-- it is `keep`
+abbrev pub is_keep : Setup → Bool
+is_keep (Keep number) = true
+is_keep other = false
+
 -- the command is `keep`
 abbrev pub bounds : Command → Bool
-bounds (family.Setup setup) = sets_bound setup
+bounds (family.Setup setup) = is_keep setup
 bounds other = false
 
 never_bounds : (command : Command) → ((number : ℕ) → command ≢ family.Setup (Keep number)) → bounds command ≡ false
@@ -160,10 +165,17 @@ never_bounds (family.Setup (Keep number)) never = absurd (never number refl)
 never_bounds (family.Setup other) never = refl
 never_bounds other never = refl
 
--- no other command sets a bound
-pub set_unbound : (old : SessionData) (setup : Setup) → sets_bound setup ≡ false → (setup_after old setup).bound ≡ old.bound
+-- no other command sets a bound on what is kept
+set_unbound : (old : SessionData) (setup : Setup) → is_keep setup ≡ false → (setup_after old setup).bound ≡ old.bound
 set_unbound old (Keep number) never = absurd cc
 set_unbound old other never = refl
+
+-- nor does one that is no `wide` either set any bound
+pub set_unbounded : (old : SessionData) (setup : Setup) → sets_bound setup ≡ false →
+    ((setup_after old setup).bound ≡ old.bound) × ((setup_after old setup).large ≡ old.large)
+set_unbounded old (Keep number) never = absurd cc
+set_unbounded old (Widen number) never = absurd cc
+set_unbounded old other never = (refl, refl)
 
 effect_unbound : (old new : SessionData) (command : Command) (lines : List Line) → bounds command ≡ false → Effect old command new lines →
     new.bound ≡ old.bound
@@ -226,6 +238,10 @@ setup_masked : (c : CircuitData) (stuck : Option (ℕ × Tern)) (setup : Setup) 
 setup_masked c stuck (Clock list) = refl
 setup_masked c stuck other = refl
 
+keep_masked : (c : CircuitData) (stuck : Option (ℕ × Tern)) (setup : Setup) → is_keep (masked_setup c stuck setup) ≡ is_keep setup
+keep_masked c stuck (Clock list) = refl
+keep_masked c stuck other = refl
+
 pub mask_alike : (c : CircuitData) (vectors : List (List ℕ × List ℕ)) (stuck : Option (ℕ × Tern)) (command masked : Command) →
     masked_of c vectors stuck command ≡ Some masked →
     IsMaskAlike command masked
@@ -235,7 +251,7 @@ mask_alike c vectors stuck (family.Give give) masked is =
     let left = in_family family.Give (masked_give c vectors stuck give) masked is in record { bound = ap bounds left.1; unsettled = ap unsettles left.1 }
 mask_alike c vectors stuck (family.Setup setup) masked is =
     let e : masked ≡ family.Setup (masked_setup c stuck setup) = cc in
-    record { bound = ap bounds e ∙ setup_masked c stuck setup; unsettled = ap unsettles e ∙ setup_masked c stuck setup }
+    record { bound = ap bounds e ∙ keep_masked c stuck setup; unsettled = ap unsettles e ∙ setup_masked c stuck setup }
 mask_alike c vectors stuck (family.Run run) masked is =
     let e : masked ≡ family.Run run = cc in record { bound = ap bounds e; unsettled = ap unsettles e }
 mask_alike c vectors stuck (family.Tell tell) masked is =

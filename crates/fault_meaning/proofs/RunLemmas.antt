@@ -89,7 +89,7 @@ traced c script kept fault new asked told trace End ran = has_traced c script ke
 traced c script kept fault new asked told trace (Refused number code) ran =
     has_traced c script kept fault new asked told trace (Some (record { line = number; cause = plain_cause code })) ran
 traced c script kept fault new asked told trace (TooLarge number size) outgrown =
-    let caused = size_caused new.circuit size outgrown.first in
+    let caused = size_caused new.large new.circuit size outgrown.first in
     has_traced c script kept fault new asked told trace (Some (record { line = number; cause = caused.0 }))
     (outgrown.halted size caused.0 outgrown.first caused.1)
 

@@ -6,7 +6,7 @@ use Rattle.group_text.specs.Texts.{GroupTextData}
 use Rattle.script_lang.specs.declared.command.Command.{Command}
 use Rattle.script_lang.specs.declared.command.Command.TheVariants as family
 use Rattle.script_lang.specs.declared.command.Setup.{Setup}
-use Rattle.script_lang.specs.declared.command.Setup.TheVariants.{Keep}
+use Rattle.script_lang.specs.declared.command.Setup.TheVariants.{Keep, Widen}
 use Rattle.script_lang.specs.Commands.{reading_of}
 use Rattle.session_meaning.specs.Sessions.{SessionData}
 use Rattle.session_meaning.specs.Machines.{edits}
@@ -22,12 +22,13 @@ use Rattle.fault_meaning.specs.declared.bearing.Bearing.{Bearing}
 use Rattle.fault_meaning.specs.declared.bearing.Bearing.TheVariants.{Unsettles, Builds, Stays}
 use Rattle.fault_meaning.specs.Traces.{Shows}
 
--- it is `keep`
+-- it is `keep` or `wide`
 abbrev pub sets_bound : Setup → Bool
 sets_bound (Keep number) = true
+sets_bound (Widen number) = true
 sets_bound other = false
 
--- after the command a build may have other texts analysed, or keep others: it edits the circuit, or is `keep`
+-- after the command a build may have other texts analysed, or keep others: it edits the circuit, or is `keep` or `wide`
 abbrev pub unsettles : Command → Bool
 unsettles (family.Setup setup) = sets_bound setup
 unsettles command = edits command

@@ -3,7 +3,7 @@ use Rattle.std.specs.Prelude.{◌≡◌, ℕ, false, List, [], ◌∷◌, ◌++�
 use Rattle.netlist.specs.Circuits.{CircuitData, called}
 use Rattle.group_text.specs.Texts.{GroupTextData}
 use Rattle.circuit_texts.specs.declared.texts.BuildFault.{BuildFault}
-use Rattle.circuit_texts.specs.Sizes.{TellsTooLarge}
+use Rattle.circuit_texts.specs.Sizes.{TellsRefused}
 use Rattle.script_lang.specs.declared.command.Command.{Command}
 use Rattle.session_meaning.specs.Sessions.{SessionData, HeldSession}
 use Rattle.session_meaning.specs.Refusals.{refusal_of}
@@ -62,8 +62,8 @@ pub record HasRun (circuit : CircuitData) (script : List ℕ) (kept : List Group
 -- it has run to the line with this number, which is refused since a group of the circuit is too large, the first of which is told
 pub record HasOutgrown (circuit : CircuitData) (script : List ℕ) (kept : List GroupTextData) (fault : Option Fault) (new : SessionData)
     (asked told : List GroupTextData) (trace : Trace) (number : ℕ) (size : BuildFault) : Type 0 where
-  pub first : TellsTooLarge new.circuit.graph size
-  pub halted : (other : BuildFault) (cause : Cause) → TellsTooLarge new.circuit.graph other → size_cause new.circuit other ≡ Some cause →
+  pub first : TellsRefused new.large new.circuit.graph size
+  pub halted : (other : BuildFault) (cause : Cause) → TellsRefused new.large new.circuit.graph other → size_cause new.circuit other ≡ Some cause →
       HasRun circuit script kept fault new asked told trace (Some (record { line = number; cause = cause }))
 
 -- how the run ended

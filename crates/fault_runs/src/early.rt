@@ -21,7 +21,7 @@ use ternary::NoMemory;
 use told_verdicts::Compare;
 
 /// The number of the first line of a script that builds and after which no line edits the circuit or is
-/// `keep`, if there is one.
+/// `keep` or `wide`, if there is one.
 ///
 /// From that line on nothing more is analysed, and what is kept stays.
 pub(crate) fn calm_from(alloc: Global, script: &[u8]) -> Result<Option<u64>, NoMemory>
@@ -66,6 +66,7 @@ fn command_bearing(command: &Command) -> Bearing
     match command {
         Command::Edit(_) => Bearing::Unsettles,
         Command::Setup(Setup::Keep(_)) => Bearing::Unsettles,
+        Command::Setup(Setup::Widen(_)) => Bearing::Unsettles,
         Command::Setup(Setup::Watch(_)) => Bearing::Stays,
         Command::Setup(Setup::Limit(_)) => Bearing::Stays,
         Command::Setup(Setup::Clock(_)) => Bearing::Stays,
@@ -79,7 +80,7 @@ fn command_bearing(command: &Command) -> Bearing
 /// Runs a script under a fault, in a session that stands at the start, and gives the verdict on its trace beside
 /// a good one. The run is compared with the good one as its lines are told, and no row of it is held.
 ///
-/// If no line of the script edits the circuit or is `keep` from one on that builds, the run ends at its first
+/// If no line of the script edits the circuit or is `keep` or `wide` from one on that builds, the run ends at its first
 /// strong difference after that: nothing that follows can change the verdict, what was analysed, or what is kept.
 pub(crate) fn judge_under<A: Analyst>(
     alloc: Global,
