@@ -93,8 +93,10 @@ pub alike-built : (building : Bool) (one two mid then : SessionData) (texts othe
     BuildsIf building one mid texts → BuildsIf building two then others → AreAlike mid then
 alike-built true one two mid then texts others alike first second =
     let circuit : two.circuit ≡ one.circuit = ap (λ (s : SessionData). s.circuit) (beside one two alike) in
-    let present : second.present ≡ first.present = HasTexts-unique one.circuit.graph second.present first.present
-    (subst (λ (c : CircuitData). HasTexts c.graph second.present) circuit second.has) first.has in
+    let bound : two.large ≡ one.large = ap (λ (s : SessionData). s.large) (beside one two alike) in
+    let present : second.present ≡ first.present = HasTexts-unique one.large one.circuit.graph second.present first.present
+    (subst (λ (large : ℕ). HasTexts large one.circuit.graph second.present) bound
+    (subst (λ (c : CircuitData). HasTexts two.large c.graph second.present) circuit second.has)) first.has in
     kept_alike (λ s. with_present s first.present) one two mid then alike (ap less_states first.used)
     (ap less_states (second.used ∙ ap (with_present two) present))
 alike-built false one two mid then texts others alike first second =

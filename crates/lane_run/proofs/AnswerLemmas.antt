@@ -3,13 +3,13 @@ use Rattle.std.proofs.Common.{◌≡◌, ◌≢◌, ℕ, ◌⊎◌, inl, inr, Li
 use Rattle.std.specs.Io.KnownBytes.{append_known}
 use Rattle.port_edge.specs.Sending.{WritesPart}
 use Rattle.port_edge.proofs.SendingLemmas.{append_known-append, sends_part, part_longer}
-use Rattle.netlist.specs.Circuits.{CircuitData}
 use Rattle.group_text.specs.Texts.{GroupTextData}
 use Rattle.wave_print.specs.declared.faults.FaultPlace.TheVariants.{Script}
 use Rattle.told_lines.specs.Hearing.{of_column}
 use Rattle.told_lines.specs.Printing.{Page, print, PrintsPart}
 use Rattle.told_lines.proofs.PrintingLemmas.{written-all, written-front, refusal-printed}
 use Rattle.session_meaning.specs.Sessions.{SessionData}
+use Rattle.lane_session.specs.LaneSessions.{LaneSessionData}
 use Rattle.script_meaning.specs.declared.halt.Halt.{Halt}
 use Rattle.script_meaning.specs.declared.halt.Halt.TheVariants.{End, Refused, TooLarge}
 use Rattle.run_ends.specs.declared.stop.Stop.{Stop}
@@ -43,11 +43,11 @@ module _ (lanes : ℕ) (cut : Option ℕ) (start : ℕ → SessionData) (lines :
   }
 
   -- lines that weren't all obeyed were cut short
-  pub cut_short : (circuit : CircuitData) (halt : Halt) → halt ≢ End → HaltsAt lanes cut start lines circuit before mid asked told halt →
-      IsCutShort circuit halt
-  cut_short circuit End other halts = absurd (other refl)
-  cut_short circuit (Refused number code) other halts = tt
-  cut_short circuit (TooLarge number size) other halts = halts.first
+  pub cut_short : (new : LaneSessionData) (halt : Halt) → halt ≢ End → HaltsAt lanes cut start lines new before mid asked told halt →
+      IsCutShort new.circuit halt
+  cut_short new End other halts = absurd (other refl)
+  cut_short new (Refused number code) other halts = tt
+  cut_short new (TooLarge number size) other halts = (new.large, halts.first)
 
   -- the lines broke off
   pub told_stop : (mid ≡ before) ⊎ BreakOff lanes cut start lines before mid → IsStopped (IsBatchAnswer lanes cut start lines) before mid
@@ -87,10 +87,10 @@ module _ (lanes : ℕ) (cut : Option ℕ) (start : ℕ → SessionData) (lines :
       })
 
   -- so it is where lines were cut short
-  pub told_cut : (circuit : CircuitData) (halt : Halt) (result : Result end.End Stop) →
-      HaltsAt lanes cut start lines circuit before page.written asked told halt → TellsCutShort print PrintsPart circuit halt page after result →
+  pub told_cut : (new : LaneSessionData) (halt : Halt) (result : Result end.End Stop) →
+      HaltsAt lanes cut start lines new before page.written asked told halt → TellsCutShort print PrintsPart new.circuit halt page after result →
       IsToldBy (IsBatchAnswer lanes cut start lines) before after.written asked told result
-  told_cut circuit End result halts tells = absurd tells
-  told_cut circuit (Refused number code) result halts tells = told_refused (record { line = number; cause = plain_cause code }) result halts tells
-  told_cut circuit (TooLarge number size) result halts (cause, named, tells) =
+  told_cut new End result halts tells = absurd tells
+  told_cut new (Refused number code) result halts tells = told_refused (record { line = number; cause = plain_cause code }) result halts tells
+  told_cut new (TooLarge number size) result halts (cause, named, tells) =
       told_refused (record { line = number; cause = cause }) result (halts.halted size cause halts.first named) tells

@@ -4,7 +4,7 @@ use Rattle.std.proofs.Common.{◌≡◌, ℕ, ◌<◌, ◌⊎◌, inl, inr, Bool
 use Rattle.group_text.specs.Texts.{GroupTextData}
 use Rattle.group_text.specs.FirstTexts.{new_texts}
 use Rattle.circuit_texts.specs.declared.texts.BuildFault.{BuildFault}
-use Rattle.circuit_texts.specs.Sizes.{TellsTooLarge}
+use Rattle.circuit_texts.specs.Sizes.{TellsRefused}
 use Rattle.circuit_texts.specs.Building.{HasTexts}
 use Rattle.lane_script.specs.declared.command.LaneCommand.{LaneCommand}
 use Rattle.lane_script.specs.Commands.{in_column}
@@ -36,7 +36,7 @@ pub record AreReady (lanes : ℕ) (columns : ℕ → SessionData) : Type 0 where
 pub data EndsTogether (lanes : ℕ) (columns : ℕ → SessionData) (command : LaneCommand) : Type 0 where
   all_refused : (refusal : Refusal) → ((lane : ℕ) → lane < lanes → refusal_of (columns lane) (in_column lane command) ≡ Some refusal) → EndsTogether lanes columns command
   all_large : (fault : BuildFault) → ((lane : ℕ) → lane < lanes → refusal_of (columns lane) (in_column lane command) ≡ None) →
-      ((lane : ℕ) → builds (in_column lane command) ≡ true) → TellsTooLarge (columns 0).circuit.graph fault → EndsTogether lanes columns command
+      ((lane : ℕ) → builds (in_column lane command) ≡ true) → TellsRefused (columns 0).large (columns 0).circuit.graph fault → EndsTogether lanes columns command
   all_performed : (new : ℕ → SessionData) (text : List ℕ) (texts : List GroupTextData) → PerformsTogether lanes columns command new text texts →
       EndsTogether lanes columns command
 
@@ -104,7 +104,7 @@ module _ (lanes : ℕ) (columns : ℕ → SessionData) (are : AreReady lanes col
           ]
 
   -- one that builds, if the circuit has texts
-  built_end : builds (in_column 0 command) ≡ true → refusal_of (columns 0) (in_column 0 command) ≡ None → (texts : List GroupTextData) → HasTexts (columns 0).circuit.graph texts →
+  built_end : builds (in_column 0 command) ≡ true → refusal_of (columns 0) (in_column 0 command) ≡ None → (texts : List GroupTextData) → HasTexts (columns 0).large (columns 0).circuit.graph texts →
       EndsTogether lanes columns command
   built_end building allowed texts has = performed (new_texts (columns 0).kept texts) each
     where
@@ -114,20 +114,25 @@ module _ (lanes : ℕ) (columns : ℕ → SessionData) (are : AreReady lanes col
       some : (lane : ℕ) → builds (in_column lane command) ≡ true
       some lane = builds_alike command lane 0 ∙ building
 
-      has_in : (lane : ℕ) → lane < lanes → HasTexts (columns lane).circuit.graph texts
-      has_in lane inside = subst (λ c. HasTexts c.graph texts) (sym (same_circuit lane inside)) has
+      same_bound : (lane : ℕ) → lane < lanes → (columns lane).large ≡ (columns 0).large
+      same_bound lane inside = ap (λ (s : SessionData). s.large) (beside (columns 0) (columns lane) (are.alike lane inside))
+
+      has_in : (lane : ℕ) → lane < lanes → HasTexts (columns lane).large (columns lane).circuit.graph texts
+      has_in lane inside =
+          subst (λ (large : ℕ). HasTexts large (columns lane).circuit.graph texts) (sym (same_bound lane inside))
+          (subst (λ c. HasTexts (columns 0).large c.graph texts) (sym (same_circuit lane inside)) has)
 
       same_fresh : (lane : ℕ) → lane < lanes → (mid : SessionData) (others : List GroupTextData) → IsBuild (columns lane) mid others → others ≡ new_texts (columns 0).kept texts
       same_fresh lane inside mid others build =
           build.news
           ∙ ap₂ new_texts (ap (λ (s : SessionData). s.kept) (beside (columns 0) (columns lane) (are.alike lane inside)))
-          (HasTexts-unique (columns lane).circuit.graph build.present texts build.has (has_in lane inside))
+          (HasTexts-unique (columns lane).large (columns lane).circuit.graph build.present texts build.has (has_in lane inside))
 
       each : (lane : ℕ) → lane < lanes → (end : SessionData × List Line) × Told (new_texts (columns 0).kept texts) lane end
       each lane inside =
           elim (command_ends (columns lane) (in_column lane command) (are.ready lane inside) (formed_in lanes lane command formed)) [
             | effects.refused refusal is ↦ let no : None ≡ Some refusal = sym (same_refusal None allowed lane inside) ∙ is in absurd (cc)
-            | effects.too_large fault allows does first ↦ absurd (not_both (columns lane).circuit.graph fault texts first (has_in lane inside))
+            | effects.too_large fault allows does first ↦ absurd (not_both (columns lane).large (columns lane).circuit.graph fault texts first (has_in lane inside))
             | effects.performed new wrote others performs ↦
                 told (new_texts (columns 0).kept texts) lane inside new wrote others
                 (same_fresh lane inside performs.mid others (subst (λ (does : Bool). BuildsIf does (columns lane) performs.mid others) (some lane) performs.prepares)) performs
@@ -137,10 +142,10 @@ module _ (lanes : ℕ) (columns : ℕ → SessionData) (are : AreReady lanes col
   pub ends_together : EndsTogether lanes columns command
   ends_together =
       by (refusal_of (columns 0) (in_column 0 command)) (builds (in_column 0 command)) refl refl
-      (texts_or_size (columns 0).circuit.graph (are.ready 0 are.some).netlist.wired)
+      (texts_or_size (columns 0).large (columns 0).circuit.graph (are.ready 0 are.some).netlist.wired)
     where
       by : (found : Option Refusal) (building : Bool) → refusal_of (columns 0) (in_column 0 command) ≡ found → builds (in_column 0 command) ≡ building →
-          ((texts : List GroupTextData) × HasTexts (columns 0).circuit.graph texts) ⊎ ((fault : BuildFault) × TellsTooLarge (columns 0).circuit.graph fault) →
+          ((texts : List GroupTextData) × HasTexts (columns 0).large (columns 0).circuit.graph texts) ⊎ ((fault : BuildFault) × TellsRefused (columns 0).large (columns 0).circuit.graph fault) →
           EndsTogether lanes columns command
       by (Some refusal) building is does size = all_refused refusal (same_refusal (Some refusal) is)
       by None false is does size = still_end does is

@@ -9,7 +9,7 @@ use Rattle.line_words.specs.Files.{is_cut}
 use Rattle.netlist.specs.Circuits.{CircuitData}
 use Rattle.group_text.specs.Texts.{GroupTextData}
 use Rattle.circuit_texts.specs.declared.texts.BuildFault.{BuildFault}
-use Rattle.circuit_texts.specs.Sizes.{TellsTooLarge}
+use Rattle.circuit_texts.specs.Sizes.{TellsRefused}
 use Rattle.lane_script.specs.declared.command.LaneCommand.{LaneCommand}
 use Rattle.lane_script.specs.Commands.{in_column}
 use Rattle.session_meaning.specs.Sessions.{SessionData, IsReady}
@@ -109,11 +109,14 @@ module _ (lanes : ℕ) (cut : Option ℕ) where
           | all_refused refusal is ↦
               outcome-refused (plain_cause (refusal_code refusal)) (λ lane inside. refused (in_column lane command) refusal (asks.each lane inside) (is lane inside) refl)
           | all_large fault allowed building first ↦
-              let caused = size_caused (columns 0).circuit fault first in
+              let caused = size_caused (columns 0).large (columns 0).circuit fault first in
               outcome-refused caused.0 (λ lane inside.
-              let same : (columns 0).circuit ≡ (columns lane).circuit = sym (ap (λ (s : SessionData). s.circuit) (beside (columns 0) (columns lane) (are.alike lane inside))) in
+              let besides = beside (columns 0) (columns lane) (are.alike lane inside) in
+              let same : (columns 0).circuit ≡ (columns lane).circuit = sym (ap (λ (s : SessionData). s.circuit) besides) in
+              let bound : (columns 0).large ≡ (columns lane).large = sym (ap (λ (s : SessionData). s.large) besides) in
               too_large (in_column lane command) fault (asks.each lane inside) (allowed lane inside) (building lane)
-              (subst (λ (c : CircuitData). TellsTooLarge c.graph fault) same first) (subst (λ (c : CircuitData). size_cause c fault ≡ Some caused.0) same caused.1))
+              (subst (λ (large : ℕ). TellsRefused large (columns lane).circuit.graph fault) bound
+              (subst (λ (c : CircuitData). TellsRefused (columns 0).large c.graph fault) same first)) (subst (λ (c : CircuitData). size_cause c fault ≡ Some caused.0) same caused.1))
           | all_performed new text texts performs ↦
               let rest = goes new (ready_together lanes columns new command asks.formed text texts are performs) in
               record {
@@ -186,9 +189,9 @@ pub obeyed_in : {lanes count : ℕ} {cut other : Option ℕ} {start : ℕ → Se
 obeyed_in {lanes} {count} {cut} {other} {start} {all} {before} {after} {asked} {told} {last} same far obeyed =
     subst (λ n. HaveObeyed n other start all before after asked told last) same (subst (λ c. HaveObeyed lanes c start all before after asked told last) far obeyed)
 
-pub outgrown_in : {lanes count : ℕ} {cut other : Option ℕ} {start : ℕ → SessionData} {all : List (ℕ × List ℕ)} {circuit : CircuitData} {before after : Option (List ℕ)}
+pub outgrown_in : {lanes count : ℕ} {cut other : Option ℕ} {start : ℕ → SessionData} {all : List (ℕ × List ℕ)} {new : LaneSessionData} {before after : Option (List ℕ)}
     {asked told : List GroupTextData} {number : ℕ} {fault : BuildFault} → lanes ≡ count → cut ≡ other →
-    HaveOutgrown lanes cut start all circuit before after asked told number fault → HaveOutgrown count other start all circuit before after asked told number fault
+    HaveOutgrown lanes cut start all new before after asked told number fault → HaveOutgrown count other start all new before after asked told number fault
 outgrown_in same far outgrown = record { first = outgrown.first; halted = λ other cause tells named. obeyed_in same far (outgrown.halted other cause tells named) }
 
 -- and where they broke off, as many did
@@ -294,17 +297,21 @@ module _ (cut : Option ℕ) (start : ℕ → SessionData) (all : List (ℕ × Li
   -- to a line for whose command the circuit is too large
   pub halts_large : (new : LaneSessionData) (more : Option (List ℕ)) (further : List GroupTextData) (fault : BuildFault) →
       TakesTurn cut line now new after more told further (Ok (TooLarge fault)) →
-      HaveOutgrown now.lanes cut start all new.circuit before more asked further line.0 fault
+      HaveOutgrown now.lanes cut start all new before more asked further line.0 fault
   halts_large new more further fault out =
       let keeps = out.refuses.keeps in
       let same : new.circuit ≡ now.circuit = circuit_stands now new now.kept keeps.stands in
+      let bound : new.large ≡ now.large = ap (λ (s : LaneSessionData). s.large) keeps.stands.rest in
       record {
-        first = subst (λ (c : CircuitData). TellsTooLarge c.graph fault) (sym same) out.refuses.first;
+        first =
+            subst (λ (large : ℕ). TellsRefused large new.circuit.graph fault) (sym bound)
+            (subst (λ (c : CircuitData). TellsRefused now.large c.graph fault) (sym same) out.refuses.first);
         halted = λ other cause tells named.
             obeyed_kept new more further (Some (record { line = line.0; cause = cause })) keeps
             (refused_here cause (λ lane inside.
             too_large (in_column lane out.command) other (out.asks.each lane inside) (out.refuses.allowed lane inside) (out.refuses.building lane)
-            (subst (λ (c : CircuitData). TellsTooLarge c.graph other) same tells) (subst (λ (c : CircuitData). size_cause c other ≡ Some cause) same named)));
+            (subst (λ (c : CircuitData). TellsRefused now.large c.graph other) same (subst (λ (large : ℕ). TellsRefused large new.circuit.graph other) bound tells))
+            (subst (λ (c : CircuitData). size_cause c other ≡ Some cause) same named)));
       }
 
   -- where it stopped in the rows of an outcome from here, a part was written of the rows of all lines

@@ -2,10 +2,9 @@
 use Rattle.std.specs.Prelude.{◌≡◌, ℕ, ◌<◌, ◌⊎◌, List, ◌++◌, Option, None, Some, Result, Ok, Err}
 use Rattle.std.specs.Io.KnownBytes.{append_known}
 use Rattle.port_edge.specs.Sending.{WritesPart}
-use Rattle.netlist.specs.Circuits.{CircuitData}
 use Rattle.group_text.specs.Texts.{GroupTextData}
 use Rattle.circuit_texts.specs.declared.texts.BuildFault.{BuildFault}
-use Rattle.circuit_texts.specs.Sizes.{TellsTooLarge}
+use Rattle.circuit_texts.specs.Sizes.{TellsRefused}
 use Rattle.lane_script.specs.declared.command.LaneCommand.{LaneCommand}
 use Rattle.lane_script.specs.Commands.{in_column}
 use Rattle.lane_script.specs.Forms.{IsFormed}
@@ -76,20 +75,20 @@ pub record HaveObeyed (lanes : ℕ) (cut : Option ℕ) (start : ℕ → SessionD
   pub analysed : told ≡ asked ++ texts
 
 -- they were obeyed to the line with this number, which is refused since a group of the circuit is too large, the first of which is told
-pub record HaveOutgrown (lanes : ℕ) (cut : Option ℕ) (start : ℕ → SessionData) (lines : List (ℕ × List ℕ)) (circuit : CircuitData) (before after : Option (List ℕ))
+pub record HaveOutgrown (lanes : ℕ) (cut : Option ℕ) (start : ℕ → SessionData) (lines : List (ℕ × List ℕ)) (new : LaneSessionData) (before after : Option (List ℕ))
     (asked told : List GroupTextData) (number : ℕ) (fault : BuildFault) : Type 0 where
-  pub first : TellsTooLarge circuit.graph fault
-  pub halted : (other : BuildFault) (cause : Cause) → TellsTooLarge circuit.graph other → size_cause circuit other ≡ Some cause →
+  pub first : TellsRefused new.large new.circuit.graph fault
+  pub halted : (other : BuildFault) (cause : Cause) → TellsRefused new.large new.circuit.graph other → size_cause new.circuit other ≡ Some cause →
       HaveObeyed lanes cut start lines before after asked told (Some (record { line = number; cause = cause }))
 
 -- how the lines of a script end in columns: all were obeyed, or the line with a number is refused under a code or for the size of a group
-abbrev pub HaltsAt : ℕ → Option ℕ → (ℕ → SessionData) → List (ℕ × List ℕ) → CircuitData → Option (List ℕ) → Option (List ℕ) → List GroupTextData →
+abbrev pub HaltsAt : ℕ → Option ℕ → (ℕ → SessionData) → List (ℕ × List ℕ) → LaneSessionData → Option (List ℕ) → Option (List ℕ) → List GroupTextData →
     List GroupTextData → Halt → Type 0
-HaltsAt lanes cut start lines circuit before after asked told halt.End = HaveObeyed lanes cut start lines before after asked told None
-HaltsAt lanes cut start lines circuit before after asked told (halt.Refused number code) =
+HaltsAt lanes cut start lines new before after asked told halt.End = HaveObeyed lanes cut start lines before after asked told None
+HaltsAt lanes cut start lines new before after asked told (halt.Refused number code) =
     HaveObeyed lanes cut start lines before after asked told (Some (record { line = number; cause = plain_cause code }))
-HaltsAt lanes cut start lines circuit before after asked told (halt.TooLarge number fault) =
-    HaveOutgrown lanes cut start lines circuit before after asked told number fault
+HaltsAt lanes cut start lines new before after asked told (halt.TooLarge number fault) =
+    HaveOutgrown lanes cut start lines new before after asked told number fault
 
 -- a part of the rows of some run to its end was written, from the start
 pub record BreakOff (lanes : ℕ) (cut : Option ℕ) (start : ℕ → SessionData) (lines : List (ℕ × List ℕ)) (before after : Option (List ℕ)) : Type 0 where
@@ -100,7 +99,7 @@ pub record BreakOff (lanes : ℕ) (cut : Option ℕ) (start : ℕ → SessionDat
   pub part : WritesPart before after text
 
 -- what obeying the lines of a script in columns comes to; where it stopped, nothing was written, or a part of the rows
-abbrev pub TellsHalt : ℕ → Option ℕ → (ℕ → SessionData) → List (ℕ × List ℕ) → CircuitData → Option (List ℕ) → Option (List ℕ) → List GroupTextData →
+abbrev pub TellsHalt : ℕ → Option ℕ → (ℕ → SessionData) → List (ℕ × List ℕ) → LaneSessionData → Option (List ℕ) → Option (List ℕ) → List GroupTextData →
     List GroupTextData → Result Halt Stop → Type 0
-TellsHalt lanes cut start lines circuit before after asked told (Ok halt) = HaltsAt lanes cut start lines circuit before after asked told halt
-TellsHalt lanes cut start lines circuit before after asked told (Err stop) = (after ≡ before) ⊎ BreakOff lanes cut start lines before after
+TellsHalt lanes cut start lines new before after asked told (Ok halt) = HaltsAt lanes cut start lines new before after asked told halt
+TellsHalt lanes cut start lines new before after asked told (Err stop) = (after ≡ before) ⊎ BreakOff lanes cut start lines before after

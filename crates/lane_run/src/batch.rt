@@ -55,7 +55,7 @@ fn obey_batch<S: Sink, A: Analyst>(
     out: &mut S,
     analyst: &mut A,
 ) -> Result<Halt, Stop>
-    ensures told { TellsHalt session.old.core.lanes (file.cut_line text.now) (session_in session.old.core) (file.lines_in text.now) session.new.core.circuit
+    ensures told { TellsHalt session.old.core.lanes (file.cut_line text.now) (session_in session.old.core) (file.lines_in text.now) session.new.core
         (S.written out.old) (S.written out.new) (A.analysed analyst.old) (A.analysed analyst.new) result }
     ensures no_read { IfErr result (λ stop. stop ≢ Stop.Read) }
     ensures write { S.faults out.new ≡ faults_written (S.faults out.old) result }

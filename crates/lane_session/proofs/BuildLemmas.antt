@@ -17,8 +17,8 @@ use Rattle.lane_machine.specs.Building.{HasBuilt}
 use Rattle.lane_session.specs.Stages.{StandFirst}
 
 -- once a build was done, the texts of the graph stand in front of what is kept
-pub built_stands_first : (g : GraphData) (bound : Option ℕ) (old new asked told : List GroupTextData) → HasBuilt g bound old new asked told → StandFirst g new
-built_stands_first g bound old new asked told (count, builds) = record {
+pub built_stands_first : (large : ℕ) (g : GraphData) (bound : Option ℕ) (old new asked told : List GroupTextData) → HasBuilt large g bound old new asked told → StandFirst large g new
+built_stands_first large g bound old new asked told (count, builds) = record {
   present = builds.present;
   has = builds.has;
   none = ap (λ (kept : List GroupTextData). new_texts kept builds.present) builds.kept ∙ none_is_new_again bound builds.present old;
@@ -26,8 +26,8 @@ built_stands_first g bound old new asked told (count, builds) = record {
 }
 
 -- where they stand there, a build analyses nothing, and leaves what is kept
-pub first_builds : (g : GraphData) (kept asked : List GroupTextData) → StandFirst g kept → HasBuilt g None kept kept asked asked
-first_builds g kept asked first = (
+pub first_builds : (large : ℕ) (g : GraphData) (kept asked : List GroupTextData) → StandFirst large g kept → HasBuilt large g None kept kept asked asked
+first_builds large g kept asked first = (
   0,
   record {
     present = first.present;

@@ -1,8 +1,6 @@
 -- Words and the states of columns: what is set, added and placed in words is so in each column.
-use Rattle.std.proofs.Common.{◌≡◌, ◌≢◌, ℕ, zero, suc, ◌+◌, ◌-◌, ◌^◌, ◌%◌, ◌*◌, ◌<◌, ◌≤◌, Bool, true, false, ◌||◌, List, [], ◌∷◌, ◌++◌, length, map, get_or, set, take, replicate, min, bit_or, w64, refl, sym, ap, ap₂, subst, ◌∙◌, arith, inl, inr}
-use Rattle.std.specs.Prelude.{zip, ◌==◌, ◌⊎◌}
-use Rattle.std.specs.Int.{bit_at}
-use Rattle.std.proofs.lemmas.Nat.Bits.{bit_at_set_same, bit_at_set_other}
+use Rattle.std.proofs.Common.{◌≡◌, ◌≢◌, ℕ, zero, suc, ◌+◌, ◌-◌, ◌^◌, ◌<◌, ◌≤◌, Bool, true, false, ◌||◌, List, [], ◌∷◌, ◌++◌, length, map, get_or, set, take, replicate, min, bit_or, refl, sym, ap, ap₂, subst, ◌∙◌, arith, inl, inr}
+use Rattle.std.specs.Prelude.{zip, ◌⊎◌}
 use Rattle.std.proofs.lemmas.Bool.{cases_eq}
 use Rattle.std.proofs.lemmas.List.{get_or-map, length-set, map-append, map-set, length-map, take_more}
 use Rattle.std.proofs.lemmas.Slice.Zip.{length-zip, get_or-zip}
@@ -22,22 +20,6 @@ use Rattle.lane_session.specs.declared.words.Words.{Words}
 use Rattle.lane_session.specs.Stages.{HasValue, HasValuesBelow}
 
 -- ---- bits
-
--- a fact or the truth is true
-or_true : (b : Bool) → (b || true) ≡ true
-or_true true = refl
-or_true false = refl
-
--- a bit that is set is set, and no other changes
-pub lane-set_same : (word lane : ℕ) (set : Bool) → lane < 64 → set ≡ true → is_in_lane lane (bit_or word (1 * 2 ^ lane % 18446744073709551616)) ≡ (is_in_lane lane word || set)
-unfolding is_in_lane
-lane-set_same word lane set inside is =
-    ap (λ bit. bit == 1) (bit_at_set_same w64 word lane inside) ∙ sym (ap (λ b. (bit_at word lane == 1) || b) is ∙ or_true (bit_at word lane == 1))
-
-pub lane-set_other : (word lane : ℕ) → lane < 64 → (other : ℕ) → other ≢ lane →
-    is_in_lane other (bit_or word (1 * 2 ^ lane % 18446744073709551616)) ≡ is_in_lane other word
-unfolding is_in_lane
-lane-set_other word lane inside other differs = ap (λ bit. bit == 1) (bit_at_set_other w64 word lane inside other differs)
 
 -- both rails of words where X stands for neither
 railed-one : (one other : Bool) → may_one (settled one other) ≡ may_one (state_with one other)
@@ -59,40 +41,22 @@ HasValue-railed hi lo lane high low inside = record {
   zero = lane-low lane hi lo high inside ∙ railed-zero (is_in_lane lane hi) (is_in_lane lane lo);
 }
 
--- the states of the first columns, so many, are set, and nothing is in the others
-pub record AreSetBelow (count : ℕ) (states : List Tern) (words : Words) : Type 0 where
-  pub below : HasValuesBelow count states words
-  pub high : (lane : ℕ) → count ≤ lane → is_in_lane lane words.hi ≡ false
-  pub low : (lane : ℕ) → count ≤ lane → is_in_lane lane words.lo ≡ false
-
--- nothing is set
-pub set_none : (states : List Tern) → AreSetBelow 0 states (record { hi = 0; lo = 0 })
-set_none states = record {
-  below = λ lane inside. absurd (omega (arith, inside));
-  high = λ lane from. lane-none lane;
-  low = λ lane from. lane-none lane;
-}
-
--- one column more is set
-pub set_more : (states : List Tern) (count : ℕ) (words : Words) (hi lo : ℕ) (one zero : Bool) → AreSetBelow count states words →
-    one ≡ may_one (state_at states count) → zero ≡ may_zero (state_at states count) →
-    is_in_lane count hi ≡ (is_in_lane count words.hi || one) → ((other : ℕ) → other ≢ count → is_in_lane other hi ≡ is_in_lane other words.hi) →
-    is_in_lane count lo ≡ (is_in_lane count words.lo || zero) → ((other : ℕ) → other ≢ count → is_in_lane other lo ≡ is_in_lane other words.lo) →
-    AreSetBelow (count + 1) states (record { hi = hi; lo = lo })
-set_more states count words hi lo one other set ones zeros high highs low lows = record {
-  below = λ lane inside. by lane inside (cases_eq lane count);
-  high = λ lane from. highs lane (λ same. absurd (omega arith)) ∙ set.high lane (omega arith);
-  low = λ lane from. lows lane (λ same. absurd (omega arith)) ∙ set.low lane (omega arith);
-}
+-- one column more has its state
+pub HasValuesBelow-more : (states : List Tern) (count : ℕ) (words : Words) (hi lo : ℕ) (one other : Bool) → count < 64 → HasValuesBelow count states words →
+    one ≡ may_one (state_at states count) → other ≡ may_zero (state_at states count) →
+    is_in_lane count hi ≡ one → ((lane : ℕ) → lane < 64 → lane ≢ count → is_in_lane lane hi ≡ is_in_lane lane words.hi) →
+    is_in_lane count lo ≡ other → ((lane : ℕ) → lane < 64 → lane ≢ count → is_in_lane lane lo ≡ is_in_lane lane words.lo) →
+    HasValuesBelow (count + 1) states (record { hi = hi; lo = lo })
+HasValuesBelow-more states count words hi lo one other few before ones zeros high highs low lows = λ lane inside. by lane inside (cases_eq lane count)
   where
     by : (lane : ℕ) → lane < count + 1 → (lane ≡ count) ⊎ (lane ≢ count) → HasValue lane (state_at states lane) (record { hi = hi; lo = lo })
     by lane inside (inl same) = record {
-      one = ap (λ k. is_in_lane k hi) same ∙ high ∙ ap (λ b. b || one) (set.high count (omega arith)) ∙ ones ∙ ap (λ k. may_one (state_at states k)) (sym same);
-      zero = ap (λ k. is_in_lane k lo) same ∙ low ∙ ap (λ b. b || other) (set.low count (omega arith)) ∙ zeros ∙ ap (λ k. may_zero (state_at states k)) (sym same);
+      one = ap (λ k. is_in_lane k hi) same ∙ high ∙ ones ∙ ap (λ k. may_one (state_at states k)) (sym same);
+      zero = ap (λ k. is_in_lane k lo) same ∙ low ∙ zeros ∙ ap (λ k. may_zero (state_at states k)) (sym same);
     }
     by lane inside (inr differs) =
-        let before = set.below lane (omega arith) in
-        record { one = highs lane differs ∙ before.one; zero = lows lane differs ∙ before.zero }
+        let was = before lane (omega arith) in
+        record { one = highs lane (omega arith) differs ∙ was.one; zero = lows lane (omega arith) differs ∙ was.zero }
 
 -- ---- values
 

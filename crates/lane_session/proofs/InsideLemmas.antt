@@ -12,7 +12,7 @@ use Rattle.oscillation_x.specs.Settling.{Settles}
 use Rattle.analysis_cache.specs.Keeping.{KeptData, texts_of}
 use Rattle.circuit_texts.specs.declared.texts.BuildFault.{BuildFault}
 use Rattle.circuit_texts.specs.declared.texts.BuildFault.TheVariants as build
-use Rattle.circuit_texts.specs.Sizes.{TellsTooLarge}
+use Rattle.circuit_texts.specs.Sizes.{TellsRefused}
 use Rattle.batch_lanes.specs.Settling.{none_yet}
 use Rattle.netlist.specs.Names.{node_of}
 use Rattle.netlist.specs.Circuits.{CircuitData}
@@ -20,7 +20,8 @@ use Rattle.group_text.specs.Texts.{GroupTextData}
 use Rattle.group_text.specs.Compared.{same_text}
 use Rattle.group_text.specs.FirstTexts.{new_texts}
 use Rattle.machine_laws.specs.Editing.{with_new_nodes}
-use Rattle.lane_machine.specs.Columns.{LaneData, FitsInLanes}
+use Rattle.lane_machine.specs.declared.column_machine.ColumnMachine.{ColumnMachine}
+use Rattle.lane_machine.specs.Moving.{FitsInColumns}
 use Rattle.lane_machine.specs.Building.{HasBuilt, IsCutInColumns}
 use Rattle.script_lang.specs.declared.command.Command.{Command}
 use Rattle.lane_script.specs.declared.command.LaneCommand.{LaneCommand}
@@ -75,16 +76,16 @@ module _ (plain after : SessionData) (is : IsSession plain) (stage mid new : Sta
     clocks_are = inside.clocks_are ∙ sym (edit_does plain after command edit shares.1).clocks;
     limit_is = inside.limit_is ∙ sym (edit_does plain after command edit shares.1).limit;
     sound = sound_after plain is stage clocks limit kept count inside after new (Shared command) all_lanes (λ lane. edit-asks command edit) shares.0 edited_effect;
-    machine = subst (λ (found : Option LaneData). IfSome found (Serves after.circuit.graph kept)) (sym none) tt;
+    machine = subst (λ (found : Option ColumnMachine). IfSome found (Serves after.large after.circuit.graph kept)) (sym none) tt;
   }
 
 -- ---- values
 
 -- a machine that served serves still if it fits
-serves_still : (g : GraphData) (kept : List GroupTextData) (old new : Option LaneData) → KeepsFit g old new → IfSome old (Serves g kept) → IfSome new (Serves g kept)
-serves_still g kept None new none serves = subst (λ (found : Option LaneData). IfSome found (Serves g kept)) (sym none) tt
-serves_still g kept (Some machine) new (next, there, fits) serves =
-    subst (λ (found : Option LaneData). IfSome found (Serves g kept)) (sym there) (record { fits = fits serves.fits; known = serves.known })
+serves_still : (large : ℕ) (g : GraphData) (kept : List GroupTextData) (old new : Option ColumnMachine) → KeepsFit g old new → IfSome old (Serves large g kept) → IfSome new (Serves large g kept)
+serves_still large g kept None new none serves = subst (λ (found : Option ColumnMachine). IfSome found (Serves large g kept)) (sym none) tt
+serves_still large g kept (Some machine) new (next, there, fits) serves =
+    subst (λ (found : Option ColumnMachine). IfSome found (Serves large g kept)) (sym there) (record { fits = fits serves.fits; known = serves.known })
 
 -- values were given to all columns
 module _ (plain after : SessionData) (is : IsSession plain) (stage new : StageData) (clocks : List ClockData) (limit : ℕ) (kept : List GroupTextData) (count : ℕ)
@@ -119,8 +120,8 @@ module _ (plain after : SessionData) (is : IsSession plain) (stage new : StageDa
     clocks_are = inside.clocks_are ∙ sym (ap (λ (s : SessionData). s.clocks) shared_is.1);
     limit_is = inside.limit_is ∙ sym (ap (λ (s : SessionData). s.limit) shared_is.1);
     sound = sound_after plain is stage clocks limit kept count inside after new (Values kind list) lanes (values-ask kind list) shares.0 given_effect;
-    machine = serves_still after.circuit.graph kept stage.machine new.machine keeps
-        (subst (λ (c : CircuitData). IfSome stage.machine (Serves c.graph kept)) (sym circuit_is) inside.machine);
+    machine = serves_still after.large after.circuit.graph kept stage.machine new.machine keeps
+        (subst (λ (s : SessionData). IfSome stage.machine (Serves s.large s.circuit.graph kept)) (sym shared_is.1) inside.machine);
   }
 
 -- ---- what is refused
@@ -155,7 +156,7 @@ still_shared plain after command WriteFault none = absurd none
 -- and the parts fit as before
 pub unshared_inside : (plain after : SessionData) (stage new : StageData) (clocks : List ClockData) (limit : ℕ) (kept : List GroupTextData) (command : Command) (fault : ApplyFault) →
     AreInside plain stage clocks limit kept → SameStates stage new → Shares plain command after (Err fault) →
-    (IfSome stage.machine (Serves plain.circuit.graph kept) → IfSome new.machine (Serves plain.circuit.graph kept)) → AreInside after new clocks limit kept
+    (IfSome stage.machine (Serves plain.large plain.circuit.graph kept) → IfSome new.machine (Serves plain.large plain.circuit.graph kept)) → AreInside after new clocks limit kept
 unshared_inside plain after stage new clocks limit kept command fault inside same shares serves =
     let still = still_shared plain after command fault shares in
     subst (λ (s : SessionData). AreInside s new clocks limit kept) (sym still.1) (record {
@@ -168,16 +169,16 @@ unshared_inside plain after stage new clocks limit kept command fault inside sam
 -- ---- builds
 
 -- a built session has the texts of its circuit in front of what is kept
-known_of : (g : GraphData) (kept : List GroupTextData) (found : Option LaneData) → FitsIn g found → IfSome found (Serves g kept) → StandFirst g kept
-known_of g kept found fits serves = (subst (λ (f : Option LaneData). IfSome f (Serves g kept)) fits.there serves).known
+known_of : (large : ℕ) (g : GraphData) (kept : List GroupTextData) (found : Option ColumnMachine) → FitsIn g found → IfSome found (Serves large g kept) → StandFirst large g kept
+known_of large g kept found fits serves = (subst (λ (f : Option ColumnMachine). IfSome f (Serves large g kept)) fits.there serves).known
 
 -- the machine that fits serves
-serves_of : (g : GraphData) (kept : List GroupTextData) (found : Option LaneData) → FitsIn g found → StandFirst g kept → IfSome found (Serves g kept)
-serves_of g kept found fits known = subst (λ (f : Option LaneData). IfSome f (Serves g kept)) (sym fits.there) (record { fits = fits.fits; known = known })
+serves_of : (large : ℕ) (g : GraphData) (kept : List GroupTextData) (found : Option ColumnMachine) → FitsIn g found → StandFirst large g kept → IfSome found (Serves large g kept)
+serves_of large g kept found fits known = subst (λ (f : Option ColumnMachine). IfSome f (Serves large g kept)) (sym fits.there) (record { fits = fits.fits; known = known })
 
 -- the parts fit after a build, and after one that was refused
 pub built_inside : (plain : SessionData) (stage new : StageData) (clocks : List ClockData) (limit : ℕ) (kept more : List GroupTextData) → AreInside plain stage clocks limit kept →
-    SameStates stage new → IfSome new.machine (Serves plain.circuit.graph more) → AreInside plain new clocks limit more
+    SameStates stage new → IfSome new.machine (Serves plain.large plain.circuit.graph more) → AreInside plain new clocks limit more
 built_inside plain stage new clocks limit kept more inside same serves = record {
   clocks_are = inside.clocks_are;
   limit_is = inside.limit_is;
@@ -186,14 +187,14 @@ built_inside plain stage new clocks limit kept more inside same serves = record 
 }
 
 -- if there is no machine none serves
-pub none_serves : (g : GraphData) (kept : List GroupTextData) (found : Option LaneData) → found ≡ None → IfSome found (Serves g kept)
-none_serves g kept found none = subst (λ (f : Option LaneData). IfSome f (Serves g kept)) (sym none) tt
+pub none_serves : (large : ℕ) (g : GraphData) (kept : List GroupTextData) (found : Option ColumnMachine) → found ≡ None → IfSome found (Serves large g kept)
+none_serves large g kept found none = subst (λ (f : Option ColumnMachine). IfSome f (Serves large g kept)) (sym none) tt
 
 -- whatever a build comes to, what machine there is serves
-pub serves_either : {E : Type 0} (g : GraphData) (kept : List GroupTextData) (found : Option LaneData) (result : Result (Unit {0}) E) →
-    OnOk result (IfSome found (Serves g kept)) → OnErr result (found ≡ None) → IfSome found (Serves g kept)
-serves_either g kept found (Ok done) serves none = serves
-serves_either g kept found (Err fault) serves none = none_serves g kept found none
+pub serves_either : {E : Type 0} (large : ℕ) (g : GraphData) (kept : List GroupTextData) (found : Option ColumnMachine) (result : Result (Unit {0}) E) →
+    OnOk result (IfSome found (Serves large g kept)) → OnErr result (found ≡ None) → IfSome found (Serves large g kept)
+serves_either large g kept found (Ok done) serves none = serves
+serves_either large g kept found (Err fault) serves none = none_serves large g kept found none
 
 -- the columns are as before, with other texts kept
 pub kept_stands : (plain : SessionData) (stage new : StageData) (count : ℕ) (kept more : List GroupTextData) → SameStates stage new →
@@ -205,7 +206,7 @@ kept_stands plain stage new count kept more same = record {
 
 -- what a build that was done comes to
 pub built_readied : (plain : SessionData) (stage new : StageData) (count : ℕ) (kept more asked told : List GroupTextData) → IsDistinct same_text kept →
-    SameStates stage new → FitsIn plain.circuit.graph new.machine → HasBuilt plain.circuit.graph None kept more asked told →
+    SameStates stage new → FitsIn plain.circuit.graph new.machine → HasBuilt plain.large plain.circuit.graph None kept more asked told →
     ReadiedTogether (record { core = data_of plain stage count kept; machine = stage.machine }) (record { core = data_of plain new count more; machine = new.machine }) asked told
 built_readied plain stage new count kept more asked told apart same fits (number, builds) = record {
   present = builds.present;
@@ -235,7 +236,7 @@ module _ (plain : SessionData) (stage new : StageData) (count : ℕ) (kept more 
 
   -- one that a group is too large for
   too_large : (fault : BuildFault) → fault ≢ build.NoMemory →
-      (fault ≡ build.NoMemory) ⊎ (TellsTooLarge plain.circuit.graph fault × (more ≡ kept) × (told ≡ asked)) → TooLargeTogether before.core after.core asked told fault
+      (fault ≡ build.NoMemory) ⊎ (TellsRefused plain.large plain.circuit.graph fault × (more ≡ kept) × (told ≡ asked)) → TooLargeTogether before.core after.core asked told fault
   too_large fault other (inl memory) = absurd (other memory)
   too_large fault other (inr (first, still, unasked)) = record {
     first = first;
@@ -244,9 +245,9 @@ module _ (plain : SessionData) (stage new : StageData) (count : ℕ) (kept more 
   }
 
   pub build_readies : (result : Result (Unit {0}) BuildFault) → OnOk result (FitsIn plain.circuit.graph new.machine) →
-      OnOk result (HasBuilt plain.circuit.graph None (texts_of kept) (texts_of more) asked told) →
-      (result ≡ Err build.NoMemory → IsCutInColumns plain.circuit.graph None (texts_of kept) (texts_of more) asked told) →
-      IfErr result (λ fault. (fault ≡ build.NoMemory) ⊎ (TellsTooLarge plain.circuit.graph fault × (more ≡ kept) × (told ≡ asked))) →
+      OnOk result (HasBuilt plain.large plain.circuit.graph None (texts_of kept) (texts_of more) asked told) →
+      (result ≡ Err build.NoMemory → IsCutInColumns plain.large plain.circuit.graph None (texts_of kept) (texts_of more) asked told) →
+      IfErr result (λ fault. (fault ≡ build.NoMemory) ⊎ (TellsRefused plain.large plain.circuit.graph fault × (more ≡ kept) × (told ≡ asked))) →
       ReadiesTogether before after asked told (answer_of result)
   build_readies (Ok done) fits builds cut refused = built_readied plain stage new count (texts_of kept) (texts_of more) asked told apart same fits builds
   build_readies (Err (build.GroupNodes node many)) fits builds cut refused = too_large (build.GroupNodes node many) (λ memory. cc) refused
@@ -268,7 +269,7 @@ module _ (plain : SessionData) (is : IsSession plain) (stage new : StageData) (c
     sound = λ lane within.
         let was : lane < stage.lanes = subst (λ (lanes : ℕ). lane < lanes) moves.lanes within in
         sound lane (states_in stage lane) (states_in new lane) (inside.sound lane was) (moves.each lane was);
-    machine = serves_of plain.circuit.graph kept new.machine moves.fits (known_of plain.circuit.graph kept stage.machine built inside.machine);
+    machine = serves_of plain.large plain.circuit.graph kept new.machine moves.fits (known_of plain.large plain.circuit.graph kept stage.machine built inside.machine);
   }
 
   -- by a unit step
@@ -321,7 +322,7 @@ module _ (plain : SessionData) (is : IsSession plain) (stage new : StageData) (c
           counted = ap length (states lane was) ∙ length-states_with plain.clocks place (states_in stage lane) ∙ sound.counted;
           sound = subst IsSound (sym (states lane was)) (sound-states_with plain.clocks place (states_in stage lane) is.ready.free sound.sound);
         };
-    machine = serves_still plain.circuit.graph kept stage.machine new.machine keeps inside.machine;
+    machine = serves_still plain.large plain.circuit.graph kept stage.machine new.machine keeps inside.machine;
   }
 
   pub beat_put : (count : ℕ) → BeatPut (data_of plain stage count kept) (data_of plain new count kept) place
@@ -331,8 +332,8 @@ module _ (plain : SessionData) (is : IsSession plain) (stage new : StageData) (c
   }
 
 -- a machine that fits stays one
-pub fits_still : (g : GraphData) (old new : Option LaneData) → KeepsFit g old new → FitsIn g old → FitsIn g new
+pub fits_still : (g : GraphData) (old new : Option ColumnMachine) → KeepsFit g old new → FitsIn g old → FitsIn g new
 fits_still g None new none fits = let no : None ≡ Some fits.machine = fits.there in absurd (cc)
 fits_still g (Some machine) new (next, there, keeps) fits =
     let same : machine ≡ fits.machine = let e : Some machine ≡ Some fits.machine = fits.there in cc in
-    record { machine = next; there = there; fits = keeps (subst (FitsInLanes g) (sym same) fits.fits) }
+    record { machine = next; there = there; fits = keeps (subst (FitsInColumns g) (sym same) fits.fits) }

@@ -302,9 +302,9 @@ names_node_together old new command before after asked told refusals now (Ok don
 names_node_together old new command before after asked told refusals now (Err (Refused refusal)) obeys = tt
 names_node_together old new command before after asked told refusals now (Err (GroupNodes node count)) (refuses, same) =
     subst (λ (c : CircuitData). node < nodes c.graph) (sym (circuit_stands old new old.kept refuses.keeps.stands))
-    (told_node old.circuit.graph (build.GroupNodes node count) node count refuses.first (inl refl))
+    (told_node old.large old.circuit.graph (build.GroupNodes node count) node count refuses.first (inl refl))
 names_node_together old new command before after asked told refusals now (Err (GroupSwitches node count)) (refuses, same) =
     subst (λ (c : CircuitData). node < nodes c.graph) (sym (circuit_stands old new old.kept refuses.keeps.stands))
-    (told_node old.circuit.graph (build.GroupSwitches node count) node count refuses.first (inr refl))
+    (told_node old.large old.circuit.graph (build.GroupSwitches node count) node count refuses.first (inr refl))
 names_node_together old new command before after asked told refusals now (Err WriteFault) obeys = tt
 names_node_together old new command before after asked told refusals now (Err NoMemory) obeys = tt

@@ -11,7 +11,7 @@ use Rattle.netlist.specs.Circuits.{CircuitData, IsCircuit}
 use Rattle.group_text.specs.Texts.{GroupTextData}
 use Rattle.script_lang.specs.declared.command.Command.{Command}
 use Rattle.script_lang.specs.declared.command.Command.TheVariants as family
-use Rattle.script_lang.specs.declared.command.Setup.TheVariants.{Watch, Limit, Clock, Vector}
+use Rattle.script_lang.specs.declared.command.Setup.TheVariants.{Watch, Limit, Clock, Widen, Vector}
 use Rattle.lane_script.specs.declared.command.LaneCommand.{LaneCommand}
 use Rattle.lane_script.specs.declared.command.LaneCommand.TheVariants.{Values, Shared}
 use Rattle.lane_script.specs.declared.command.ValueCommand.{ValueCommand}
@@ -31,15 +31,15 @@ use Rattle.session_meaning.specs.Sinks.{faults_applied}
 use Rattle.session_meaning.specs.Outcomes.{Obeys}
 use Rattle.session_meaning.proofs.EffectLemmas.{ready-start}
 use Rattle.session_meaning.proofs.ValueLemmas.{charge-past, set-past}
+use Rattle.lane_machine.specs.declared.column_machine.ColumnMachine.{ColumnMachine}
 use Rattle.lane_session.proofs.AloneLemmas.{names-alone, past-alone, states-alone}
 use Rattle.lane_session.specs.LaneSessions.{LaneSessionData, session_in}
-use Rattle.lane_session.specs.Stages.{HeldLanes, StageData, states_in, AreSound, IsSoundState, Serves, AreInside, NamesFree, Shares, QuietlyTogether, one_column, with_columns, is_silent}
-use Rattle.lane_session.proofs.SharedLemmas.{effect-watch, effect-vector, effect-limit, effect-clock}
+use Rattle.lane_session.specs.Stages.{HeldLanes, StageData, states_in, SameStates, AreSound, IsSoundState, Serves, AreInside, NamesFree, Shares, QuietlyTogether, one_column, with_columns, is_silent}
+use Rattle.lane_session.proofs.SharedLemmas.{effect-watch, effect-vector, effect-limit, effect-large, effect-clock}
 use Rattle.lane_session.proofs.EditLemmas.{edit_does}
 use Rattle.lane_session.proofs.RefusalLemmas.{AsksNoSave}
 use Rattle.lane_session.proofs.InsideLemmas.{unshared, unshared_inside, none_serves}
-use Rattle.lane_session.proofs.ColumnStates.{done_quietly}
-use Rattle.lane_session.proofs.ColumnStates.{data_of, same_itself}
+use Rattle.lane_session.proofs.ColumnStates.{AreSound-same, data_of, done_quietly, same_itself}
 
 -- ---- the plain session
 
@@ -142,12 +142,13 @@ module _ (plain after : SessionData) (lanes : ℕ) (kind : ValueCommand) (list :
 
 -- what changes neither the circuit nor the states leaves the parts in step
 moved_apart : (plain after : SessionData) (stage : StageData) (clocks more : List ClockData) (limit next : ℕ) (kept : List GroupTextData) →
-    AreInside plain stage clocks limit kept → after.circuit ≡ plain.circuit → more ≡ after.clocks → next ≡ after.limit → AreInside after stage more next kept
-moved_apart plain after stage clocks more limit next kept inside same clocks_are limit_is = record {
+    AreInside plain stage clocks limit kept → after.circuit ≡ plain.circuit → after.large ≡ plain.large → more ≡ after.clocks → next ≡ after.limit → AreInside after stage more next kept
+moved_apart plain after stage clocks more limit next kept inside same large_is clocks_are limit_is = record {
   clocks_are = clocks_are;
   limit_is = limit_is;
   sound = subst (λ (c : CircuitData). AreSound c.graph stage) (sym same) inside.sound;
-  machine = subst (λ (c : CircuitData). IfSome stage.machine (Serves c.graph kept)) (sym same) inside.machine;
+  machine = subst (λ (c : CircuitData). IfSome stage.machine (Serves after.large c.graph kept)) (sym same)
+      (subst (λ (large : ℕ). IfSome stage.machine (Serves large plain.circuit.graph kept)) (sym large_is) inside.machine);
 }
 
 -- a command that the plain session didn't do leaves them so too
@@ -162,7 +163,7 @@ pub limit_inside : (plain after : SessionData) (stage : StageData) (clocks : Lis
     AreInside after stage clocks number kept
 limit_inside plain after stage clocks limit kept command number inside limited done =
     let effect : Effect plain (family.Setup (Limit number)) after [] = subst (λ (c : Command). Effect plain c after []) limited done in
-    moved_apart plain after stage clocks clocks limit number kept inside (ap (λ (s : SessionData). s.circuit) effect.0)
+    moved_apart plain after stage clocks clocks limit number kept inside (ap (λ (s : SessionData). s.circuit) effect.0) (ap (λ (s : SessionData). s.large) effect.0)
     (inside.clocks_are ∙ sym (ap (λ (s : SessionData). s.clocks) effect.0)) (sym (ap (λ (s : SessionData). s.limit) effect.0))
 
 -- a session of columns, by the plain session that has what they share
@@ -220,7 +221,7 @@ module _ (plain after : SessionData) (is : IsSession plain) (stage : StageData) 
       AreInside after stage clocks limit kept
   watch_inside names watch (Ok done) shares =
       let effect : Effect plain (family.Setup (Watch names)) after [] = subst (λ (c : Command). Effect plain c after []) watch shares.1 in
-      moved_apart plain after stage clocks clocks limit limit kept inside (ap (λ (s : SessionData). s.circuit) effect.0)
+      moved_apart plain after stage clocks clocks limit limit kept inside (ap (λ (s : SessionData). s.circuit) effect.0) (ap (λ (s : SessionData). s.large) effect.0)
       (inside.clocks_are ∙ sym (ap (λ (s : SessionData). s.clocks) effect.0)) (inside.limit_is ∙ sym (ap (λ (s : SessionData). s.limit) effect.0))
   watch_inside names watch (Err fault) shares = unmoved_inside plain after stage clocks limit kept command fault inside shares
 
@@ -228,7 +229,7 @@ module _ (plain after : SessionData) (is : IsSession plain) (stage : StageData) 
       Shares plain command after result → AreInside after stage clocks limit kept
   vector_inside name words vector (Ok done) shares =
       let effect : Effect plain (family.Setup (Vector name words)) after [] = subst (λ (c : Command). Effect plain c after []) vector shares.1 in
-      moved_apart plain after stage clocks clocks limit limit kept inside (ap (λ (s : SessionData). s.circuit) effect.0)
+      moved_apart plain after stage clocks clocks limit limit kept inside (ap (λ (s : SessionData). s.circuit) effect.0) (ap (λ (s : SessionData). s.large) effect.0)
       (inside.clocks_are ∙ sym (ap (λ (s : SessionData). s.clocks) effect.0)) (inside.limit_is ∙ sym (ap (λ (s : SessionData). s.limit) effect.0))
   vector_inside name words vector (Err fault) shares = unmoved_inside plain after stage clocks limit kept command fault inside shares
 
@@ -236,8 +237,58 @@ module _ (plain after : SessionData) (is : IsSession plain) (stage : StageData) 
       Effect plain command after [] → AreInside after stage more limit kept
   clock_inside list more clock named done =
       let effect : Effect plain (family.Setup (Clock list)) after [] = subst (λ (c : Command). Effect plain c after []) clock done in
-      moved_apart plain after stage clocks more limit limit kept inside (ap (λ (s : SessionData). s.circuit) effect.0)
+      moved_apart plain after stage clocks more limit limit kept inside (ap (λ (s : SessionData). s.circuit) effect.0) (ap (λ (s : SessionData). s.large) effect.0)
       (named ∙ sym (ap (λ (s : SessionData). s.clocks) effect.0)) (inside.limit_is ∙ sym (ap (λ (s : SessionData). s.limit) effect.0))
+
+-- a command that sets how many members a group may have, once the machine was let go, if that changes the number
+module _ (plain after : SessionData) (is : IsSession plain) (stage new : StageData) (clocks : List ClockData) (limit : ℕ) (kept : List GroupTextData) (count : ℕ)
+    (inside : AreInside plain stage clocks limit kept) (command : Command) (number : ℕ) (wide : command ≡ family.Setup (Widen number))
+    (same : SameStates stage new) (machine : (new.machine ≡ None) ⊎ ((number ≡ plain.large) × (new.machine ≡ stage.machine))) where
+  -- what machine there is serves still, whether the number is set or not
+  still_serves : IfSome new.machine (Serves plain.large plain.circuit.graph kept)
+  still_serves = elim machine [
+    | inl loose ↦ none_serves plain.large plain.circuit.graph kept new.machine loose
+    | inr stands ↦ subst (λ (found : Option ColumnMachine). IfSome found (Serves plain.large plain.circuit.graph kept)) (sym stands.1) inside.machine
+  ]
+
+  set_serves : IfSome new.machine (Serves number plain.circuit.graph kept)
+  set_serves = elim machine [
+    | inl loose ↦ none_serves number plain.circuit.graph kept new.machine loose
+    | inr stands ↦ subst (λ (large : ℕ). IfSome new.machine (Serves large plain.circuit.graph kept)) (sym stands.0) still_serves
+  ]
+
+  effect_of : Effect plain command after [] → Effect plain (family.Setup (Widen number)) after []
+  effect_of effect = subst (λ (c : Command). Effect plain c after []) wide effect
+
+  no_save : AsksNoSave command
+  no_save = subst AsksNoSave (sym wide) tt
+
+  pub large_inside : (result : Result (Unit {0}) ApplyFault) → Shares plain command after result → AreInside after new clocks limit kept
+  large_inside (Ok done) shares =
+      let effect = effect_of shares.1 in
+      record {
+        clocks_are = inside.clocks_are ∙ sym (ap (λ (s : SessionData). s.clocks) effect.0);
+        limit_is = inside.limit_is ∙ sym (ap (λ (s : SessionData). s.limit) effect.0);
+        sound = subst (λ (c : CircuitData). AreSound c.graph new) (sym (ap (λ (s : SessionData). s.circuit) effect.0))
+            (AreSound-same plain.circuit.graph stage new same inside.sound);
+        machine = subst (λ (s : SessionData). IfSome new.machine (Serves s.large s.circuit.graph kept)) (sym effect.0) set_serves;
+      }
+  large_inside (Err fault) shares =
+      unshared_inside plain after stage new clocks limit kept command fault inside same shares
+      (λ serves. still_serves)
+
+  effect_in : Effect plain command after [] → (lane : ℕ) → lane < stage.lanes →
+      Effect (one_column plain (states_in stage lane) count kept) command (one_column after (states_in new lane) count kept) []
+  effect_in effect lane within =
+      subst (λ (c : Command). Effect (one_column plain (states_in stage lane) count kept) c (one_column after (states_in new lane) count kept) []) (sym wide)
+      (subst (λ (state : List Tern). Effect (one_column plain (states_in stage lane) count kept) (family.Setup (Widen number)) (one_column after state count kept) [])
+      (sym (same.each lane within)) (effect-large plain after (states_in stage lane) count kept lane number (effect_of effect)))
+
+  pub large_quietly : (result : Result (Unit {0}) ApplyFault) → Shares plain command after result →
+      QuietlyTogether (data_of plain stage count kept) (Shared command) (data_of after new count kept) result
+  large_quietly (Ok done) shares =
+      done_quietly plain is stage clocks limit kept count inside after new (Shared command) same.lanes (λ lane. no_save) shares.0 (effect_in shares.1)
+  large_quietly (Err fault) shares = unshared plain after stage new kept count (Shared command) fault same (λ lane. no_save) shares
 
 -- a command that the plain session didn't do leaves the columns as they are
 pub unmoved_quietly : (held : HeldLanes) (plain after : SessionData) (stage : StageData) (kept : List GroupTextData) (count : ℕ) (command : LaneCommand) (fault : ApplyFault) →
@@ -259,7 +310,7 @@ module _ (circuit : CircuitData) (plain : SessionData) (stage : StageData) (kept
     sound = λ lane inside.
         let ready = ready-start circuit is in
         subst (IsSoundState circuit.graph) (sym (states lane inside)) (record { counted = ready.states; sound = ready.sound });
-    machine = none_serves circuit.graph kept stage.machine none;
+    machine = none_serves 0 circuit.graph kept stage.machine none;
   })
 
   -- and each column is at its start

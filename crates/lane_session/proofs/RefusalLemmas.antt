@@ -5,7 +5,7 @@ use Rattle.netlist.specs.Names.{node_of}
 use Rattle.script_lang.specs.declared.command.Command.{Command}
 use Rattle.script_lang.specs.declared.command.Command.TheVariants as family
 use Rattle.script_lang.specs.declared.command.Give.TheVariants.{Set, Charge, Back}
-use Rattle.script_lang.specs.declared.command.Setup.TheVariants.{Watch, Limit, Clock, Keep, Save, Vector}
+use Rattle.script_lang.specs.declared.command.Setup.TheVariants.{Watch, Limit, Clock, Keep, Widen, Save, Vector}
 use Rattle.lane_script.specs.declared.command.LaneCommand.{LaneCommand}
 use Rattle.lane_script.specs.declared.command.LaneCommand.TheVariants.{Values, Shared}
 use Rattle.lane_script.specs.declared.command.ValueCommand.{ValueCommand}
@@ -38,6 +38,7 @@ saved_alike session saves (family.Setup (Watch names)) none = refl
 saved_alike session saves (family.Setup (Limit number)) none = refl
 saved_alike session saves (family.Setup (Clock list)) none = refl
 saved_alike session saves (family.Setup (Keep number)) none = refl
+saved_alike session saves (family.Setup (Widen number)) none = refl
 saved_alike session saves (family.Setup (Save name)) none = absurd none
 saved_alike session saves (family.Setup (Vector name words)) none = refl
 saved_alike session saves (family.Run run) none = refl

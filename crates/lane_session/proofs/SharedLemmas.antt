@@ -10,7 +10,7 @@ use Rattle.netlist.specs.Names.{node_of}
 use Rattle.group_text.specs.Texts.{GroupTextData}
 use Rattle.script_lang.specs.declared.command.Command.{Command}
 use Rattle.script_lang.specs.declared.command.Command.TheVariants as family
-use Rattle.script_lang.specs.declared.command.Setup.TheVariants.{Watch, Limit, Clock, Vector}
+use Rattle.script_lang.specs.declared.command.Setup.TheVariants.{Watch, Limit, Clock, Widen, Vector}
 use Rattle.lane_script.specs.declared.command.LaneCommand.{LaneCommand}
 use Rattle.lane_script.specs.declared.command.LaneCommand.TheVariants.{Values}
 use Rattle.lane_script.specs.declared.command.ValueCommand.{ValueCommand}
@@ -72,6 +72,10 @@ module _ (plain after : SessionData) (state : List Tern) (count : ℕ) (kept : L
   pub effect-limit : (number : ℕ) → Effect plain (family.Setup (Limit number)) after [] →
       Effect old (family.Setup (Limit number)) (one_column after state count kept) []
   effect-limit number effect = (ap (λ (shared : SessionData). one_column shared state count kept) effect.0, refl)
+
+  pub effect-large : (number : ℕ) → Effect plain (family.Setup (Widen number)) after [] →
+      Effect old (family.Setup (Widen number)) (one_column after state count kept) []
+  effect-large number effect = (ap (λ (shared : SessionData). one_column shared state count kept) effect.0, refl)
 
   pub effect-clock : (list : List (List ℕ × List Tern)) → Effect plain (family.Setup (Clock list)) after [] →
       Effect old (family.Setup (Clock list)) (one_column after state count kept) []

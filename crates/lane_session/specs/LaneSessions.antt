@@ -8,8 +8,8 @@ use Rattle.netlist.specs.Circuits.{CircuitData}
 use Rattle.session_meaning.specs.Sessions.{SessionData, ClockData, IsSession, start_of}
 
 -- how many columns there are, what all of them share, and the states of each: the circuit, both rails of each node's states, bit i for column
--- i, the nodes that are watched, the clocks, the vectors that names stand for, the limit of a phase, how many waveform lines each column has,
--- and the texts of groups whose analyses are kept, the most recently used first
+-- i, the nodes that are watched, the clocks, the vectors that names stand for, the limit of a phase, how many members a group may have, how
+-- many waveform lines each column has, and the texts of groups whose analyses are kept, the most recently used first
 pub record LaneSessionData : Type 0 where
   pub lanes : ℕ
   pub circuit : CircuitData
@@ -19,6 +19,7 @@ pub record LaneSessionData : Type 0 where
   pub clocks : List ClockData
   pub vectors : List (List ℕ × List ℕ)
   pub limit : ℕ
+  pub large : ℕ
   pub count : ℕ
   pub kept : List GroupTextData
 
@@ -28,8 +29,8 @@ states_of session lane = column lane session.hi session.lo
 
 -- the session of a plain script with these data: no expectation was missed, no states are kept under names, there is no bound on the texts
 -- that are kept, and all of these were analysed since the last report, since a script for columns has no command for any of it
-abbrev pub script_session : CircuitData → List Tern → List ℕ → List ClockData → List (List ℕ × List ℕ) → ℕ → ℕ → List GroupTextData → SessionData
-script_session circuit state watched clocks vectors limit count kept = record {
+abbrev pub script_session : CircuitData → List Tern → List ℕ → List ClockData → List (List ℕ × List ℕ) → ℕ → ℕ → ℕ → List GroupTextData → SessionData
+script_session circuit state watched clocks vectors limit large count kept = record {
   circuit = circuit;
   state = state;
   watched = watched;
@@ -40,6 +41,7 @@ script_session circuit state watched clocks vectors limit count kept = record {
   vectors = vectors;
   saves = [];
   bound = None;
+  large = large;
   kept = kept;
   fresh = raised 0 (length kept);
 }
@@ -47,7 +49,7 @@ script_session circuit state watched clocks vectors limit count kept = record {
 -- a column, as the session of a plain script
 abbrev pub session_in : LaneSessionData → ℕ → SessionData
 session_in session lane =
-    script_session session.circuit (states_of session lane) session.watched session.clocks session.vectors session.limit session.count session.kept
+    script_session session.circuit (states_of session lane) session.watched session.clocks session.vectors session.limit session.large session.count session.kept
 
 -- each column is a session, and there are 1 to 64 of them
 pub record IsLaneSession (session : LaneSessionData) : Type 0 where

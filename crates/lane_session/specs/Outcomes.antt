@@ -4,7 +4,7 @@ use Rattle.std.specs.Io.KnownBytes.{append_known}
 use Rattle.port_edge.specs.Sending.{WritesPart}
 use Rattle.group_text.specs.Texts.{GroupTextData}
 use Rattle.circuit_texts.specs.declared.texts.BuildFault.{BuildFault}
-use Rattle.circuit_texts.specs.Sizes.{TellsTooLarge}
+use Rattle.circuit_texts.specs.Sizes.{TellsRefused}
 use Rattle.lane_machine.specs.Building.{IsCutInColumns}
 use Rattle.lane_script.specs.declared.command.LaneCommand.{LaneCommand}
 use Rattle.lane_script.specs.Commands.{in_column}
@@ -50,13 +50,13 @@ pub record RefusesSizeTogether (old : LaneSessionData) (command : LaneCommand) (
     (fault : BuildFault) : Type 0 where
   pub allowed : (lane : ℕ) → lane < old.lanes → refusal_of (session_in old lane) (in_column lane command) ≡ None
   pub building : (lane : ℕ) → builds (in_column lane command) ≡ true
-  pub first : TellsTooLarge old.circuit.graph fault
+  pub first : TellsRefused old.large old.circuit.graph fault
   pub keeps : KeepsTogether old new before after asked told
 
 -- all is as before, but that a prefix of the texts that a build analyses may be kept, or all of them, as a build keeps them
 pub record StaysTogether (old new : LaneSessionData) (before after : Option (List ℕ)) (asked told : List GroupTextData) : Type 0 where
   pub stands : Stands old new new.kept
-  pub cut_off : IsCutInColumns old.circuit.graph None old.kept new.kept asked told
+  pub cut_off : IsCutInColumns old.large old.circuit.graph None old.kept new.kept asked told
   pub unwritten : after ≡ before
 
 -- the command isn't refused; of the columns' lines a part was written, from the start, and a whole part of it was done in each column

@@ -19,11 +19,13 @@ use Rattle.group_text.specs.FirstTexts.{new_texts}
 use Rattle.group_analysis.specs.Using.{used_texts}
 use Rattle.circuit_texts.specs.declared.texts.BuildFault.{BuildFault}
 use Rattle.circuit_texts.specs.declared.texts.BuildFault.TheVariants as build
-use Rattle.circuit_texts.specs.Sizes.{TellsTooLarge}
+use Rattle.circuit_texts.specs.Sizes.{TellsRefused}
 use Rattle.circuit_texts.specs.Building.{HasTexts}
 use Rattle.lane_machine.specs.Building.{IsCutInColumns}
 use Rattle.batch_words.specs.Lanes.{is_in_lane}
-use Rattle.lane_machine.specs.Columns.{LaneData, column, FitsInLanes}
+use Rattle.lane_machine.specs.Columns.{column}
+use Rattle.lane_machine.specs.declared.column_machine.ColumnMachine.{ColumnMachine}
+use Rattle.lane_machine.specs.Moving.{lanes_of, highs_of, lows_of, FitsInColumns}
 use Rattle.lane_machine.specs.Running.{AreColumns}
 use Rattle.batch_lanes.specs.Settling.{none_yet}
 use Rattle.script_lang.specs.declared.command.Command.{Command}
@@ -65,7 +67,7 @@ pub record StageData : Type 0 where
   pub lanes : ℕ
   pub hi : List ℕ
   pub lo : List ℕ
-  pub machine : Option LaneData
+  pub machine : Option ColumnMachine
   pub spare : ℕ
 
 -- the states of a column
@@ -75,14 +77,14 @@ states_in stage lane = column lane stage.hi stage.lo
 -- the rails that stand alone, or are the machine's
 abbrev pub hi_held : Held → List ℕ
 hi_held (Still rails) = rails.hi.items
-hi_held (Built machine) = machine.hi
+hi_held (Built machine) = highs_of machine
 
 abbrev pub lo_held : Held → List ℕ
 lo_held (Still rails) = rails.lo.items
-lo_held (Built machine) = machine.lo
+lo_held (Built machine) = lows_of machine
 
 -- the machine, if there is one
-abbrev pub machine_held : Held → Option LaneData
+abbrev pub machine_held : Held → Option ColumnMachine
 machine_held (Still rails) = None
 machine_held (Built machine) = Some machine
 
@@ -101,7 +103,7 @@ pub record IsStage (stage : StageData) : Type 0 where
   pub some : 1 ≤ stage.lanes
   pub few : stage.lanes ≤ 64
   pub columns : IfNone stage.machine (AreColumns stage.lanes stage.hi stage.lo)
-  pub same : IfSome stage.machine (λ machine. machine.lanes ≡ stage.lanes)
+  pub same : IfSome stage.machine (λ machine. lanes_of machine ≡ stage.lanes)
 
 -- the columns have the same states, and are as many
 pub record SameStates (old new : StageData) : Type 0 where
@@ -118,22 +120,22 @@ abbrev pub AreSound : GraphData → StageData → Type 0
 AreSound g stage = (lane : ℕ) → lane < stage.lanes → IsSoundState g (states_in stage lane)
 
 -- the texts of the graph's groups are kept in front of all others, in order of first appearance: a build finds none new, and moves none
-pub record StandFirst (g : GraphData) (kept : List GroupTextData) : Type 0 where
+pub record StandFirst (large : ℕ) (g : GraphData) (kept : List GroupTextData) : Type 0 where
   pub present : List GroupTextData
-  pub has : HasTexts g present
+  pub has : HasTexts large g present
   pub none : new_texts kept present ≡ []
   pub first : used_texts present kept ≡ kept
 
 -- the machine serves these: in each column it fits the graph, whose texts are kept in front of all others
-pub record Serves (g : GraphData) (kept : List GroupTextData) (machine : LaneData) : Type 0 where
-  pub fits : FitsInLanes g machine
-  pub known : StandFirst g kept
+pub record Serves (large : ℕ) (g : GraphData) (kept : List GroupTextData) (machine : ColumnMachine) : Type 0 where
+  pub fits : FitsInColumns g machine
+  pub known : StandFirst large g kept
 
 -- there is a machine, which in each column fits the graph
-pub record FitsIn (g : GraphData) (found : Option LaneData) : Type 0 where
-  pub machine : LaneData
+pub record FitsIn (g : GraphData) (found : Option ColumnMachine) : Type 0 where
+  pub machine : ColumnMachine
   pub there : found ≡ Some machine
-  pub fits : FitsInLanes g machine
+  pub fits : FitsInColumns g machine
 
 -- in each column this leads from the states to the next, and the machine fits the graph still
 pub record MovesTogether (g : GraphData) (Leads : ℕ → List Tern → List Tern → Type 0) (old new : StageData) : Type 0 where
@@ -142,9 +144,9 @@ pub record MovesTogether (g : GraphData) (Leads : ℕ → List Tern → List Ter
   pub fits : FitsIn g new.machine
 
 -- a machine that fits the graph fits it still, and where there is none there is none
-abbrev pub KeepsFit : GraphData → Option LaneData → Option LaneData → Type 0
+abbrev pub KeepsFit : GraphData → Option ColumnMachine → Option ColumnMachine → Type 0
 KeepsFit g None new = new ≡ None
-KeepsFit g (Some machine) new = (next : LaneData) × (new ≡ Some next) × (FitsInLanes g machine → FitsInLanes g next)
+KeepsFit g (Some machine) new = (next : ColumnMachine) × (new ≡ Some next) × (FitsInColumns g machine → FitsInColumns g next)
 
 -- for how many nodes' states a row of waveform lines has room, and for how many bytes, and its text so far
 pub record RowData : Type 0 where
@@ -171,13 +173,14 @@ with_columns plain stage count kept = record {
   clocks = plain.clocks;
   vectors = plain.vectors;
   limit = plain.limit;
+  large = plain.large;
   count = count;
   kept = kept;
 }
 
 -- a column of one, by what it shares with the others and its state
 abbrev pub one_column : SessionData → List Tern → ℕ → List GroupTextData → SessionData
-one_column plain state count kept = script_session plain.circuit state plain.watched plain.clocks plain.vectors plain.limit count kept
+one_column plain state count kept = script_session plain.circuit state plain.watched plain.clocks plain.vectors plain.limit plain.large count kept
 
 -- the states that a column's values give nodes, in order
 abbrev pub given_states : CircuitData → List (List ℕ × Tern) → List (ℕ × Tern)
@@ -190,7 +193,7 @@ NamesFree c name = (is_some (node_of c.names name) ≡ true) × (RAILS ≤ node_
 -- a session of columns as calls inside it see it: its data, and the machine, if there is one
 pub record HeldLanes : Type 0 where
   pub core : LaneSessionData
-  pub machine : Option LaneData
+  pub machine : Option ColumnMachine
 
 -- what holds between the parts of a session of columns: the clocks and the limit are those of the plain session, each column's states are
 -- sound, and what machine there is serves
@@ -198,7 +201,7 @@ pub record AreInside (plain : SessionData) (stage : StageData) (clocks : List Cl
   pub clocks_are : clocks ≡ plain.clocks
   pub limit_is : limit ≡ plain.limit
   pub sound : AreSound plain.circuit.graph stage
-  pub machine : IfSome stage.machine (Serves plain.circuit.graph kept)
+  pub machine : IfSome stage.machine (Serves plain.large plain.circuit.graph kept)
 
 -- what a command that builds nothing and writes nothing comes to in the plain session
 abbrev pub Shares : SessionData → Command → SessionData → Result (Unit {0}) ApplyFault → Type 0
@@ -246,7 +249,7 @@ pub record MayRunClocks (session : HeldLanes) (settled : List Settled) (row : Ro
 -- the circuit was built: what was not kept was analysed, all texts of the circuit's groups were used, and there is a machine
 pub record ReadiedTogether (old new : HeldLanes) (asked told : List GroupTextData) : Type 0 where
   pub present : List GroupTextData
-  pub has : HasTexts old.core.circuit.graph present
+  pub has : HasTexts old.core.large old.core.circuit.graph present
   pub texts : List GroupTextData
   pub news : texts ≡ new_texts old.core.kept present
   pub grown : length (used_texts present old.core.kept) ≡ length old.core.kept + length texts
@@ -256,7 +259,7 @@ pub record ReadiedTogether (old new : HeldLanes) (asked told : List GroupTextDat
 
 -- the circuit can't be built: the first group that is too large is told, and all is as before
 pub record TooLargeTogether (old new : LaneSessionData) (asked told : List GroupTextData) (fault : BuildFault) : Type 0 where
-  pub first : TellsTooLarge old.circuit.graph fault
+  pub first : TellsRefused old.large old.circuit.graph fault
   pub stands : Stands old new old.kept
   pub unasked : told ≡ asked
 
@@ -264,7 +267,7 @@ pub record TooLargeTogether (old new : LaneSessionData) (asked told : List Group
 -- keeps them
 pub record CutOffTogether (old new : LaneSessionData) (asked told : List GroupTextData) : Type 0 where
   pub stands : Stands old new new.kept
-  pub cut_off : IsCutInColumns old.circuit.graph None old.kept new.kept asked told
+  pub cut_off : IsCutInColumns old.large old.circuit.graph None old.kept new.kept asked told
 
 -- what making a session ready for unit steps comes to
 abbrev pub ReadiesTogether : HeldLanes → HeldLanes → List GroupTextData → List GroupTextData → Result (Unit {0}) ApplyFault → Type 0

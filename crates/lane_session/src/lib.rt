@@ -6,10 +6,11 @@
 //! given of it, `Performs` of `session_meaning`; row by row the columns' lines are written; the texts that are analysed
 //! are those of any one column. A refused command has the refusal that it has in each column, and leaves each as it is.
 //!
-//! All columns step together: unit steps are those of a [`lane_machine::LaneMachine`], which runs the code of a group
-//! once for all of them. It is built at the first command that needs it; an edit lets it go, and the next command that
-//! needs one builds it anew over the analyses that are kept. What the columns share, the circuit, the watch list, the
-//! clocks and the limit, is a plain session's that takes no step: so edits and refusals are the plain session's own.
+//! Unit steps are those of a [`lane_machine::ColumnMachine`]. If each group has a text all columns step together, by
+//! code that is run once for all of them; if some group is too large for one, they take turns on one machine. It is
+//! built at the first command that needs it; an edit lets it go, and so can `wide`, and the next command that needs one
+//! builds it anew over the analyses that are kept. What the columns share, the circuit, the watch list, the clocks and
+//! the limit, is a plain session's that takes no step: so edits and refusals are the plain session's own.
 //!
 //! ```text
 //! let mut session = LaneSession::new(alloc, circuit, 3)?;

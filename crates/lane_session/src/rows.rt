@@ -10,9 +10,9 @@ ghost use Rattle.told_lines.specs.Lines.{Wave};
 ghost use Rattle.lane_session.specs.Rows.{row_text, lane_line};
 ghost use Rattle.lane_session.specs.Stages.{IsRoomFor, SentText, wave_of};
 
-use crate::words::{Words, state_in};
 use cosmos_session::{ApplyFault, MOST_WATCHED};
 use itoa::Buffer;
+use lane_machine::state_in;
 use oscillation_x::Settled;
 use port_edge::{Sink, send};
 use std::alloc::Global;
@@ -154,11 +154,7 @@ fn push_states(values: &mut Vec<Tern>, lane: usize, hi: &[u64], lo: &[u64], node
     ensures capacity { vec_capacity values.new ≡ vec_capacity values.old }
 {
     for &node in nodes {
-        let words = Words {
-            hi: hi[node],
-            lo: lo[node],
-        };
-        values.push_reserved(state_in(words, lane));
+        values.push_reserved(state_in(hi[node], lo[node], lane));
     }
 }
 

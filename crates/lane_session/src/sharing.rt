@@ -1,6 +1,6 @@
 //! The commands that take no step: the plain session obeys them for all columns, and tells their refusals.
 
-ghost use Rattle.std.specs.Prelude.{◌≡◌, ◌⊎◌, ℕ, ◌<◌, true, length, map, All, IfOk};
+ghost use Rattle.std.specs.Prelude.{◌≡◌, ◌⊎◌, ℕ, ◌<◌, true, None, length, map, All, IfOk, OnOk, OnErr};
 ghost use Rattle.path_meaning.specs.Graphs.{nodes};
 ghost use Rattle.script_lang.specs.Forms as form;
 ghost use Rattle.script_lang.specs.declared.command.Command.TheVariants as family;
@@ -11,7 +11,7 @@ ghost use Rattle.lane_script.specs.Forms.{IsFormed};
 ghost use Rattle.session_meaning.specs.Sessions.{IsSession};
 ghost use Rattle.session_meaning.specs.Machines.{edits};
 ghost use Rattle.session_meaning.specs.Effects.{assigned, clock_of};
-ghost use Rattle.lane_session.specs.Stages.{AreSound, KeepsFit, NamesFree, Shares, QuietlyTogether, given_states, is_silent, states_in};
+ghost use Rattle.lane_session.specs.Stages.{AreSound, KeepsFit, NamesFree, SameStates, Shares, QuietlyTogether, given_states, is_silent, states_in};
 
 use crate::given::first_given;
 use crate::session::LaneSession;
@@ -90,6 +90,7 @@ impl LaneSession {
             Setup::Limit(number) => self.set_limit(shared, *number),
             Setup::Clock(list) => self.set_clocks(shared, list),
             Setup::Vector(name, words) => self.set_vector(shared, name, words),
+            Setup::Widen(number) => self.set_large(shared, *number),
             Setup::Keep(_) | Setup::Save(_) => unreachable!(),
         }
     }
@@ -135,6 +136,19 @@ impl LaneSession {
         Ok(())
     }
 
+    // `wide`: sets how many members a group may have, from the next build on: so the machine is let go, unless the number
+    // stands already.
+    fn set_large(&mut self, shared: &Command, large: u64) -> Result<(), ApplyFault>
+        requires formed { form.IsFormed shared.now }
+        requires silent { is_silent shared.now ≡ true }
+        requires large { shared.now ≡ family.Setup (asked.Widen large) }
+        ensures { QuietlyTogether self.old.core (Shared shared.now) self.new.core result }
+    {
+        let stands = self.plain.large() as u64 == large;
+        loosen_unless(stands, self.alloc, &mut self.stage)?;
+        share(shared, &mut self.plain)
+    }
+
     // `clock`: puts these clocks in place of all others.
     #[tactic(auto, using(crate::proofs::QuietLemmas::unmoved_inside, crate::proofs::QuietLemmas::unmoved_quietly, crate::proofs::QuietLemmas::clock_quietly))]
     fn set_clocks(&mut self, shared: &Command, list: &ClockList) -> Result<(), ApplyFault>
@@ -161,6 +175,15 @@ fn share(first: &Command, plain: &mut Session) -> Result<(), ApplyFault>
     // a call for the proof alone: a session keeps itself well formed
     let _circuit = plain.circuit();
     plain.apply(first, &mut Unasked {}, &mut Silence::new())
+}
+
+// Lets the machine go, unless it is to be kept.
+fn loosen_unless(kept: bool, alloc: Global, stage: &mut LaneStage) -> Result<(), NoMemory>
+    ensures same { SameStates stage.old stage.new }
+    ensures machine { OnOk result ((stage.new.machine ≡ None) ⊎ ((kept ≡ true) × (stage.new.machine ≡ stage.old.machine))) }
+    ensures err { OnErr result (stage.new.machine ≡ stage.old.machine) }
+{
+    if kept { Ok(()) } else { stage.loosen(alloc) }
 }
 
 // Gives these named nodes, which are in use and no rails, their states in each column, from left to right.

@@ -9,7 +9,7 @@ ghost use Rattle.oscillation_x.specs.declared.settling.Settled.{Settled};
 ghost use Rattle.oscillation_x.specs.Settling.{Settles};
 ghost use Rattle.unit_step.specs.declared.editing.TheConstants.{NEW_NODES};
 ghost use Rattle.analysis_cache.specs.Keeping.{texts_of};
-ghost use Rattle.circuit_texts.specs.Sizes.{TellsTooLarge};
+ghost use Rattle.circuit_texts.specs.Sizes.{TellsRefused};
 ghost use Rattle.batch_words.specs.Lanes.{HasLane};
 ghost use Rattle.lane_machine.specs.Columns.{column, HasStates};
 ghost use Rattle.lane_machine.specs.Building.{HasBuilt, IsCutInColumns};
@@ -17,9 +17,8 @@ ghost use Rattle.lane_session.specs.Stages.{AreSound, HasRoom, KeepsFit, MovesTo
 
 use crate::words::{UNKNOWN, Words, railed};
 use analysis_cache::{Analyst, Kept};
-use batch_lanes::LaneStepper;
 use circuit_texts::BuildFault;
-use lane_machine::LaneMachine;
+use lane_machine::ColumnMachine;
 use oscillation_x::{MOST_LIMIT, Settled};
 use path_meaning::{GND, Graph, RAILS, VDD};
 use std::alloc::{AllocError, Global};
@@ -38,7 +37,7 @@ pub(crate) struct Rails {
 #[derive(Drop)]
 pub(crate) enum Held {
     Still(Rails),
-    Built(LaneMachine),
+    Built(ColumnMachine),
 }
 
 /// The states of all columns, and the machine that moves them, if there is one.
@@ -145,33 +144,37 @@ impl LaneStage {
     /// Gets a machine that serves the graph: the one that is there does, and where there is none one is built.
     ///
     /// Texts that aren't kept are analysed first, each once, and kept; all texts of the graph's groups are in front
-    /// of what is kept then. The refusals are those of a build; after them the states are as before.
+    /// of what is kept then. The refusals are those of a build, with groups of up to `large` members accepted; after
+    /// them the states are as before.
     pub(crate) fn build<A: Analyst>(
         &mut self,
         alloc: Global,
         graph: &Graph,
+        large: usize,
         kept: &mut Kept,
         analyst: &mut A,
     ) -> Result<(), BuildFault>
         requires railed { IsRailed graph.now }
         requires sound { AreSound graph.now self.old }
-        requires serves { IfSome self.old.machine (Serves graph.now (texts_of kept.old)) }
+        requires serves { IfSome self.old.machine (Serves large graph.now (texts_of kept.old)) }
         requires unbounded { kept.old.bound ≡ None }
         ensures built { OnOk result (FitsIn graph.now self.new.machine) }
-        ensures serves { OnOk result (IfSome self.new.machine (Serves graph.now (texts_of kept.new))) }
+        ensures serves { OnOk result (IfSome self.new.machine (Serves large graph.now (texts_of kept.new))) }
         ensures same { SameStates self.old self.new }
-        ensures builds { OnOk result (HasBuilt graph.now None (texts_of kept.old) (texts_of kept.new) (A.analysed analyst.old) (A.analysed analyst.new)) }
+        ensures builds { OnOk result (HasBuilt large graph.now None (texts_of kept.old) (texts_of kept.new) (A.analysed analyst.old) (A.analysed analyst.new)) }
         ensures unbounded { kept.new.bound ≡ None }
-        ensures cut_off { result ≡ Err BuildFault.NoMemory → IsCutInColumns graph.now None (texts_of kept.old) (texts_of kept.new) (A.analysed analyst.old) (A.analysed analyst.new) }
+        ensures cut_off { result ≡ Err BuildFault.NoMemory → IsCutInColumns large graph.now None (texts_of kept.old) (texts_of kept.new) (A.analysed analyst.old) (A.analysed analyst.new) }
         ensures refused { IfErr result (λ fault. (fault ≡ BuildFault.NoMemory)
-            ⊎ (TellsTooLarge graph.now fault × (kept.new ≡ kept.old) × (A.analysed analyst.new ≡ A.analysed analyst.old))) }
+            ⊎ (TellsRefused large graph.now fault × (kept.new ≡ kept.old) × (A.analysed analyst.new ≡ A.analysed analyst.old))) }
         ensures err { OnErr result (self.new.machine ≡ None) }
     {
         match &self.held {
             Held::Built(_) => Ok(()),
             Held::Still(rails) => {
                 let (lanes, hi, lo) = (self.lanes, &rails.hi, &rails.lo);
-                let machine = LaneMachine::build(alloc, graph, lanes, hi, lo, kept, analyst)?;
+                let machine = ColumnMachine::build(
+                    alloc, graph, lanes, hi, lo, large, kept, analyst,
+                )?;
                 self.held = Held::Built(machine);
                 Ok(())
             }
@@ -203,7 +206,7 @@ impl LaneStage {
         ensures { MovesTogether graph.now (λ _ old new. IsStep graph.now old new) self.old self.new }
     {
         if let Held::Built(machine) = &mut self.held {
-            let _changed = machine.step(graph);
+            machine.step(graph);
         }
     }
 

@@ -142,7 +142,11 @@ impl LaneSession {
         // a call for the proof alone: no text is kept twice
         let _size = self.kept.size();
         let graph = self.plain.circuit().graph();
-        match self.stage.build(self.alloc, graph, &mut self.kept, analyst) {
+        let large = self.plain.large();
+        match self
+            .stage
+            .build(self.alloc, graph, large, &mut self.kept, analyst)
+        {
             Ok(()) => Ok(()),
             Err(fault) => Err(ApplyFault::of_build(fault)),
         }

@@ -1,11 +1,12 @@
 //! Both rails of a node's states in words, bit i for column i.
 
-ghost use Rattle.std.specs.Prelude.{◌≡◌, ◌≢◌, ℕ, ◌<◌, ◌≤◌, ◌⊎◌, ◌||◌, length};
+ghost use Rattle.std.specs.Prelude.{◌≡◌, ℕ, ◌<◌, ◌≤◌, ◌⊎◌, length};
 ghost use Rattle.batch_words.specs.Lanes.{is_in_lane};
 ghost use Rattle.lane_machine.specs.Columns as machine;
 ghost use Rattle.lane_script.specs.Commands.{state_in};
 ghost use Rattle.lane_session.specs.Stages.{HasValue, HasValuesBelow};
 
+use lane_machine::with_bit;
 use ternary::Tern;
 
 /// The words of a node: the rails "may be 1" and "may be 0" of its states.
@@ -63,34 +64,6 @@ fn lane_words(states: &[Tern]) -> Words
         };
     }
     words
-}
-
-// A word with a column's bit set too, if it is to be.
-fn with_bit(word: u64, lane: usize, set: bool) -> u64
-    requires { lane < 64 }
-    ensures same { is_in_lane lane result ≡ (is_in_lane lane word || set) }
-    ensures other { (other : ℕ) → other ≢ lane → is_in_lane other result ≡ is_in_lane other word }
-{
-    if set { word | (1 << lane) } else { word }
-}
-
-/// The state of a node in a column, by its words.
-pub(crate) fn state_in(words: Words, lane: usize) -> Tern
-    requires { lane < 64 }
-    ensures { result ≡ machine.state_in lane (words.hi, words.lo) }
-{
-    match Tern::from_rails(has_bit(words.hi, lane), has_bit(words.lo, lane)) {
-        Some(state) => state,
-        None => Tern::Unk,
-    }
-}
-
-// Whether a column's bit is set.
-fn has_bit(word: u64, lane: usize) -> bool
-    requires { lane < 64 }
-    ensures { result ≡ is_in_lane lane word }
-{
-    (word >> lane) & 1 == 1
 }
 
 /// Words that have a rail in each column, and the same states: if neither is set, X stands.

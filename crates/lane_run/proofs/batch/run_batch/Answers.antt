@@ -17,9 +17,9 @@ returns-in-End-clause-told g c = told_end _ _ _ _ _ _ _ _ (rw c.in-End.is at c.i
 pub refuse_halt-requires : goal.refuse_halt-requires
 refuse_halt-requires g c =
     subst (λ (circuit : CircuitData). IsCutShort circuit c.in_ok-halt.halt) (sym c.circuit.ensures.value)
-    (cut_short _ _ _ _ _ _ _ _ c.obey_batch.new.session.core.circuit c.in_ok-halt.halt c.in_default.not-End c.in_ok-halt.ensures.told)
+    (cut_short _ _ _ _ _ _ _ _ c.obey_batch.new.session.core c.in_ok-halt.halt c.in_default.not-End c.in_ok-halt.ensures.told)
 
 pub returns-in_default-clause-told : goal.returns-in_default-clause-told
 returns-in_default-clause-told g c =
-    told_cut _ _ _ _ _ c.obey_batch.new.out.page c.refuse_halt.new.out.page _ _ c.obey_batch.new.session.core.circuit c.in_ok-halt.halt c.refuse_halt.result
+    told_cut _ _ _ _ _ c.obey_batch.new.out.page c.refuse_halt.new.out.page _ _ c.obey_batch.new.session.core c.in_ok-halt.halt c.refuse_halt.result
     c.in_ok-halt.ensures.told (rw (← c.circuit.ensures.value) c.refuse_halt.ensures.told)

@@ -40,7 +40,7 @@ invariant_of-self-in_err-share c =
     let i = c.self.inside in (
       unshared_inside i.plain.core c.share.new.plain.core i.stage c.loosen.new.self i.clocks.items i.limit (texts_of i.kept) c.args.shared.now
           c.in_err-share.field-0.0 c.self.invariant.0 c.loosen.ensures.same c.in_err-share.ensures.shares
-          (λ serves. none_serves i.plain.core.circuit.graph (texts_of i.kept) c.loosen.new.self.machine c.in_ok-loosen.ensures.loose),
+          (λ serves. none_serves i.plain.core.large i.plain.core.circuit.graph (texts_of i.kept) c.loosen.new.self.machine c.in_ok-loosen.ensures.loose),
       c.self.invariant.1,
     )
 

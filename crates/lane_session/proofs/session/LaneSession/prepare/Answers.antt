@@ -11,15 +11,15 @@ pub build-requires-clause-sound : goal.build-requires-clause-sound
 build-requires-clause-sound g c = rw (c.graph-graph.ensures.value, c.circuit.ensures.value) c.self.invariant.0.sound
 
 pub build-requires-clause-serves : goal.build-requires-clause-serves
-build-requires-clause-serves g c = rw (c.graph-graph.ensures.value, c.circuit.ensures.value) c.self.invariant.0.machine
+build-requires-clause-serves g c = rw (c.graph-graph.ensures.value, c.circuit.ensures.value, c.large-large.ensures) c.self.invariant.0.machine
 
 pub invariant_of-self : goal.invariant_of-self
 invariant_of-self g c =
     let i = c.self.inside in
     let texts = texts_of c.build.new.kept in (
       built_inside i.plain.core i.stage c.build.new.self i.clocks.items i.limit (texts_of i.kept) texts c.self.invariant.0 c.build.ensures.same
-          (serves_either i.plain.core.circuit.graph texts c.build.new.self.machine c.build.result
-          (rw (c.graph-graph.ensures.value, c.circuit.ensures.value) at c.build.ensures.serves) c.build.ensures.err),
+          (serves_either i.plain.core.large i.plain.core.circuit.graph texts c.build.new.self.machine c.build.result
+          (rw (c.graph-graph.ensures.value, c.circuit.ensures.value, c.large-large.ensures) at c.build.ensures.serves) c.build.ensures.err),
       c.build.ensures.unbounded,
     )
 
@@ -35,9 +35,9 @@ returns g c =
       | in-Err w ↦ ap answer_of w.in-Err.is ∙ sym (ap Err w.of_build.ensures) ∙ sym w.result-is
     ] in
     let readies = build_readies plain i.stage c.build.new.self i.count i.kept c.build.new.kept asked told c.size-size.ensures.kept.apart c.build.ensures.same c.build.result
-    (rw (c.graph-graph.ensures.value, c.circuit.ensures.value) at c.build.ensures.built) (rw (c.graph-graph.ensures.value, c.circuit.ensures.value) at c.build.ensures.builds)
-    (rw (c.graph-graph.ensures.value, c.circuit.ensures.value) at c.build.ensures.cut_off)
-    (rw (c.graph-graph.ensures.value, c.circuit.ensures.value) at c.build.ensures.refused) in
+    (rw (c.graph-graph.ensures.value, c.circuit.ensures.value) at c.build.ensures.built) (rw (c.graph-graph.ensures.value, c.circuit.ensures.value, c.large-large.ensures) at c.build.ensures.builds)
+    (rw (c.graph-graph.ensures.value, c.circuit.ensures.value, c.large-large.ensures) at c.build.ensures.cut_off)
+    (rw (c.graph-graph.ensures.value, c.circuit.ensures.value, c.large-large.ensures) at c.build.ensures.refused) in
     let new : HeldLanes = record { core = data_of plain c.build.new.self i.count texts; machine = c.build.new.self.machine } in
     subst (λ (s : HeldLanes). ReadiesTogether s new asked told c.match-build.result) c.self.view_is
     (subst (ReadiesTogether (record { core = data_of plain i.stage i.count (texts_of i.kept); machine = i.stage.machine }) new asked told) answered readies)

@@ -23,5 +23,5 @@ build-requires-clause-sound g c = λ lane inside.
 pub returns-in_ok-machine-in-Still-clause-serves : goal.returns-in_ok-machine-in-Still-clause-serves
 returns-in_ok-machine-in-Still-clause-serves g c = record {
   fits = c.in_ok-machine-in-Still.ensures.fits;
-  known = built_stands_first c.args.graph.now _ _ _ _ _ c.in_ok-machine-in-Still.ensures.builds;
+  known = built_stands_first c.args.large c.args.graph.now _ _ _ _ _ c.in_ok-machine-in-Still.ensures.builds;
 }

@@ -4,10 +4,21 @@ use Rattle.lane_session.specs.declared.stage.Held.TheVariants.{Still}
 use Rattle.lane_session.specs.Stages.{StageData, SameStates, spare_held}
 use Rattle.lane_session.proofs.ColumnLemmas.{AreColumns-states, column_is}
 use Rattle.lane_session.proofs.stage.LaneStage.loosen.Goals as goal
-use Rattle.lane_session.proofs.stage.LaneStage.loosen.Goals.{in-Still-1, in-Built-1}
+use Rattle.lane_session.proofs.stage.LaneStage.loosen.Goals.{in-Still-1, in-Built+in-InTurn-1, in-Built+in-Together-1}
 
 pub invariant_of-self-in_ok-rails-in-Built-2 : goal.invariant_of-self-in_ok-rails-in-Built-2
 invariant_of-self-in_ok-rails-in-Built-2 c =
+    let rails = c.in_ok-rails-in-Built.rails in
+    record {
+      some = c.self.invariant.some;
+      few = c.self.invariant.few;
+      columns = AreColumns-states c.self.inside.lanes rails.hi.items rails.lo.items (λ lane. column lane c.hi.result.now c.lo.result.now) c.self.invariant.some
+          (λ lane inside. c.in_ok-rails-in-Built.ensures.states lane (omega (arith, inside, c.self.invariant.few)));
+      same = tt;
+    }
+
+pub invariant_of-self-in_ok-rails-in-Built-3 : goal.invariant_of-self-in_ok-rails-in-Built-3
+invariant_of-self-in_ok-rails-in-Built-3 c =
     let rails = c.in_ok-rails-in-Built.rails in
     record {
       some = c.self.invariant.some;
@@ -36,4 +47,8 @@ returns-in_ok-rails-in-Built-clause-same c =
           (c.in_ok-rails-in-Built.ensures.states lane (omega (arith, inside, c.self.invariant.few)))
           ∙ ap₂ (column lane) c.hi.ensures c.lo.ensures);
     }) in
-    elim c.match-self-2.branch [ in-Still-1 w ↦ rw w.self-is same | in-Built-1 w ↦ rw w.self-is same ]
+    elim c.match-self-2.branch [
+      | in-Still-1 w ↦ rw w.self-is same
+      | in-Built+in-InTurn-1 w ↦ rw w.self-is same
+      | in-Built+in-Together-1 w ↦ rw w.self-is same
+    ]

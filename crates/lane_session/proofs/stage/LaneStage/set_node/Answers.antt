@@ -1,5 +1,6 @@
 use Rattle.std.proofs.Common.{◌<◌, length, refl, sym, subst, ◌∙◌}
 use Rattle.lane_machine.specs.Columns.{column, HasStates}
+use Rattle.lane_machine.specs.Moving.{highs_of, lows_of}
 use Rattle.lane_session.specs.declared.stage.Held.{Held}
 use Rattle.lane_session.specs.Stages.{StageData, hi_held, lo_held, states_in}
 use Rattle.lane_session.proofs.ColumnLemmas.{AreColumns-set, within_high}
@@ -8,8 +9,8 @@ use Rattle.lane_session.proofs.stage.LaneStage.set_node.Goals.{in-Still, in-Buil
 
 pub place-requires-clause-inside : goal.place-requires-clause-inside
 place-requires-clause-inside c =
-    let hi = c.in-Built.machine.hi in
-    let lo = c.in-Built.machine.lo in
+    let hi = highs_of c.in-Built.machine in
+    let lo = lows_of c.in-Built.machine in
     let inside : c.args.node < length (column 0 hi lo) =
     subst (λ (held : Held). c.args.node < length (column 0 (hi_held held) (lo_held held))) c.in-Built.is
     (subst (λ (stage : StageData). c.args.node < length (states_in stage 0)) (sym c.self.view_is) c.requires.inside) in
@@ -31,6 +32,6 @@ invariant_of-self c =
         some = c.self.invariant.some;
         few = c.self.invariant.few;
         columns = tt;
-        same = w.place.ensures.places.lanes ∙ rw w.in-Built.is at c.self.invariant.same;
+        same = w.place.ensures.lanes ∙ rw w.in-Built.is at c.self.invariant.same;
       })
     ]

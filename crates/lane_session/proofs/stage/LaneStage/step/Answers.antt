@@ -1,5 +1,6 @@
 use Rattle.std.proofs.Common.{◌≡◌, ℕ, ◌<◌, None, Some, refl, sym, ap, subst, ◌∙◌}
-use Rattle.lane_machine.specs.Columns.{LaneData, FitsInLanes}
+use Rattle.lane_machine.specs.declared.column_machine.ColumnMachine.{ColumnMachine}
+use Rattle.lane_machine.specs.Moving.{lanes_of, FitsInColumns}
 use Rattle.lane_session.specs.Stages.{StageData, machine_held}
 use Rattle.lane_session.proofs.stage.LaneStage.step.Goals as goal
 use Rattle.lane_session.proofs.stage.LaneStage.step.Goals.{in-Built, in_default}
@@ -12,12 +13,12 @@ returns c =
           let found : Some w.in-Built.machine ≡ Some c.requires.machine =
           sym (ap machine_held w.in-Built.is) ∙ ap (λ (stage : StageData). stage.machine) c.self.view_is ∙ c.requires.there in
           let same : c.requires.machine ≡ w.in-Built.machine = cc in
-          let fits : FitsInLanes graph w.in-Built.machine = subst (λ (machine : LaneData). FitsInLanes graph machine) same c.requires.fits in
-          let lanes : w.in-Built.machine.lanes ≡ c.self.inside.lanes = rw w.in-Built.is at c.self.invariant.same in
+          let fits : FitsInColumns graph w.in-Built.machine = subst (λ (machine : ColumnMachine). FitsInColumns graph machine) same c.requires.fits in
+          let lanes : lanes_of w.in-Built.machine ≡ c.self.inside.lanes = rw w.in-Built.is at c.self.invariant.same in
           rw (w.self-inside-is, ← c.self.view_is) (record {
             lanes = refl;
-            each = λ lane inside. rw w.in-Built.is (w.step-changed.ensures.step fits lane (subst (λ (n : ℕ). lane < n) (sym lanes) inside));
-            fits = record { machine = w.step-changed.new.self; there = refl; fits = w.step-changed.ensures.fits fits };
+            each = λ lane inside. rw w.in-Built.is (w.step.ensures.step fits lane (subst (λ (n : ℕ). lane < n) (sym lanes) inside));
+            fits = record { machine = w.step.new.self; there = refl; fits = w.step.ensures.fits fits };
           })
       | in_default w ↦
           let none : None ≡ Some c.requires.machine =
