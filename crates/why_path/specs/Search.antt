@@ -1,6 +1,6 @@
 -- The search for reasons: a list of found nodes, each with a strength with which an unblocked path from a root
 -- that has the rail leads to it. A node is found once, from an earlier place of the list.
-use Rattle.std.specs.Prelude.{◌≡◌, ℕ, ◌+◌, ◌<◌, ◌≤◌, Bool, true, false, List, [], ◌∷◌, ◌++◌, length, sum_by, slice_get, slice_index, Contains, Option, Some, None, Vec}
+use Rattle.std.specs.Prelude.{◌≡◌, ℕ, ◌+◌, ◌<◌, ◌≤◌, ◌↔◌, Bool, true, false, List, [], ◌∷◌, ◌++◌, length, sum_by, slice_get, slice_index, Contains, Option, Some, None, Vec}
 use Rattle.std.specs.Option.{option_map_or}
 use Rattle.std.specs.declared.alloc.Global.{Global}
 use Rattle.ternary.specs.declared.tern.Tern.{Tern}
@@ -14,6 +14,10 @@ use Rattle.why_path.specs.declared.search.Last.{Last}
 -- the places that a list has for a node
 abbrev pub list_at : List (Vec ℕ Global) → ℕ → List ℕ
 list_at lists node = option_map_or (λ list. list.items) (slice_get lists node) []
+
+-- these are all numbers below a count, in any order
+abbrev pub AreAllBelow : ℕ → List ℕ → Type 0
+AreAllBelow count numbers = (number : ℕ) → Contains numbers number ↔ (number < count)
 
 -- each switch's place is in the lists of both its ends
 abbrev pub HaveSwitches : GraphData → List (Vec ℕ Global) → Type 0

@@ -9,4 +9,4 @@ pub use Rattle.path_meaning.specs.Switching.{state_at}
 pub use Rattle.why_path.specs.Lines.{hop_text, hops_text, no_reason_line_of, rail_word, sort_word, AreTold, IsReasonLine}
 pub use Rattle.why_path.specs.Near.{IsNear}
 pub use Rattle.why_path.specs.Reasons.{Explains, IsLive}
-pub use Rattle.why_path.specs.Search.{list_at, HaveSwitches, IsEntryOf, IsPassed, IsRootIn, IsRootOf, IsSearch, IsSettled, IsTrail, Keeps, Lands, LeadBack}
+pub use Rattle.why_path.specs.Search.{list_at, AreAllBelow, HaveSwitches, IsEntryOf, IsPassed, IsRootIn, IsRootOf, IsSearch, IsSettled, IsTrail, Keeps, Lands, LeadBack}

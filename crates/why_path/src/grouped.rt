@@ -11,8 +11,6 @@ use ternary::{NoMemory, Tern};
 
 /// A reason for a rail of a node, as [`reason`](crate::reason) gives it, found in the node's group among
 /// these, which are the groups of the graph.
-///
-/// Only if the group is too large to have a text is the whole graph searched.
 pub fn group_reason(
     alloc: Global,
     graph: &Graph,

@@ -1,12 +1,12 @@
 //! Reasons found near a node, in its group alone.
 
 ghost use Rattle.std.specs.Prelude.{◌≡◌, ◌<◌, length, map, All, Contains, IfOk, slice_index};
-ghost use Rattle.why_path.specs.Words.{level_of, nodes, rail_of, state_at, Explains, IsNear};
+ghost use Rattle.why_path.specs.Words.{level_of, nodes, rail_of, state_at, AreAllBelow, Explains, IsNear};
 ghost use Rattle.strength_order.specs.declared.TheConstants.{INPUT_LEVEL};
 
-use crate::reasons::reason;
+use crate::reasons::{all_below, reason_from};
 use crate::search::has_rail;
-use group_text::{TextFault, text_of};
+use group_text::{MOST_MEMBERS, MOST_SWITCHES, text_of_any_size};
 use path_meaning::{Graph, Walk, graphs_are_wired};
 use std::alloc::{AllocError, Global};
 use strength_order::INPUT_LEVEL;
@@ -15,8 +15,11 @@ use ternary::{NoMemory, Tern};
 /// A reason for a rail of a node, as [`reason`](crate::reason) gives it, found near the node alone.
 ///
 /// The caller hands in what is near: the members of the node's group and the places of the group's
-/// switches. For an input node both may be empty. So what is read and the memory that is taken don't
-/// grow with the graph. Only if the group is too large to have a text is the whole graph searched.
+/// switches. For an input node both may be empty. So what is read and the memory that is taken go by
+/// the sizes of these lists, however large the group is, and don't grow with the graph.
+///
+/// Of equal reasons a group that has more members or switches than `text_of` accepts tells the one
+/// that `reason` finds.
 ///
 /// After Bryant, Beatty, Brace, Cho and Sheffler, "COSMOS: A Compiled Simulator for MOS Circuits",
 /// 1987, where each group is analysed by itself.
@@ -38,14 +41,12 @@ pub fn near_reason(
     if graph.level(node) == INPUT_LEVEL {
         return Ok(input_reason(alloc, graph, state, node, one));
     }
-    let (text, locals) = match text_of(alloc, graph, members, switches) {
-        Ok(made) => made,
-        Err(TextFault::NoMemory) => return Err(NoMemory),
-        Err(_) => return reason(alloc, graph, state, node, one),
-    };
+    let (text, locals) = text_of_any_size(alloc, graph, members, switches)?;
     let local_state = states_at(alloc, state, &locals)?;
+    let is_wide = members.len() > MOST_MEMBERS || switches.len() > MOST_SWITCHES;
+    let roots = roots_of(alloc, &locals, is_wide)?;
     let local = place_of(members, node);
-    match reason(alloc, text.graph(), &local_state, local, one)? {
+    match reason_from(alloc, text.graph(), &local_state, &roots, local, one)? {
         Some(walk) => Ok(Some(whole_walk(alloc, &walk, &locals, switches)?)),
         None => Ok(None),
     }
@@ -86,6 +87,19 @@ fn place_of(members: &[usize], node: usize) -> usize
         }
     }
     unreachable!()
+}
+
+// The local nodes, which stand for these, in the order in which they are taken as roots: as they are
+// numbered, but in a wide group as the nodes are that they stand for.
+fn roots_of(alloc: Global, locals: &[usize], is_wide: bool) -> Result<Vec<usize>, NoMemory>
+    ensures { IfOk result (λ roots. AreAllBelow (length locals.now) roots.items) }
+{
+    let mut roots = all_below(alloc, locals.len())?;
+    if !is_wide {
+        return Ok(roots);
+    }
+    roots.sort_unstable_by_key(|&local| locals.get(local).copied());
+    Ok(roots)
 }
 
 // The states of these nodes.

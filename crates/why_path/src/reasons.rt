@@ -1,7 +1,7 @@
 //! Reasons for the rails of a node, found over a whole graph.
 
 ghost use Rattle.std.specs.Prelude.{◌≡◌, ◌<◌, length, IfOk};
-ghost use Rattle.why_path.specs.Words.{nodes, rail_of, Explains, IsEntryOf, IsTrail, LeadBack};
+ghost use Rattle.why_path.specs.Words.{nodes, rail_of, AreAllBelow, Explains, IsEntryOf, IsTrail, LeadBack};
 
 use crate::search::{Found, search};
 use path_meaning::{Graph, Walk, graphs_are_wired, strongest};
@@ -27,9 +27,28 @@ pub fn reason(
     requires node { node < nodes graph.now }
     ensures { IfOk result (λ found. Explains (rail_of one) graph.now state.now node found) }
 {
+    let roots = all_below(alloc, graph.nodes())?;
+    reason_from(alloc, graph, state, &roots, node, one)
+}
+
+/// A reason as [`reason`] gives it; of equal roots it is the one that comes first in `roots`, which
+/// has all nodes.
+pub(crate) fn reason_from(
+    alloc: Global,
+    graph: &Graph,
+    state: &[Tern],
+    roots: &[usize],
+    node: usize,
+    one: bool,
+) -> Result<Option<Walk>, NoMemory>
+    requires state { length state.now ≡ nodes graph.now }
+    requires roots { AreAllBelow (nodes graph.now) roots.now }
+    requires node { node < nodes graph.now }
+    ensures { IfOk result (λ found. Explains (rail_of one) graph.now state.now node found) }
+{
     graphs_are_wired(graph);
     let best = strongest(alloc, graph, state)?;
-    let found = search(alloc, graph, state, &best, one)?.found;
+    let found = search(alloc, graph, state, &best, roots, one)?.found;
     match entry_of(&found, node) {
         Some(at) => {
             let walk = trail(alloc, &found, at)?;
@@ -37,6 +56,17 @@ pub fn reason(
         }
         None => Ok(None),
     }
+}
+
+/// The numbers below this count, in ascending order.
+pub(crate) fn all_below(alloc: Global, count: usize) -> Result<Vec<usize>, NoMemory>
+    ensures { IfOk result (λ numbers. AreAllBelow count numbers.items) }
+{
+    let mut numbers = Vec::new(alloc);
+    for number in 0..count {
+        numbers.push(number).map_err(AllocError::from)?;
+    }
+    Ok(numbers)
 }
 
 // The place of the entry for this node.

@@ -4,8 +4,8 @@
 //! strength with which an unblocked path leads to it. So what is read back along these places ends,
 //! passes no node twice, and no other path is stronger.
 
-ghost use Rattle.std.specs.Prelude.{◌≡◌, ℕ, ◌<◌, ◌↔◌, ◌++◌, ◌∷◌, [], true, IsTrue, length, IfOk, OnOk, slice_get, slice_set, Contains};
-ghost use Rattle.why_path.specs.Words.{nodes, rail_of, HaveSwitches, IsPassed, IsRootIn, IsRootOf, IsSearch, IsSettled, Keeps, Lands};
+ghost use Rattle.std.specs.Prelude.{◌≡◌, ℕ, ◌<◌, ◌↔◌, ◌++◌, ◌∷◌, [], true, IsTrue, length, All, IfOk, OnOk, slice_get, slice_set, Contains};
+ghost use Rattle.why_path.specs.Words.{nodes, rail_of, AreAllBelow, HaveSwitches, IsPassed, IsRootIn, IsRootOf, IsSearch, IsSettled, Keeps, Lands};
 ghost use Rattle.why_path.specs.declared.search.Found.{Found};
 
 use crate::ends::ends_of;
@@ -41,16 +41,19 @@ pub(crate) struct Progress {
 
 /// All nodes to which an unblocked path leads from a root whose state has the rail.
 ///
-/// `best` has for each node the strength of the strongest definite path to it.
+/// `best` has for each node the strength of the strongest definite path to it. Roots of one level are
+/// taken in the order of `roots`, which has all nodes.
 pub(crate) fn search(
     alloc: Global,
     graph: &Graph,
     state: &[Tern],
     best: &[u8],
+    roots: &[usize],
     one: bool,
 ) -> Result<Progress, NoMemory>
     requires state { length state.now ≡ nodes graph.now }
     requires best { length best.now ≡ nodes graph.now }
+    requires roots { AreAllBelow (nodes graph.now) roots.now }
     ensures { IfOk result (λ end. IsSearch (rail_of one) graph.now state.now best.now 0 end.found.items end.seen.items) }
 {
     // For the proof alone: each level is a level.
@@ -63,29 +66,31 @@ pub(crate) fn search(
     };
     let mut strength = INPUT_LEVEL;
     while strength > 0 {
-        add_roots(graph, state, best, strength, &mut progress)?;
+        add_roots(graph, state, best, roots, strength, &mut progress)?;
         widen(graph, state, best, &ends, strength, &mut progress)?;
         strength -= 1;
     }
     Ok(progress)
 }
 
-// Adds the roots of this level.
+// Adds the nodes among these that are roots of this level.
 fn add_roots(
     graph: &Graph,
     state: &[Tern],
     best: &[u8],
+    roots: &[usize],
     strength: u8,
     progress: &mut Progress,
 ) -> Result<(), NoMemory>
     requires state { length state.now ≡ nodes graph.now }
     requires best { length best.now ≡ nodes graph.now }
+    requires inside { All (λ node. node < nodes graph.now) roots.now }
     requires sound { IsSearch (rail_of progress.old.one) graph.now state.now best.now strength progress.old.found.items progress.old.seen.items }
     ensures one { progress.new.one ≡ progress.old.one }
     ensures sound { OnOk result (IsSearch (rail_of progress.old.one) graph.now state.now best.now strength progress.new.found.items progress.new.seen.items) }
-    ensures roots { OnOk result ((node : ℕ) → IsRootIn (rail_of progress.old.one) graph.now state.now best.now strength progress.new.found.items node) }
+    ensures roots { OnOk result (All (IsRootIn (rail_of progress.old.one) graph.now state.now best.now strength progress.new.found.items) roots.now) }
 {
-    for node in 0..graph.nodes() {
+    for &node in roots {
         add_root(graph, state, best, strength, node, progress)?;
     }
     Ok(())

@@ -1,14 +1,15 @@
 -- The local reason stands for one of the whole graph.
-use Rattle.std.proofs.Common.{◌≡◌, ℕ, List, Option, ◌∙◌, refl, sym, ap, subst, arith, map}
+use Rattle.std.proofs.Common.{◌≡◌, ℕ, List, Option, ◌∙◌, refl, sym, ap, subst, arith, length, map}
 use Rattle.std.specs.Prelude.{option_map}
 use Rattle.std.proofs.lemmas.List.{length-map}
 use Rattle.path_meaning.specs.declared.walks.Walk.{Walk}
 use Rattle.path_meaning.specs.Switching.{state_at}
-use Rattle.path_meaning.specs.Graphs.{GraphData, IsStorage, place_at}
+use Rattle.path_meaning.specs.Graphs.{GraphData, IsStorage, nodes, place_at}
 use Rattle.path_meaning.specs.Path.{at_root}
 use Rattle.path_meaning.specs.Spread.{rail_of}
 use Rattle.group_meaning.specs.Groups.{Group, IsGroup}
 use Rattle.group_text.specs.Texts.{GroupTextData, local_nodes, local_graph, local_state, local_switch}
+use Rattle.group_text.proofs.LocalEdges.{nodes_local}
 use Rattle.group_text.proofs.LocalRanges.{locals_inside}
 use Rattle.why_path.specs.Reasons.{Explains, IsBestReason}
 use Rattle.why_path.proofs.NearLemmas.{hops_inside, whole_best, whole_none, Explains-same}
@@ -30,7 +31,7 @@ is_group c =
 
 -- and the nodes that its text's nodes stand for are listed
 locals_are : (c : After-deref) → c.deref.result.now ≡ local_nodes c.args.graph.now (near c.args.members.now c.args.switches.now)
-locals_are c = c.deref.ensures.value ∙ c.in-Ok.ensures.locals
+locals_are c = c.deref.ensures.value ∙ c.in_ok-text.ensures.locals
 
 -- what was found explains the rail over the group's local graph
 explained : (c : In_ok-walk) (group : Group) → group ≡ near c.args.members.now c.args.switches.now →
@@ -40,10 +41,10 @@ explained : (c : In_ok-walk) (group : Group) → group ≡ near c.args.members.n
 explained c group is locals =
     let g : GraphData = c.args.graph.now in
     let graph : c.graph.result.now ≡ local_graph g group =
-    c.graph.ensures.value ∙ ap (λ (text : GroupTextData). text.graph) c.in-Ok.ensures.text ∙ ap (local_graph g) (sym is) in
-    let states : c.deref-2.result.now ≡ local_state (local_nodes g group) c.args.state.now =
-    c.deref-2.ensures.value ∙ c.in_ok-local_state.ensures ∙ ap (map (state_at c.args.state.now)) locals in
-    Explains-same (rail_of c.args.one) c.graph.result.now (local_graph g group) c.deref-2.result.now
+    c.graph.ensures.value ∙ ap (λ (text : GroupTextData). text.graph) c.in_ok-text.ensures.text ∙ ap (local_graph g) (sym is) in
+    let states : c.deref-3.result.now ≡ local_state (local_nodes g group) c.args.state.now =
+    c.deref-3.ensures.value ∙ c.in_ok-local_state.ensures ∙ ap (map (state_at c.args.state.now)) locals in
+    Explains-same (rail_of c.args.one) c.graph.result.now (local_graph g group) c.deref-3.result.now
     (local_state (local_nodes g group) c.args.state.now) c.place_of-local.result c.in_ok-walk.field-0 graph states c.in_ok-walk.ensures
 
 -- so the walk is a best reason there
@@ -63,6 +64,18 @@ states_at-requires c =
     let group = near c.args.members.now c.args.switches.now in
     rw (locals_are begin, c.requires.state) (locals_inside c.args.graph.now c.graphs_are_wired.ensures group (is_group begin))
 
+pub reason_from-requires-clause-roots : goal.reason_from-requires-clause-roots
+reason_from-requires-clause-roots c =
+    let begin = (goal.at.reason_from-requires-clause-roots c).After-deref in
+    let g : GraphData = c.args.graph.now in
+    let group = near c.args.members.now c.args.switches.now in
+    let graph : c.graph.result.now ≡ local_graph g group =
+    c.graph.ensures.value ∙ ap (λ (text : GroupTextData). text.graph) c.in_ok-text.ensures.text in
+    let locals : c.deref-2.result.now ≡ local_nodes g group = c.deref-2.ensures.value ∙ c.in_ok-text.ensures.locals in
+    let count : length c.deref-2.result.now ≡ nodes c.graph.result.now =
+    ap length locals ∙ sym (ap nodes graph ∙ nodes_local g group (is_group begin)) in
+    rw (c.deref-4.ensures.value, ← count) c.in_ok-roots.ensures
+
 pub whole_walk-requires-clause-hops : goal.whole_walk-requires-clause-hops
 whole_walk-requires-clause-hops c =
     let at_walk = goal.at.whole_walk-requires-clause-hops c in
@@ -79,7 +92,7 @@ returns-in-Some c =
     let at_end = goal.at.returns-in-Some c in
     let group = near c.args.members.now c.args.switches.now in
     let found = best at_end.In-Some group (explained at_end.In_ok-walk group refl (locals_are at_end.After-deref)) in
-    let ends : c.deref-in-Some.result.now ≡ local_nodes c.args.graph.now group = c.deref-in-Some.ensures.value ∙ c.in-Ok.ensures.locals in
+    let ends : c.deref-in-Some.result.now ≡ local_nodes c.args.graph.now group = c.deref-in-Some.ensures.value ∙ c.in_ok-text.ensures.locals in
     let whole = whole_best (rail_of c.args.one) c.args.graph.now c.graphs_are_wired.ensures group (is_group at_end.After-deref) c.args.state.now
     c.place_of-local.result c.place_of-local.ensures.inside c.in-Some.walk.root c.in-Some.walk.hops.items found in
     rw (c.in_ok-whole_walk-in-Some.ensures.root, c.in_ok-whole_walk-in-Some.ensures.hops, ends, ← c.place_of-local.ensures.named) whole
