@@ -93,7 +93,7 @@ pub const CURES: [(&str, &str); 46] = [
     ),
     (
         "S5 BadNumber",
-        "'{}' is no number that fits; write digits, from 1 to 1000000 for limit, cycle and keep",
+        "'{}' is no number that fits; write digits, from 1 to 1000000 for limit, cycle and keep, from 200 for wide",
     ),
     (
         "S6 NotInput",
@@ -153,11 +153,11 @@ pub const CURES: [(&str, &str); 46] = [
     ),
     (
         "G1 GroupNodes",
-        "the group of '{}' has over 200 nodes; join supplies to rails by '=', or cut it by 'input'",
+        "the group of '{}' has too many nodes; join supplies to rails by '='; 'wide N' in a script allows up to N",
     ),
     (
         "G2 GroupSwitches",
-        "the group of '{}' has over 800 switches; join supplies to rails by '=', or cut it by 'input'",
+        "the group of '{}' has over 800 switches; join supplies to rails by '='; 'wide N' in a script allows it",
     ),
     (
         "P1 BadCard",

@@ -2,8 +2,8 @@
 //! and each command of a script, and what each refusal means with its cure.
 //!
 //! The main functions are `topic` and `cure`, which find a text by its name. The layers above use that it is
-//! the text of the first entry of `TOPICS` or `CURES` with this name, and that there is none exactly if no
-//! entry has the name.
+//! the text of the first entry with this name, of `REQUESTS` with `COMMANDS` behind them or of `CURES`, and
+//! that there is none exactly if no entry has the name.
 //!
 //! ```text
 //! topic("del")              Some("del K\nRemoves transistor K. ..\n")
@@ -19,4 +19,4 @@ mod topics;
 
 pub use cures::{CURES, cure};
 pub use pages::{PAGE, USAGE, VERSION, page, usage, version};
-pub use topics::{TOPICS, topic};
+pub use topics::{COMMANDS, REQUESTS, topic};

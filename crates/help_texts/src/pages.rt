@@ -35,6 +35,7 @@ A script has a command on each line; a line that begins with | is a comment.
   clock, cycle     the letters of clocks; run through them N times
   add, del, strength, type, wire    change transistors while the script runs
   report, keep     count groups and analyses; bound what is kept of these
+  wide             let groups have more than 200 nodes
 
 Examples, from the folder of the README:
   ./cosmos sim examples/inverter.sim examples/inverter.cmd

@@ -5,8 +5,8 @@ ghost use Rattle.help_texts.specs.Texts as spec;
 
 use crate::finding::text_of;
 
-/// Each request and each command of a script with its form, what it does, and what it is refused for.
-pub const TOPICS: [(&str, &str); 41] = [
+/// Each request with its form, what it does, and what it is refused for.
+pub const REQUESTS: [(&str, &str); 16] = [
     (
         "sim",
         "cosmos sim NET SCRIPT
@@ -117,8 +117,9 @@ A line of NET is refused as in 'sim' (status 3).
         "cosmos groups NET
 Prints a line for each channel-connected group: 'group I nodes N switches S
 text T: NAMES'. T is the number of the first group that is alike, or - if the
-group has more than 200 nodes or 800 switches, which no step takes. A group so
-large mostly has a supply that a line '= Vdd NAME' should join to its rail.
+group has more than 200 nodes or 800 switches, which a script takes after
+'wide N' alone. A group so large mostly has a supply that a line '= Vdd NAME'
+should join to its rail, or is a long bit line.
 A line of NET is refused as in 'sim' (status 3).
 ",
     ),
@@ -201,6 +202,10 @@ with.
 It reads no file and is never refused.
 ",
     ),
+];
+
+/// Each command of a script or a talk, likewise.
+pub const COMMANDS: [(&str, &str); 26] = [
     (
         "input",
         "input NAME..
@@ -262,7 +267,7 @@ Refused: S2 FewWords, S3 ManyWords, S5 BadNumber.
 Makes one unit step: every node takes its steady state at once. It prints a
 line: its number, 1, and the states of the watched nodes.
 Refused: S3 ManyWords; G1 GroupNodes if a group has more than 200 nodes,
-G2 GroupSwitches if one has more than 800 switches.
+G2 GroupSwitches if one has more than 800 switches, unless 'wide N' allows it.
 ",
     ),
     (
@@ -272,7 +277,7 @@ Makes unit steps until nothing changes, and past the limit joining steps, which
 make what still moves X. It prints a line: its number, how many steps changed
 something, * if a joining step did, and the states of the watched nodes.
 Refused: S3 ManyWords; G1 GroupNodes if a group has more than 200 nodes,
-G2 GroupSwitches if one has more than 800 switches.
+G2 GroupSwitches if one has more than 800 switches, unless 'wide N' allows it.
 ",
     ),
     (
@@ -414,7 +419,7 @@ Prints 'groups G texts T new N': the numbers of groups, of their distinct
 texts, and of texts that were analysed since the last report. 'batch' has no
 'report'.
 Refused: S3 ManyWords; G1 GroupNodes if a group has more than 200 nodes,
-G2 GroupSwitches if one has more than 800 switches.
+G2 GroupSwitches if one has more than 800 switches, unless 'wide N' allows it.
 ",
     ),
     (
@@ -423,6 +428,15 @@ G2 GroupSwitches if one has more than 800 switches.
 Sets how many texts of groups at most have their analyses kept, from the next
 build on: N from 1 to 1000000, though all those of the present circuit stay. At
 the start there is no bound. No state depends on it. 'batch' has no 'keep'.
+Refused: S2 FewWords, S3 ManyWords, S5 BadNumber.
+",
+    ),
+    (
+        "wide",
+        "wide N
+Lets a group have up to N nodes, N from 200 to 1000000, and any number of
+switches, from the next build on. One of more than 200 nodes or 800 switches has
+no text: 'report' counts it among the groups alone.
 Refused: S2 FewWords, S3 ManyWords, S5 BadNumber.
 ",
     ),
@@ -444,15 +458,26 @@ Refused: S3 ManyWords.
 ];
 
 /// The text of the first topic with this name, if there is one.
+#[tactic(auto, using(crate::proofs::TopicLemmas::topic_first, crate::proofs::TopicLemmas::topic_later))]
 pub fn topic(word: &str) -> Option<&'static str>
     ensures { option_map (λ text. text.now) result ≡ spec.text_of spec.topics word.now }
 {
-    text_of(all_topics(), word.as_bytes())
+    match text_of(all_requests(), word.as_bytes()) {
+        Some(text) => Some(text),
+        None => text_of(all_commands(), word.as_bytes()),
+    }
 }
 
-// All topics.
-fn all_topics() -> &'static [(&'static str, &'static str)]
-    ensures { spec.entries_of result.now ≡ spec.topics }
+// All requests.
+fn all_requests() -> &'static [(&'static str, &'static str)]
+    ensures { spec.entries_of result.now ≡ spec.requests }
 {
-    &TOPICS
+    &REQUESTS
+}
+
+// All commands.
+fn all_commands() -> &'static [(&'static str, &'static str)]
+    ensures { spec.entries_of result.now ≡ spec.commands }
+{
+    &COMMANDS
 }
