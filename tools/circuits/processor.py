@@ -322,8 +322,10 @@ class Processor:
             self.add_register(pc, circuit.multiplexer(jump, not_jump, operand, above), PHI2)
 
 
-def add_script(circuit, states):
+def add_script(circuit, states, has_multiplexer):
     """A reset of two cycles, and a cycle for each instruction; the model tells the registers in each place."""
+    if has_multiplexer:
+        circuit.command("wide 1000")
     circuit.start(["phi1", "phi2", "rst"],
                   ["phi1", "phi2"] + word_down("pc", WIDTH) + word_down("ir", INSTRUCTION_WIDTH)
                   + word_down("a", WIDTH) + word_down("x", WIDTH) + word_down("pg", PAGE_WIDTH) + ["cf"]
@@ -352,7 +354,7 @@ def main():
     size = int(memory.rstrip("m"))
     program_words = program_memory(program, int(count), size == 4096, int(seed))
     circuit = Processor(size, program_words, memory.endswith("m")).circuit
-    add_script(circuit, model(program_words))
+    add_script(circuit, model(program_words), memory.endswith("m"))
     circuit.write(prefix)
 
 
