@@ -2,7 +2,7 @@ ghost use Rattle.std.specs.Prelude.{◌≡◌, ◌≢◌, ◌≤◌};
 ghost use Rattle.oscillation_x.specs.declared.settling.TheConstants.{MOST_LIMIT};
 
 use crate::drawn::{Drawn, drawn};
-use oscillation_x::{MOST_LIMIT, PlainStepper, Settled, Stepper, settle};
+use oscillation_x::{MOST_LIMIT, PlainStepper, Recall, Settled, Stepper, settle};
 use path_meaning::Graph;
 use path_meaning::SwitchKind::{NChan, PChan};
 use std::alloc::{AllocError, Global};
@@ -24,10 +24,13 @@ const ROW: Drawing = (&[16, 16, 16, 1, 1], &[(2, 3), (3, 4)]);
 // an inverter that feeds itself, and two in a row that read it
 const READ_RING: Drawing = (&[16, 16, 1, 1, 1], &[(2, 2), (2, 3), (3, 4)]);
 
+// three inverters in a ring, and one that reads it
+const LONG_RING: Drawing = (&[16, 16, 1, 1, 1, 1], &[(4, 2), (2, 3), (3, 4), (4, 5)]);
+
 // a circuit, its states before, the limit, its states after, the number of steps, whether it joined
 type Row = (Drawing, &'static [u8], u64, &'static [u8], u64, bool);
 
-const ROWS: [Row; 6] = [
+const ROWS: [Row; 9] = [
     // it oscillates until the limit, and becomes X
     (RING, b"010", 4, b"01X", 5, true),
     // X is steady there
@@ -38,6 +41,11 @@ const ROWS: [Row; 6] = [
     (ROW, b"0110X", 1, b"01101", 1, false),
     // what reads a node that became X becomes X in the next joining step
     (READ_RING, b"01010", 1, b"01XXX", 3, true),
+    // a state comes back every two steps: behind a round the limit leaves one more, or one and a half
+    (RING, b"010", 20, b"01X", 21, true),
+    (RING, b"010", 21, b"01X", 22, true),
+    // and every six steps, of which nearly all are passed over; four more are left then
+    (LONG_RING, b"010101", 1_000_000, b"01XXXX", 1_000_003, true),
 ];
 
 #[test]
@@ -54,7 +62,7 @@ fn a_state_settles_or_becomes_x(rt: HostRuntime) -> Result<(), Fail> {
             }
         }
         assert!(rt; (1..=MOST_LIMIT).contains(limit));
-        let settled = counted::<_, Brand>(&mut stepper, &graph, *limit, Blank::new(1));
+        let settled = counted::<_, Brand>(rt.alloc(), &mut stepper, &graph, *limit, Blank::new(1));
         assert!(rt; settled.steps == *steps && settled.joined == *joined);
         for (node, letter) in stepper.state().iter().zip(*after) {
             assert!(rt; node.letter() == *letter);
@@ -74,12 +82,19 @@ fn inverters_drawn(alloc: Global, inverters: &[(usize, usize)]) -> Result<Vec<Dr
 }
 
 // What settling gives, with steps that nothing else counts.
-fn counted<M: Stepper, L: Ledger>(m: &mut M, graph: &Graph, limit: u64, blank: Blank) -> Settled
+fn counted<M: Stepper, L: Ledger>(
+    alloc: Global,
+    m: &mut M,
+    graph: &Graph,
+    limit: u64,
+    blank: Blank,
+) -> Settled
     requires low { 1 ≤ limit }
     requires high { limit ≤ MOST_LIMIT }
     requires name { blank.name ≡ L.name }
     requires parts { blank.parts ≡ L.parts }
     requires some { blank.parts ≢ 0 }
 {
-    settle(m, graph, limit, &mut Steps::<L>::new(blank))
+    let mut steps = Steps::<L>::new(blank);
+    settle(m, graph, limit, &mut steps, &mut Recall::new(alloc))
 }

@@ -7,3 +7,6 @@ pub mod PassesLemmas
 pub mod SeenSoFar
 pub mod NumbersLemmas
 pub mod WholeSettling
+pub mod RecallLemmas
+pub mod RecurringLemmas
+pub mod SeenRounds

@@ -6,3 +6,4 @@ pub mod PassingLaws
 pub mod Moved
 pub mod Observing
 pub mod Passes
+pub mod Recurring

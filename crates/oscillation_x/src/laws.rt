@@ -5,6 +5,7 @@
 ghost use Rattle.std.specs.Prelude.{◌≡◌};
 ghost use Rattle.oscillation_x.specs.Laws.{EveryStateSettles, JoiningStepsMakeX, SettlingIsUnique};
 ghost use Rattle.oscillation_x.specs.PassingLaws.{EveryStatePasses, PassingIsUnique, PassingSettles, SettlingPasses};
+ghost use Rattle.oscillation_x.specs.Recurring.{StatesThatComeBackRecur};
 ghost use Rattle.oscillation_x.specs.declared.settling.TheConstants.{MOST_LIMIT};
 
 /// Every state of a graph settles, under every limit.
@@ -49,6 +50,12 @@ pub fn passing_is_unique()
 /// Every state of a graph passes through states, under every limit.
 pub fn every_state_passes()
     ensures { EveryStatePasses }
+{}
+
+/// From a state that comes back after some unit steps the same steps lead to it again, as often as one likes, and
+/// what follows then counts on. So what is left of a limit may be passed over in whole rounds.
+pub fn states_that_come_back_recur()
+    ensures { StatesThatComeBackRecur }
 {}
 
 /// A law: the limit of a phase is at most 1,000,000.

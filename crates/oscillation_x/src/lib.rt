@@ -6,6 +6,9 @@
 //! steady state: a node that oscillates becomes X, and so does what reads it. Its contract,
 //! `Settles`, is what the layers above use. `PlainStepper` is the stepper by plain steps.
 //!
+//! Steps that come back to a state go on in rounds from it to it. A `Recall` remembers a state of a phase to tell,
+//! and the rounds that fit below the limit are counted and not taken.
+//!
 //! `settle_seen` settles under the eyes of an `Observer`, who is shown each state that is passed
 //! through (`SettlesThrough`), by a `SeenStepper`: one that lists the nodes which a step changed, so
 //! that who looks need look at these alone. An `Onlooker` is shown a whole run: where steps and phases
@@ -29,6 +32,7 @@ mod observer;
 mod observing;
 mod onlooker;
 mod plain_stepping;
+mod recall;
 mod seen_stepping;
 mod settling;
 mod stepping;
@@ -36,12 +40,14 @@ mod stepping;
 pub use laws::{
     every_state_passes, every_state_settles, joining_steps_make_x, limits_are_as_stated,
     passing_is_unique, passing_settles, settling_is_unique, settling_passes,
+    states_that_come_back_recur,
 };
 pub use moved::Moved;
 pub use observer::{Blind, Never, Observer};
 pub use observing::settle_seen;
 pub use onlooker::{Onlooker, unfailing};
 pub use plain_stepping::PlainStepper;
+pub use recall::Recall;
 pub use seen_stepping::SeenStepper;
 pub use settling::{MOST_LIMIT, Settled, settle};
 pub use stepping::Stepper;

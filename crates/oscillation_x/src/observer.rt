@@ -1,7 +1,9 @@
 //! Who is shown the states that settling passes through.
 ghost use Rattle.std.specs.Prelude.{◌≡◌, ℕ, List, OnOk, IfErr};
+ghost use Rattle.std.specs.Bool.{OnTrue};
 ghost use Rattle.ternary.specs.declared.tern.Tern.{Tern};
 ghost use Rattle.oscillation_x.specs.Moved.{ListsChanges};
+ghost use Rattle.oscillation_x.specs.Recurring.{OnceIsEnough};
 
 use crate::moved::Moved;
 
@@ -33,6 +35,11 @@ pub trait Observer {
     ghost fixed: { Self → Self.Fixed };
 
     ghost part: { Self → List Tern → Self.Fault → Self → Type 0 };
+
+    /// Whether it is enough to show it a round of states once: if they come again, in the same order, they tell it nothing
+    /// new.
+    fn is_once_enough(&self) -> bool
+        ensures { OnTrue result (OnceIsEnough see) };
 
     /// Sees the state that a move left, which differs at listed nodes alone from one that is known.
     fn see<M: Moved>(&mut self, moved: &M) -> Result<(), Self::Fault>
@@ -69,6 +76,11 @@ impl Observer for Blind {
     ghost fixed = { λ _. tt };
 
     ghost part = { λ _ _ _ _. ⊥ };
+
+    #[inline]
+    fn is_once_enough(&self) -> bool {
+        true
+    }
 
     fn see<M: Moved>(&mut self, _moved: &M) -> Result<(), Never> {
         Ok(())

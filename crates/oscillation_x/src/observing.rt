@@ -1,11 +1,14 @@
 //! Settling under the eyes of an observer, who is shown each state that it passes through.
-ghost use Rattle.std.specs.Prelude.{◌≡◌, ◌^◌, ◌<◌, ◌≤◌, length, IfOk, IfErr, OnOk};
-ghost use Rattle.path_meaning.specs.Graphs.{IsWired};
+ghost use Rattle.std.specs.Prelude.{◌≡◌, ◌+◌, ◌^◌, ◌<◌, ◌≤◌, length, IfOk, IfErr, OnOk};
+ghost use Rattle.std.specs.Bool.{OnFalse};
+ghost use Rattle.path_meaning.specs.Graphs.{GraphData, IsWired};
 ghost use Rattle.oscillation_x.specs.Settling.{Settles};
 ghost use Rattle.oscillation_x.specs.Observing.{IsSeen, IsStopped, StepsSeen, StepsStopped, JoinsSeen, JoinsStopped};
+ghost use Rattle.oscillation_x.specs.Recurring.{Recalls};
 ghost use Rattle.ternary.specs.Counts.{raised};
 
 use crate::observer::Observer;
+use crate::recall::Recall;
 use crate::seen_stepping::SeenStepper;
 use crate::settling::{MOST_LIMIT, Settled};
 use path_meaning::{Graph, graphs_are_wired};
@@ -19,6 +22,9 @@ use ternary::Steps;
 /// there: the stepper has the state of that look, which is one of those that it would have passed
 /// through, and the observer saw those before it.
 ///
+/// Whole rounds of states that come back are passed over as in `settle`, if it is enough to show the observer a round
+/// once.
+///
 /// In the manner of MOSSIM II: Bryant, "A Switch-Level Model and Simulator for MOS Digital Systems",
 /// 1984.
 pub fn settle_seen<M: SeenStepper, O: Observer, L: Ledger>(
@@ -27,6 +33,7 @@ pub fn settle_seen<M: SeenStepper, O: Observer, L: Ledger>(
     limit: u64,
     steps: &mut Steps<L>,
     observer: &mut O,
+    recall: &mut Recall,
 ) -> Result<Settled, O::Fault>
     requires low { 1 ≤ limit }
     requires high { limit ≤ MOST_LIMIT }
@@ -47,7 +54,7 @@ pub fn settle_seen<M: SeenStepper, O: Observer, L: Ledger>(
     ensures fixed { M.fixed m.new ≡ M.fixed m.old }
 {
     graphs_are_wired(graph);
-    let first = step_while_seen(m, graph, limit, steps, observer)?;
+    let first = step_while_seen(m, graph, limit, steps, observer, recall)?;
     if first < limit {
         return Ok(Settled {
             steps: first,
@@ -62,13 +69,14 @@ pub fn settle_seen<M: SeenStepper, O: Observer, L: Ledger>(
 }
 
 // Takes unit steps while they change something, at most `limit` that do, shows each that does, and answers
-// how many did.
+// how many did, with those of whole rounds that are passed over.
 fn step_while_seen<M: SeenStepper, O: Observer, L: Ledger>(
     m: &mut M,
     graph: &Graph,
     limit: u64,
     steps: &mut Steps<L>,
     observer: &mut O,
+    recall: &mut Recall,
 ) -> Result<u64, O::Fault>
     requires fits { M.fits m.old graph.now }
     requires knows { O.knows observer.old (M.state m.old) }
@@ -85,13 +93,46 @@ fn step_while_seen<M: SeenStepper, O: Observer, L: Ledger>(
     ensures placed { M.placed m.new ≡ M.placed m.old }
     ensures fixed { M.fixed m.new ≡ M.fixed m.old }
 {
-    for count in 0..limit {
+    recall.forget();
+    let once = observer.is_once_enough();
+    let mut count: u64 = 0;
+    while count < limit {
         if !m.step(graph, steps) {
             return Ok(count);
         }
         observer.see(m)?;
+        let taken = count + 1;
+        let ahead = pass_rounds(m, once, taken, limit, recall);
+        count = taken + ahead;
     }
-    Ok(limit)
+    Ok(count)
+}
+
+// Passes over the whole rounds that fit below the limit, if it is enough to show a round once and the state after so many
+// steps is back, and answers how many steps they have.
+fn pass_rounds<M: SeenStepper>(
+    m: &mut M,
+    once: bool,
+    count: u64,
+    limit: u64,
+    recall: &mut Recall,
+) -> u64
+    requires { count ≤ limit }
+    ensures left { count + result ≤ limit }
+    ensures recalls { Recalls recall.old recall.new (M.state m.old) count result }
+    ensures each { OnFalse once (result ≡ 0) }
+    ensures state { M.state m.new ≡ M.state m.old }
+    ensures fits { (g : GraphData) → M.fits m.old g → M.fits m.new g }
+    ensures moves { M.moves m.new ≡ raised (M.moves m.old) result }
+    ensures placed { M.placed m.new ≡ M.placed m.old }
+    ensures fixed { M.fixed m.new ≡ M.fixed m.old }
+{
+    if !once {
+        return 0;
+    }
+    let ahead = recall.rounds_ahead(m.states(), count, limit);
+    m.skip(ahead);
+    ahead
 }
 
 // Takes joining steps while they change something, shows each that does, and answers how many did.

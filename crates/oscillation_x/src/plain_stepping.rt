@@ -77,6 +77,15 @@ impl PlainStepper {
         self.state[node] = value;
     }
 
+    // Counts so many moves more.
+    fn count_moves(&mut self, count: u64)
+        ensures state { self.new.state ≡ self.old.state }
+        ensures fits { (g : GraphData) → HasRoom self.old g → HasRoom self.new g }
+        ensures moves { self.new.moves ≡ raised self.old.moves count }
+    {
+        self.moves = moves_raised(self.moves, count);
+    }
+
     // Whether the stepper fits a graph.
     fn has_room(&self, graph: &Graph) -> bool
         ensures { IsTrue result ↔ HasRoom self.now graph.now }
@@ -95,6 +104,14 @@ impl Stepper for PlainStepper {
     ghost placed = { λ _. 0 };
 
     ghost fixed = { λ _. tt };
+
+    fn states(&self) -> &[Tern] {
+        &self.state
+    }
+
+    fn skip(&mut self, count: u64) {
+        self.count_moves(count);
+    }
 
     fn step<L: Ledger>(&mut self, graph: &Graph, _steps: &mut Steps<L>) -> bool {
         if !self.has_room(graph) {
@@ -146,6 +163,10 @@ impl SeenStepper for PlainStepper {
 
     ghost fixed = { λ _. tt };
 
+    fn skip(&mut self, count: u64) {
+        self.count_moves(count);
+    }
+
     fn step<L: Ledger>(&mut self, graph: &Graph, steps: &mut Steps<L>) -> bool {
         Stepper::step(self, graph, steps)
     }
@@ -161,6 +182,13 @@ fn moves_after(moves: u64, changed: bool) -> u64
     ensures rested { OnFalse changed (result ≡ moves) }
 {
     moves.saturating_add(u64::from(changed))
+}
+
+// The number of moves after so many more.
+fn moves_raised(moves: u64, count: u64) -> u64
+    ensures { result ≡ raised moves count }
+{
+    moves.saturating_add(count)
 }
 
 // Makes the new states the state, and answers whether that changes it.

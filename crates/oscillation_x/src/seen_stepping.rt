@@ -27,6 +27,14 @@ pub trait SeenStepper: Moved {
 
     ghost fixed: { Self → Self.Fixed };
 
+    /// Counts so many calls more that changed the state, and led back to it: neither the state nor what it fits changes.
+    fn skip(&mut self, count: u64)
+        ensures state { Self.state self.new ≡ Self.state self.old }
+        ensures fits { (g : GraphData) → fits self.old g → fits self.new g }
+        ensures moves { moves self.new ≡ raised (moves self.old) count }
+        ensures placed { placed self.new ≡ placed self.old }
+        ensures fixed { fixed self.new ≡ fixed self.old };
+
     /// Takes a unit step of the graph, and answers whether that changed the state.
     ///
     /// Bryant, "Boolean Analysis of MOS Circuits", 1987.

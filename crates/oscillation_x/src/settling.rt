@@ -1,9 +1,11 @@
 //! Settling over any stepper.
 ghost use Rattle.std.specs.Prelude.{◌≡◌, ℕ, ◌+◌, ◌^◌, ◌<◌, ◌≤◌, ◌↔◌, length, IsTrue};
-ghost use Rattle.path_meaning.specs.Graphs.{IsWired};
+ghost use Rattle.path_meaning.specs.Graphs.{GraphData, IsWired};
 ghost use Rattle.oscillation_x.specs.Settling.{Stepping, Joining, Settles, Moving, Fading, Shifts, storage_nodes};
+ghost use Rattle.oscillation_x.specs.Recurring.{Recalls};
 ghost use Rattle.ternary.specs.Counts.{raised};
 
+use crate::recall::Recall;
 use crate::stepping::Stepper;
 use path_meaning::{Graph, graphs_are_wired};
 use std::sync::ledger::Ledger;
@@ -27,7 +29,11 @@ pub struct Settled {
 /// a steady state, and no joining step is computed. The graph is meant that is handed in; on a
 /// stepper that doesn't fit it the call ends all the same, within the bound by the number of nodes.
 /// A joining step that changes something makes some storage node X that wasn't, so no more of them
-/// change something than the graph has storage nodes. A call takes no memory and has no refusal.
+/// change something than the graph has storage nodes.
+///
+/// Unit steps that come back to the state that `recall` remembers go on in rounds, and those that fit below the limit are
+/// counted and not taken. So a phase that oscillates takes the steps up to where it is seen to come back, less than a round
+/// more, and the joining ones. What is remembered takes memory; without that each step is taken. There is no refusal.
 ///
 /// In the manner of MOSSIM II: Bryant, "A Switch-Level Model and Simulator for MOS Digital
 /// Systems", 1984; that a node which moves past the limit is joined with its steady state, and its
@@ -37,6 +43,7 @@ pub fn settle<M: Stepper, L: Ledger>(
     graph: &Graph,
     limit: u64,
     steps: &mut Steps<L>,
+    recall: &mut Recall,
 ) -> Settled
     requires low { 1 ≤ limit }
     requires high { limit ≤ MOST_LIMIT }
@@ -52,7 +59,7 @@ pub fn settle<M: Stepper, L: Ledger>(
     ensures fixed { M.fixed m.new ≡ M.fixed m.old }
 {
     graphs_are_wired(graph);
-    let first = step_while_changing(m, graph, limit, steps);
+    let first = step_while_changing(m, graph, limit, steps, recall);
     if first < limit {
         return Settled {
             steps: first,
@@ -66,12 +73,14 @@ pub fn settle<M: Stepper, L: Ledger>(
     }
 }
 
-// Takes unit steps while they change something, at most `limit` that do, and answers how many did.
+// Takes unit steps while they change something, at most `limit` that do, and answers how many did, with those of whole
+// rounds that are passed over.
 fn step_while_changing<M: Stepper, L: Ledger>(
     m: &mut M,
     graph: &Graph,
     limit: u64,
     steps: &mut Steps<L>,
+    recall: &mut Recall,
 ) -> u64
     ensures stepping { M.fits m.old graph.now
         → Stepping graph.now limit (M.state m.old) result (M.state m.new) }
@@ -82,12 +91,34 @@ fn step_while_changing<M: Stepper, L: Ledger>(
     ensures placed { M.placed m.new ≡ M.placed m.old }
     ensures fixed { M.fixed m.new ≡ M.fixed m.old }
 {
-    for count in 0..limit {
+    recall.forget();
+    let mut count: u64 = 0;
+    while count < limit {
         if !m.step(graph, steps) {
             return count;
         }
+        let taken = count + 1;
+        let ahead = pass_rounds(m, taken, limit, recall);
+        count = taken + ahead;
     }
-    limit
+    count
+}
+
+// Passes over the whole rounds that fit below the limit, if the state after so many steps is back, and answers how many
+// steps they have.
+fn pass_rounds<M: Stepper>(m: &mut M, count: u64, limit: u64, recall: &mut Recall) -> u64
+    requires { count ≤ limit }
+    ensures left { count + result ≤ limit }
+    ensures recalls { Recalls recall.old recall.new (M.state m.old) count result }
+    ensures state { M.state m.new ≡ M.state m.old }
+    ensures fits { (g : GraphData) → M.fits m.old g → M.fits m.new g }
+    ensures moves { M.moves m.new ≡ raised (M.moves m.old) result }
+    ensures placed { M.placed m.new ≡ M.placed m.old }
+    ensures fixed { M.fixed m.new ≡ M.fixed m.old }
+{
+    let ahead = recall.rounds_ahead(m.states(), count, limit);
+    m.skip(ahead);
+    ahead
 }
 
 // Takes joining steps while they change something, and answers how many did.

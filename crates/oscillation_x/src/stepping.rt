@@ -8,7 +8,7 @@ ghost use Rattle.ternary.specs.Counts.{raised};
 
 use path_meaning::Graph;
 use std::sync::ledger::Ledger;
-use ternary::Steps;
+use ternary::{Steps, Tern};
 
 /// A state that moves by unit steps.
 ///
@@ -30,6 +30,18 @@ pub trait Stepper {
     ghost Fixed: { Type 0 } = { Unit {0} };
 
     ghost fixed: { Self → Self.Fixed };
+
+    /// The state of each node.
+    fn states(&self) -> &[Tern]
+        ensures { result.now ≡ state self.now };
+
+    /// Counts so many calls more that changed the state, and led back to it: nothing else changes.
+    fn skip(&mut self, count: u64)
+        ensures state { state self.new ≡ state self.old }
+        ensures fits { (g : GraphData) → fits self.old g → fits self.new g }
+        ensures moves { moves self.new ≡ raised (moves self.old) count }
+        ensures placed { placed self.new ≡ placed self.old }
+        ensures fixed { fixed self.new ≡ fixed self.old };
 
     /// Takes a unit step of the graph, and answers whether that changed the state.
     ///
