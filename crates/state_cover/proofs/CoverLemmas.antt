@@ -24,7 +24,7 @@ same_tern Unk Zero = inr (λ same. absurd cc)
 same_tern Unk One = inr (λ same. absurd cc)
 same_tern Unk Unk = inl refl
 
-had_more-twice : (had : Had) (state : Tern) → had_more (had_more had state) state ≡ had_more had state
+pub had_more-twice : (had : Had) (state : Tern) → had_more (had_more had state) state ≡ had_more had state
 had_more-twice had Zero = refl
 had_more-twice had One = refl
 had_more-twice had Unk = refl

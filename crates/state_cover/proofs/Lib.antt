@@ -1,3 +1,4 @@
 pub mod CoverLemmas
 pub mod LawLemmas
+pub mod OnceLemmas
 pub mod TextLemmas

@@ -118,6 +118,11 @@ impl Observer for Cover {
 
     ghost part = { λ _ _ _ _. ⊥ };
 
+    #[inline]
+    fn is_once_enough(&self) -> bool {
+        true
+    }
+
     fn see<M: Moved>(&mut self, moved: &M) -> Result<(), Never> {
         for at in 0..moved.change_count() {
             self.note(moved, moved.changed_node(at));
