@@ -1,8 +1,8 @@
 -- The texts that some part has, among those that have a number: what is used of them is moved to the front, the last number first, and there is
 -- room for as many as are distinct.
-use Rattle.std.proofs.Common.{◌≡◌, ℕ, ◌+◌, ◌<◌, ◌≤◌, max, Bool, true, false, cond, ◌&&◌, List, ◌∷◌, length, drop, take, filter, All, Option, None, Some, refl, sym, ap, ◌∙◌, arith, nat_lt, get_or}
-use Rattle.std.specs.Prelude.{slice_get, slice_index, slice_index_or}
-use Rattle.std.proofs.lemmas.Bool.{cond-true, cond-false, and_from}
+use Rattle.std.proofs.Common.{◌≡◌, ℕ, ◌+◌, ◌<◌, ◌≤◌, max, Bool, true, false, cond, ◌&&◌, List, ◌∷◌, length, drop, take, filter, All, Option, None, Some, refl, sym, ap, ◌∙◌, arith, nat_lt, get_or, true≢false}
+use Rattle.std.specs.Prelude.{count_by, slice_get, slice_index, slice_index_or}
+use Rattle.std.proofs.lemmas.Bool.{cond-true, cond-false, and_from, false_from_ne_true, ltb-false}
 use Rattle.std.proofs.lemmas.List.{drop_more, take-map, length-map}
 use Rattle.std.proofs.lemmas.Option.{slice_get_within, get_or_from_slice_get}
 use Rattle.group_text.specs.Texts.{GroupTextData}
@@ -25,6 +25,24 @@ pub is_used-count : (known : List GroupTextData) (counts : List ℕ) (numbers : 
 is_used-count known counts numbers distinct number text are here =
     ap (nat_lt 0) (are.each number ∙ count_of_numbers known are.apart number text here numbers are.inside)
     ∙ sym (is_among-count (some_texts (texts_used (record { known = known; numbers = numbers }))) text)
+
+-- as many parts have a known text as have its number
+pub parts_with-known : (known : List GroupTextData) (counts : List ℕ) (numbers : List (Option ℕ)) (distinct number : ℕ) (text : GroupTextData) →
+    AreCounted known counts numbers distinct → slice_get known number ≡ Some text →
+    slice_index counts number ≡ count_by (same_text text) (some_texts (texts_used (record { known = known; numbers = numbers })))
+parts_with-known known counts numbers distinct number text are here =
+    are.each number ∙ count_of_numbers known are.apart number text here numbers are.inside
+
+-- and none has another one
+pub parts_with-unknown : (known : List GroupTextData) (counts : List ℕ) (numbers : List (Option ℕ)) (distinct : ℕ) (text : GroupTextData) →
+    AreCounted known counts numbers distinct → is_among known text ≡ false →
+    0 ≡ count_by (same_text text) (some_texts (texts_used (record { known = known; numbers = numbers })))
+parts_with-unknown known counts numbers distinct text are unknown =
+    let texts = some_texts (texts_used (record { known = known; numbers = numbers })) in
+    let none : is_among texts text ≡ false =
+    false_from_ne_true (is_among texts text) (λ is.
+    true≢false (sym (among_all (is_among known) true texts (used_known known numbers are.inside) text is) ∙ unknown)) in
+    omega (arith, ltb-false 0 (count_by (same_text text) texts) (sym (is_among-count texts text) ∙ none))
 
 -- the texts that some part has, of those with this number and a later one
 abbrev pub in_use_from : ℕ → UsesData → List GroupTextData

@@ -1,6 +1,6 @@
 //! Which texts the parts of a machine have, and how many of them are distinct.
-ghost use Rattle.std.specs.Prelude.{◌≡◌, ◌+◌, ◌++◌, ◌∷◌, [], ◌^◌, ◌<◌, None, Some, All, IsTrue, length, map, max, replicate, slice_get, slice_index_or, slice_set, IfOk, IfSome, OnOk, OnErr};
-ghost use Rattle.group_text.specs.Words.{GroupTextData, new_texts, is_among};
+ghost use Rattle.std.specs.Prelude.{◌≡◌, ◌+◌, ◌++◌, ◌∷◌, [], ◌^◌, ◌<◌, None, Some, All, IsTrue, count_by, length, map, max, replicate, slice_get, slice_index_or, slice_set, IfOk, IfSome, OnOk, OnErr};
+ghost use Rattle.group_text.specs.Words.{GroupTextData, new_texts, is_among, same_text};
 ghost use Rattle.group_analysis.specs.Using.{used_texts};
 ghost use Rattle.analysis_cache.specs.Words.{texts_of, HoldsKept};
 ghost use Rattle.kept_parts.specs.Uses.{IsNumbered, CutsTo, in_use, some_texts, texts_used, count_distinct, first_use, last_use};
@@ -151,6 +151,16 @@ impl TextUses {
         ensures { (text : GroupTextData) → slice_get self.now.known number ≡ Some text → result ≡ is_among (some_texts (texts_used self.now)) text }
     {
         self.counts[number] > 0
+    }
+
+    /// How many parts have this text.
+    pub fn parts_with(&self, text: &GroupText) -> usize
+        ensures { result ≡ count_by (same_text text.now) (some_texts (texts_used self.now)) }
+    {
+        match self.known.get_index_of(text) {
+            Some(number) => self.counts[number],
+            None => 0,
+        }
     }
 
     /// Cuts what is kept past its bound, if it has one, but no text that some part has: so far as it is kept
