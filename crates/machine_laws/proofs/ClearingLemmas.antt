@@ -203,6 +203,9 @@ module _ (members : List ℕ) (old mid new : MachineData) (counted : length mid.
           | inl before ↦ seats.uses k ∙ clears.uses k part before some
           | inr (last, is) ↦ absurd (omega (arith, last, inside, same_count))
         ];
+    untold = λ tidy k past.
+        let middle = clears.tidy tidy in
+        seats.uses k ∙ get_or_past mid.uses k None (omega (arith, past, middle.counted, same_count));
     marks = λ k inside. (
       λ marked.
           elim (marked-push_cases mid.marks k (subst (λ list. IsMarked list k) seats.marks marked)) [

@@ -19,6 +19,7 @@ use Rattle.channel_groups.specs.Changes.{undo, with_level, nodes_before, nodes_a
 use Rattle.channel_groups.specs.Grouping.{GroupsData, AreOf}
 use Rattle.channel_groups.proofs.ChangeLemmas.{DifferAt-undo}
 use Rattle.channel_groups.proofs.KeptLemmas.{IsKept-untouched}
+use Rattle.group_text.specs.Texts.{GroupTextData}
 use Rattle.group_rest.specs.Alike.{IsAlike}
 use Rattle.group_rest.specs.Rest.{Reads, Rests}
 use Rattle.group_rest.proofs.AlikeGroups.{alike_groups_have_one_text, alike_groups_rest_alike}
@@ -308,20 +309,35 @@ module _ (g : GraphData) (change : Change) (old : MachineData) (covers : Covers 
     is_stale : (k : ℕ) (part : HeldPart) → Stands made.parts k part → 0 < part.members → part.code ≡ None → IsMarked made.marks k
     is_stale k part stands some none = stale_marked k (record { part = part; stands = stands; some = some; none = none })
 
-    known : (k : ℕ) (part : HeldPart) → Stands made.parts k part → part.code ≢ None → (group : Group) → IsPartOf g group part →
+    tidy_cleared : IsTidy cleared
+    tidy_cleared = clears.tidy (record { counted = covers.uses_counted; textless = covers.textless; quiet = covers.quiet })
+
+    -- a new part has no text yet
+    untold_new : (k : ℕ) (part : HeldPart) → Stands made.parts k part → 0 < part.members → IsRenewed g change old now.groups k part →
+        slice_index_or made.uses k None ≡ None
+    untold_new k part stands some is = renews.untold tidy_cleared k part stands (omega (arith, is.later, clears.count)) some
+
+    known : (k : ℕ) (part : HeldPart) → Stands made.parts k part → slice_index_or made.uses k None ≢ None → (group : Group) → IsPartOf g group part →
         IsTextOf g group (slice_index_or made.uses k None)
-    known k part stands coded group is_part =
+    known k part stands numbered group is_part =
         let some : 0 < part.members = omega (arith, is_part.count, is_part.is_group.some) in
         elim (part_cases k part stands some) [
-          | inl is ↦ absurd (coded is.is_new.code)
+          | inl is ↦ absurd (numbered (untold_new k part stands some is))
           | inr is ↦
-              let was = covers.known k part is.stood coded is.group is.was in
+              let was = covers.known k part is.stood (λ none. numbered (still_uses k part stands some is ∙ none)) is.group is.was in
               let same : is.group ≡ group = one_group g is.group group part (still_part k part stands some is) is_part in
               subst (λ (one : Group). IsTextOf g one (slice_index_or made.uses k None)) same
               (record {
                 same = still_uses k part stands some is ∙ was.same ∙ ap Some (sym (alike_groups_have_one_text before g is.group is.alike).1);
                 fits = was.fits;
               })
+        ]
+
+    has_text : (k : ℕ) (part : HeldPart) → Stands made.parts k part → 0 < part.members → part.code ≢ None → slice_index_or made.uses k None ≢ None
+    has_text k part stands some coded none =
+        elim (part_cases k part stands some) [
+          | inl is ↦ coded is.is_new.code
+          | inr is ↦ covers.numbered k part is.stood some coded (sym (still_uses k part stands some is) ∙ none)
         ]
 
     rests : (k : ℕ) (part : HeldPart) → Stands made.parts k part → ¬ IsMarked made.marks k → Rests g made.state (take part.members part.map.items)
@@ -345,7 +361,7 @@ module _ (g : GraphData) (change : Change) (old : MachineData) (covers : Covers 
     after = record made { groups = Some now }
 
     tidy : IsTidy made
-    tidy = renews.tidy (clears.tidy (record { counted = covers.uses_counted; textless = covers.textless; quiet = covers.quiet }))
+    tidy = renews.tidy tidy_cleared
 
     -- the groups that are stepped by vicinities are known still if none of their members lost its part
     made_known : KeepsKnown old.parts made.parts begun made.wide
@@ -385,16 +401,18 @@ module _ (g : GraphData) (change : Change) (old : MachineData) (covers : Covers 
 
       -- and a part that stands as it stood is held as it was
       made_held : (k : ℕ) (part : HeldPart) → Stands made.parts k part → 0 < part.members → part.code ≡ None →
-          IsHeldIn g made.state later part ⊎ IsOutside later.graph part
+          IsHeldIn g made.state later (slice_index_or made.uses k None) part ⊎ IsOutside later.graph part
       made_held k part stands some none =
           elim (part_cases k part stands some) [
             | inl is_new ↦ inr (outside_new k part stands is_new.later)
             | inr still ↦
                 elim (covers.held was_wide.0 was_wide.1 k part still.stood some none) [
                   | inl held ↦
-                      inl (subst (λ state. IsHeldIn g state later part) (sym made_state)
-                      (IsHeldIn-grown before g wired_before wired old.state (replicate (nodes g - length old.state) Unk) covers.counted (nodes g) was_wide.0 later
-                      was_wide.2 part still.group still.alike still.was held))
+                      let text = slice_index_or old.uses k None in
+                      let grown = IsHeldIn-grown before g wired_before wired old.state (replicate (nodes g - length old.state) Unk) covers.counted (nodes g) was_wide.0
+                      later was_wide.2 text part still.group still.alike still.was held in
+                      let here = subst (λ state. IsHeldIn g state later text part) (sym made_state) grown in
+                      inl (subst (λ (one : Option GroupTextData). IsHeldIn g made.state later one part) (sym (still_uses k part stands some still)) here)
                   | inr outside ↦ inr (λ node there storage. outside node there (was_storage node storage))
                 ]
           ]
@@ -427,6 +445,7 @@ module _ (g : GraphData) (change : Change) (old : MachineData) (covers : Covers 
       apart = apart;
       number = count_parts g now.groups are.are made.parts each whole apart;
       known = known;
+      numbered = has_text;
       textless = tidy.textless;
       uses_counted = tidy.counted;
       quiet = tidy.quiet;
@@ -451,6 +470,16 @@ module _ (g : GraphData) (change : Change) (old : MachineData) (covers : Covers 
                 absurd (cc (touched, untouched))
           ]
 
+      untold_then : is_touched_in g change old group ≡ true → slice_index_or made.uses k None ≡ None
+      untold_then touched =
+          elim (part_cases k part stands has_some) [
+            | inl is ↦ untold_new k part stands has_some is
+            | inr is ↦
+                let same : is.group ≡ group = one_group g is.group group part (still_part k part stands has_some is) is_part in
+                let untouched = subst (λ (one : Group). is_touched_in g change old one ≡ false) same is.untouched in
+                absurd (cc (touched, untouched))
+          ]
+
       still_then : is_touched_in g change old group ≡ false → IsStill g change old cleared now.groups k part
       still_then untouched =
           elim (part_cases k part stands has_some) [
@@ -467,9 +496,12 @@ module _ (g : GraphData) (change : Change) (old : MachineData) (covers : Covers 
       covers = covers_after;
       state = made_state;
       stale = λ k part group stands is_part touched. stale_then k part group stands is_part touched;
+      untold = λ k part group stands is_part touched. untold_then k part group stands is_part touched;
       marked = λ k part group stands is_part touched.
           is_stale k part stands (has_some k part group stands is_part) (stale_then k part group stands is_part touched);
       stays = λ k part group stands is_part untouched. (still_then k part group stands is_part untouched).stood;
+      texts = λ k part group stands is_part untouched.
+          still_uses k part stands (has_some k part group stands is_part) (still_then k part group stands is_part untouched);
       marks = λ k part group stands is_part untouched.
           still_marks k part stands (has_some k part group stands is_part) (still_then k part group stands is_part untouched);
       last = renews.rest.last ∙ clears.rest.last;

@@ -16,7 +16,7 @@ use Rattle.machine_laws.proofs.FilterLemmas.{filter_has, filter_keeps, filter_co
 use Rattle.machine_laws.proofs.FinishingTexts.{new_texts-waiting}
 
 module _ (g : GraphData) (m : MachineData) (covers : Covers g m) (groups some : List Group) (slots : List ℕ) (are : AreGroups g groups)
-    (waiting : AreWaiting g m.parts groups some slots) (fit : All (λ group. fault_in group ≡ None) some)
+    (waiting : AreWaiting g m.parts m.uses groups some slots) (fit : All (λ group. fault_in group ≡ None) some)
     (large : ℕ) (few : All (λ group. refused_in large group ≡ None) groups)
     (kept : List GroupTextData) (known : IsKeptBy g kept m) (texts : List GroupTextData) (texts_are : texts ≡ map (text_of_group g) some) where
   -- the new ones of the waiting texts are the new ones of all
@@ -33,7 +33,7 @@ module _ (g : GraphData) (m : MachineData) (covers : Covers g m) (groups some : 
       old group there not_waiting =
           let (was, has_one) = filter_has has_text groups group there in
           let has = waiting.others group was not_waiting (fit_from_text group has_one) in
-          known has.k has.part has.stands has.coded group has.is_part
+          known has.k has.part has.stands has.numbered group has.is_part
 
       -- those that wait have a text
       some_told : filter waiting.waits groups ≡ filter waiting.waits (with_text groups)

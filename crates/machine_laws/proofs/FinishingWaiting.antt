@@ -1,6 +1,6 @@
 -- The groups whose parts wait, found by the least members of these parts.
 use Rattle.std.proofs.Common.{◌≡◌, ◌≢◌, ℕ, zero, suc, ◌<◌, Bool, true, false, cond, ◌&&◌, eqb, inl, inr, ◌⊎◌, List, [], ◌∷◌, length, map, filter, get_or, All, Option, Some, None, refl, sym, ap, subst, ◌∙◌, arith, true≢false, eq-eqb}
-use Rattle.std.specs.Prelude.{Contains, not, is_some, slice_get, slice_index, slice_index_or}
+use Rattle.std.specs.Prelude.{Contains, is_some, slice_get, slice_index, slice_index_or}
 use Rattle.std.specs.List.{AllZip, filter_map, cons_option}
 use Rattle.std.specs.List.Sorted.{IsStrictlyIncreasing}
 use Rattle.std.proofs.lemmas.Bool.{cases_Bool}
@@ -20,17 +20,17 @@ use Rattle.circuit_texts.specs.Choosing.{chosen}
 use Rattle.circuit_texts.proofs.PairedLists.{partner_first}
 use Rattle.circuit_texts.specs.declared.texts.BuildFault.{BuildFault}
 use Rattle.circuit_texts.specs.Sizes.{fault_in, refused_in, IsFirstRefused, TellsRefused}
-use Rattle.circuit_texts.specs.Told.{has_text, with_text, without_text}
+use Rattle.circuit_texts.specs.Told.{has_text, with_text}
 use Rattle.circuit_texts.proofs.SizeLemmas.{fits_any}
-use Rattle.circuit_texts.proofs.ToldLemmas.{text_from_fit, none_from_untold, ascending-filter}
+use Rattle.circuit_texts.proofs.ToldLemmas.{text_from_fit, ascending-filter}
 use Rattle.machine_parts.specs.declared.part.HeldPart.{HeldPart}
 use Rattle.machine_parts.specs.Parts.{Stands, HasMember, IsStale}
 use Rattle.machine_laws.specs.Machines.{MachineData}
 use Rattle.machine_parts.specs.Marking.{AreOnce}
 use Rattle.machine_parts.specs.Running.{AreOwners}
 use Rattle.machine_laws.specs.Fitting.{IsPartOf, Covers}
-use Rattle.machine_laws.specs.Finishing.{IsSlotOf, HasCode, AreWaiting, first_node}
-use Rattle.machine_laws.proofs.FilterLemmas.{filter_has, filter_keeps, filter_both, filter_covered}
+use Rattle.machine_laws.specs.Finishing.{IsSlotOf, HasText, AreWaiting, first_node}
+use Rattle.machine_laws.proofs.FilterLemmas.{filter_has, filter_keeps, filter_both}
 use Rattle.machine_laws.proofs.HeldLemmas.{known_or_not}
 use Rattle.machine_laws.proofs.KeptLemmas.{group_there}
 use Rattle.machine_parts.proofs.PartLemmas.{same_part}
@@ -93,6 +93,16 @@ zip_slots g parts owners (group ∷ some) (k ∷ slots) each are =
       zip_slots g parts owners some slots (λ other there. each other (Contains-append_right (group ∷ []) some other there)) rest,
     )
 
+-- the first node of the part of a group is the group's least one
+pub first_is : (g : GraphData) (parts : List HeldPart) (k : ℕ) (part : HeldPart) → Stands parts k part → (group : Group) → IsPartOf g group part →
+    first_node parts k ≡ id_of group
+first_is g parts k part stands group is_part =
+    let some = is_part.is_group.some in
+    let within : 0 < part.members = omega (arith, is_part.count, some) in
+    ap (λ nodes. slice_index nodes 0)
+    (get_or-map (λ (one : HeldPart). one.map.items) parts k part [] stands.inside ∙ ap (λ (one : HeldPart). one.map.items) stands.here)
+    ∙ (sym (get_or-take part.members part.map.items 0 0 within) ∙ ap (λ nodes. slice_index nodes 0) is_part.members)
+
 module _ (g : GraphData) (m : MachineData) (covers : Covers g m) (count : ℕ) (owners : List (Option ℕ)) (own : AreOwners m.parts count owners) where
   abbrev all_groups : List Group
   all_groups = covers.groups.groups
@@ -106,14 +116,6 @@ module _ (g : GraphData) (m : MachineData) (covers : Covers g m) (count : ℕ) (
     pub least : first_node m.parts k ≡ id_of group
     pub owner : slice_index_or owners (id_of group) None ≡ Some k
 
-  first_is : (k : ℕ) (part : HeldPart) → Stands m.parts k part → (group : Group) → IsPartOf g group part → first_node m.parts k ≡ id_of group
-  first_is k part stands group is_part =
-      let some = is_part.is_group.some in
-      let within : 0 < part.members = omega (arith, is_part.count, some) in
-      ap (λ nodes. slice_index nodes 0)
-      (get_or-map (λ (one : HeldPart). one.map.items) m.parts k part [] stands.inside ∙ ap (λ (one : HeldPart). one.map.items) stands.here)
-      ∙ (sym (get_or-take part.members part.map.items 0 0 within) ∙ ap (λ nodes. slice_index nodes 0) is_part.members)
-
   pub waits_at : (k : ℕ) → IsStale m.parts k → Waits k
   waits_at k stale =
       let (group, is_part) = covers.whole k stale.part stale.stands stale.some in
@@ -125,7 +127,7 @@ module _ (g : GraphData) (m : MachineData) (covers : Covers g m) (count : ℕ) (
         there = (i, inside, get_or_from_slice_get all_groups i group group at);
         is_group = is_part.is_group;
         slot = record { part = stale.part; stands = stale.stands; stale = stale.none; is_part = is_part };
-        least = first_is k stale.part stale.stands group is_part;
+        least = first_is g m.parts k stale.part stale.stands group is_part;
         owner = own.owner (id_of group) k has;
       }
 
@@ -197,7 +199,7 @@ module _ (g : GraphData) (m : MachineData) (covers : Covers g m) (count : ℕ) (
         (waits_now group ≡ true) ⊎ Passed (id_of group)
     due_now k part group stands stale is_part =
         let is_stale : IsStale m.parts k = record { part = part; stands = stands; some = some_members is_part; none = stale } in
-        let first : first_node m.parts k ≡ id_of group = first_is k part stands group is_part in
+        let first : first_node m.parts k ≡ id_of group = first_is g m.parts k part stands group is_part in
         elim (all k is_stale) [
           | inl among ↦ inl (one_of-from nodes (id_of group) (subst (Contains nodes) first among))
           | inr passed ↦ inr (subst Passed first passed)
@@ -211,7 +213,9 @@ module _ (g : GraphData) (m : MachineData) (covers : Covers g m) (count : ℕ) (
           let at : slice_get all_groups i ≡ Some group = slice_get_read all_groups (length all_groups) i group refl inside (sym here) in
           let has = covers.each i group at in
           elim (known_or_not has.part.code) [
-            | inl (code, is) ↦ fits_any large group (covers.known has.k has.part has.stands (λ none. absurd (cc (none, is))) group has.is_part).fits
+            | inl (code, is) ↦
+                let numbered = covers.numbered has.k has.part has.stands (some_members has.is_part) (λ none. absurd (cc (none, is))) in
+                fits_any large group (covers.known has.k has.part has.stands numbered group has.is_part).fits
             | inr none ↦
                 elim (due_now has.k has.part group has.stands none has.is_part) [
                   | inl waits ↦ absurd (true≢false (sym waits ∙ waits_not))
@@ -282,38 +286,8 @@ module _ (g : GraphData) (m : MachineData) (covers : Covers g m) (count : ℕ) (
         let both : Some slot.k ≡ None = sym slot.owner ∙ (ap (λ n. slice_index_or owners n None) any.4 ∙ none) in
         absurd cc
 
-    -- a group without a text that has a stale part is due, or is passed over
-    pub untold_due : (k : ℕ) (part : HeldPart) (group : Group) → Stands m.parts k part → part.code ≡ None → IsPartOf g group part →
-        fault_in group ≢ None → Contains (without_text due_groups) group ⊎ Passed (id_of group)
-    untold_due k part group stands stale is_part untold =
-        elim (due_all k part group stands stale is_part) [
-          | inr passed ↦ inr passed
-          | inl is_due ↦
-              let (n, within, at) = group_there g all_groups covers.are.are group is_part.is_group in
-              let there : Contains all_groups group = (n, within, get_or_from_slice_get all_groups n group group at) in
-              inl (filter_keeps (λ one. not (has_text one)) due_groups group (filter_keeps due all_groups group there is_due) (none_from_untold group untold))
-        ]
-
-    -- if none is passed over, the groups without a text are those that are due and have none
-    pub untold_are_due : ((node : ℕ) → ¬ Passed node) → without_text due_groups ≡ without_text all_groups
-    untold_are_due none_passed =
-        filter_covered due (λ group. not (has_text group)) all_groups (λ group there due_not. ap not (text_from_fit group (told_else group there due_not)))
-      where
-        told_else : (group : Group) → Contains all_groups group → due group ≡ false → fault_in group ≡ None
-        told_else group (i, inside, here) due_not =
-            let at : slice_get all_groups i ≡ Some group = slice_get_read all_groups (length all_groups) i group refl inside (sym here) in
-            let has = covers.each i group at in
-            elim (known_or_not has.part.code) [
-              | inl (code, is) ↦ (covers.known has.k has.part has.stands (λ none. absurd (cc (none, is))) group has.is_part).fits
-              | inr none ↦
-                  elim (due_all has.k has.part group has.stands none has.is_part) [
-                    | inl is_due ↦ absurd (true≢false (sym is_due ∙ due_not))
-                    | inr passed ↦ absurd (none_passed (id_of group) passed)
-                  ]
-            ]
-
-    module _ (untold : (k : ℕ) (part : HeldPart) (group : Group) → Stands m.parts k part → part.code ≡ None → IsPartOf g group part →
-        Passed (id_of group) → fault_in group ≢ None) (told_nodes slots : List ℕ) (told_ids : map id_of told_groups ≡ told_nodes)
+    module _ (told : (k : ℕ) (part : HeldPart) (group : Group) → Stands m.parts k part → part.code ≡ None → IsPartOf g group part →
+        Passed (id_of group) → fault_in group ≡ None → slice_index_or m.uses k None ≢ None) (told_nodes slots : List ℕ) (told_ids : map id_of told_groups ≡ told_nodes)
         (slots_are : map Some slots ≡ map (λ node. slice_index_or owners node None) told_nodes) where
       slots_zip : AllZip (IsSlotOf g m.parts) told_groups slots
       slots_zip =
@@ -321,10 +295,10 @@ module _ (g : GraphData) (m : MachineData) (covers : Covers g m) (count : ℕ) (
           (slots_are ∙ ap (map (λ node. slice_index_or owners node None)) (sym told_ids))
 
       slots_all : (k : ℕ) (part : HeldPart) (group : Group) → Stands m.parts k part → part.code ≡ None → IsPartOf g group part → fault_in group ≡ None →
-          Contains slots k
+          Contains slots k ⊎ (slice_index_or m.uses k None ≢ None)
       slots_all k part group stands stale is_part fits =
           elim (due_all k part group stands stale is_part) [
-            | inr passed ↦ absurd (untold k part group stands stale is_part passed fits)
+            | inr passed ↦ inr (told k part group stands stale is_part passed fits)
             | inl is_due ↦
                 let (n, within_all, at) = group_there g all_groups covers.are.are group is_part.is_group in
                 let there : Contains all_groups group = (n, within_all, get_or_from_slice_get all_groups n group group at) in
@@ -333,10 +307,10 @@ module _ (g : GraphData) (m : MachineData) (covers : Covers g m) (count : ℕ) (
                 let (place, member) = member_of_part g group part is_part (id_of group) (id_member g group is_part.is_group) in
                 let owner_is : slice_index_or owners (id_of group) None ≡ Some k =
                 own.owner (id_of group) k (record { part = part; stands = stands; place = place; member = member }) in
-                some_back slots k
+                inl (some_back slots k
                 (subst (λ xs. Contains xs (Some k)) (sym slots_are)
                 (subst (Contains (map (λ node. slice_index_or owners node None) told_nodes)) owner_is
-                (contains-map (λ node. slice_index_or owners node None) told_nodes j (id_of group) within stood)))
+                (contains-map (λ node. slice_index_or owners node None) told_nodes j (id_of group) within stood))))
           ]
 
       slots_once : AreOnce slots
@@ -360,9 +334,9 @@ module _ (g : GraphData) (m : MachineData) (covers : Covers g m) (count : ℕ) (
               let within = slice_get_within told_groups n group at in
               get_or-map id_of told_groups n group 0 within ∙ ap id_of (get_or_from_slice_get told_groups n group group at)
 
-      -- a group with a text that isn't due has code
-      others_coded : (group : Group) → Contains all_groups group → due_told group ≡ false → fault_in group ≡ None → HasCode g m.parts group
-      others_coded group (i, inside, here) fails fits =
+      -- the part of a group with a text that isn't due has it
+      others_told : (group : Group) → Contains all_groups group → due_told group ≡ false → fault_in group ≡ None → HasText g m.parts m.uses group
+      others_told group (i, inside, here) fails fits =
           let at : slice_get all_groups i ≡ Some group = slice_get_read all_groups (length all_groups) i group refl inside (sym here) in
           let has = covers.each i group at in
           record {
@@ -370,10 +344,14 @@ module _ (g : GraphData) (m : MachineData) (covers : Covers g m) (count : ℕ) (
             part = has.part;
             stands = has.stands;
             is_part = has.is_part;
-            coded = λ none.
-                elim (due_all has.k has.part group has.stands none has.is_part) [
-                  | inl is_due ↦ both (due group) (has_text group) is_due (text_from_fit group fits) fails
-                  | inr passed ↦ untold has.k has.part group has.stands none has.is_part passed fits
+            numbered =
+                elim (known_or_not has.part.code) [
+                  | inl (code, is) ↦ covers.numbered has.k has.part has.stands (some_members has.is_part) (λ none. absurd (cc (none, is)))
+                  | inr none ↦
+                      elim (due_all has.k has.part group has.stands none has.is_part) [
+                        | inl is_due ↦ absurd (both (due group) (has_text group) is_due (text_from_fit group fits) fails)
+                        | inr passed ↦ told has.k has.part group has.stands none has.is_part passed fits
+                      ]
                 ];
           }
         where
@@ -383,11 +361,11 @@ module _ (g : GraphData) (m : MachineData) (covers : Covers g m) (count : ℕ) (
           both false b one two fails = true≢false (sym one)
 
       -- so these groups wait, with these slots
-      pub AreWaiting-found : AreWaiting g m.parts all_groups told_groups slots
+      pub AreWaiting-found : AreWaiting g m.parts m.uses all_groups told_groups slots
       AreWaiting-found = record {
         waits = due_told;
         some_are = told_are;
-        others = others_coded;
+        others = others_told;
         slots_are = slots_zip;
         all = slots_all;
         once = slots_once;

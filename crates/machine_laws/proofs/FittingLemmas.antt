@@ -16,7 +16,8 @@ use Rattle.group_rest.specs.Rest.{Rests, Responded, ReadsNoChange}
 use Rattle.group_rest.proofs.RestingGroups.{unread_group_rests}
 use Rattle.oscillation_x.specs.Settling.{IsJoinStep}
 use Rattle.machine_parts.specs.declared.part.HeldPart.{HeldPart}
-use Rattle.std.specs.Prelude.{Contains, Option, Some}
+use Rattle.std.specs.Prelude.{Contains, Option, Some, slice_index_or}
+use Rattle.circuit_texts.specs.Sizes.{refused_in}
 use Rattle.group_meaning.proofs.GroupLemmas.{member_storage}
 use Rattle.group_rest.specs.Alike.{IsAlike}
 use Rattle.vicinity.specs.Touching.{IsAwake, RestsAsleep, RespondedAsleep}
@@ -49,7 +50,8 @@ pub fits_with : (g : GraphData) (m : MachineData) (fits : FitsGraph g m) (marks 
     ((k : ℕ) (part : HeldPart) → Stands m.parts k part → 0 < part.members → part.code ≡ None → IsMarked marks k) →
     ((k : ℕ) (part : HeldPart) → Stands m.parts k part → ¬ IsMarked marks k → Rests g state (take part.members part.map.items)) →
     ((one : WideData) → wide ≡ Some one → HasStaleOnly m.parts one.graph) →
-    ((one : WideData) → wide ≡ Some one → (k : ℕ) (part : HeldPart) → Stands m.parts k part → 0 < part.members → part.code ≡ None → IsHeldIn g state one part) →
+    ((one : WideData) → wide ≡ Some one → (k : ℕ) (part : HeldPart) → Stands m.parts k part → 0 < part.members → part.code ≡ None →
+    IsHeldIn g state one (slice_index_or m.uses k None) part) →
     (wide ≡ None → m.wide ≡ None) →
     IsSound state → FitsGraph g (record m { marks = marks; state = state; last = last; moves = moved; placed = placed; wide = wide })
 fits_with g m fits marks state last moved placed wide counted waits rests stale_only held none sound = record {
@@ -63,6 +65,7 @@ fits_with g m fits marks state last moved placed wide counted waits rests stale_
     apart = fits.covers.apart;
     number = fits.covers.number;
     known = fits.covers.known;
+    numbered = fits.covers.numbered;
     textless = fits.covers.textless;
     uses_counted = fits.covers.uses_counted;
     quiet = fits.covers.quiet;
@@ -169,7 +172,7 @@ module _ (g : GraphData) (wired : IsWired g) (old : MachineData) (fits : FitsGra
 
     -- a group that is stepped by vicinities rests again but for what is awake
     held_again : (one : WideData) → wide ≡ Some one → (k : ℕ) (part : HeldPart) → Stands old.parts k part → 0 < part.members → part.code ≡ None →
-        IsHeldIn g new one part
+        IsHeldIn g new one (slice_index_or old.uses k None) part
     held_again one is k part stands some none =
         let (before, was, touches) = retouched joining old.wide wide old.state new retouches one is in
         let held = held_at g old fits before was k part stands some none in
@@ -182,15 +185,15 @@ module _ (g : GraphData) (wired : IsWired g) (old : MachineData) (fits : FitsGra
         record {
           group = group;
           is_part = held.is_part;
-          untold = held.untold;
-          few = omega (arith, held.few, touches.stays.large);
+          allowed = subst (λ large. refused_in large group ≡ None) (sym touches.stays.large) held.allowed;
+          told = held.told;
           wired = subst IsWired (sym same) held.wired;
           alike = subst (λ h. IsAlike g h group) (sym same) held.alike;
           rests = subst (λ h. RestsAsleep h new group.members one.touched.list) (sym same) rests;
         }
       where
         held_responded : (before : WideData) → old.wide ≡ Some before → (k : ℕ) (part : HeldPart) → Stands old.parts k part → IsStale old.parts k →
-            (held : IsHeldIn g old.state before part) (again : List ℕ) (kind : Bool) → MovesIn kind old.parts old.marks old.wide old.state new →
+            (held : IsHeldIn g old.state before (slice_index_or old.uses k None) part) (again : List ℕ) (kind : Bool) → MovesIn kind old.parts old.marks old.wide old.state new →
             (kind ≡ true → (node : ℕ) → Contains before.touched.list node → Contains again node) →
             RespondedAsleep before.graph old.state new held.group.members again
         held_responded before was k part stands stale held again false moves kept node member asleep =

@@ -1,6 +1,6 @@
 -- A group that is stepped by vicinities: its responses are those in the graph of such groups, and what rested rests again after a step.
-use Rattle.std.proofs.Common.{◌≡◌, ◌≢◌, ℕ, ◌<◌, ◌≤◌, ◌⊎◌, inl, inr, Option, None, Some, List, ◌++◌, length, refl, sym, ap, subst, ◌∙◌, arith}
-use Rattle.std.specs.Prelude.{Contains, slice_index}
+use Rattle.std.proofs.Common.{◌≡◌, ◌≢◌, ℕ, ◌<◌, ◌⊎◌, inl, inr, Option, None, Some, List, ◌++◌, length, refl, sym, ap, subst, ◌∙◌, arith}
+use Rattle.std.specs.Prelude.{Contains, slice_index, slice_index_or}
 use Rattle.std.proofs.lemmas.List.{get_or_default}
 use Rattle.ternary.specs.declared.tern.Tern.{Tern}
 use Rattle.strength_order.specs.declared.TheConstants.{INPUT_LEVEL}
@@ -13,7 +13,8 @@ use Rattle.path_meaning.proofs.PathLemmas.{switch_fits}
 use Rattle.group_meaning.specs.Groups.{Group, AreJoined}
 use Rattle.group_meaning.proofs.GroupLemmas.{member_storage, switch_of_member}
 use Rattle.group_meaning.proofs.LinkLemmas.{Joins-sym}
-use Rattle.circuit_texts.specs.Sizes.{fault_in}
+use Rattle.group_text.specs.Texts.{GroupTextData}
+use Rattle.circuit_texts.specs.Sizes.{fault_in, refused_in}
 use Rattle.group_rest.specs.Alike.{IsAlike}
 use Rattle.group_rest.proofs.AlikeGroups.{response_alike, end_alike}
 use Rattle.vicinity.specs.Touching.{IsAwake, IsStirred, SwitchChanges, RestsAsleep, RespondedAsleep}
@@ -81,12 +82,12 @@ module _ (g : GraphData) (wired : IsWired g) (wide : WideData) (wired_too : IsWi
 
 -- on a graph that a machine fits each stale part is that of a group that is stepped by vicinities
 pub held_at : (g : GraphData) (m : MachineData) → FitsGraph g m → (wide : WideData) → m.wide ≡ Some wide → (k : ℕ) (part : HeldPart) → Stands m.parts k part →
-    0 < part.members → part.code ≡ None → IsHeldIn g m.state wide part
+    0 < part.members → part.code ≡ None → IsHeldIn g m.state wide (slice_index_or m.uses k None) part
 held_at g m fits wide is k part stands some none =
     let (one, known, held) = fits.coded k part stands some none in
     let both : Some one ≡ Some wide = sym known ∙ is in
     let same : one ≡ wide = cc in
-    subst (λ (w : WideData). IsHeldIn g m.state w part) same held
+    subst (λ (w : WideData). IsHeldIn g m.state w (slice_index_or m.uses k None) part) same held
 
 -- so if none is known no part is stale
 pub coded_without : (g : GraphData) (m : MachineData) → FitsGraph g m → m.wide ≡ None → (k : ℕ) (part : HeldPart) → Stands m.parts k part →
@@ -138,9 +139,9 @@ module _ (g : GraphData) (wired : IsWired g) (h : GraphData) (wired_too : IsWire
 
 -- a group that an edit leaves as it was is held still
 pub IsHeldIn-grown : (before g : GraphData) → IsWired before → IsWired g → (state more : List Tern) → length state ≡ nodes before → (count : ℕ)
-    (wide later : WideData) → GrowsWide count wide later → (part : HeldPart) (group : Group) → IsAlike before g group → IsPartOf before group part →
-    IsHeldIn before state wide part → IsHeldIn g (state ++ more) later part
-IsHeldIn-grown before g wired_before wired state more counted count wide later grows part group alike is_part held =
+    (wide later : WideData) → GrowsWide count wide later → (text : Option GroupTextData) (part : HeldPart) (group : Group) → IsAlike before g group →
+    IsPartOf before group part → IsHeldIn before state wide text part → IsHeldIn g (state ++ more) later text part
+IsHeldIn-grown before g wired_before wired state more counted count wide later grows text part group alike is_part held =
     let same : held.group ≡ group = one_group before held.group group part held.is_part is_part in
     let there : IsAlike before wide.graph group = subst (IsAlike before wide.graph) same held.alike in
     let after : IsAlike wide.graph (grown_graph wide.graph count) group = IsAlike-grown wide.graph count group there.there in
@@ -151,8 +152,9 @@ IsHeldIn-grown before g wired_before wired state more counted count wide later g
     record {
       group = group;
       is_part = alike_groups_keep_their_parts before g group part wired_before wired alike is_part;
-      untold = subst (λ (one : Group). fault_in one ≢ None) same held.untold;
-      few = subst (λ (one : Group). length one.members ≤ later.large) same (subst (λ bound. length held.group.members ≤ bound) (sym grows.large) held.few);
+      allowed = subst (λ (one : Group). refused_in later.large one ≡ None) same
+          (subst (λ large. refused_in large held.group ≡ None) (sym grows.large) held.allowed);
+      told = subst (λ (one : Group). fault_in one ≡ None → text ≢ None) same held.told;
       wired = grows.wired;
       alike = subst (λ h. IsAlike g h group) (sym grows.graph) (record {
         here = alike.there;

@@ -1,6 +1,6 @@
 -- The texts whose codes a machine's parts have: they are kept, and stay kept.
 use Rattle.std.proofs.Common.{◌≡◌, ◌≢◌, ℕ, zero, suc, ◌<◌, Bool, true, false, inl, inr, ◌⊎◌, ◌||◌, List, [], ◌∷◌, ◌++◌, length, map, get_or, Some, None, refl, sym, ap, subst, ◌∙◌, arith}
-use Rattle.std.specs.Prelude.{Contains, slice_get}
+use Rattle.std.specs.Prelude.{Contains, Option, slice_get, slice_index_or}
 use Rattle.std.proofs.lemmas.Bool.{cases_lt}
 use Rattle.std.proofs.lemmas.List.Elements.{All-push}
 use Rattle.std.proofs.lemmas.Option.{slice_get_read, slice_get_within, get_or_from_slice_get}
@@ -27,7 +27,7 @@ use Rattle.vicinity.specs.Wides.{WideData}
 use Rattle.machine_parts.specs.declared.part.HeldPart.{HeldPart}
 use Rattle.machine_parts.specs.Parts.{Stands}
 use Rattle.machine_laws.specs.Machines.{MachineData, groups_in}
-use Rattle.machine_laws.specs.Fitting.{IsPartOf, IsHeldIn, Covers, FitsGraph, AreUntold, IsKeptBy}
+use Rattle.machine_laws.specs.Fitting.{IsPartOf, IsHeldIn, Covers, FitsGraph, AreTold, IsKeptBy}
 use Rattle.machine_laws.specs.Editing.{is_touched_in, Edits}
 use Rattle.machine_laws.specs.Laws.{with_empty_place, EmptyPlacesAreCovered, EmptyPlacesKeepTexts, BuiltTextsAreKept, MoreTextsAreKept, StepsKeepTexts, PlacingKeepsTexts, FittingMachinesShareTexts, EditsKeepTexts}
 use Rattle.circuit_texts.specs.Sizes.{fault_in}
@@ -36,18 +36,21 @@ use Rattle.circuit_texts.proofs.ToldLemmas.{text_from_fit}
 use Rattle.machine_laws.proofs.FilterLemmas.{filter_keeps}
 use Rattle.machine_laws.proofs.PartGroups.{one_group}
 use Rattle.machine_laws.proofs.FittingLemmas.{none_rest}
+use Rattle.machine_laws.proofs.HeldLemmas.{known_or_not}
 use Rattle.machine_laws.proofs.AlikeParts.{alike_groups_keep_their_parts}
 
 -- a machine with the same parts has the same texts
-same_parts_keep : (g : GraphData) (kept : List GroupTextData) (old new : MachineData) → new.parts ≡ old.parts → IsKeptBy g kept old → IsKeptBy g kept new
-same_parts_keep g kept old new same known k part stands coded group is_part =
-    known k part (subst (λ parts. Stands parts k part) same stands) coded group is_part
+same_parts_keep : (g : GraphData) (kept : List GroupTextData) (old new : MachineData) → new.parts ≡ old.parts → new.uses ≡ old.uses → IsKeptBy g kept old →
+    IsKeptBy g kept new
+same_parts_keep g kept old new same uses_same known k part stands numbered group is_part =
+    known k part (subst (λ parts. Stands parts k part) same stands)
+    (subst (λ (uses : List (Option GroupTextData)). slice_index_or uses k None ≢ None) uses_same numbered) group is_part
 
 pub steps_keep_texts : StepsKeepTexts
-steps_keep_texts g kept joining old new advances known = same_parts_keep g kept old new advances.parts known
+steps_keep_texts g kept joining old new advances known = same_parts_keep g kept old new advances.parts advances.uses known
 
 pub placing_keeps_texts : PlacingKeepsTexts
-placing_keeps_texts g kept node value old new places known = same_parts_keep g kept old new places.parts known
+placing_keeps_texts g kept node value old new places known = same_parts_keep g kept old new places.parts places.uses known
 
 -- a text that is among some is among more
 pub among_more : (kept more : List GroupTextData) (text : GroupTextData) → is_among kept text ≡ true → is_among (kept ++ more) text ≡ true
@@ -60,8 +63,8 @@ among_more (first ∷ kept) more text is = by (same_text text first) (among_more
     by false later is = later is
 
 pub more_texts_are_kept : MoreTextsAreKept
-more_texts_are_kept g kept more m known k part stands coded group is_part =
-    among_more kept more (text_of_group g group) (known k part stands coded group is_part)
+more_texts_are_kept g kept more m known k part stands numbered group is_part =
+    among_more kept more (text_of_group g group) (known k part stands numbered group is_part)
 
 -- a group of the graph is among its groups
 pub group_there : (g : GraphData) (groups : List Group) → AreGroups g groups → (group : Group) → IsGroup g group →
@@ -73,21 +76,32 @@ group_there g groups are group is_group =
     let same : other ≡ group = same_by_member g other group is_other is_group (id_of group) member id in
     (i, inside, slice_get_read groups (length groups) i group refl inside (sym same ∙ (sym stands ∙ ap (get_or groups i) same)))
 
--- the group of each stale part of a machine that fits a graph is too large for a text
-pub stale_untold : (g : GraphData) (m : MachineData) → FitsGraph g m → AreUntold g m.parts
-stale_untold g m fits k part group stands stale is_part =
+-- each stale part of a machine that fits a graph has its group's text, if there is one
+pub stale_told : (g : GraphData) (m : MachineData) → FitsGraph g m → AreTold g m
+stale_told g m fits k part group stands stale is_part fit =
     let some : 0 < part.members = omega (arith, is_part.count, is_part.is_group.some) in
     let (wide, is, held) = fits.coded k part stands some stale in
-    subst (λ it. fault_in it ≢ None) (one_group g held.group group part held.is_part is_part) held.untold
+    held.told (subst (λ it. fault_in it ≡ None) (sym (one_group g held.group group part held.is_part is_part)) fit)
+
+-- so each part of a group with a text has it
+pub numbered_told : (g : GraphData) (m : MachineData) → Covers g m → AreTold g m → (k : ℕ) (part : HeldPart) (group : Group) → Stands m.parts k part →
+    IsPartOf g group part → fault_in group ≡ None → slice_index_or m.uses k None ≢ None
+numbered_told g m covers told k part group stands is_part fit =
+    elim (known_or_not part.code) [
+      | inl (code, is) ↦
+          covers.numbered k part stands (omega (arith, is_part.count, is_part.is_group.some)) (λ none. absurd (cc (none, is)))
+      | inr none ↦ told k part group stands none is_part fit
+    ]
 
 -- all machines that fit a graph have its groups' texts
 pub fitting_machines_share_texts : FittingMachinesShareTexts
-fitting_machines_share_texts g kept one two fits_one fits_two known k part stands coded group is_part =
+fitting_machines_share_texts g kept one two fits_one fits_two known k part stands numbered group is_part =
     let covers = fits_one.covers in
     let (i, inside, at) = group_there g covers.groups.groups covers.are.are group is_part.is_group in
     let has = covers.each i group at in
     known has.k has.part has.stands
-    (λ stale. stale_untold g one fits_one has.k has.part group has.stands stale has.is_part (fits_two.covers.known k part stands coded group is_part).fits)
+    (numbered_told g one covers (stale_told g one fits_one) has.k has.part group has.stands has.is_part
+    (fits_two.covers.known k part stands numbered group is_part).fits)
     group has.is_part
 
 -- what stands at a place of a list that is made item by item
@@ -100,11 +114,11 @@ made_at f (first ∷ xs) (suc i) x at = made_at f xs i x at
 
 -- after a build all texts are kept
 pub built_texts_are_kept : BuiltTextsAreKept
-built_texts_are_kept large g bound old new before after count m fits builds k part stands coded group is_part =
+built_texts_are_kept large g bound old new before after count m fits builds k part stands numbered group is_part =
     let present = builds.present in
     let has = builds.has in
     let text = text_of_group g group in
-    let has_one = text_from_fit group (fits.covers.known k part stands coded group is_part).fits in
+    let has_one = text_from_fit group (fits.covers.known k part stands numbered group is_part).fits in
     let (n, within, at_all) = group_there g has.groups has.are group is_part.is_group in
     let (i, inside, here) = filter_keeps has_text has.groups group (n, within, get_or_from_slice_get has.groups n group group at_all) has_one in
     let at : slice_get (with_text has.groups) i ≡ Some group =
@@ -150,16 +164,17 @@ alike_back g h group alike = record {
   levels = λ node inside. sym (alike.levels node inside);
 }
 
--- after an edit the parts that have code are those of untouched groups
+-- after an edit the parts that have a text are those of untouched groups
 pub edits_keep_texts : EditsKeepTexts
-edits_keep_texts g change kept old new wired_before wired covers edits known k part stands coded group is_part =
+edits_keep_texts g change kept old new wired_before wired covers edits known k part stands numbered group is_part =
     elim (touched_or_not (is_touched_in g change old group)) [
-      | inl touched ↦ absurd (coded (edits.stale k part group stands is_part touched))
+      | inl touched ↦ absurd (numbered (edits.untold k part group stands is_part touched))
       | inr untouched ↦
           let before = undo g change in
           let alike = untouched_alike g change old new wired_before wired covers edits group is_part.is_group untouched in
           let was_part = alike_groups_keep_their_parts g before group part wired wired_before (alike_back before g group alike) is_part in
-          let was = known k part (edits.stays k part group stands is_part untouched) coded group was_part in
+          let was = known k part (edits.stays k part group stands is_part untouched)
+          (λ none. numbered (edits.texts k part group stands is_part untouched ∙ none)) group was_part in
           ap (is_among kept) (alike_groups_have_one_text before g group alike).1 ∙ was
     ]
 
@@ -202,14 +217,14 @@ module _ (g : GraphData) (m : MachineData) (wired : IsWired g) (covers : Covers 
     text_before = (alike_groups_have_one_text g more group (more_alike group part_before.is_group)).1
 
   -- a group that is stepped by vicinities is held
-  more_held : (wide : WideData) (part : HeldPart) → IsHeldIn g m.state wide part → IsHeldIn more m.state wide part
-  more_held wide part held =
+  more_held : (wide : WideData) (text : Option GroupTextData) (part : HeldPart) → IsHeldIn g m.state wide text part → IsHeldIn more m.state wide text part
+  more_held wide text part held =
       let whole = more_alike held.group held.alike.here in
       record {
         group = held.group;
         is_part = more_part held.group part held.is_part;
-        untold = held.untold;
-        few = held.few;
+        allowed = held.allowed;
+        told = held.told;
         wired = held.wired;
         alike = record {
           here = whole.there;
@@ -234,9 +249,10 @@ module _ (g : GraphData) (m : MachineData) (wired : IsWired g) (covers : Covers 
         (group, more_part group part is_part);
     apart = covers.apart;
     number = covers.number;
-    known = λ k part stands coded group is_part.
-        let was = covers.known k part stands coded group (part_before k part stands group is_part) in
+    known = λ k part stands numbered group is_part.
+        let was = covers.known k part stands numbered group (part_before k part stands group is_part) in
         record { same = was.same ∙ ap Some (sym (text_before k part stands group is_part)); fits = was.fits };
+    numbered = covers.numbered;
     textless = covers.textless;
     uses_counted = covers.uses_counted;
     quiet = covers.quiet;
@@ -253,7 +269,7 @@ module _ (g : GraphData) (m : MachineData) (wired : IsWired g) (covers : Covers 
     stale_only = covers.stale_only;
     held = λ wide is k part stands some none.
         elim (covers.held wide is k part stands some none) [
-          | inl held ↦ inl (more_held wide part held)
+          | inl held ↦ inl (more_held wide (slice_index_or m.uses k None) part held)
           | inr outside ↦ inr outside
         ];
   }
@@ -263,6 +279,6 @@ pub empty_places_are_covered : EmptyPlacesAreCovered
 empty_places_are_covered g m wired covers = covers_more g m wired covers
 
 pub empty_places_keep_texts : EmptyPlacesKeepTexts
-empty_places_keep_texts g kept m wired covers known k part stands coded group is_part =
+empty_places_keep_texts g kept m wired covers known k part stands numbered group is_part =
     ap (is_among kept) (text_before g m wired covers k part stands group is_part)
-    ∙ known k part stands coded group (part_before g m wired covers k part stands group is_part)
+    ∙ known k part stands numbered group (part_before g m wired covers k part stands group is_part)

@@ -1,6 +1,6 @@
 -- The texts of a machine's parts, in the order of the nodes at which the parts begin, are those of the graph's groups if the machine fits it.
-use Rattle.std.proofs.Common.{None, inr, ◌≡◌, ◌≢◌, ℕ, zero, suc, ◌<◌, List, [], ◌∷◌, length, map, Some, refl, sym, ap, ap₂, subst, ◌∙◌, arith}
-use Rattle.std.specs.Prelude.{Contains, Option, slice_get, slice_index}
+use Rattle.std.proofs.Common.{None, ◌≡◌, ◌≢◌, ℕ, zero, suc, ◌<◌, List, [], ◌∷◌, length, map, Some, refl, sym, ap, ap₂, subst, ◌∙◌, arith}
+use Rattle.std.specs.Prelude.{Contains, Option, slice_get, slice_index, slice_index_or}
 use Rattle.std.specs.List.{AllZip}
 use Rattle.std.proofs.lemmas.List.{get_or-take, length-take}
 use Rattle.std.proofs.lemmas.Option.{slice_get_read, slice_get_within, get_or_from_slice_get}
@@ -16,11 +16,11 @@ use Rattle.circuit_texts.proofs.PairedLists.{partner_second}
 use Rattle.machine_parts.specs.declared.part.HeldPart.{HeldPart}
 use Rattle.machine_parts.specs.Parts.{IsMemberAt}
 use Rattle.machine_laws.specs.Machines.{MachineData}
-use Rattle.machine_laws.specs.Fitting.{IsPartOf, Covers, FitsGraph, AreUntold}
+use Rattle.machine_laws.specs.Fitting.{IsPartOf, Covers, FitsGraph, AreTold}
 use Rattle.machine_laws.specs.Beginnings.{Begins, AreInOrder, HasLast}
 use Rattle.machine_laws.proofs.PartGroups.{member_from_part, some_members}
 use Rattle.machine_laws.proofs.FilterLemmas.{filter_has, filter_keeps}
-use Rattle.machine_laws.proofs.KeptLemmas.{group_there, made_at}
+use Rattle.machine_laws.proofs.KeptLemmas.{group_there, made_at, numbered_told}
 use Rattle.machine_laws.proofs.HeldLemmas.{held_at}
 use Rattle.machine_laws.proofs.FittingLemmas.{fits_with}
 
@@ -64,7 +64,7 @@ texts_along g parts uses (group ∷ groups) are (place ∷ places) (text ∷ tex
     ap₂ (λ one more. one ∷ more) (are 0 group refl text (subst (λ node. Begins parts uses node text) first each.0))
     (texts_along g parts uses groups (λ i other at. are (suc i) other at) places texts rest each.1)
 
-module _ (g : GraphData) (m : MachineData) (covers : Covers g m) (untold : AreUntold g m.parts) where
+module _ (g : GraphData) (m : MachineData) (covers : Covers g m) (have_texts : AreTold g m) where
   abbrev all_groups : List Group
   all_groups = covers.groups.groups
 
@@ -85,10 +85,10 @@ module _ (g : GraphData) (m : MachineData) (covers : Covers g m) (untold : AreUn
       let stands = begins.at.stands in
       let some : 0 < part.members = begins.at.first.inside in
       let (group, is_part) = covers.whole begins.k part stands some in
-      let coded : part.code ≢ None = λ none.
-      let no_text : None ≡ Some text = sym (covers.textless begins.k part stands (inr none)) ∙ begins.has in
+      let numbered : slice_index_or m.uses begins.k None ≢ None = λ none.
+      let no_text : None ≡ Some text = sym none ∙ begins.has in
       absurd cc in
-      let known = covers.known begins.k part stands coded group is_part in
+      let known = covers.known begins.k part stands numbered group is_part in
       let both : Some text ≡ Some (text_of_group g group) = sym begins.has ∙ known.same in
       let same : text ≡ text_of_group g group = cc in
       let (n, within, at_all) = group_there g all_groups covers.are.are group is_part.is_group in
@@ -101,11 +101,11 @@ module _ (g : GraphData) (m : MachineData) (covers : Covers g m) (untold : AreUn
       let (there, is_group, fit) = is_group_at i group at in
       let (n, at_all) = Contains-at all_groups group there in
       let has = covers.each n group at_all in
-      let coded : has.part.code ≢ None = λ none. untold has.k has.part group has.stands none has.is_part fit in
+      let numbered = numbered_told g m covers have_texts has.k has.part group has.stands has.is_part fit in
       record {
         k = has.k;
         at = record { part = has.part; stands = has.stands; first = first_member g group has.part has.is_part };
-        has = (covers.known has.k has.part has.stands coded group has.is_part).same;
+        has = (covers.known has.k has.part has.stands numbered group has.is_part).same;
       }
 
   -- so the texts in order are those of the groups

@@ -10,6 +10,8 @@ use Rattle.path_meaning.specs.Switching.{state_at}
 use Rattle.path_meaning.specs.Graphs.{GraphData, IsWired}
 use Rattle.path_meaning.specs.Step.{IsResponse}
 use Rattle.group_meaning.specs.Groups.{Group}
+use Rattle.group_text.specs.Texts.{GroupTextData}
+use Rattle.circuit_texts.specs.Sizes.{refused_in}
 use Rattle.group_rest.specs.Rest.{Rests, Responded, ReadsNoChange}
 use Rattle.group_rest.proofs.RestingGroups.{unread_group_rests}
 use Rattle.machine_parts.specs.declared.part.HeldPart.{HeldPart}
@@ -75,15 +77,15 @@ module _ (g : GraphData) (wired : IsWired g) (node : ℕ) (value : Tern) (old ne
       ]
 
   -- a group that is stepped by vicinities rests again but for what is awake
-  held_placed : (before_it one : WideData) → PlacesWide node before_it one old.state new.state → (part : HeldPart) → IsHeldIn g old.state before_it part →
-      IsHeldIn g new.state one part
-  held_placed before_it one placed part held =
+  held_placed : (before_it one : WideData) → PlacesWide node before_it one old.state new.state → (text : Option GroupTextData) (part : HeldPart) →
+      IsHeldIn g old.state before_it text part → IsHeldIn g new.state one text part
+  held_placed before_it one placed text part held =
       let same = placed.stays.graph in
       record {
         group = held.group;
         is_part = held.is_part;
-        untold = held.untold;
-        few = omega (arith, held.few, placed.stays.large);
+        allowed = subst (λ large. refused_in large held.group ≡ None) (sym placed.stays.large) held.allowed;
+        told = held.told;
         wired = subst IsWired (sym same) held.wired;
         alike = subst (λ h. IsAlike g h held.group) (sym same) held.alike;
         rests = subst (λ h. RestsAsleep h new.state held.group.members one.touched.list) (sym same) (placed.group held.group held.alike.there held.rests);
@@ -91,11 +93,11 @@ module _ (g : GraphData) (wired : IsWired g) (node : ℕ) (value : Tern) (old ne
 
   -- and a part that waits has no member of such a group still
   held_again : (one : WideData) → new.wide ≡ Some one → (k : ℕ) (part : HeldPart) → Stands old.parts k part → 0 < part.members → part.code ≡ None →
-      IsHeldIn g new.state one part ⊎ IsOutside one.graph part
+      IsHeldIn g new.state one (slice_index_or old.uses k None) part ⊎ IsOutside one.graph part
   held_again one is k part stands some none =
       let (before_it, was, placed) = placed_wide node old.wide new.wide old.state new.state places.wide one is in
       elim (covers.held before_it was k part stands some none) [
-        | inl held ↦ inl (held_placed before_it one placed part held)
+        | inl held ↦ inl (held_placed before_it one placed (slice_index_or old.uses k None) part held)
         | inr outside ↦ inr (subst (λ h. IsOutside h part) (sym placed.stays.graph) outside)
       ]
 
@@ -115,6 +117,7 @@ module _ (g : GraphData) (wired : IsWired g) (node : ℕ) (value : Tern) (old ne
     apart = covers.apart;
     number = covers.number;
     known = covers.known;
+    numbered = covers.numbered;
     textless = covers.textless;
     uses_counted = covers.uses_counted;
     quiet = covers.quiet;
@@ -141,7 +144,7 @@ placing_keeps_fit g node value old new wired no_rail fits places =
           elim (known_or_not new.wide) [
             | inl (one, is) ↦
                 let (before, was, placed) = placed_wide node old.wide new.wide old.state new.state places.wide one is in
-                (one, is, held_placed g wired node value old new fits.covers places before one placed part (held_at g old fits before was k part stands some none))
+                (one, is, held_placed g wired node value old new fits.covers places before one placed (slice_index_or old.uses k None) part (held_at g old fits before was k part stands some none))
             | inr gone ↦
                 absurd (coded_without g old fits (none_placed node old.wide new.wide old.state new.state places.wide gone) k part stands some none)
           ];

@@ -198,6 +198,7 @@ module _ (g : GraphData) (groups : List Group) (are : AreGroups g groups) where
   RenewsAll-start m = record {
     was = λ k part stands some. inl stands;
     uses = λ k part stands inside some. refl;
+    untold = λ tidy k part stands past some. absurd (omega (arith, past, stands.inside));
     marks = λ k inside. (λ marked. marked, λ marked. marked);
     stays = λ k part stands free. stands;
     has = λ group there has. absurd (omega (arith, has.among.1));
@@ -234,6 +235,7 @@ module _ (g : GraphData) (groups : List Group) (are : AreGroups g groups) where
     unchanged why = record {
       was = was_more;
       uses = first.uses;
+      untold = first.untold;
       marks = first.marks;
       stays = λ k part stands none. first.stays k part stands (λ group other there has. none group other there (any_before nodes node group has));
       has = λ group there has.
@@ -289,6 +291,11 @@ module _ (g : GraphData) (groups : List Group) (are : AreGroups g groups) where
             elim (then.was k part stands some) [
               | inl before ↦ then.uses k part stands within some ∙ first.uses k part before inside some
               | inr (last, is) ↦ absurd (omega (arith, last, within))
+            ];
+        untold = λ tidy k part stands past some.
+            elim (then.was k part stands some) [
+              | inl before ↦ then.uses k part stands before.inside some ∙ first.untold tidy k part before past some
+              | inr (last, is) ↦ then.untold (first.tidy tidy) k (omega (arith, last))
             ];
         marks = λ k inside.
             let (to, from) = then.marks k (omega (arith, inside, first.count)) in

@@ -1,4 +1,4 @@
--- Where the stale parts of a machine get their codes, each part stays or comes.
+-- Where the stale parts of a machine get their texts, and some of them their codes, each part stays or comes.
 use Rattle.std.proofs.Common.{◌≡◌, ◌≢◌, ℕ, suc, ◌<◌, ◌≤◌, Bool, cond, inl, inr, ◌⊎◌, List, [], ◌∷◌, length, get_or, All, Option, Some, None, refl, sym, ap, subst, ◌∙◌, arith, nat_lt}
 use Rattle.std.specs.Prelude.{◌↔◌, Contains, slice_get, slice_index, slice_index_or, count_by}
 use Rattle.std.specs.List.{AllZip, sum_by}
@@ -7,10 +7,13 @@ use Rattle.std.proofs.lemmas.List.{get_or_default}
 use Rattle.std.proofs.lemmas.List.Sums.{sum_by-cons}
 use Rattle.std.proofs.lemmas.Option.{slice_get_read, slice_get_within, get_or_from_slice_get}
 use Rattle.smallvec.specs.SmallVec.{SmallVec}
-use Rattle.path_meaning.specs.Graphs.{GraphData}
-use Rattle.group_meaning.specs.Groups.{Group}
+use Rattle.path_meaning.specs.Graphs.{GraphData, IsStorage}
+use Rattle.group_meaning.specs.Groups.{Group, IsGroup, id_of}
+use Rattle.group_meaning.proofs.UniqueGroups.{id_member}
+use Rattle.group_meaning.proofs.GroupLemmas.{member_storage}
+use Rattle.group_rest.specs.Alike.{IsAlike}
 use Rattle.group_text.specs.Texts.{GroupTextData, text_of_group}
-use Rattle.circuit_texts.specs.Sizes.{fault_in}
+use Rattle.circuit_texts.specs.Sizes.{fault_in, refused_in}
 use Rattle.circuit_texts.proofs.PairedLists.{partner_first}
 use Rattle.machine_parts.specs.declared.part.HeldPart.{HeldPart}
 use Rattle.machine_parts.specs.Parts.{Stands, IsMemberAt, HasMember, ReadsAt, IsStale, AreApart, has_members}
@@ -20,14 +23,18 @@ use Rattle.machine_parts.specs.Making.{held, IsFormed, IsCodeRoom}
 use Rattle.machine_parts.specs.Evaluating.{Rooms, IsSeated}
 use Rattle.machine_parts.specs.Running.{IsRunnable, AreOwners, IsMachine}
 use Rattle.machine_parts.specs.Readers.{readers_of, ListsAll, HaveSameReaders}
+use Rattle.vicinity.specs.Touching.{RestsAsleep}
 use Rattle.vicinity.specs.Wides.{WideData}
-use Rattle.wide_groups.specs.Moving.{HasStaleOnly}
-use Rattle.machine_laws.specs.Fitting.{IsPartOf, IsOutside, Covers, AreUntold}
-use Rattle.machine_laws.specs.Finishing.{IsFresh, IsSlotOf, AreWaiting}
+use Rattle.wide_groups.specs.Moving.{HasStaleOnly, graph_in}
+use Rattle.wide_groups.specs.Staying.{HoldsNode}
+use Rattle.machine_laws.specs.Fitting.{IsPartOf, IsHeldIn, IsOutside, Covers, AreTold}
+use Rattle.machine_laws.specs.Finishing.{IsFresh, IsSlotOf, AreWaiting, HasCodeIn, LoosensHeld}
 use Rattle.machine_parts.specs.Putting.{Puts}
 use Rattle.machine_parts.proofs.PartLemmas.{same_part}
 use Rattle.machine_laws.proofs.PartGroups.{one_group, member_of_part, member_from_part, place_in_group, some_members}
 use Rattle.machine_laws.proofs.HeldParts.{member_taken}
+use Rattle.machine_laws.proofs.HeldLemmas.{known_or_not}
+use Rattle.machine_laws.proofs.LastingGroups.{first_member}
 use Rattle.machine_parts.proofs.MakingLemmas.{IsSeated-formed}
 use Rattle.machine_parts.proofs.MachineLemmas.{IsSeated-wider, IsMachine-with}
 use Rattle.machine_parts.proofs.NumberLists.{one_or_none}
@@ -54,7 +61,7 @@ Stands-at parts k part at = record { inside = slice_get_within parts k part at; 
 pub at-Stands : (parts : List HeldPart) (k : ℕ) (part : HeldPart) → Stands parts k part → slice_get parts k ≡ Some part
 at-Stands parts k part stands = slice_get_read parts (length parts) k part refl stands.inside (sym stands.here)
 
-part_here : (parts : List HeldPart) (k : ℕ) → k < length parts → (part : HeldPart) × Stands parts k part
+pub part_here : (parts : List HeldPart) (k : ℕ) → k < length parts → (part : HeldPart) × Stands parts k part
 part_here [] k inside = absurd (omega (arith, inside))
 part_here (part ∷ parts) k inside =
     (get_or (part ∷ parts) k part, record { inside = inside; here = get_or_default (part ∷ parts) k _ part inside })
@@ -68,13 +75,13 @@ IsMachine-wider parts marks waiting count lists new_lists owners numbers new_num
     IsMachine-with parts marks marks waiting count lists new_lists owners numbers new_numbers held most room wide refl same
     (omega (arith, ap length numbers_are)) values (omega (arith, changes)) (omega (arith, parts_are)) machine
 
--- a part that stays: it isn't in a slot, and if it is stale its group is too large for a text
-pub record StaysAt (g : GraphData) (old : List HeldPart) (slots : List ℕ) (k : ℕ) (part : HeldPart) : Type 0 where
+-- a part that stays: it isn't in a slot, and if it is stale and its group has a text it has it
+pub record StaysAt (g : GraphData) (old : List HeldPart) (uses : List (Option GroupTextData)) (slots : List ℕ) (k : ℕ) (part : HeldPart) : Type 0 where
   pub stands : Stands old k part
   pub no_slot : ¬ Contains slots k
-  pub untold : (group : Group) → part.code ≡ None → IsPartOf g group part → fault_in group ≢ None
+  pub told : (group : Group) → part.code ≡ None → IsPartOf g group part → fault_in group ≡ None → slice_index_or uses k None ≢ None
 
--- a part that got its code
+-- a part that came in the place of a stale one
 pub record ComesAt (g : GraphData) (old : List HeldPart) (some : List Group) (slots : List ℕ) (fresh : List HeldPart) (k : ℕ) (part : HeldPart) : Type 0 where
   pub i : ℕ
   pub slot : slice_get slots i ≡ Some k
@@ -84,10 +91,10 @@ pub record ComesAt (g : GraphData) (old : List HeldPart) (some : List Group) (sl
   pub was : IsSlotOf g old group k
   pub is : IsFresh g group part
 
-module _ (g : GraphData) (m : MachineData) (covers : Covers g m) (groups some : List Group) (slots : List ℕ) (waiting : AreWaiting g m.parts groups some slots)
+module _ (g : GraphData) (m : MachineData) (covers : Covers g m) (groups some : List Group) (slots : List ℕ) (waiting : AreWaiting g m.parts m.uses groups some slots)
     (fresh : List HeldPart) (fresh_are : AllZip (IsFresh g) some fresh) (new : List HeldPart) (puts : Puts slots fresh m.parts new) where
   -- each part stays or comes
-  pub stays_or_comes : (k : ℕ) (part : HeldPart) → Stands new k part → StaysAt g m.parts slots k part ⊎ ComesAt g m.parts some slots fresh k part
+  pub stays_or_comes : (k : ℕ) (part : HeldPart) → Stands new k part → StaysAt g m.parts m.uses slots k part ⊎ ComesAt g m.parts some slots fresh k part
   stays_or_comes k part stands =
       elim (one_or_none slots k) [
         | inl there ↦
@@ -113,7 +120,11 @@ module _ (g : GraphData) (m : MachineData) (covers : Covers g m) (groups some : 
             inl (record {
               stands = stood;
               no_slot = not_there;
-              untold = λ group none is_part fits. not_there (waiting.all k part group stood none is_part fits);
+              told = λ group none is_part fits.
+                  elim (waiting.all k part group stood none is_part fits) [
+                    | inl slot ↦ absurd (not_there slot)
+                    | inr numbered ↦ numbered
+                  ];
             })
       ]
 
@@ -121,7 +132,7 @@ module _ (g : GraphData) (m : MachineData) (covers : Covers g m) (groups some : 
   new_at k was stands = part_here new k (omega (arith, stands.inside, puts.count))
 
   -- the members are the same
-  HasMember-was : (k node : ℕ) → HasMember new k node → HasMember m.parts k node
+  pub HasMember-was : (k node : ℕ) → HasMember new k node → HasMember m.parts k node
   HasMember-was k node has =
       elim (stays_or_comes k has.part has.stands) [
         | inl stays ↦ record { part = has.part; stands = stays.stands; place = has.place; member = has.member }
@@ -133,7 +144,7 @@ module _ (g : GraphData) (m : MachineData) (covers : Covers g m) (groups some : 
             record { part = comes.was.part; stands = comes.was.stands; place = place; member = member }
       ]
 
-  HasMember-now : (k node : ℕ) → HasMember m.parts k node → HasMember new k node
+  pub HasMember-now : (k node : ℕ) → HasMember m.parts k node → HasMember new k node
   HasMember-now k node has =
       let (part, stands) = new_at k has.part has.stands in
       elim (stays_or_comes k part stands) [
@@ -171,29 +182,6 @@ module _ (g : GraphData) (m : MachineData) (covers : Covers g m) (groups some : 
   apart_new : AreApart m.parts → AreApart new
   apart_new apart k l node one two = apart k l node (HasMember-was k node one) (HasMember-was l node two)
 
-  -- the stale parts are those that aren't in a slot, and their groups are too large for a text
-  stale_stays : (k : ℕ) → IsStale new k → IsStale m.parts k × (¬ Contains slots k)
-  stale_stays k stale =
-      elim (stays_or_comes k stale.part stale.stands) [
-        | inl stays ↦ (record { part = stale.part; stands = stays.stands; some = stale.some; none = stale.none }, stays.no_slot)
-        | inr comes ↦ absurd (comes.is.coded stale.none)
-      ]
-
-  stays_stale : (k : ℕ) → (¬ Contains slots k) → IsStale m.parts k → IsStale new k
-  stays_stale k no_slot stale = record {
-    part = stale.part;
-    stands = Stands-at new k stale.part (puts.stays k no_slot ∙ at-Stands m.parts k stale.part stale.stands);
-    some = stale.some;
-    none = stale.none;
-  }
-
-  pub untold_new : AreUntold g new
-  untold_new k part group stands none is_part =
-      elim (stays_or_comes k part stands) [
-        | inl stays ↦ stays.untold group none is_part
-        | inr comes ↦ absurd (comes.is.coded none)
-      ]
-
   pub AreOwners-new : (count : ℕ) (owners : List (Option ℕ)) → AreOwners m.parts count owners → AreOwners new count owners
   AreOwners-new count owners own = record {
     counted = own.counted;
@@ -216,6 +204,56 @@ module _ (g : GraphData) (m : MachineData) (covers : Covers g m) (groups some : 
               | inr too ↦ omega (arith, past, too)
             ]
       ]
+
+  -- where a slot's part has no code, it goes on waiting
+  module _ (coded : List ℕ) (coded_are : (k : ℕ) → Contains coded k ↔ HasCodeIn slots fresh k) where
+    slot_of_coded : (k : ℕ) → HasCodeIn slots fresh k → Contains slots k
+    slot_of_coded k has = (has.i, slice_get_within slots has.i k has.slot, get_or_from_slice_get slots has.i k k has.slot)
+
+    -- the stale parts are those that were, but for those with code
+    pub stale_stays : (k : ℕ) → IsStale new k → IsStale m.parts k × (¬ Contains coded k)
+    stale_stays k stale =
+        elim (stays_or_comes k stale.part stale.stands) [
+          | inl stays ↦ (
+            record { part = stale.part; stands = stays.stands; some = stale.some; none = stale.none },
+            λ there. stays.no_slot (slot_of_coded k ((coded_are k).0 there)),
+          )
+          | inr comes ↦ (
+            record { part = comes.was.part; stands = comes.was.stands; some = some_members comes.was.is_part; none = comes.was.stale },
+            λ there.
+                let has = (coded_are k).0 there in
+                let one = one_place has.i comes.i k has.slot comes.slot in
+                let both : Some has.part ≡ Some stale.part = sym has.there ∙ (ap (slice_get fresh) one ∙ comes.there) in
+                let same : has.part ≡ stale.part = cc in
+                has.coded (ap (λ (part : HeldPart). part.code) same ∙ stale.none),
+          )
+        ]
+
+    pub stays_stale : (k : ℕ) → (¬ Contains coded k) → IsStale m.parts k → IsStale new k
+    stays_stale k not_coded stale =
+        let (part, stands) = new_at k stale.part stale.stands in
+        elim (stays_or_comes k part stands) [
+          | inl stays ↦
+              let same : part ≡ stale.part = same_part m.parts k part stale.part stays.stands stale.stands in
+              record {
+                part = part;
+                stands = stands;
+                some = subst (λ (one : HeldPart). 0 < one.members) (sym same) stale.some;
+                none = ap (λ (one : HeldPart). one.code) same ∙ stale.none;
+              }
+          | inr comes ↦
+              elim (known_or_not part.code) [
+                | inl (code, is) ↦
+                    absurd (not_coded ((coded_are k).1 (record {
+                      i = comes.i;
+                      slot = comes.slot;
+                      part = part;
+                      there = comes.there;
+                      coded = λ none. absurd (cc (none, is));
+                    })))
+                | inr none ↦ record { part = part; stands = stands; some = some_members comes.is.is_part; none = none }
+              ]
+        ]
 
   module _ (lists : List (SmallVec ℕ)) (new_lists : List (SmallVec ℕ)) (listed : ListsAll slots fresh lists new_lists) (count : ℕ) (room wide : Rooms)
       (marks flags new_flags : List Bool) (runs : IsRunnable m.parts marks flags count lists room) where
@@ -253,8 +291,9 @@ module _ (g : GraphData) (m : MachineData) (covers : Covers g m) (groups some : 
 
     pub IsRunnable-new : All (IsFormed count) fresh → All (IsCodeRoom wide.values) fresh →
         room.values ≤ wide.values → wide.changes ≡ room.changes → wide.parts ≡ room.parts →
-        ((k : ℕ) → IsMarked new_flags k ↔ (IsMarked flags k × (¬ Contains slots k))) → IsRunnable new marks new_flags count new_lists wide
-    IsRunnable-new formed values_room values changes parts_are released = record {
+        (coded : List ℕ) → ((k : ℕ) → Contains coded k ↔ HasCodeIn slots fresh k) →
+        ((k : ℕ) → IsMarked new_flags k ↔ (IsMarked flags k × (¬ Contains coded k))) → IsRunnable new marks new_flags count new_lists wide
+    IsRunnable-new formed values_room values changes parts_are coded coded_are released = record {
       counted = runs.counted ∙ sym puts.count;
       seated = λ k d inside.
           let part = get_or new k d in
@@ -271,11 +310,11 @@ module _ (g : GraphData) (m : MachineData) (covers : Covers g m) (groups some : 
           ];
       apart = apart_new runs.apart;
       waits = λ k waits.
-          let (before, no_slot) = (released k).0 waits in
-          stays_stale k no_slot (runs.waits k before);
+          let (before, other) = (released k).0 waits in
+          stays_stale coded coded_are k other (runs.waits k before);
       stale = λ k stale.
-          let (before, no_slot) = stale_stays k stale in
-          (released k).1 (runs.stale k before, no_slot);
+          let (before, other) = stale_stays coded coded_are k stale in
+          (released k).1 (runs.stale k before, other);
       readers_counted = listed.count ∙ runs.readers_counted;
       readers = readers_new;
       reads = reads_new;
@@ -283,31 +322,37 @@ module _ (g : GraphData) (m : MachineData) (covers : Covers g m) (groups some : 
       parts_room = omega (arith, runs.parts_room, puts.count, parts_are);
     }
 
-  -- the groups that are stepped by vicinities have no text, so their parts are in no slot
-  module _ (fit : All (λ group. fault_in group ≡ None) some) where
-    slot_outside : (wide : WideData) → m.wide ≡ Some wide → (k : ℕ) → Contains slots k → (part : HeldPart) → Stands m.parts k part →
+  -- no part whose group is stepped by vicinities gets code
+  module _ (coded : List ℕ) (coded_are : (k : ℕ) → Contains coded k ↔ HasCodeIn slots fresh k) (free : LoosensHeld m.wide fresh) where
+    coded_outside : (wide : WideData) → m.wide ≡ Some wide → (k : ℕ) → Contains coded k → (part : HeldPart) → Stands m.parts k part →
         IsOutside wide.graph part
-    slot_outside wide is k (i, inside, here) part stands =
-        let at : slice_get slots i ≡ Some k = slice_get_read slots (length slots) i k refl inside (sym here) in
-        let (group, group_at, slot) = partner_first (IsSlotOf g m.parts) some slots i k waiting.slots_are at in
-        let fits : fault_in group ≡ None =
-        subst (λ it. fault_in it ≡ None) (get_or_from_slice_get some i group group group_at) (fit i group (slice_get_within some i group group_at)) in
+    coded_outside wide is k there part stands =
+        let has = (coded_are k).0 there in
+        let (group, group_at, slot) = partner_first (IsSlotOf g m.parts) some slots has.i k waiting.slots_are has.slot in
+        let (other, other_at, fresh_is) = partner_first (IsFresh g) some fresh has.i has.part fresh_are has.there in
+        let both : Some other ≡ Some group = sym other_at ∙ group_at in
+        let equal : other ≡ group = cc in
+        let first : slice_index has.part.map.items 0 ≡ id_of group =
+        (first_member g group has.part (subst (λ one. IsPartOf g one has.part) equal fresh_is.is_part)).here in
         let same : slot.part ≡ part = same_part m.parts k slot.part part slot.stands stands in
         elim (covers.held wide is k slot.part slot.stands (some_members slot.is_part) slot.stale) [
           | inl held ↦
               let one : held.group ≡ group = one_group g held.group group slot.part held.is_part slot.is_part in
-              absurd (held.untold (subst (λ it. fault_in it ≡ None) (sym one) fits))
+              let is_group : IsGroup wide.graph group = subst (IsGroup wide.graph) one held.alike.there in
+              let storage : IsStorage wide.graph (id_of group) = member_storage wide.graph group is_group (id_of group) (id_member wide.graph group is_group) in
+              let holds : HoldsNode m.wide (id_of group) = subst (λ known. IsStorage (graph_in known) (id_of group)) (sym is) storage in
+              absurd (has.coded (free has.i has.part has.there (subst (HoldsNode m.wide) (sym first) holds)))
           | inr outside ↦ subst (IsOutside wide.graph) same outside
         ]
 
-    -- and go on waiting
+    -- and those that go on waiting have the members of these groups
     pub stale_only_roused : (wide : WideData) → m.wide ≡ Some wide → HasStaleOnly new wide.graph
     stale_only_roused wide is node storage =
         let (k, has, stale) = covers.stale_only wide is node storage in
-        elim (one_or_none slots k) [
-          | inl slot ↦
-              absurd (slot_outside wide is k slot stale.part stale.stands node (member_taken m.parts k stale.part stale.stands node has) storage)
-          | inr no_slot ↦ (k, HasMember-now k node has, stays_stale k no_slot stale)
+        elim (one_or_none coded k) [
+          | inl there ↦
+              absurd (coded_outside wide is k there stale.part stale.stands node (member_taken m.parts k stale.part stale.stands node has) storage)
+          | inr not_there ↦ (k, HasMember-now k node has, stays_stale coded coded_are k not_there stale)
         ]
 
   -- the machine covers the graph with its new parts and their texts
@@ -319,81 +364,122 @@ module _ (g : GraphData) (m : MachineData) (covers : Covers g m) (groups some : 
     abbrev pub roused : MachineData
     roused = record m { parts = new; uses = uses; texts = texts }
 
-    pub Covers-roused : Covers g roused
-    Covers-roused = record {
-      groups = covers.groups;
-      kept = covers.kept;
-      are = covers.are;
-      counted = covers.counted;
-      each = λ i group at.
-          let has = covers.each i group at in
-          let (part, stands) = new_at has.k has.part has.stands in
-          elim (stays_or_comes has.k part stands) [
-            | inl stays ↦ record {
-              k = has.k;
-              part = part;
-              stands = stands;
-              is_part = subst (IsPartOf g group) (same_part m.parts has.k has.part part has.stands stays.stands) has.is_part;
-            }
-            | inr comes ↦
-                let same = same_part m.parts has.k has.part comes.was.part has.stands comes.was.stands in
-                let one = one_group g comes.group group comes.was.part comes.was.is_part (subst (IsPartOf g group) same has.is_part) in
-                record { k = has.k; part = part; stands = stands; is_part = subst (λ it. IsPartOf g it part) one comes.is.is_part }
-          ];
-      whole = λ k part stands has.
-          elim (stays_or_comes k part stands) [
-            | inl stays ↦ covers.whole k part stays.stands has
-            | inr comes ↦ (comes.group, comes.is.is_part)
-          ];
-      apart = apart_new covers.apart;
-      number = members_count ∙ covers.number;
-      known = λ k part stands coded group is_part.
-          elim (stays_or_comes k part stands) [
-            | inl stays ↦
-                let was = covers.known k part stays.stands coded group is_part in
-                record { same = uses_stay k stays.no_slot ∙ was.same; fits = was.fits }
-            | inr comes ↦
-                let one = one_group g comes.group group part comes.is.is_part is_part in
-                let within = slice_get_within some comes.i comes.group comes.group_at in
-                let fits : fault_in comes.group ≡ None =
-                subst (λ it. fault_in it ≡ None) (get_or_from_slice_get some comes.i comes.group comes.group comes.group_at) (fit comes.i comes.group within) in
-                record {
-                  same = uses_come comes.i k comes.group comes.slot comes.group_at ∙ ap (λ it. Some (text_of_group g it)) one;
-                  fits = subst (λ it. fault_in it ≡ None) one fits;
-                }
-          ];
-      textless = λ k part stands no_text.
-          elim (stays_or_comes k part stands) [
-            | inl stays ↦ uses_stay k stays.no_slot ∙ covers.textless k part stays.stands no_text
-            | inr comes ↦
-                elim no_text [
-                  | inl none ↦ absurd (omega (arith, none, some_members comes.is.is_part))
-                  | inr none ↦ absurd (comes.is.coded none)
-                ]
-          ];
-      uses_counted = uses_counted ∙ (covers.uses_counted ∙ sym puts.count);
-      quiet = λ k part stands none.
-          elim (stays_or_comes k part stands) [
-            | inl stays ↦ covers.quiet k part stays.stands none
-            | inr comes ↦ absurd (comes.is.coded none)
-          ];
-      waits = λ k part stands has none.
-          elim (stays_or_comes k part stands) [
-            | inl stays ↦ covers.waits k part stays.stands has none
-            | inr comes ↦ absurd (comes.is.coded none)
-          ];
-      rests = λ k part stands unmarked.
-          elim (stays_or_comes k part stands) [
-            | inl stays ↦ covers.rests k part stays.stands unmarked
-            | inr comes ↦ absurd (unmarked (covers.waits k comes.was.part comes.was.stands (some_members comes.was.is_part) comes.was.stale))
-          ];
-      stale_only = stale_only_roused fit;
-      held = λ wide is k part stands has none.
-          elim (stays_or_comes k part stands) [
-            | inl stays ↦ covers.held wide is k part stays.stands has none
-            | inr comes ↦ absurd (comes.is.coded none)
-          ];
-    }
+    -- a part that came has its text
+    comes_told : (k : ℕ) (part : HeldPart) → ComesAt g m.parts some slots fresh k part → slice_index_or uses k None ≢ None
+    comes_told k part comes none =
+        let both : Some (text_of_group g comes.group) ≡ None = sym (uses_come comes.i k comes.group comes.slot comes.group_at) ∙ none in
+        absurd cc
+
+    -- so each stale part whose group has a text has one
+    pub told_new : AreTold g roused
+    told_new k part group stands none is_part fits lacks =
+        elim (stays_or_comes k part stands) [
+          | inl stays ↦ stays.told group none is_part fits (sym (uses_stay k stays.no_slot) ∙ lacks)
+          | inr comes ↦ comes_told k part comes lacks
+        ]
+
+    -- a part that was held in its place is held
+    comes_held : (wide : WideData) → m.wide ≡ Some wide → (k : ℕ) (part : HeldPart) → ComesAt g m.parts some slots fresh k part →
+        IsHeldIn g m.state wide (slice_index_or uses k None) part ⊎ IsOutside wide.graph part
+    comes_held wide is k part comes =
+        elim (covers.held wide is k comes.was.part comes.was.stands (some_members comes.was.is_part) comes.was.stale) [
+          | inl held ↦
+              let same : held.group ≡ comes.group = one_group g held.group comes.group comes.was.part held.is_part comes.was.is_part in
+              inl (record {
+                group = comes.group;
+                is_part = comes.is.is_part;
+                allowed = subst (λ (one : Group). refused_in wide.large one ≡ None) same held.allowed;
+                told = λ fits. comes_told k part comes;
+                wired = held.wired;
+                alike = subst (IsAlike g wide.graph) same held.alike;
+                rests = subst (λ (one : Group). RestsAsleep wide.graph m.state one.members wide.touched.list) same held.rests;
+              })
+          | inr outside ↦
+              inr (λ node there. outside node (subst (λ xs. Contains xs node) (comes.is.is_part.members ∙ sym comes.was.is_part.members) there))
+        ]
+
+    module _ (coded : List ℕ) (coded_are : (k : ℕ) → Contains coded k ↔ HasCodeIn slots fresh k) (free : LoosensHeld m.wide fresh) where
+      pub Covers-roused : Covers g roused
+      Covers-roused = record {
+        groups = covers.groups;
+        kept = covers.kept;
+        are = covers.are;
+        counted = covers.counted;
+        each = λ i group at.
+            let has = covers.each i group at in
+            let (part, stands) = new_at has.k has.part has.stands in
+            elim (stays_or_comes has.k part stands) [
+              | inl stays ↦ record {
+                k = has.k;
+                part = part;
+                stands = stands;
+                is_part = subst (IsPartOf g group) (same_part m.parts has.k has.part part has.stands stays.stands) has.is_part;
+              }
+              | inr comes ↦
+                  let same = same_part m.parts has.k has.part comes.was.part has.stands comes.was.stands in
+                  let one = one_group g comes.group group comes.was.part comes.was.is_part (subst (IsPartOf g group) same has.is_part) in
+                  record { k = has.k; part = part; stands = stands; is_part = subst (λ it. IsPartOf g it part) one comes.is.is_part }
+            ];
+        whole = λ k part stands has.
+            elim (stays_or_comes k part stands) [
+              | inl stays ↦ covers.whole k part stays.stands has
+              | inr comes ↦ (comes.group, comes.is.is_part)
+            ];
+        apart = apart_new covers.apart;
+        number = members_count ∙ covers.number;
+        known = λ k part stands numbered group is_part.
+            elim (stays_or_comes k part stands) [
+              | inl stays ↦
+                  let was = covers.known k part stays.stands (λ none. numbered (uses_stay k stays.no_slot ∙ none)) group is_part in
+                  record { same = uses_stay k stays.no_slot ∙ was.same; fits = was.fits }
+              | inr comes ↦
+                  let one = one_group g comes.group group part comes.is.is_part is_part in
+                  let within = slice_get_within some comes.i comes.group comes.group_at in
+                  let fits : fault_in comes.group ≡ None =
+                  subst (λ it. fault_in it ≡ None) (get_or_from_slice_get some comes.i comes.group comes.group comes.group_at) (fit comes.i comes.group within) in
+                  record {
+                    same = uses_come comes.i k comes.group comes.slot comes.group_at ∙ ap (λ it. Some (text_of_group g it)) one;
+                    fits = subst (λ it. fault_in it ≡ None) one fits;
+                  }
+            ];
+        numbered = λ k part stands has coded lacks.
+            elim (stays_or_comes k part stands) [
+              | inl stays ↦ covers.numbered k part stays.stands has coded (sym (uses_stay k stays.no_slot) ∙ lacks)
+              | inr comes ↦ comes_told k part comes lacks
+            ];
+        textless = λ k part stands none.
+            elim (stays_or_comes k part stands) [
+              | inl stays ↦ uses_stay k stays.no_slot ∙ covers.textless k part stays.stands none
+              | inr comes ↦ absurd (omega (arith, none, some_members comes.is.is_part))
+            ];
+        uses_counted = uses_counted ∙ (covers.uses_counted ∙ sym puts.count);
+        quiet = λ k part stands none.
+            elim (stays_or_comes k part stands) [
+              | inl stays ↦ covers.quiet k part stays.stands none
+              | inr comes ↦ comes.is.quiet none
+            ];
+        waits = λ k part stands has none.
+            elim (stays_or_comes k part stands) [
+              | inl stays ↦ covers.waits k part stays.stands has none
+              | inr comes ↦ covers.waits k comes.was.part comes.was.stands (some_members comes.was.is_part) comes.was.stale
+            ];
+        rests = λ k part stands unmarked.
+            elim (stays_or_comes k part stands) [
+              | inl stays ↦ covers.rests k part stays.stands unmarked
+              | inr comes ↦ absurd (unmarked (covers.waits k comes.was.part comes.was.stands (some_members comes.was.is_part) comes.was.stale))
+            ];
+        stale_only = stale_only_roused coded coded_are free;
+        held = λ wide is k part stands has none.
+            elim (stays_or_comes k part stands) [
+              | inl stays ↦
+                  elim (covers.held wide is k part stays.stands has none) [
+                    | inl held ↦
+                        inl (subst (λ (text : Option GroupTextData). IsHeldIn g m.state wide text part) (sym (uses_stay k stays.no_slot)) held)
+                    | inr outside ↦ inr outside
+                  ]
+              | inr comes ↦ comes_held wide is k part comes
+            ];
+      }
 
     pub parts_roused : (k : ℕ) (part : HeldPart) → Stands m.parts k part → part.code ≢ None → Stands new k part
     parts_roused k part stands coded =

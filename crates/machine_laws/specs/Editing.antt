@@ -1,6 +1,6 @@
 -- What an edit of the graph does to a machine, and what gives its stale parts their codes.
 -- After Bryant, Beatty, Brace, Cho and Sheffler, "COSMOS: A Compiled Simulator for MOS Circuits", 1987.
-use Rattle.std.specs.Prelude.{◌≡◌, ◌≢◌, ℕ, ◌-◌, ◌<◌, ◌↔◌, min, Bool, true, false, List, ◌++◌, length, replicate, None, Some}
+use Rattle.std.specs.Prelude.{◌≡◌, ◌≢◌, ℕ, ◌-◌, ◌<◌, ◌↔◌, min, Bool, true, false, List, ◌++◌, length, replicate, None, Some, slice_index_or}
 use Rattle.ternary.specs.declared.tern.Tern.{Tern}
 use Rattle.ternary.specs.declared.tern.Tern.TheVariants.{Unk}
 use Rattle.path_meaning.specs.Graphs.{GraphData, nodes}
@@ -31,17 +31,22 @@ pub record KeepsWide (count : ℕ) (old new : MachineData) : Type 0 where
   pub stays : (wide : WideData) → old.wide ≡ Some wide →
       ((k : ℕ) (part : HeldPart) → Stands old.parts k part → (¬ IsOutside wide.graph part) → Stands new.parts k part) → new.wide ≢ None
 
--- the graph was edited: the machine covers it, new nodes are X and all other nodes stay, each touched group is stale and marked, and the
--- part of every other group stays, with its code and its mark; the groups that are stepped by vicinities are known still if it left them as they were
+-- the graph was edited: the machine covers it, new nodes are X and all other nodes stay, each touched group is stale and marked and has no text
+-- yet, and the part of every other group stays, with its text, its code and its mark; the groups that are stepped by vicinities are known still if
+-- it left them as they were
 pub record Edits (g : GraphData) (change : Change) (old new : MachineData) : Type 0 where
   pub covers : Covers g new
   pub state : new.state ≡ with_new_nodes old.state (nodes g)
   pub stale : (k : ℕ) (part : HeldPart) (group : Group) → Stands new.parts k part → IsPartOf g group part →
       is_touched_in g change old group ≡ true → part.code ≡ None
+  pub untold : (k : ℕ) (part : HeldPart) (group : Group) → Stands new.parts k part → IsPartOf g group part →
+      is_touched_in g change old group ≡ true → slice_index_or new.uses k None ≡ None
   pub marked : (k : ℕ) (part : HeldPart) (group : Group) → Stands new.parts k part → IsPartOf g group part →
       is_touched_in g change old group ≡ true → IsMarked new.marks k
   pub stays : (k : ℕ) (part : HeldPart) (group : Group) → Stands new.parts k part → IsPartOf g group part →
       is_touched_in g change old group ≡ false → Stands old.parts k part
+  pub texts : (k : ℕ) (part : HeldPart) (group : Group) → Stands new.parts k part → IsPartOf g group part →
+      is_touched_in g change old group ≡ false → slice_index_or new.uses k None ≡ slice_index_or old.uses k None
   pub marks : (k : ℕ) (part : HeldPart) (group : Group) → Stands new.parts k part → IsPartOf g group part →
       is_touched_in g change old group ≡ false → IsMarked new.marks k ↔ IsMarked old.marks k
   pub last : new.last ≡ old.last

@@ -1,6 +1,6 @@
 -- Which graphs a machine covers, and which it fits.
 -- After Bryant, Beatty, Brace, Cho and Sheffler, "COSMOS: A Compiled Simulator for MOS Circuits", 1987.
-use Rattle.std.specs.Prelude.{◌≡◌, ◌≢◌, ℕ, ◌<◌, ◌≤◌, ◌↔◌, ◌⊎◌, List, [], length, take, count_by, Contains, IsTrue, Option, Some, None, slice_get, slice_index_or}
+use Rattle.std.specs.Prelude.{◌≡◌, ◌≢◌, ℕ, ◌<◌, ◌↔◌, ◌⊎◌, List, [], length, take, count_by, Contains, IsTrue, Option, Some, None, slice_get, slice_index_or}
 use Rattle.std.specs.declared.rc.Rc.{Rc}
 use Rattle.std.proofs.Common.{Global}
 use Rattle.ternary.specs.declared.tern.Tern.{Tern}
@@ -16,7 +16,7 @@ use Rattle.vicinity.specs.Touching.{RestsAsleep}
 use Rattle.vicinity.specs.Wides.{WideData}
 use Rattle.straight_code.specs.Code.{CodeData}
 use Rattle.group_analysis.specs.Meaning.{MeansText}
-use Rattle.circuit_texts.specs.Sizes.{fault_in}
+use Rattle.circuit_texts.specs.Sizes.{fault_in, refused_in}
 use Rattle.circuit_texts.specs.Told.{told}
 use Rattle.machine_parts.specs.declared.part.HeldPart.{HeldPart}
 use Rattle.machine_parts.specs.Parts.{Stands, AreApart, has_members}
@@ -49,13 +49,13 @@ pub record IsTextOf (g : GraphData) (group : Group) (text : Option GroupTextData
   pub same : text ≡ Some (text_of_group g group)
   pub fits : fault_in group ≡ None
 
--- the part is that of a group without a text, which isn't too large and stands alike in the graph of the groups that are stepped by vicinities;
--- its members that are asleep rest
-pub record IsHeldIn (g : GraphData) (state : List Tern) (wide : WideData) (part : HeldPart) : Type 0 where
+-- the part with this text or none is that of a group that isn't refused and stands alike in the graph of the groups that are stepped by vicinities;
+-- if the group has a text, the part has one; its members that are asleep rest
+pub record IsHeldIn (g : GraphData) (state : List Tern) (wide : WideData) (text : Option GroupTextData) (part : HeldPart) : Type 0 where
   pub group : Group
   pub is_part : IsPartOf g group part
-  pub untold : fault_in group ≢ None
-  pub few : length group.members ≤ wide.large
+  pub allowed : refused_in wide.large group ≡ None
+  pub told : fault_in group ≡ None → text ≢ None
   pub wired : IsWired wide.graph
   pub alike : IsAlike g wide.graph group
   pub rests : RestsAsleep wide.graph state group.members wide.touched.list
@@ -64,14 +64,14 @@ pub record IsHeldIn (g : GraphData) (state : List Tern) (wide : WideData) (part 
 abbrev pub IsOutside : GraphData → HeldPart → Type 0
 IsOutside g part = (node : ℕ) → Contains (take part.members part.map.items) node → ¬ IsStorage g node
 
--- the machine steps the part's group by vicinities
-abbrev pub IsHeld : GraphData → MachineData → HeldPart → Type 0
-IsHeld g m part = (wide : WideData) × (m.wide ≡ Some wide) × IsHeldIn g m.state wide part
+-- the machine steps by vicinities the group of the part with this number
+abbrev pub IsHeld : GraphData → MachineData → ℕ → HeldPart → Type 0
+IsHeld g m k part = (wide : WideData) × (m.wide ≡ Some wide) × IsHeldIn g m.state wide (slice_index_or m.uses k None) part
 
 -- a machine covers a graph: its groups are those of the graph, each has a part, and each part with a member is that of a group; a
--- part with code has its group's text, and one without members or code has none; one without code reads nothing, and is marked where it
--- has a member, so is stale; and the members of a part that isn't marked rest. If the groups are known that are stepped by vicinities, their
--- members are those of stale parts, and each stale part is that of one of these groups or has no member of any
+-- part with a text has its group's, one with code has a text, and one without members has none; one without code reads nothing, and is marked
+-- where it has a member, so is stale; and the members of a part that isn't marked rest. If the groups are known that are stepped by vicinities,
+-- their members are those of stale parts, and each stale part is that of one of these groups or has no member of any
 pub record Covers (g : GraphData) (m : MachineData) : Type 0 where
   pub groups : GroupsData
   pub kept : m.groups ≡ Some groups
@@ -81,9 +81,10 @@ pub record Covers (g : GraphData) (m : MachineData) : Type 0 where
   pub whole : (k : ℕ) (part : HeldPart) → Stands m.parts k part → 0 < part.members → (group : Group) × IsPartOf g group part
   pub apart : AreApart m.parts
   pub number : count_by has_members m.parts ≡ length groups.groups
-  pub known : (k : ℕ) (part : HeldPart) → Stands m.parts k part → part.code ≢ None → (group : Group) → IsPartOf g group part →
+  pub known : (k : ℕ) (part : HeldPart) → Stands m.parts k part → slice_index_or m.uses k None ≢ None → (group : Group) → IsPartOf g group part →
       IsTextOf g group (slice_index_or m.uses k None)
-  pub textless : (k : ℕ) (part : HeldPart) → Stands m.parts k part → (part.members ≡ 0) ⊎ (part.code ≡ None) → slice_index_or m.uses k None ≡ None
+  pub numbered : (k : ℕ) (part : HeldPart) → Stands m.parts k part → 0 < part.members → part.code ≢ None → slice_index_or m.uses k None ≢ None
+  pub textless : (k : ℕ) (part : HeldPart) → Stands m.parts k part → part.members ≡ 0 → slice_index_or m.uses k None ≡ None
   pub uses_counted : length m.uses ≡ length m.parts
   pub quiet : (k : ℕ) (part : HeldPart) → Stands m.parts k part → part.code ≡ None → part.reads.items ≡ []
   pub waits : (k : ℕ) (part : HeldPart) → Stands m.parts k part → 0 < part.members → part.code ≡ None → IsMarked m.marks k
@@ -91,13 +92,13 @@ pub record Covers (g : GraphData) (m : MachineData) : Type 0 where
       Rests g m.state (take part.members part.map.items)
   pub stale_only : (wide : WideData) → m.wide ≡ Some wide → HasStaleOnly m.parts wide.graph
   pub held : (wide : WideData) → m.wide ≡ Some wide → (k : ℕ) (part : HeldPart) → Stands m.parts k part → 0 < part.members → part.code ≡ None →
-      IsHeldIn g m.state wide part ⊎ IsOutside wide.graph part
+      IsHeldIn g m.state wide (slice_index_or m.uses k None) part ⊎ IsOutside wide.graph part
 
 -- a machine fits a graph: it covers it, no part is stale unless it is stepped by vicinities, the rails are held, and it counts the distinct texts of
 -- the groups that have one
 pub record FitsGraph (g : GraphData) (m : MachineData) : Type 0 where
   pub covers : Covers g m
-  pub coded : (k : ℕ) (part : HeldPart) → Stands m.parts k part → 0 < part.members → part.code ≡ None → IsHeld g m part
+  pub coded : (k : ℕ) (part : HeldPart) → Stands m.parts k part → 0 < part.members → part.code ≡ None → IsHeld g m k part
   pub railed : IsRailed g
   pub sound : IsSound m.state
   pub texts : (groups : List Group) → AreGroups g groups → m.texts ≡ length (first_texts (told g groups))
@@ -106,13 +107,19 @@ pub record FitsGraph (g : GraphData) (m : MachineData) : Type 0 where
 abbrev pub AreUntold : GraphData → List HeldPart → Type 0
 AreUntold g parts = (k : ℕ) (part : HeldPart) (group : Group) → Stands parts k part → part.code ≡ None → IsPartOf g group part → fault_in group ≢ None
 
+-- each stale part whose group has a text has one
+abbrev pub AreTold : GraphData → MachineData → Type 0
+AreTold g m =
+    (k : ℕ) (part : HeldPart) (group : Group) → Stands m.parts k part → part.code ≡ None → IsPartOf g group part → fault_in group ≡ None →
+    slice_index_or m.uses k None ≢ None
+
 -- what so leads from a machine that fits a graph to another one is this for their states, and the other one fits the graph
 abbrev pub LeadsToFitting : (MachineData → MachineData → Type 0) → (GraphData → List Tern → List Tern → Type 0) → Type 0
 LeadsToFitting Leads Is =
     (g : GraphData) (old new : MachineData) → IsWired g → FitsGraph g old → Leads old new → Is g old.state new.state × FitsGraph g new
 
--- every text whose code a part has is among these
+-- every text that a part has is among these
 abbrev pub IsKeptBy : GraphData → List GroupTextData → MachineData → Type 0
 IsKeptBy g kept m =
-    (k : ℕ) (part : HeldPart) → Stands m.parts k part → part.code ≢ None → (group : Group) → IsPartOf g group part →
+    (k : ℕ) (part : HeldPart) → Stands m.parts k part → slice_index_or m.uses k None ≢ None → (group : Group) → IsPartOf g group part →
     IsTrue (is_among kept (text_of_group g group))

@@ -35,10 +35,10 @@ pub record AddsStale (groups : List Group) (old new : List HeldPart) : Type 0 wh
   pub are : AllZip (λ group part. IsStalePartOf group.members part) groups more
   pub parts : new ≡ old ++ more
 
--- there is a place for the text of each part; one without members or code has no text, and one without code reads nothing
+-- there is a place for the text of each part; one without members has no text, and one without code reads nothing
 pub record IsTidy (m : MachineData) : Type 0 where
   pub counted : length m.uses ≡ length m.parts
-  pub textless : (k : ℕ) (part : HeldPart) → Stands m.parts k part → (part.members ≡ 0) ⊎ (part.code ≡ None) → slice_index_or m.uses k None ≡ None
+  pub textless : (k : ℕ) (part : HeldPart) → Stands m.parts k part → part.members ≡ 0 → slice_index_or m.uses k None ≡ None
   pub quiet : (k : ℕ) (part : HeldPart) → Stands m.parts k part → part.code ≡ None → part.reads.items ≡ []
 
 -- how many parts with members a part is
@@ -104,12 +104,13 @@ pub record Clears (nodes : List ℕ) (old new : MachineData) : Type 0 where
   pub wide : KeepsHeld old new
   pub rest : KeepsRest old new
 
--- a group has a stale part with these members, which is marked; a part that had one of them has no group, and all other parts stay
+-- a group has a stale part with these members, which is marked and has no text; a part that had one of them has no group, and all other parts stay
 pub record Renews (members : List ℕ) (old new : MachineData) : Type 0 where
   pub was : (k : ℕ) (part : HeldPart) → Stands new.parts k part → 0 < part.members →
       Stands old.parts k part ⊎ ((k ≡ length old.parts) × IsStalePartOf members part)
   pub uses : (k : ℕ) (part : HeldPart) → Stands new.parts k part → k < length old.parts → 0 < part.members →
       slice_index_or new.uses k None ≡ slice_index_or old.uses k None
+  pub untold : IsTidy old → (k : ℕ) → length old.parts ≤ k → slice_index_or new.uses k None ≡ None
   pub marks : (k : ℕ) → k < length old.parts → IsMarked new.marks k ↔ IsMarked old.marks k
   pub stays : (k : ℕ) (part : HeldPart) → Stands old.parts k part → ((node : ℕ) → Contains members node → ¬ HasMember old.parts k node) → Stands new.parts k part
   pub k : ℕ
@@ -157,13 +158,15 @@ pub record IsNew (groups : List Group) (nodes : List ℕ) (part : HeldPart) : Ty
   pub has : HasAny nodes group
   pub is_new : IsStalePartOf group.members part
 
--- each of these groups that has one of these nodes has a new stale part; the parts that have no members of such groups stay, and no
+-- each of these groups that has one of these nodes has a new stale part, without a text; the parts that have no members of such groups stay, and no
 -- other part has members
 pub record RenewsAll (all : List Group) (nodes : List ℕ) (old new : MachineData) : Type 0 where
   pub was : (k : ℕ) (part : HeldPart) → Stands new.parts k part → 0 < part.members →
       Stands old.parts k part ⊎ ((length old.parts ≤ k) × IsNew all nodes part)
   pub uses : (k : ℕ) (part : HeldPart) → Stands new.parts k part → k < length old.parts → 0 < part.members →
       slice_index_or new.uses k None ≡ slice_index_or old.uses k None
+  pub untold : IsTidy old → (k : ℕ) (part : HeldPart) → Stands new.parts k part → length old.parts ≤ k → 0 < part.members →
+      slice_index_or new.uses k None ≡ None
   pub marks : (k : ℕ) → k < length old.parts → IsMarked new.marks k ↔ IsMarked old.marks k
   pub stays : (k : ℕ) (part : HeldPart) → Stands old.parts k part →
       ((group : Group) (node : ℕ) → Contains all group → HasAny nodes group → Contains group.members node → ¬ HasMember old.parts k node) →

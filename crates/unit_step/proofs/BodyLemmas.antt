@@ -1,11 +1,11 @@
 -- The body of a plan's parts: the machine that starts so is ready, and the texts of the graph's groups are those of its last build.
-use Rattle.std.proofs.Common.{◌≡◌, ℕ, zero, suc, ◌+◌, ◌<◌, ◌≤◌, true, false, inl, inr, List, [], ◌∷◌, ◌++◌, length, map, get_or, replicate, All, Some, None, Result, Ok, Err, IfOk, Vec, Global, refl, sym, subst, ◌∙◌, ap, arith, length-append}
-use Rattle.std.specs.Prelude.{◌↔◌, not, Option, zip, slice_get, slice_index}
+use Rattle.std.proofs.Common.{◌≡◌, ℕ, zero, suc, ◌<◌, true, inl, inr, List, [], ◌∷◌, ◌++◌, length, map, get_or, replicate, All, Some, None, Result, Ok, Err, IfOk, Vec, Global, refl, sym, subst, ◌∙◌, ap, arith, length-append}
+use Rattle.std.specs.Prelude.{◌↔◌, not, Contains, Option, zip, slice_get, slice_index}
 use Rattle.std.specs.List.{AllZip}
 use Rattle.std.specs.Option.{option_and_then}
 use Rattle.std.specs.declared.rc.Rc.{Rc}
 use Rattle.std.proofs.lemmas.List.{map-append, length-replicate}
-use Rattle.std.proofs.lemmas.List.Elements.{All-nil, All-append, All-filter}
+use Rattle.std.proofs.lemmas.List.Elements.{All-nil, All-append, All-filter, Contains-get_or}
 use Rattle.std.proofs.lemmas.Option.{same_Some, none-some, slice_get_within, get_or_from_slice_get, slice_get-get_or}
 use Rattle.std.proofs.lemmas.Slice.Zip.{AllZip-long}
 use Rattle.ternary.specs.declared.memory.NoMemory.{NoMemory}
@@ -31,42 +31,59 @@ use Rattle.machine_parts.specs.Making.{held, IsFormed}
 use Rattle.machine_parts.proofs.MakingLemmas.{formed_parts, reads_inside}
 use Rattle.part_steps.specs.Dense.{HaveCodes}
 use Rattle.machine_laws.specs.Beginnings.{AreInOrder, HasLast}
-use Rattle.machine_laws.specs.Finishing.{IsFresh}
+use Rattle.machine_laws.specs.Fitting.{AreUntold}
+use Rattle.machine_laws.specs.Finishing.{IsFresh, Loosens}
+use Rattle.machine_laws.proofs.HeldLemmas.{known_or_not}
+use Rattle.machine_laws.proofs.StayingParts.{at-Stands, part_here}
 use Rattle.machine_laws.specs.Holding.{IsReady}
 use Rattle.machine_laws.specs.Seating.{IsStalePartOf}
 use Rattle.machine_laws.proofs.LastingGroups.{HasLast-order}
 use Rattle.machine_laws.proofs.RenewingLemmas.{members_inside, members_once}
 use Rattle.unit_step.specs.declared.planning.Plan.{Plan}
 use Rattle.unit_step.specs.declared.body.Body.{Body}
-use Rattle.unit_step.specs.Bodies.{started, of_body, AreLastStale}
+use Rattle.unit_step.specs.Bodies.{started, of_body, IsCodedAt}
 use Rattle.unit_step.specs.Planning.{IsPlan}
 use Rattle.unit_step.specs.Lasting.{texts_lasting}
-use Rattle.unit_step.proofs.BuildLemmas.{append_cases, fresh_parts, lists_inside, numbers_counted, apart_started, last_stale, IsReady-started}
+use Rattle.unit_step.proofs.BuildLemmas.{append_cases, fresh_parts, lists_inside, numbers_counted, apart_started, some_started, untold_coded, IsReady-started}
+use Rattle.unit_step.proofs.FinishingRoused.{fresh-loosened, formed-loosened, below-loosened}
 
--- just the last parts wait, which are the stale ones
-pub waits_last : (parts : List HeldPart) (stale ready : ℕ) → ready + stale ≡ length parts → AreLastStale stale parts →
-    (k : ℕ) → IsMarked (replicate ready false ++ replicate stale true) k ↔ IsStale parts k
-waits_last parts stale ready long last k = (
-  λ marked. (last.1 k).1 (inside (marked_at ready stale k marked)),
-  λ is. marked_from ready stale k (omega (arith, ((last.1 k).0 is).1, long)) (omega (arith, ((last.1 k).0 is).0, long)),
-)
+-- of so many marks that are all set each is
+all_set : (n k : ℕ) → IsMarked (replicate n true) k → k < n
+all_set zero k marked = absurd cc
+all_set (suc n) zero marked = omega arith
+all_set (suc n) (suc k) marked = omega (arith, all_set n k marked)
+
+set_all : (n k : ℕ) → k < n → IsMarked (replicate n true) k
+set_all zero k inside = absurd (omega (arith, inside))
+set_all (suc n) zero inside = refl
+set_all (suc n) (suc k) inside = set_all n k (omega (arith, inside))
+
+-- where all parts wait but those with code, the stale ones do
+pub waits_coded : (parts : List HeldPart) (coded : List ℕ) (n : ℕ) → n ≡ length parts → All (λ (part : HeldPart). 0 < part.members) parts →
+    ((k : ℕ) → Contains coded k ↔ IsCodedAt parts k) → (k : ℕ) → (IsMarked (replicate n true) k × (¬ Contains coded k)) ↔ IsStale parts k
+waits_coded parts coded n long some are k = (to, back)
   where
-    inside : (ready ≤ k) × (k < ready + stale) → k < length parts × length parts ≤ k + stale
-    inside (late, below) = (omega (arith, below, long), omega (arith, late, long))
+    to : IsMarked (replicate n true) k × (¬ Contains coded k) → IsStale parts k
+    to (marked, other) =
+        let inside : k < length parts = omega (arith, all_set n k marked, long) in
+        let (part, stands) = part_here parts k inside in
+        elim (known_or_not part.code) [
+          | inl (code, is) ↦
+              absurd (other ((are k).1 (record { part = part; there = at-Stands parts k part stands; coded = λ none. absurd (cc (none, is)) })))
+          | inr none ↦
+              let has : 0 < part.members = subst (λ (one : HeldPart). 0 < one.members) stands.here (some k part inside) in
+              record { part = part; stands = stands; some = has; none = none }
+        ]
 
-    marked_at : (ready stale k : ℕ) → IsMarked (replicate ready false ++ replicate stale true) k → (ready ≤ k) × (k < ready + stale)
-    marked_at zero zero k marked = absurd cc
-    marked_at zero (suc stale) zero marked = (omega arith, omega arith)
-    marked_at zero (suc stale) (suc k) marked = let (late, below) = marked_at zero stale k marked in (omega arith, omega (arith, below))
-    marked_at (suc ready) stale zero marked = absurd cc
-    marked_at (suc ready) stale (suc k) marked = let (late, below) = marked_at ready stale k marked in (omega (arith, late), omega (arith, below))
-
-    marked_from : (ready stale k : ℕ) → ready ≤ k → k < ready + stale → IsMarked (replicate ready false ++ replicate stale true) k
-    marked_from zero zero k late below = absurd (omega (arith, below))
-    marked_from zero (suc stale) zero late below = refl
-    marked_from zero (suc stale) (suc k) late below = marked_from zero stale k (omega arith) (omega (arith, below))
-    marked_from (suc ready) stale zero late below = absurd (omega (arith, late))
-    marked_from (suc ready) stale (suc k) late below = marked_from ready stale k (omega (arith, late)) (omega (arith, below))
+    back : IsStale parts k → IsMarked (replicate n true) k × (¬ Contains coded k)
+    back stale = (
+      set_all n k (omega (arith, stale.stands.inside, long)),
+      λ there.
+          let has = (are k).0 there in
+          let both : Some has.part ≡ Some stale.part = sym has.there ∙ at-Stands parts k stale.part stale.stands in
+          let same : has.part ≡ stale.part = cc in
+          has.coded (ap (λ (one : HeldPart). one.code) same ∙ stale.none),
+    )
 
 -- the part that is held under a number has the code of the part with this number
 held_code : (parts : List Part) (reads : List (Vec ℕ Global)) (k : ℕ) (one : HeldPart) → slice_get (map held (zip parts reads)) k ≡ Some one →
@@ -85,6 +102,19 @@ HaveCodes-held numbers parts reads are = record {
       let (one, there, is) = held_code parts reads k part part_is in
       let same : one.code ≡ code = same_Some one.code code (sym is ∙ has) in
       are.each k n one number_is there ∙ ap (λ (shared : Rc CodeData Global). Some shared.value) same;
+}
+
+-- so it is if some have no code any more
+HaveCodes-loosened : (numbers : List (Option ℕ)) (old now : List HeldPart) → Loosens old now → HaveCodes numbers old → HaveCodes numbers now
+HaveCodes-loosened numbers old now loosens have = record {
+  codes = have.codes;
+  each = λ k n part code number_is part_is has.
+      let inside : k < length old = omega (arith, slice_get_within now k part part_is, loosens.count) in
+      let was_at = slice_get-get_or old k part inside in
+      elim (loosens.each k (get_or old k part) part was_at part_is) [
+        | inl same ↦ have.each k n (get_or old k part) code number_is was_at (ap (λ (one : HeldPart). one.code) (sym same) ∙ has)
+        | inr loosened ↦ absurd (cc (loosened.code, has))
+      ];
 }
 
 -- and so with stale parts behind, which have no number
@@ -140,14 +170,24 @@ stale_formed g groups each parts stale k d inside =
         let both : None ≡ Some code = sym none ∙ has in
         absurd cc
 
+-- the parts with codes have numbers
+pub codes_counted : (large : ℕ) (g : GraphData) (plan : Plan) (is_plan : IsPlan large g plan.state.items plan) (parts : List Part) →
+    AllZip (made.IsPartOf g) (with_text plan.groups.groups) parts → length (map held (zip parts plan.reads.items)) ≡ length plan.uses.numbers
+codes_counted large g plan is_plan parts of =
+    let told_groups = with_text plan.groups.groups in
+    let each_told : All (IsGroup g) told_groups = All-filter has_text (IsGroup g) plan.groups.groups is_plan.are.are.each in
+    AllZip-long (IsFresh g) told_groups (map held (zip parts plan.reads.items)) (fresh_parts g told_groups each_told parts plan.reads.items of is_plan.reads)
+    ∙ sym (numbers_counted large g plan.state.items plan is_plan)
+
 module _ (large : ℕ) (g : GraphData) (wired : IsWired g) (plan : Plan) (is_plan : IsPlan large g plan.state.items plan) (parts : List Part)
     (of : AllZip (made.IsPartOf g) (with_text plan.groups.groups) parts) (behind : List HeldPart)
-    (stale : AllZip (λ group part. IsStalePartOf group.members part) (without_text plan.groups.groups) behind) where
+    (stale : AllZip (λ group part. IsStalePartOf group.members part) (without_text plan.groups.groups) behind) (front : List HeldPart)
+    (loosens : Loosens (map held (zip parts plan.reads.items)) front) where
   abbrev told_groups : List Group
   told_groups = with_text plan.groups.groups
 
-  abbrev front : List HeldPart
-  front = map held (zip parts plan.reads.items)
+  abbrev with_codes : List HeldPart
+  with_codes = map held (zip parts plan.reads.items)
 
   each_told : All (IsGroup g) told_groups
   each_told = All-filter has_text (IsGroup g) plan.groups.groups is_plan.are.are.each
@@ -156,7 +196,7 @@ module _ (large : ℕ) (g : GraphData) (wired : IsWired g) (plan : Plan) (is_pla
   each_large = All-filter (λ group. not (has_text group)) (IsGroup g) plan.groups.groups is_plan.are.are.each
 
   front_fresh : AllZip (IsFresh g) told_groups front
-  front_fresh = fresh_parts g told_groups each_told parts plan.reads.items of is_plan.reads
+  front_fresh = fresh-loosened g told_groups with_codes front loosens (fresh_parts g told_groups each_told parts plan.reads.items of is_plan.reads)
 
   is_stale : (k : ℕ) (d : HeldPart) → k < length behind → (members : List ℕ) × IsStalePartOf members (get_or behind k d)
   is_stale k d inside =
@@ -180,7 +220,8 @@ module _ (large : ℕ) (g : GraphData) (wired : IsWired g) (plan : Plan) (is_pla
       let (group, at, is) = partner_first (made.IsPartOf g) told_groups parts k part of (slice_get-get_or parts k d inside) in
       let is_group : IsGroup g group = subst (IsGroup g) (get_or_from_slice_get told_groups k group group at) (each_told k group (slice_get_within told_groups k group at)) in
       IsPart-from_group g wired group is_group part is in
-      All-append (IsFormed (nodes g)) front behind (formed_parts (nodes g) parts plan.reads.items fits)
+      All-append (IsFormed (nodes g)) front behind
+      (formed-loosened (nodes g) with_codes front loosens (formed_parts (nodes g) parts plan.reads.items fits))
       (stale_formed g (without_text plan.groups.groups) each_large behind stale)
 
   pub apart_planned : AreApart (front ++ behind)
@@ -189,13 +230,14 @@ module _ (large : ℕ) (g : GraphData) (wired : IsWired g) (plan : Plan) (is_pla
   pub reads_planned : All (λ (part : HeldPart). All (λ node. node < nodes g) part.reads.items) (front ++ behind)
   reads_planned =
       All-append (λ (part : HeldPart). All (λ node. node < nodes g) part.reads.items) front behind
-      (reads_inside (nodes g) parts plan.reads.items (lists_inside g wired told_groups plan.reads.items is_plan.reads))
+      (below-loosened (nodes g) with_codes front loosens
+      (reads_inside (nodes g) parts plan.reads.items (lists_inside g wired told_groups plan.reads.items is_plan.reads)))
       (λ k d inside. subst (All (λ node. node < nodes g)) (sym (is_stale k d inside).1.reads) (All-nil (λ node. node < nodes g)))
 
   pub coded_planned : AreCoded plan.uses.numbers parts → HaveCodes (plan.uses.numbers ++ replicate (length behind) None) (front ++ behind)
   coded_planned coded =
       HaveCodes-behind plan.uses.numbers (length behind) front behind front_counted (λ k d inside. (is_stale k d inside).1.code)
-      (HaveCodes-held plan.uses.numbers parts plan.reads.items coded)
+      (HaveCodes-loosened plan.uses.numbers with_codes front loosens (HaveCodes-held plan.uses.numbers parts plan.reads.items coded))
 
   pub numbered_planned : length (plan.uses.numbers ++ replicate (length behind) None) ≡ length (front ++ behind)
   numbered_planned =
@@ -207,8 +249,16 @@ module _ (large : ℕ) (g : GraphData) (wired : IsWired g) (plan : Plan) (is_pla
         front_counted,
       )
 
-  pub stale_planned : AreLastStale (length behind) (front ++ behind)
-  stale_planned = last_stale g plan.groups is_plan.are front behind front_fresh stale
+  pub some_planned : All (λ (part : HeldPart). 0 < part.members) (front ++ behind)
+  some_planned = some_started g plan.groups is_plan.are front behind front_fresh stale
+
+  -- if none has lost its code, those that are stale have groups without a text
+  pub untold_planned : front ≡ with_codes → AreUntold g (front ++ behind)
+  untold_planned same =
+      untold_coded g plan.groups is_plan.are front behind front_fresh stale (λ k d inside none.
+      let at : slice_get with_codes k ≡ Some (get_or front k d) = ap (λ list. slice_get list k) (sym same) ∙ slice_get-get_or front k d inside in
+      let (part, there, is) = held_code parts plan.reads.items k (get_or front k d) at in
+      absurd (cc (is, none)))
 
   -- a machine that starts with them is ready, whatever its last texts were
   pub IsReady-planned : length plan.state.items ≡ nodes g → (uses : UsesData) → uses.known ≡ plan.uses.known →
@@ -249,5 +299,18 @@ module _ (g : GraphData) (groups : Option GroupsData) (parts : Vec HeldPart Glob
       let last = texts_lasting uses.known body.lasting in
       let one = ready last 0 in
       subst (λ (one : UsesData). HasLast g (texts_lasting one.known body.lasting)) (sym uses_are)
-      (HasLast-order g (started groups parts.items state.items (texts_used uses) last 0) one.covers one.untold last order)
+      (HasLast-order g (started groups parts.items state.items (texts_used uses) last 0) one.covers one.told last order)
   HasLast-of_body (Err fault) uses_are order = tt
+
+-- what holds of the parts holds of those of the body
+pub AreUntold-of_body : (g : GraphData) (parts : Vec HeldPart Global) (result : Result Body NoMemory) → AreUntold g parts.items →
+    IfOk result (λ body. body.parts ≡ parts) → IfOk result (λ body. AreUntold g body.parts.items)
+AreUntold-of_body g parts (Ok body) untold parts_are = subst (λ (list : Vec HeldPart Global). AreUntold g list.items) (sym parts_are) untold
+AreUntold-of_body g parts (Err fault) untold parts_are = tt
+
+-- the parts that have code are there
+pub coded_inside : (parts : List HeldPart) (coded : List ℕ) → ((k : ℕ) → Contains coded k ↔ IsCodedAt parts k) → All (λ k. k < length parts) coded
+coded_inside parts coded are i d inside =
+    let k = get_or coded i d in
+    let has = (are k).0 (Contains-get_or coded i d inside) in
+    slice_get_within parts k has.part has.there

@@ -1,16 +1,16 @@
--- A machine that starts with the parts of a graph's groups is ready: those with a text have code, the others are stale, and all are marked, so
--- none of them has to rest.
-use Rattle.std.proofs.Common.{◌≡◌, ◌≢◌, ℕ, zero, suc, ◌+◌, ◌<◌, ◌≤◌, Bool, true, false, inl, inr, ◌⊎◌, List, [], ◌∷◌, ◌++◌, length, map, take, get_or, replicate, All, Some, None, Vec, Global, refl, sym, ap, subst, ◌∙◌, arith, length-append}
+-- A machine that starts with the parts of a graph's groups is ready: those of groups with a text have it, and all are marked, so none of them has
+-- to rest.
+use Rattle.std.proofs.Common.{◌≡◌, ◌≢◌, ℕ, zero, suc, ◌+◌, ◌<◌, Bool, true, false, inl, inr, ◌⊎◌, List, [], ◌∷◌, ◌++◌, length, map, take, get_or, replicate, All, Some, None, Vec, Global, refl, sym, ap, subst, ◌∙◌, arith, length-append}
 use Rattle.std.specs.Prelude.{not, filter, Contains, Option, slice_get, slice_index_or, zip}
 use Rattle.std.specs.List.{AllZip}
 use Rattle.std.specs.List.Sorted.{IsStrictlyIncreasing}
 use Rattle.std.specs.declared.rc.Rc.{Rc}
 use Rattle.std.proofs.lemmas.Bool.{cases_Bool, cases_lt}
-use Rattle.std.proofs.lemmas.List.{length-map, length-replicate, get_or-map, get_or-replicate, get_or_default, take-append-le, take_all}
+use Rattle.std.proofs.lemmas.List.{length-map, length-replicate, get_or-map, get_or-replicate, take-append-le, take_all}
 use Rattle.std.proofs.lemmas.List.Elements.{All-nil, All-cons, All-head, All-tail, All-weaker, All-contains_itself}
 use Rattle.std.proofs.lemmas.List.Kept.{AllPairs-from_increasing}
 use Rattle.std.proofs.lemmas.Slice.Zip.{AllZip-long}
-use Rattle.std.proofs.lemmas.Option.{slice_get_within, get_or_from_slice_get, slice_get_read}
+use Rattle.std.proofs.lemmas.Option.{slice_get_within, get_or_from_slice_get, slice_get_read, slice_get-get_or}
 use Rattle.ternary.specs.declared.tern.Tern.{Tern}
 use Rattle.path_meaning.specs.Graphs.{GraphData, IsWired, nodes}
 use Rattle.list_facts.proofs.PlaceLemmas.{slice_get-grown}
@@ -34,13 +34,13 @@ use Rattle.circuit_texts.specs.Reading.{AreReads}
 use Rattle.circuit_texts.proofs.PairedLists.{partner_first, partner_second}
 use Rattle.circuit_texts.proofs.ReadLemmas.{read_inside}
 use Rattle.machine_parts.specs.declared.part.HeldPart.{HeldPart}
-use Rattle.machine_parts.specs.Parts.{Stands, HasMember, IsStale, AreApart}
+use Rattle.machine_parts.specs.Parts.{Stands, HasMember, AreApart}
 use Rattle.machine_parts.specs.Making.{held}
-use Rattle.unit_step.specs.Bodies.{started, AreLastStale}
+use Rattle.unit_step.specs.Bodies.{started}
 use Rattle.unit_step.specs.declared.planning.Plan.{Plan}
 use Rattle.unit_step.specs.Planning.{IsPlan}
 use Rattle.machine_laws.specs.Machines.{MachineData}
-use Rattle.machine_laws.specs.Fitting.{IsCoded, IsPartOf, HasPart, IsTextOf, AreUntold}
+use Rattle.machine_laws.specs.Fitting.{IsCoded, IsPartOf, HasPart, IsTextOf, AreUntold, AreTold}
 use Rattle.machine_laws.specs.Finishing.{IsFresh}
 use Rattle.machine_laws.specs.Holding.{IsReady}
 use Rattle.machine_laws.specs.Seating.{IsStalePartOf}
@@ -64,7 +64,7 @@ module _ (g : GraphData) where
           subst (λ (shared : Rc CodeData Global). IsCoded g group (held (part, list)) shared.value) same
           (record { mapped = of.map; means = of.means; reads = reads.each });
     };
-    coded = λ none. absurd (cc);
+    quiet = λ none. absurd cc;
   }
     where
       members_first : take part.members part.map.items ≡ group.members
@@ -148,11 +148,6 @@ same_place groups ascending i j group at_i at_j =
           get_or-map id_of groups j group 0 second ∙ ap id_of (get_or_from_slice_get groups j group group two),
         )
 
--- a part stands at each place
-part_at : (parts : List HeldPart) (k : ℕ) → k < length parts → (part : HeldPart) × Stands parts k part
-part_at [] k inside = absurd (omega (arith, inside))
-part_at (part ∷ parts) k inside = (get_or (part ∷ parts) k part, record { inside = inside; here = get_or_default (part ∷ parts) k _ part inside })
-
 -- of texts with none behind them, those that are there are these
 some_texts-front : (texts : List GroupTextData) (n : ℕ) → some_texts (map Some texts ++ replicate n None) ≡ texts
 some_texts-front [] zero = refl
@@ -191,6 +186,7 @@ module _ (g : GraphData) (held : GroupsData) (are : AreOf g held) (front behind 
   record IsTold (k : ℕ) (part : HeldPart) : Type 0 where
     pub group : Group
     pub at : slice_get (with_text held.groups) k ≡ Some group
+    pub there : slice_get front k ≡ Some part
     pub is : IsFresh g group part
 
   -- and that of one without, behind
@@ -220,7 +216,7 @@ module _ (g : GraphData) (held : GroupsData) (are : AreOf g held) (front behind 
       elim (append_cases front behind k part there) [
         | inl at ↦
             let (group, group_at, is) = partner_first (IsFresh g) (with_text held.groups) front k part fresh at in
-            inl (record { group = group; at = group_at; is = is })
+            inl (record { group = group; at = group_at; there = at; is = is })
         | inr (j, place, at) ↦
             let (group, group_at, is) = partner_first (λ group part. IsStalePartOf group.members part) (without_text held.groups) behind j part stale at in
             inr (record { j = j; place = place; group = group; at = group_at; is = is })
@@ -257,13 +253,20 @@ module _ (g : GraphData) (held : GroupsData) (are : AreOf g held) (front behind 
         | inr is ↦ (is.group, large_part k part stands is)
       ]
 
-  untold : AreUntold g parts
-  untold k part group stands none is_part =
+  -- one of those behind has a group without a text
+  large_untold : (k : ℕ) (part : HeldPart) (group : Group) → Stands parts k part → IsLarge k part → IsPartOf g group part → fault_in group ≢ None
+  large_untold k part group stands is is_part =
+      let same = one_group g is.group group part (large_part k part stands is) is_part in
+      subst (λ one. fault_in one ≢ None) same (λ fits. untold_from_none is.group (large_group k part is).1 fits)
+
+  -- and if all in front have code, each stale part has one
+  pub untold_coded : All (λ (part : HeldPart). part.code ≢ None) front → AreUntold g parts
+  untold_coded coded k part group stands none is_part =
       elim (part_cases k part stands) [
-        | inl is ↦ absurd (is.is.coded none)
-        | inr is ↦
-            let same = one_group g is.group group part (large_part k part stands is) is_part in
-            subst (λ one. fault_in one ≢ None) same (λ fits. untold_from_none is.group (large_group k part is).1 fits)
+        | inl is ↦
+            absurd (subst (λ (one : HeldPart). one.code ≢ None) (get_or_from_slice_get front k part part is.there)
+            (coded k part (slice_get_within front k part is.there)) none)
+        | inr is ↦ large_untold k part group stands is is_part
       ]
 
   -- the group of a member, and where it stands
@@ -321,31 +324,14 @@ module _ (g : GraphData) (held : GroupsData) (are : AreOf g held) (front behind 
           let (there_too, is_too, none) = each_group (λ one. not (has_text one)) j group at_large in
           untold_from_none group none (fit_from_text group has)
 
-  -- just the last parts are stale
-  pub last_stale : AreLastStale (length behind) parts
-  last_stale = (omega (arith, length-append front behind), λ k. (to k, back k))
-    where
-      to : (k : ℕ) → IsStale parts k → k < length parts × length parts ≤ k + length behind
-      to k is_stale =
-          elim (part_cases k is_stale.part is_stale.stands) [
-            | inl is ↦ absurd (is.is.coded is_stale.none)
-            | inr is ↦ (is_stale.stands.inside, omega (arith, length-append front behind, is.place))
-          ]
-
-      back : (k : ℕ) → k < length parts × length parts ≤ k + length behind → IsStale parts k
-      back k (inside, late) =
-          let (part, stands) = part_at parts k inside in
-          elim (part_cases k part stands) [
-            | inl is ↦
-                let within = slice_get_within (with_text held.groups) k is.group is.at in
-                absurd (omega (arith, within, late, length-append front behind, AllZip-long (IsFresh g) (with_text held.groups) front fresh))
-            | inr is ↦ record {
-              part = part;
-              stands = stands;
-              some = some_members (large_part k part stands is);
-              none = is.is.code;
-            }
-          ]
+  -- each part has a member
+  pub some_started : All (λ (part : HeldPart). 0 < part.members) parts
+  some_started k d inside =
+      let part = get_or parts k d in
+      elim (part_cases k part (stands_at k part (slice_get-get_or parts k d inside))) [
+        | inl is ↦ some_members is.is.is_part
+        | inr is ↦ some_members (large_part k part (stands_at k part (slice_get-get_or parts k d inside)) is)
+      ]
 
   module _ (state : List Tern) (counted : length state ≡ nodes g) (uses : List (Option GroupTextData))
       (uses_are : uses ≡ map Some (told g held.groups) ++ replicate (length behind) None) (last : List GroupTextData) (spare : ℕ) where
@@ -355,35 +341,42 @@ module _ (g : GraphData) (held : GroupsData) (are : AreOf g held) (front behind 
     told_long : length (told g held.groups) ≡ length front
     told_long = length-map (with_text held.groups) (text_of_group g) ∙ sym (AllZip-long (IsFresh g) (with_text held.groups) front fresh)
 
-    known : (k : ℕ) (part : HeldPart) → Stands parts k part → part.code ≢ None → (group : Group) → IsPartOf g group part →
+    -- those in front have their texts
+    text_there : (k : ℕ) (part : HeldPart) (is : IsTold k part) → slice_index_or uses k None ≡ Some (text_of_group g is.group)
+    text_there k part is =
+        let text_at : slice_get (told g held.groups) k ≡ Some (text_of_group g is.group) = made_at (text_of_group g) (with_text held.groups) k is.group is.at in
+        ap (λ list. slice_index_or list k None) uses_are ∙ text_in_front (told g held.groups) (length behind) k (text_of_group g is.group) text_at
+
+    -- and those behind have none
+    text_lacks : (k : ℕ) (part : HeldPart) → IsLarge k part → slice_index_or uses k None ≡ None
+    text_lacks k part is =
+        let place : length (told g held.groups) + is.j ≡ k = omega (arith, is.place, told_long) in
+        subst (λ i. slice_index_or uses i None ≡ None) place
+        (ap (λ list. slice_index_or list (length (told g held.groups) + is.j) None) uses_are
+        ∙ none_behind (told g held.groups) (length behind) is.j)
+
+    known : (k : ℕ) (part : HeldPart) → Stands parts k part → slice_index_or uses k None ≢ None → (group : Group) → IsPartOf g group part →
         IsTextOf g group (slice_index_or uses k None)
-    known k part stands coded group is_part =
+    known k part stands numbered group is_part =
         elim (part_cases k part stands) [
           | inl is ↦
               let same = one_group g is.group group part is.is.is_part is_part in
               let (there, is_group, has) = each_group has_text k is.group is.at in
-              let text_at : slice_get (told g held.groups) k ≡ Some (text_of_group g is.group) = made_at (text_of_group g) (with_text held.groups) k is.group is.at in
               subst (λ one. IsTextOf g one (slice_index_or uses k None)) same
-              (record {
-                same = ap (λ list. slice_index_or list k None) uses_are ∙ text_in_front (told g held.groups) (length behind) k (text_of_group g is.group) text_at;
-                fits = fit_from_text is.group has;
-              })
-          | inr is ↦ absurd (coded is.is.code)
+              (record { same = text_there k part is; fits = fit_from_text is.group has })
+          | inr is ↦ absurd (numbered (text_lacks k part is))
         ]
 
-    textless : (k : ℕ) (part : HeldPart) → Stands parts k part → (part.members ≡ 0) ⊎ (part.code ≡ None) → slice_index_or uses k None ≡ None
-    textless k part stands no_text =
+    numbered : (k : ℕ) (part : HeldPart) → IsTold k part → slice_index_or uses k None ≢ None
+    numbered k part is lacks =
+        let both : Some (text_of_group g is.group) ≡ None = sym (text_there k part is) ∙ lacks in
+        absurd cc
+
+    have_texts : AreTold g begun
+    have_texts k part group stands none is_part fits =
         elim (part_cases k part stands) [
-          | inl is ↦
-              elim no_text [
-                | inl none ↦ absurd (omega (arith, none, some_members is.is.is_part))
-                | inr none ↦ absurd (is.is.coded none)
-              ]
-          | inr is ↦
-              let place : length (told g held.groups) + is.j ≡ k = omega (arith, is.place, told_long) in
-              subst (λ i. slice_index_or uses i None ≡ None) place
-              (ap (λ list. slice_index_or list (length (told g held.groups) + is.j) None) uses_are
-              ∙ none_behind (told g held.groups) (length behind) is.j)
+          | inl is ↦ numbered k part is
+          | inr is ↦ absurd (large_untold k part group stands is is_part fits)
         ]
 
     -- so a machine that starts with them is ready
@@ -399,7 +392,16 @@ module _ (g : GraphData) (held : GroupsData) (are : AreOf g held) (front behind 
         apart = apart_started;
         number = count_parts g held.groups are.are parts each whole apart_started;
         known = known;
-        textless = textless;
+        numbered = λ k part stands some coded.
+            elim (part_cases k part stands) [
+              | inl is ↦ numbered k part is
+              | inr is ↦ absurd (coded is.is.code)
+            ];
+        textless = λ k part stands none.
+            elim (part_cases k part stands) [
+              | inl is ↦ absurd (omega (arith, none, some_members is.is.is_part))
+              | inr is ↦ text_lacks k part is
+            ];
         uses_counted = ap length uses_are ∙ omega (
           arith,
           length-append (map Some (told g held.groups)) (replicate (length behind) None),
@@ -410,7 +412,7 @@ module _ (g : GraphData) (held : GroupsData) (are : AreOf g held) (front behind 
         );
         quiet = λ k part stands none.
             elim (part_cases k part stands) [
-              | inl is ↦ absurd (is.is.coded none)
+              | inl is ↦ is.is.quiet none
               | inr is ↦ is.is.reads
             ];
         waits = λ k part stands some none. get_or-replicate (length parts) k true false stands.inside;
@@ -418,7 +420,7 @@ module _ (g : GraphData) (held : GroupsData) (are : AreOf g held) (front behind 
         stale_only = λ wide is. absurd (cc is);
         held = λ wide is. absurd (cc is);
       };
-      untold = untold;
+      told = have_texts;
       texts = λ others others_are.
           ap count_distinct uses_are ∙ ap (λ list. length (first_texts list)) (some_texts-front (told g held.groups) (length behind))
           ∙ ap (λ list. length (first_texts (told g list))) (unique g held.groups others are.are others_are);

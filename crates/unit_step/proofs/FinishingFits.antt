@@ -1,5 +1,5 @@
--- A machine whose stale parts are those of groups without a text counts the distinct texts of the graph's groups.
-use Rattle.std.proofs.Common.{◌≡◌, ◌≢◌, ℕ, zero, suc, ◌<◌, Bool, true, false, ◌||◌, inl, inr, ◌⊎◌, List, [], ◌∷◌, length, map, get_or, Option, Some, None, refl, sym, ap, subst, ◌∙◌, arith}
+-- A machine whose parts have their groups' texts counts the distinct texts of the graph's groups.
+use Rattle.std.proofs.Common.{◌≡◌, ◌≢◌, ℕ, zero, suc, ◌<◌, Bool, true, false, ◌||◌, inl, inr, List, [], ◌∷◌, length, map, get_or, Option, Some, None, refl, sym, ap, subst, ◌∙◌, arith}
 use Rattle.std.specs.Prelude.{slice_get, slice_index_or}
 use Rattle.std.proofs.lemmas.Bool.{cases_lt}
 use Rattle.std.proofs.lemmas.List.{get_or_default}
@@ -10,7 +10,6 @@ use Rattle.group_meaning.proofs.UniqueGroups.{unique}
 use Rattle.group_text.specs.Texts.{GroupTextData, text_of_group}
 use Rattle.group_text.specs.Compared.{same_text, same_text_decides}
 use Rattle.group_text.specs.FirstTexts.{is_among, first_texts}
-use Rattle.circuit_texts.specs.Sizes.{fault_in}
 use Rattle.circuit_texts.specs.Told.{has_text, with_text, told}
 use Rattle.circuit_texts.proofs.ToldLemmas.{text_from_fit, fit_from_text}
 use Rattle.kept_parts.specs.Uses.{some_texts, count_distinct}
@@ -18,10 +17,10 @@ use Rattle.kept_parts.proofs.PlaceLemmas.{or_true}
 use Rattle.machine_parts.specs.declared.part.HeldPart.{HeldPart}
 use Rattle.machine_parts.specs.Parts.{Stands}
 use Rattle.machine_laws.specs.Machines.{MachineData}
-use Rattle.machine_laws.specs.Fitting.{IsPartOf, Covers, AreUntold}
+use Rattle.machine_laws.specs.Fitting.{Covers, AreTold}
 use Rattle.machine_laws.specs.Holding.{IsReady}
 use Rattle.machine_laws.proofs.FilterLemmas.{filter_has, filter_keeps}
-use Rattle.machine_laws.proofs.KeptLemmas.{group_there}
+use Rattle.machine_laws.proofs.KeptLemmas.{group_there, numbered_told}
 use Rattle.machine_laws.proofs.FinishingTexts.{same_distinct}
 
 -- the text of a part is among those of the parts that have one
@@ -79,21 +78,9 @@ both_ways true b to back = sym (to refl)
 both_ways false true to back = back refl
 both_ways false false to back = refl
 
--- a part has code or has none
-code_or_none : (part : HeldPart) → (part.code ≢ None) ⊎ (part.code ≡ None)
-code_or_none part = by part.code
-  where
-    by : {X : Type 0} (found : Option X) → (found ≢ None) ⊎ (found ≡ None)
-    by None = inr refl
-    by (Some x) = inl (λ is. absurd cc)
-
-module _ (g : GraphData) (m : MachineData) (covers : Covers g m) (untold : AreUntold g m.parts) where
+module _ (g : GraphData) (m : MachineData) (covers : Covers g m) (have_texts : AreTold g m) where
   abbrev told_groups : List Group
   told_groups = with_text covers.groups.groups
-
-  -- a part of a group with a text has code
-  coded_told : (k : ℕ) (part : HeldPart) (group : Group) → Stands m.parts k part → IsPartOf g group part → fault_in group ≡ None → part.code ≢ None
-  coded_told k part group stands is_part fits none = untold k part group stands none is_part fits
 
   -- the parts' texts are the groups' texts
   pub same_texts : (text : GroupTextData) → is_among (some_texts m.uses) text ≡ is_among (told g covers.groups.groups) text
@@ -106,22 +93,17 @@ module _ (g : GraphData) (m : MachineData) (covers : Covers g m) (untold : AreUn
           let (part, stands) = part_at m.parts k within in
           elim (cases_lt 0 part.members) [
             | inl some ↦
-                elim (code_or_none part) [
-                  | inl coded ↦
-                      let (group, is_part) = covers.whole k part stands some in
-                      let has = covers.known k part stands coded group is_part in
-                      let same : Some (text_of_group g group) ≡ Some text = sym has.same ∙ here in
-                      let is_text : text_of_group g group ≡ text = cc in
-                      let (n, there, at_all) = group_there g covers.groups.groups covers.are.are group is_part.is_group in
-                      let (i, within, at) = filter_keeps has_text covers.groups.groups group (n, there, get_or_from_slice_get covers.groups.groups n group group at_all) (text_from_fit group has.fits) in
-                      subst (λ one. is_among (told g covers.groups.groups) one ≡ true) is_text
-                      (among_groups g told_groups i group (slice_get_read told_groups (length told_groups) i group refl within (sym at)))
-                  | inr none ↦
-                      let no : None ≡ Some text = sym (covers.textless k part stands (inr none)) ∙ here in
-                      absurd cc
-                ]
+                let (group, is_part) = covers.whole k part stands some in
+                let numbered : slice_index_or m.uses k None ≢ None = λ lacks. absurd (cc (here, lacks)) in
+                let has = covers.known k part stands numbered group is_part in
+                let same : Some (text_of_group g group) ≡ Some text = sym has.same ∙ here in
+                let is_text : text_of_group g group ≡ text = cc in
+                let (n, there, at_all) = group_there g covers.groups.groups covers.are.are group is_part.is_group in
+                let (i, within, at) = filter_keeps has_text covers.groups.groups group (n, there, get_or_from_slice_get covers.groups.groups n group group at_all) (text_from_fit group has.fits) in
+                subst (λ one. is_among (told g covers.groups.groups) one ≡ true) is_text
+                (among_groups g told_groups i group (slice_get_read told_groups (length told_groups) i group refl within (sym at)))
             | inr none ↦
-                let no : None ≡ Some text = sym (covers.textless k part stands (inl (omega (arith, none)))) ∙ here in
+                let no : None ≡ Some text = sym (covers.textless k part stands (omega (arith, none))) ∙ here in
                 absurd cc
           ]
         where
@@ -134,15 +116,15 @@ module _ (g : GraphData) (m : MachineData) (covers : Covers g m) (untold : AreUn
           let (i, group, at, is_text) = some_group g told_groups text is in
           let ((n, within, here), has_one) = filter_has has_text covers.groups.groups group (i, slice_get_within told_groups i group at, get_or_from_slice_get told_groups i group group at) in
           let has = covers.each n group (slice_get_read covers.groups.groups (length covers.groups.groups) n group refl within (sym here)) in
-          let coded = coded_told has.k has.part group has.stands has.is_part (fit_from_text group has_one) in
-          let known = covers.known has.k has.part has.stands coded group has.is_part in
+          let numbered = numbered_told g m covers have_texts has.k has.part group has.stands has.is_part (fit_from_text group has_one) in
+          let known = covers.known has.k has.part has.stands numbered group has.is_part in
           among_some m.uses has.k text (known.same ∙ ap Some is_text)
 
   -- so the machine is ready
   pub IsReady-covered : m.texts ≡ count_distinct m.uses → IsReady g m
   IsReady-covered counts = record {
     covers = covers;
-    untold = untold;
+    told = have_texts;
     texts = λ groups are.
         counts ∙ (same_distinct (some_texts m.uses) (told g covers.groups.groups) same_texts
         ∙ ap (λ list. length (first_texts (told g list))) (unique g covers.groups.groups groups covers.are.are are));

@@ -1,11 +1,10 @@
 -- What a finish leaves of what is kept is what a build leaves, with the texts of the last build in front: what it has analysed stands behind, and
 -- is among the present texts.
-use Rattle.std.proofs.Common.{None, Some, ◌≡◌, ℕ, Bool, true, false, not, inl, inr, List, ◌++◌, length, get_or, All, Option, refl, sym, ap, subst, ◌∙◌, arith, length-append}
+use Rattle.std.proofs.Common.{◌≡◌, ℕ, Bool, true, false, not, inl, inr, List, ◌++◌, length, get_or, All, Option, refl, sym, ap, subst, ◌∙◌, arith, length-append}
 use Rattle.std.proofs.lemmas.List.{get_or_append_left}
 use Rattle.std.proofs.lemmas.List.Elements.{All-filter, All-weaker, filter_passes}
 use Rattle.path_meaning.specs.Graphs.{GraphData}
 use Rattle.path_meaning.specs.Rails.{IsRailed, IsSound}
-use Rattle.group_meaning.specs.Groups.{Group, AreGroups, id_of}
 use Rattle.group_meaning.proofs.UniqueGroups.{unique}
 use Rattle.group_text.specs.Texts.{GroupTextData}
 use Rattle.group_text.specs.FirstTexts.{is_among, first_texts, new_texts}
@@ -13,26 +12,23 @@ use Rattle.group_analysis.specs.Using.{used_texts, kept_after}
 use Rattle.analysis_cache.proofs.NewTextLemmas.{is_among-first, is_among-kept, is_among-themselves}
 use Rattle.analysis_cache.proofs.OrderLemmas.{kept_after-fresh, new_texts-used, used-append_new}
 use Rattle.circuit_texts.specs.Sizes.{NoneRefused}
-use Rattle.circuit_texts.specs.Told.{without_text, told}
+use Rattle.circuit_texts.specs.Told.{told}
 use Rattle.circuit_texts.specs.Building.{HasTexts, Builds, Fills, BuildsSome, IsCutOff}
 use Rattle.kept_parts.specs.Uses.{some_texts}
 use Rattle.kept_parts.proofs.PlaceLemmas.{or_true}
-use Rattle.machine_parts.specs.declared.part.HeldPart.{HeldPart}
-use Rattle.machine_parts.specs.Parts.{Stands}
-use Rattle.machine_laws.specs.Machines.{MachineData, groups_in}
-use Rattle.machine_laws.specs.Fitting.{IsPartOf, Covers, FitsGraph}
+use Rattle.machine_laws.specs.Machines.{MachineData}
+use Rattle.machine_laws.specs.Fitting.{Covers, FitsGraph}
 use Rattle.vicinity.specs.Wides.{WideData}
-use Rattle.wide_groups.specs.Staying.{HoldsNode}
 use Rattle.machine_laws.specs.Editing.{KeepsCoded, Finishes, Rouses}
 use Rattle.machine_laws.specs.Beginnings.{AreInOrder, HasLast}
 use Rattle.unit_step.specs.Lasting.{IsLeft}
-use Rattle.unit_step.specs.Holding.{IsHolding, HoldsNext, wide_after}
+use Rattle.unit_step.specs.Holding.{HoldsNextIn, wide_after}
 use Rattle.unit_step.specs.Waking.{Wakes}
 use Rattle.unit_step.specs.declared.holding.Holding.{Holding}
-use Rattle.machine_laws.proofs.KeptLemmas.{among_more, stale_untold}
+use Rattle.machine_laws.proofs.KeptLemmas.{among_more, stale_told}
 use Rattle.unit_step.proofs.FinishingFits.{same_texts}
 use Rattle.machine_laws.proofs.LastingGroups.{HasLast-order, FitsGraph-last}
-use Rattle.unit_step.proofs.HoldingLemmas.{FitsGraph-after, next_anew, next_known, untold_part}
+use Rattle.unit_step.proofs.HoldingLemmas.{FitsGraph-next, next_woken}
 
 -- what holds of each of some items holds of each of a prefix of them
 all_front : {X : Type 0} (P : X → Type 0) (xs ys : List X) → All P (xs ++ ys) → All P xs
@@ -103,7 +99,7 @@ module _ (large : ℕ) (g : GraphData) (last kept : List GroupTextData) (there :
         let all = unique g fits.covers.groups.groups fills.news.has.groups fits.covers.are.are fills.news.has.are in
         let present : is_among texts text ≡ true =
         ap (λ list. is_among list text) (fills.news.has.texts_are ∙ ap (told g) (sym all))
-        ∙ (sym (same_texts g m fits.covers (stale_untold g m fits) text) ∙ is_among-themselves (some_texts m.uses) i d inside) in
+        ∙ (sym (same_texts g m fits.covers (stale_told g m fits) text) ∙ is_among-themselves (some_texts m.uses) i d inside) in
         ap (λ list. is_among list text) (fills.kept ∙ ap (λ fresh. kept ++ fresh) fills.news.fresh_are)
         ∙ (is_among-kept kept texts text ∙ or_true (is_among kept text) (is_among texts text) present)
 
@@ -142,7 +138,7 @@ keeps_same old mid last wide keeps = record {
 pub HasLast-settled : (g : GraphData) (old mid new : MachineData) → Rouses g old mid → new ≡ record mid { last = new.last } →
     AreInOrder new.parts new.uses new.last → HasLast g new.last
 HasLast-settled g old mid new rouses same order =
-    HasLast-order g mid rouses.fits.covers (stale_untold g mid rouses.fits) new.last (subst (λ (m : MachineData). AreInOrder m.parts m.uses new.last) same order)
+    HasLast-order g mid rouses.fits.covers (stale_told g mid rouses.fits) new.last (subst (λ (m : MachineData). AreInOrder m.parts m.uses new.last) same order)
 
 -- so the machine is finished
 pub Finishes-settled : (g : GraphData) (old mid new : MachineData) → Rouses g old mid → new ≡ record mid { last = new.last } →
@@ -154,23 +150,14 @@ Finishes-settled g old mid new rouses same order =
       still = keeps_same old mid new.last mid.wide rouses.still;
     })
 
--- a machine whose groups without a text are held, as before or anew, is one that was woken
-pub Rouses-next : (large : ℕ) (g : GraphData) (old mid new : MachineData) (holding : Option Holding) → Covers g old → Wakes g old mid →
-    NoneRefused large g → IsRailed g → IsSound old.state → AreGroups g (groups_in old.groups) → HoldsNext large g old holding →
+-- a machine that was woken, and whose stale parts are held, as before or anew, fits the graph
+pub Rouses-next : (large : ℕ) (g : GraphData) (old mid new : MachineData) (coded : List ℕ) (holding : Option Holding) → Covers g old → Wakes g coded old mid →
+    NoneRefused large g → IsRailed g → IsSound old.state → HoldsNextIn large g old coded holding →
     new ≡ record mid { wide = wide_after large mid.wide holding } → Rouses g old new
-Rouses-next large g old mid new holding covers wakes few railed sound are next same =
+Rouses-next large g old mid new coded holding covers wakes few railed sound next same =
     subst (Rouses g old) (sym same) (record {
-      fits = FitsGraph-after large g mid wakes.ready few railed (subst IsSound (sym wakes.state) sound) (groups_in old.groups) are holding known anew;
+      fits = FitsGraph-next large g mid wakes.ready few railed (subst IsSound (sym wakes.state) sound) holding
+          (next_woken g old mid coded covers wakes large holding next);
       last = wakes.last;
       still = keeps_same old mid mid.last (wide_after large mid.wide holding) wakes.still;
     })
-  where
-    known : holding ≡ None → (k : ℕ) (part : HeldPart) (group : Group) → Stands mid.parts k part → part.code ≡ None → IsPartOf g group part →
-        HoldsNode mid.wide (id_of group)
-    known is k part group stands stale is_part =
-        let (l, untold) = untold_part g old covers part group is_part (wakes.ready.untold k part group stands stale is_part) in
-        subst (λ wide. HoldsNode wide (id_of group)) (sym wakes.wide) (next_known large g old holding next is l group untold)
-
-    anew : (one : Holding) → holding ≡ Some one → IsHolding large g (without_text (groups_in old.groups)) mid.state one
-    anew one is =
-        subst (λ state. IsHolding large g (without_text (groups_in old.groups)) state one) (sym wakes.state) (next_anew large g old holding next one is)

@@ -1,10 +1,10 @@
 -- A machine whose stale parts got their codes.
-use Rattle.std.proofs.Common.{◌≡◌, ℕ, zero, suc, ◌<◌, ◌≤◌, Bool, List, [], ◌∷◌, length, map, get_or, All, Option, Some, None, Vec, Global, refl, sym, ap, subst, ◌∙◌, arith}
+use Rattle.std.proofs.Common.{◌≡◌, ℕ, zero, suc, ◌<◌, ◌≤◌, inl, inr, Bool, List, [], ◌∷◌, length, map, get_or, All, Option, Some, None, Vec, Global, refl, sym, ap, subst, ◌∙◌, arith}
 use Rattle.std.specs.Prelude.{◌↔◌, Contains, slice_get, slice_index_or, unwrap_or, zip}
 use Rattle.std.specs.List.{AllZip}
 use Rattle.std.specs.Option.{option_and_then}
 use Rattle.std.proofs.lemmas.List.{length-map}
-use Rattle.std.proofs.lemmas.List.Elements.{All-filter, All-nil, All-cons}
+use Rattle.std.proofs.lemmas.List.Elements.{All-filter, All-nil, All-cons, Contains-get_or}
 use Rattle.std.proofs.lemmas.Option.{slice_get_read, slice_get_within, get_or_from_slice_get, slice_get-get_or, unwrap_or-slice_get}
 use Rattle.std.proofs.lemmas.Slice.Zip.{AllZip-long}
 use Rattle.smallvec.specs.SmallVec.{SmallVec}
@@ -28,15 +28,17 @@ use Rattle.machine_parts.specs.Evaluating.{Rooms}
 use Rattle.machine_parts.specs.Running.{IsMachine}
 use Rattle.machine_parts.specs.Readers.{readers_of, ListsAll}
 use Rattle.machine_laws.specs.Fitting.{Covers}
-use Rattle.machine_laws.specs.Finishing.{IsFresh, IsSlotOf, AreWaiting}
+use Rattle.machine_laws.specs.Finishing.{IsFresh, IsSlotOf, AreWaiting, IsLoosened, Loosens, HasCodeIn, LoosensHeld}
 use Rattle.machine_parts.specs.Putting.{Puts}
 use Rattle.machine_parts.proofs.PartLemmas.{same_part}
 use Rattle.machine_laws.proofs.KeptLemmas.{made_at}
+use Rattle.machine_laws.proofs.LastingGroups.{first_member}
 use Rattle.machine_parts.proofs.MakingLemmas.{formed_parts, reads_inside}
 use Rattle.unit_step.proofs.BuildLemmas.{fresh_parts, lists_inside}
-use Rattle.unit_step.specs.Waking.{Wakes}
+use Rattle.unit_step.specs.declared.waking.Risen.{Risen}
+use Rattle.unit_step.specs.Waking.{AreMade, IsRisen, Wakes}
 use Rattle.unit_step.proofs.FinishingFits.{IsReady-covered}
-use Rattle.machine_laws.proofs.StayingParts.{members_sum, members_count, untold_new, AreOwners-new, one_place, IsRunnable-new, Covers-roused, parts_roused}
+use Rattle.machine_laws.proofs.StayingParts.{HasMember-was, HasMember-now, members_sum, members_count, AreOwners-new, one_place, stale_stays, stays_stale, IsRunnable-new, told_new, Covers-roused, parts_roused}
 
 -- what stands in a list that is made item by item, where nothing makes nothing
 read_map : {A B : Type 0} (h : A → Option B) (xs : List (Option A)) (k : ℕ) →
@@ -64,17 +66,90 @@ known_inside known (n ∷ numbers) (text ∷ texts) are =
     let rest : map (slice_get known) numbers ≡ map Some texts = cc in
     All-cons (λ k. k < length known) n numbers (slice_get_within known n text first) (known_inside known numbers texts rest)
 
--- the parts that are made for the groups that wait
-pub record AreMade (g : GraphData) (some : List Group) (slots : List ℕ) (old fresh : List HeldPart) (count : ℕ) : Type 0 where
-  pub fresh_are : AllZip (IsFresh g) some fresh
-  pub formed : All (IsFormed count) fresh
-  pub below : All (λ part. All (λ node. node < count) part.reads.items) fresh
-  pub counted : length fresh ≡ length slots
-  pub long : length some ≡ length slots
-  pub inside : All (λ k. k < length old) slots
+-- parts that have no code any more are those of their groups still
+module _ (old now : HeldPart) (loosened : IsLoosened old now) where
+  IsFresh-loosened : (g : GraphData) (group : Group) → IsFresh g group old → IsFresh g group now
+  IsFresh-loosened g group fresh = record {
+    is_part = record {
+      is_group = fresh.is_part.is_group;
+      count = loosened.members ∙ fresh.is_part.count;
+      members = rw (loosened.members, loosened.map) fresh.is_part.members;
+      coded = λ code is. absurd (cc (loosened.code, is));
+    };
+    quiet = λ none. loosened.reads;
+  }
 
-module _ (g : GraphData) (wired : IsWired g) (groups some : List Group) (slots : List ℕ) (old : List HeldPart) (are : AreGroups g groups)
-    (waiting : AreWaiting g old groups some slots) where
+  IsFormed-loosened : (count : ℕ) → IsFormed count old → IsFormed count now
+  IsFormed-loosened count formed = record {
+    below = rw loosened.map formed.below;
+    members = rw (loosened.members, loosened.map) formed.members;
+    apart = rw loosened.map formed.apart;
+    inputs = λ code is. absurd (cc (loosened.code, is));
+    outputs = λ code is. absurd (cc (loosened.code, is));
+  }
+
+  inside-loosened : (count : ℕ) → All (λ node. node < count) now.reads.items
+  inside-loosened count = rw loosened.reads (All-nil (λ node. node < count))
+
+-- so what holds of each of some parts, whether it has code or not, holds where some have none any more
+All-loosened : (P : HeldPart → Type 0) → ((old now : HeldPart) → IsLoosened old now → P old → P now) → (old now : List HeldPart) → Loosens old now →
+    All P old → All P now
+All-loosened P still old now loosens all i d inside =
+    let part = get_or now i d in
+    let within : i < length old = omega (arith, inside, loosens.count) in
+    let was = get_or old i d in
+    elim (loosens.each i was part (slice_get-get_or old i d within) (slice_get-get_or now i d inside)) [
+      | inl same ↦ subst P (sym same) (all i d within)
+      | inr loosened ↦ still was part loosened (all i d within)
+    ]
+
+-- and of each with its group
+pub fresh-loosened : (g : GraphData) (groups : List Group) (old now : List HeldPart) → Loosens old now → AllZip (IsFresh g) groups old →
+    AllZip (IsFresh g) groups now
+fresh-loosened g [] [] [] loosens fresh = tt
+fresh-loosened g [] [] (part ∷ now) loosens fresh = absurd (omega (arith, loosens.count))
+fresh-loosened g [] (was ∷ old) now loosens fresh = absurd fresh
+fresh-loosened g (group ∷ groups) [] now loosens fresh = absurd fresh
+fresh-loosened g (group ∷ groups) (was ∷ old) [] loosens fresh = absurd (omega (arith, loosens.count))
+fresh-loosened g (group ∷ groups) (was ∷ old) (part ∷ now) loosens fresh = (
+  elim (loosens.each 0 was part refl refl) [
+    | inl same ↦ subst (IsFresh g group) (sym same) fresh.0
+    | inr loosened ↦ IsFresh-loosened was part loosened g group fresh.0
+  ],
+  fresh-loosened g groups old now
+      (record { count = omega (arith, loosens.count); each = λ i one two at_one at_two. loosens.each (suc i) one two at_one at_two }) fresh.1,
+)
+
+-- the parts of groups have nodes
+pub has_nodes : (g : GraphData) (groups : List Group) (parts : List HeldPart) → AllZip (IsFresh g) groups parts → All (λ (part : HeldPart). 0 < length part.map.items) parts
+has_nodes g groups parts fresh i d inside =
+    let part = get_or parts i d in
+    let (group, at, is) = partner_first (IsFresh g) groups parts i part fresh (slice_get-get_or parts i d inside) in
+    (first_member g group part is.is_part).within
+
+pub formed-loosened : (count : ℕ) (old now : List HeldPart) → Loosens old now → All (IsFormed count) old → All (IsFormed count) now
+formed-loosened count old now loosens formed =
+    All-loosened (IsFormed count) (λ was part loosened. IsFormed-loosened was part loosened count) old now loosens formed
+
+pub below-loosened : (count : ℕ) (old now : List HeldPart) → Loosens old now → All (λ (part : HeldPart). All (λ node. node < count) part.reads.items) old →
+    All (λ (part : HeldPart). All (λ node. node < count) part.reads.items) now
+below-loosened count old now loosens below =
+    All-loosened (λ (part : HeldPart). All (λ node. node < count) part.reads.items)
+    (λ was part loosened inside. inside-loosened was part loosened count) old now loosens below
+
+pub AreMade-loosened : (g : GraphData) (some : List Group) (slots : List ℕ) (parts old now : List HeldPart) (count : ℕ) → Loosens old now →
+    AreMade g some slots parts old count → AreMade g some slots parts now count
+AreMade-loosened g some slots parts old now count loosens are = record {
+  fresh_are = fresh-loosened g some old now loosens are.fresh_are;
+  formed = formed-loosened count old now loosens are.formed;
+  below = below-loosened count old now loosens are.below;
+  counted = loosens.count ∙ are.counted;
+  long = are.long;
+  inside = are.inside;
+}
+
+module _ (g : GraphData) (wired : IsWired g) (groups some : List Group) (slots : List ℕ) (old : List HeldPart) (uses : List (Option GroupTextData))
+    (are : AreGroups g groups) (waiting : AreWaiting g old uses groups some slots) where
   each_group : All (IsGroup g) some
   each_group = subst (All (IsGroup g)) (sym waiting.some_are) (All-filter waiting.waits (IsGroup g) groups are.each)
 
@@ -105,8 +180,16 @@ module _ (g : GraphData) (wired : IsWired g) (groups some : List Group) (slots :
             slot.stands.inside;
       })
 
+-- the slots of the parts that get their codes are there
+pub coded_below : (g : GraphData) (m : MachineData) (risen : Risen) → IsRisen g m risen → All (λ k. k < length m.parts) risen.coded.items
+coded_below g m risen is i d inside =
+    let slots = risen.slots.items in
+    let k = get_or risen.coded.items i d in
+    let has = (is.coded k).0 (Contains-get_or risen.coded.items i d inside) in
+    subst (λ n. n < length m.parts) (get_or_from_slice_get slots has.i k k has.slot) (is.made.inside has.i k (slice_get_within slots has.i k has.slot))
+
 -- the parts that wait are no readers
-pub unlisted : (g : GraphData) (m : MachineData) → Covers g m → (groups some : List Group) (slots : List ℕ) → AreWaiting g m.parts groups some slots →
+pub unlisted : (g : GraphData) (m : MachineData) → Covers g m → (groups some : List Group) (slots : List ℕ) → AreWaiting g m.parts m.uses groups some slots →
     (lists : List (SmallVec ℕ)) → ((node k : ℕ) → Contains (readers_of lists node) k → ReadsAt m.parts k node) →
     (node k : ℕ) → Contains slots k → ¬ Contains (readers_of lists node) k
 unlisted g m covers groups some slots waiting lists reads node k (i, inside, here) there =
@@ -118,19 +201,20 @@ unlisted g m covers groups some slots waiting lists reads node k (i, inside, her
     let (n, within, found) = subst (λ xs. Contains xs node) none (subst (λ (one : HeldPart). Contains one.reads.items node) same is.reads) in
     absurd (omega (arith, within))
 
-module _ (g : GraphData) (m : MachineData) (covers : Covers g m) (groups some : List Group) (slots : List ℕ) (waiting : AreWaiting g m.parts groups some slots)
+module _ (g : GraphData) (m : MachineData) (covers : Covers g m) (groups some : List Group) (slots : List ℕ) (waiting : AreWaiting g m.parts m.uses groups some slots)
     (fresh new : List HeldPart) (count : ℕ) (are_made : AreMade g some slots m.parts fresh count) (puts : Puts slots fresh m.parts new) where
   -- the machine can run
   pub IsMachine-roused : (lists new_lists : List (SmallVec ℕ)) (marks flags new_flags : List Bool) (owners numbers new_numbers : List (Option ℕ)) (held most : ℕ)
       (room wide : Rooms) → ListsAll slots fresh lists new_lists → All (IsCodeRoom wide.values) fresh →
       room.values ≤ wide.values → wide.changes ≡ room.changes → wide.parts ≡ room.parts →
-      ((k : ℕ) → IsMarked new_flags k ↔ (IsMarked flags k × (¬ Contains slots k))) →
+      (coded : List ℕ) → ((k : ℕ) → Contains coded k ↔ HasCodeIn slots fresh k) →
+      ((k : ℕ) → IsMarked new_flags k ↔ (IsMarked flags k × (¬ Contains coded k))) →
       length new_numbers ≡ length numbers → IsMachine m.parts marks flags count lists owners numbers held most room →
       IsMachine new marks new_flags count new_lists owners new_numbers held most wide
-  IsMachine-roused lists new_lists marks flags new_flags owners numbers new_numbers held most room wide listed values_room values changes parts released counted machine =
+  IsMachine-roused lists new_lists marks flags new_flags owners numbers new_numbers held most room wide listed values_room values changes parts coded coded_are released counted machine =
       record {
         runs = IsRunnable-new g m covers groups some slots waiting fresh are_made.fresh_are new puts lists new_lists listed count room wide marks flags new_flags
-            machine.runs are_made.formed values_room values changes parts released;
+            machine.runs are_made.formed values_room values changes parts coded coded_are released;
         own = AreOwners-new g m covers groups some slots waiting fresh are_made.fresh_are new puts count owners machine.own;
         numbered = omega (arith, machine.numbered, puts.count, counted);
         number = machine.number ∙ sym (members_count g m covers groups some slots waiting fresh are_made.fresh_are new puts);
@@ -140,7 +224,8 @@ module _ (g : GraphData) (m : MachineData) (covers : Covers g m) (groups some : 
 
   module _ (mid uses : UsesData) (numbers : List ℕ) (texts : List GroupTextData) (mid_are : texts_used mid ≡ m.uses) (known : uses.known ≡ mid.known)
       (text_puts : Puts slots (map Some numbers) mid.numbers uses.numbers) (numbered : map (slice_get mid.known) numbers ≡ map Some texts)
-      (texts_are : texts ≡ map (text_of_group g) some) (fit : All (λ group. fault_in group ≡ None) some) where
+      (texts_are : texts ≡ map (text_of_group g) some) (fit : All (λ group. fault_in group ≡ None) some)
+      (coded : List ℕ) (coded_are : (k : ℕ) → Contains coded k ↔ HasCodeIn slots fresh k) (free : LoosensHeld m.wide fresh) where
     abbrev now_used : List (Option GroupTextData)
     now_used = texts_used uses
 
@@ -178,14 +263,26 @@ module _ (g : GraphData) (m : MachineData) (covers : Covers g m) (groups some : 
     abbrev pub woken : MachineData
     woken = record m { parts = new; uses = now_used; texts = count_distinct now_used }
 
-    pub Wakes-roused : Wakes g m woken
+    pub Wakes-roused : Wakes g coded m woken
     Wakes-roused = record {
       ready =
           IsReady-covered g woken
-          (Covers-roused g m covers groups some slots waiting fresh are_made.fresh_are new puts now_used used_counted used_stay used_come fit (count_distinct now_used))
-          (untold_new g m covers groups some slots waiting fresh are_made.fresh_are new puts) refl;
+          (Covers-roused g m covers groups some slots waiting fresh are_made.fresh_are new puts now_used used_counted used_stay used_come fit
+          (count_distinct now_used) coded coded_are free)
+          (told_new g m covers groups some slots waiting fresh are_made.fresh_are new puts now_used used_counted used_stay used_come fit (count_distinct now_used))
+          refl;
       last = refl;
       wide = refl;
+      stale = λ k. (
+        λ stale.
+            let (before, other) = stale_stays g m covers groups some slots waiting fresh are_made.fresh_are new puts coded coded_are k stale in
+            record { stale = before; other = other },
+        λ goes. stays_stale g m covers groups some slots waiting fresh are_made.fresh_are new puts coded coded_are k goes.other goes.stale,
+      );
+      members = λ k node. (
+        HasMember-was g m covers groups some slots waiting fresh are_made.fresh_are new puts k node,
+        HasMember-now g m covers groups some slots waiting fresh are_made.fresh_are new puts k node,
+      );
       still = record {
         groups = refl;
         parts = parts_roused g m covers groups some slots waiting fresh are_made.fresh_are new puts now_used used_counted used_stay used_come fit (count_distinct now_used);

@@ -1,171 +1,187 @@
--- A machine that is ready fits the graph once its groups without a text are held, anew or as before.
-use Rattle.std.proofs.Common.{◌≡◌, ◌≢◌, ℕ, ◌<◌, inl, inr, List, [], get_or, Option, None, Some, refl, sym, ap, subst, ◌∙◌, arith}
-use Rattle.std.specs.Prelude.{Contains, not}
-use Rattle.std.proofs.lemmas.Option.{slice_get-get_or, get_or_from_slice_get}
+-- A machine that is ready fits the graph once the groups of its stale parts are held, anew or as before.
+use Rattle.std.proofs.Common.{◌≡◌, ℕ, ◌<◌, ◌≤◌, inl, inr, List, [], length, map, All, Option, None, Some, refl, sym, ap, subst, ◌∙◌, arith}
+use Rattle.std.specs.Prelude.{Contains, slice_index_or, vec_capacity}
+use Rattle.std.proofs.lemmas.List.{get_or-map}
 use Rattle.ternary.specs.declared.tern.Tern.{Tern}
 use Rattle.path_meaning.specs.Graphs.{GraphData, IsStorage}
 use Rattle.path_meaning.specs.Rails.{IsRailed, IsSound}
-use Rattle.group_meaning.specs.Groups.{Group, AreGroups, id_of}
-use Rattle.group_meaning.proofs.UniqueGroups.{unique, id_member}
+use Rattle.group_meaning.specs.Groups.{Group, id_of}
+use Rattle.group_meaning.proofs.UniqueGroups.{id_member, same_by_member}
 use Rattle.group_meaning.proofs.GroupLemmas.{member_storage}
 use Rattle.group_text.specs.Texts.{GroupTextData}
-use Rattle.circuit_texts.specs.Sizes.{NoneRefused, fault_in}
-use Rattle.circuit_texts.specs.Told.{has_text, without_text}
-use Rattle.circuit_texts.proofs.ToldLemmas.{without_text-none, none_from_untold}
+use Rattle.circuit_texts.specs.Sizes.{NoneRefused}
 use Rattle.vicinity.specs.Wides.{WideData}
 use Rattle.wide_groups.specs.Awake.{HoldsWide}
+use Rattle.wide_groups.specs.Holding.{HoldsMembers}
 use Rattle.wide_groups.specs.Moving.{graph_in}
 use Rattle.wide_groups.specs.Staying.{HoldsNode, lowered}
 use Rattle.machine_parts.specs.declared.part.HeldPart.{HeldPart}
-use Rattle.machine_parts.specs.Parts.{Stands}
-use Rattle.machine_laws.specs.Machines.{MachineData, groups_in}
-use Rattle.machine_laws.specs.Fitting.{IsPartOf, IsOutside, Covers, FitsGraph}
+use Rattle.machine_parts.specs.Parts.{Stands, IsMemberAt, IsStale}
+use Rattle.machine_parts.proofs.PartLemmas.{same_part}
+use Rattle.machine_laws.specs.Machines.{MachineData}
+use Rattle.machine_laws.specs.Fitting.{IsPartOf, IsOutside, Covers, FitsGraph, AreUntold}
 use Rattle.machine_laws.specs.Editing.{StaysKnown}
-use Rattle.machine_laws.specs.Holding.{HoldsThese, IsReady}
-use Rattle.machine_laws.proofs.HeldLemmas.{known_or_not}
-use Rattle.machine_laws.proofs.FilterLemmas.{filter_keeps}
+use Rattle.machine_laws.specs.Finishing.{first_node}
+use Rattle.machine_laws.specs.Holding.{HoldsStale, IsReady}
 use Rattle.machine_laws.proofs.KeptLemmas.{group_there}
-use Rattle.machine_laws.proofs.PartGroups.{some_members}
-use Rattle.machine_laws.proofs.HoldingGroups.{untold_there, FitsGraph-kept, FitsGraph-holding, held_stale_only}
+use Rattle.machine_laws.proofs.PartGroups.{some_members, member_in_group, member_of_part}
+use Rattle.machine_laws.proofs.HeldParts.{taken_member, member_taken}
+use Rattle.machine_laws.proofs.HoldingGroups.{FitsGraph-kept, FitsGraph-holding, held_stale_only}
+use Rattle.machine_laws.proofs.FinishingWaiting.{first_is}
 use Rattle.unit_step.specs.declared.holding.Holding.{Holding}
-use Rattle.unit_step.specs.Holding.{IsHolding, HoldsGroups, IsUntold, HoldsUntold, HoldsNext, wide_after, wide_in, room_in}
-
-module _ (large : ℕ) (g : GraphData) (m : MachineData) (ready : IsReady g m) (few : NoneRefused large g) (railed : IsRailed g)
-    (sound : IsSound m.state) (groups : List Group) (are : AreGroups g groups) where
-  -- the groups are those that the machine has
-  all_same : groups ≡ ready.covers.groups.groups
-  all_same = unique g groups ready.covers.groups.groups are ready.covers.are.are
-
-  these_held : (holding : Holding) → IsHolding large g (without_text groups) m.state holding →
-      HoldsThese large g (without_text ready.covers.groups.groups) m.state holding.wide
-  these_held holding is = subst (λ all. HoldsThese large g (without_text all) m.state holding.wide) all_same is.holds
-
-  -- each stale part is that of a group that is held already, or all are held anew
-  pub FitsGraph-after : (holding : Option Holding) →
-      (holding ≡ None → (k : ℕ) (part : HeldPart) (group : Group) → Stands m.parts k part → part.code ≡ None → IsPartOf g group part → HoldsNode m.wide (id_of group)) →
-      ((one : Holding) → holding ≡ Some one → IsHolding large g (without_text groups) m.state one) →
-      FitsGraph g (record m { wide = wide_after large m.wide holding })
-  FitsGraph-after None known new = FitsGraph-kept g m ready railed sound large few (known refl)
-  FitsGraph-after (Some holding) known new = FitsGraph-holding g m ready railed sound large few holding.wide (these_held holding (new holding refl))
-
-  -- of no groups no part is stale
-  none_stale : without_text groups ≡ [] → (k : ℕ) (part : HeldPart) (group : Group) → Stands m.parts k part → part.code ≡ None → ¬ IsPartOf g group part
-  none_stale none k part group stands stale is_part =
-      let there = untold_there g m ready railed sound k part group stands stale is_part in
-      let (i, inside, here) = subst (λ list. Contains list group) (ap without_text (sym all_same) ∙ none) there in
-      absurd (omega (arith, inside))
-
-  pub FitsGraph-held_by : (holding : Option Holding) → HoldsGroups large g (without_text groups) m.state holding →
-      FitsGraph g (record m { wide = wide_after large m.wide holding })
-  FitsGraph-held_by None no_groups =
-      FitsGraph-after None (λ is k part group stands stale is_part. absurd (none_stale no_groups k part group stands stale is_part)) (λ one is. absurd (cc is))
-  FitsGraph-held_by (Some holding) holds =
-      FitsGraph-after (Some holding) (λ is. absurd (cc is))
-      (λ one is.
-      let same : holding ≡ one = cc is in
-      subst (IsHolding large g (without_text groups) m.state) same holds)
-
-  -- and what is held anew can be stepped with the machine's parts
-  pub HoldsWide-anew : (holding : Option Holding) → ((one : Holding) → holding ≡ Some one → IsHolding large g (without_text groups) m.state one) →
-      HoldsWide m.parts m.state (room_in holding) (wide_in holding)
-  HoldsWide-anew None new = tt
-  HoldsWide-anew (Some holding) new =
-      let is = new holding refl in
-      record {
-        listed = is.holds.holds.listed;
-        stale_only = held_stale_only g m ready railed sound large few holding.wide (these_held holding is);
-        enough = is.enough;
-      }
-
-  pub HoldsWide-held_by : (holding : Option Holding) → HoldsGroups large g (without_text groups) m.state holding →
-      HoldsWide m.parts m.state (room_in holding) (wide_in holding)
-  HoldsWide-held_by None no_groups = tt
-  HoldsWide-held_by (Some holding) holds =
-      HoldsWide-anew (Some holding)
-      (λ one is.
-      let same : holding ≡ one = cc is in
-      subst (IsHolding large g (without_text groups) m.state) same holds)
-
--- with the bound 0 nothing is held
-pub none_held : (g : GraphData) (groups : List Group) → AreGroups g groups → NoneRefused 0 g → (state : List Tern) (holding : Option Holding) →
-    ((one : Holding) → holding ≡ Some one → IsHolding 0 g (without_text groups) state one) → wide_in holding ≡ None
-none_held g groups are few state None new = refl
-none_held g groups are few state (Some holding) new =
-    absurd ((new holding refl).some (without_text-none groups (λ i d inside.
-    few groups are i (get_or groups i d) (slice_get-get_or groups i d inside))))
+use Rattle.unit_step.specs.Holding.{HasNodes, GoesOn, HoldsAll, HoldsAnew, HoldsNextIn, wide_after, wide_in, room_in}
+use Rattle.unit_step.specs.Waking.{Wakes}
 
 pub none_after : (large : ℕ) (wide : Option WideData) (holding : Option Holding) → wide ≡ None → wide_in holding ≡ None → wide_after large wide holding ≡ None
 none_after large wide None is none = ap (lowered large) is
 none_after large wide (Some holding) is none = absurd (cc none)
 
--- what is to be held anew, where groups are made
-pub holds_anew : (large : ℕ) (g : GraphData) (groups : List Group) (state : List Tern) (holding : Option Holding) → HoldsGroups large g groups state holding →
-    (one : Holding) → holding ≡ Some one → IsHolding large g groups state one
-holds_anew large g groups state None holds one is = absurd (cc is)
-holds_anew large g groups state (Some holding) holds one is =
-    let same : holding ≡ one = cc is in
-    subst (IsHolding large g groups state) same holds
+-- a stale part has nodes
+pub some_nodes : (parts : List HeldPart) (count : ℕ) → All (HasNodes count) parts → (k : ℕ) → IsStale parts k →
+    0 < length (slice_index_or (map (λ (part : HeldPart). part.map.items) parts) k [])
+some_nodes parts count there k stale =
+    let part = stale.part in
+    let inside = stale.stands.inside in
+    let has = subst (HasNodes count) stale.stands.here (there k part inside) in
+    let is = get_or-map (λ (one : HeldPart). one.map.items) parts k part [] inside ∙ ap (λ (one : HeldPart). one.map.items) stale.stands.here in
+    subst (λ (xs : List ℕ). 0 < length xs) (sym is) (omega (arith, stale.some, has.members))
 
--- and in a machine that has some already
-pub next_anew : (large : ℕ) (g : GraphData) (m : MachineData) (holding : Option Holding) → HoldsNext large g m holding → (one : Holding) →
-    holding ≡ Some one → IsHolding large g (without_text (groups_in m.groups)) m.state one
-next_anew large g m None next one is = absurd (cc is)
-next_anew large g m (Some holding) next one is =
-    let same : holding ≡ one = cc is in
-    subst (IsHolding large g (without_text (groups_in m.groups)) m.state) same next.holds
+-- of no list a part is one
+not_among : (k : ℕ) → ¬ Contains [] k
+not_among k there = absurd (omega (arith, there.1))
 
-pub next_known : (large : ℕ) (g : GraphData) (m : MachineData) (holding : Option Holding) → HoldsNext large g m holding → holding ≡ None → HoldsUntold g m
-next_known large g m None next is = next
-next_known large g m (Some holding) next is = absurd (cc is)
+-- a stale part goes on waiting if none gets its code
+goes_on : (parts : List HeldPart) (k : ℕ) → IsStale parts k → GoesOn parts [] k
+goes_on parts k stale = record { stale = stale; other = not_among k }
 
--- what is made anew is held next, if some group isn't held yet
-pub HoldsNext-made : (large : ℕ) (g : GraphData) (m : MachineData) → Covers g m → (holding : Option Holding) →
-    HoldsGroups large g (without_text (groups_in m.groups)) m.state holding → ¬ HoldsUntold g m → HoldsNext large g m holding
-HoldsNext-made large g m covers None none new = λ k group untold.
-    let slot = untold.slot in
-    let all = covers.groups.groups in
-    let same : groups_in m.groups ≡ all = ap groups_in covers.kept in
-    let (i, inside, at) = group_there g all covers.are.are group slot.is_part.is_group in
-    let there : Contains (without_text all) group =
-    filter_keeps (λ one. not (has_text one)) all group (i, inside, get_or_from_slice_get all i group group at) (none_from_untold group untold.untold) in
-    let (j, within, here) = subst (λ list. Contains list group) (ap without_text (sym same) ∙ none) there in
-    absurd (omega (arith, within))
-HoldsNext-made large g m covers (Some holding) holds new = record { new = new; holds = holds }
+-- if no part has a group without a text, and each other one has code, nothing is held anew
+pub none_held : (g : GraphData) (m : MachineData) (holding : Option Holding) → Covers g m → AreUntold g m.parts → NoneRefused 0 g →
+    HoldsNextIn 0 g m [] holding → wide_in holding ≡ None
+none_held g m None covers untold few next = refl
+none_held g m (Some holding) covers untold few next = absurd (next.new (λ k goes.
+    let stale = goes.stale in
+    let (group, is_part) = covers.whole k stale.part stale.stands stale.some in
+    let (i, inside, at) = group_there g covers.groups.groups covers.are.are group is_part.is_group in
+    absurd (untold k stale.part group stale.stands stale.none is_part (few covers.groups.groups covers.are.are i group at))))
 
--- a group without a text has a stale part
-pub untold_part : (g : GraphData) (m : MachineData) → Covers g m → (part : HeldPart) (group : Group) → IsPartOf g group part → fault_in group ≢ None →
-    (l : ℕ) × IsUntold g m.parts group l
-untold_part g m covers part group is_part untold =
-    let all = covers.groups.groups in
-    let (i, inside, at) = group_there g all covers.are.are group is_part.is_group in
-    let has = covers.each i group at in
-    elim (known_or_not has.part.code) [
-      | inl (code, is) ↦
-          absurd (untold (covers.known has.k has.part has.stands (λ none. absurd (cc (none, is))) group has.is_part).fits)
-      | inr none ↦
-          (has.k, record { slot = record { part = has.part; stands = has.stands; stale = none; is_part = has.is_part }; untold = untold })
-    ]
+module _ (large : ℕ) (g : GraphData) (m : MachineData) (ready : IsReady g m) (few : NoneRefused large g) (railed : IsRailed g) (sound : IsSound m.state) where
+  -- what is held anew are the groups of the stale parts
+  stale_held : (holding : Holding) → HoldsAnew large g m.parts m.wide m.state [] holding → HoldsStale large g m.parts m.state holding.wide
+  stale_held holding anew = record {
+    inside = anew.holds.inside;
+    members = λ node.
+        let (to, back) = anew.holds.members node in (
+          λ among.
+              let (k, there, has) = to among in
+              record { k = k; has = has; stale = ((anew.are k).0 there).stale },
+          λ of. back (of.k, (anew.are of.k).1 (goes_on m.parts of.k of.stale), of.has),
+        );
+    holds = anew.holds.holds;
+  }
 
--- if each stale part is that of a group that was held, the same groups are held
-pub StaysKnown-next : (large : ℕ) (g : GraphData) (old new : MachineData) (holding : Option Holding) → Covers g old → FitsGraph g new →
-    HoldsNext large g old holding → new.wide ≡ wide_after large old.wide holding → StaysKnown large old new
-StaysKnown-next large g old new None covers fits next after = λ wide is inside. after ∙ ap (lowered large) is
-StaysKnown-next large g old new (Some holding) covers fits next after = λ wide is inside. absurd (next.new (all_held wide is inside))
-  where
-    all_held : (wide : WideData) → old.wide ≡ Some wide →
-        ((k : ℕ) (part : HeldPart) → Stands new.parts k part → 0 < part.members → part.code ≡ None → ¬ IsOutside wide.graph part) → HoldsUntold g old
-    all_held wide is inside k group untold =
-        let slot = untold.slot in
-        elim (covers.held wide is k slot.part slot.stands (some_members slot.is_part) slot.stale) [
-          | inl held ↦
-              let member : Contains held.group.members (id_of group) =
-              subst (λ members. Contains members (id_of group)) (sym slot.is_part.members ∙ held.is_part.members) (id_member g group slot.is_part.is_group) in
-              subst (λ one. IsStorage (graph_in one) (id_of group)) (sym is) (member_storage wide.graph held.group held.alike.there (id_of group) member)
-          | inr outside ↦
-              let (l, now) = untold_part g new fits.covers slot.part group slot.is_part untold.untold in
-              absurd (inside l now.slot.part now.slot.stands (some_members now.slot.is_part) now.slot.stale (λ node there.
-              outside node (subst (λ members. Contains members node) (now.slot.is_part.members ∙ sym slot.is_part.members) there)))
-        ]
+  -- so the machine fits the graph with what is held
+  pub FitsGraph-next : (holding : Option Holding) → HoldsNextIn large g m [] holding → FitsGraph g (record m { wide = wide_after large m.wide holding })
+  FitsGraph-next None all =
+      FitsGraph-kept g m ready railed sound large few (λ k part group stands stale is_part.
+      subst (HoldsNode m.wide) (first_is g m.parts k part stands group is_part)
+      (all k (goes_on m.parts k (record { part = part; stands = stands; some = some_members is_part; none = stale }))))
+  FitsGraph-next (Some holding) anew = FitsGraph-holding g m ready railed sound large few holding.wide (stale_held holding anew)
+
+  -- and it can be stepped with the machine's parts
+  pub HoldsWide-next : (holding : Option Holding) → HoldsNextIn large g m [] holding → HoldsWide m.parts m.state (room_in holding) (wide_in holding)
+  HoldsWide-next None all = tt
+  HoldsWide-next (Some holding) anew = record {
+    listed = anew.holds.holds.listed;
+    stale_only = held_stale_only g m ready railed sound large few holding.wide (stale_held holding anew);
+    enough = anew.holds.enough;
+  }
+
+module _ (g : GraphData) (old mid : MachineData) (coded : List ℕ) (covers : Covers g old) (wakes : Wakes g coded old mid) where
+  -- a part that waits still has the group that it had
+  same_group : (k : ℕ) (was part : HeldPart) (one group : Group) → Stands old.parts k was → Stands mid.parts k part → IsPartOf g one was → IsPartOf g group part →
+      one ≡ group
+  same_group k was part one group stood stands was_part is_part =
+      let node = id_of group in
+      let member = id_member g group is_part.is_group in
+      let (place, at) = member_of_part g group part is_part node member in
+      let has = (wakes.members k node).0 (record { part = part; stands = stands; place = place; member = at }) in
+      let same : has.part ≡ was = same_part old.parts k has.part was has.stands stood in
+      let before : IsMemberAt was has.place node = subst (λ it. IsMemberAt it has.place node) same has.member in
+      same_by_member g one group was_part.is_group is_part.is_group node (member_in_group g one was was_part has.place node before) member
+
+  -- so it begins where it did
+  same_first : (k : ℕ) → IsStale old.parts k → IsStale mid.parts k → first_node old.parts k ≡ first_node mid.parts k
+  same_first k was now =
+      let (one, was_part) = covers.whole k was.part was.stands was.some in
+      let (group, is_part) = wakes.ready.covers.whole k now.part now.stands now.some in
+      let same = same_group k was.part now.part one group was.stands now.stands was_part is_part in
+      first_is g old.parts k was.part was.stands one was_part ∙ (ap id_of same ∙ sym (first_is g mid.parts k now.part now.stands group is_part))
+
+  all_then : HoldsAll old.parts old.wide coded → HoldsAll mid.parts mid.wide []
+  all_then all k goes =
+      let before = (wakes.stale k).0 goes.stale in
+      subst (λ wide. HoldsNode wide (first_node mid.parts k)) (sym wakes.wide)
+      (subst (HoldsNode old.wide) (same_first k before.stale goes.stale) (all k before))
+
+  all_before : HoldsAll mid.parts mid.wide [] → HoldsAll old.parts old.wide coded
+  all_before all k goes =
+      let now = (wakes.stale k).1 goes in
+      subst (HoldsNode old.wide) (sym (same_first k goes.stale now))
+      (subst (λ wide. HoldsNode wide (first_node mid.parts k)) wakes.wide (all k (goes_on mid.parts k now)))
+
+  -- what was to be held once these got their codes is to be held now
+  pub next_woken : (large : ℕ) (holding : Option Holding) → HoldsNextIn large g old coded holding → HoldsNextIn large g mid [] holding
+  next_woken large None all = all_then all
+  next_woken large (Some holding) anew = record {
+    new = λ all. anew.new (all_before all);
+    these = anew.these;
+    are = λ k.
+        let (to, back) = anew.are k in
+        (λ there. goes_on mid.parts k ((wakes.stale k).1 (to there)), λ goes. back ((wakes.stale k).0 goes.stale));
+    holds = record {
+      inside = anew.holds.inside;
+      members = λ node.
+          let (to, back) = anew.holds.members node in (
+            λ among.
+                let (k, there, has) = to among in
+                (k, there, (wakes.members k node).1 has),
+            λ of.
+                let (k, there, has) = of in
+                back (k, there, (wakes.members k node).0 has),
+          );
+      holds = subst (λ state. HoldsMembers large g state anew.holds.inside holding.wide) (sym wakes.state) anew.holds.holds;
+      enough = subst (λ (state : List Tern). length state ≤ vec_capacity holding.noted) (sym wakes.state) anew.holds.enough;
+    };
+  }
+
+  -- if each stale part is that of a group that was held, the same groups are held
+  stays_next : (large : ℕ) (holding : Option Holding) → HoldsNextIn large g old coded holding →
+      StaysKnown large old (record mid { wide = wide_after large mid.wide holding })
+  stays_next large None next = λ wide is inside. ap (lowered large) (wakes.wide ∙ is)
+  stays_next large (Some holding) next = λ wide is inside. absurd (next.new (all_held wide is inside))
+    where
+      all_held : (wide : WideData) → old.wide ≡ Some wide →
+          ((k : ℕ) (part : HeldPart) → Stands mid.parts k part → 0 < part.members → part.code ≡ None → ¬ IsOutside wide.graph part) →
+          HoldsAll old.parts old.wide coded
+      all_held wide is inside k goes =
+          let was = goes.stale in
+          elim (covers.held wide is k was.part was.stands was.some was.none) [
+            | inl held ↦
+                let group = held.group in
+                let storage : IsStorage wide.graph (id_of group) =
+                member_storage wide.graph group held.alike.there (id_of group) (id_member wide.graph group held.alike.there) in
+                subst (HoldsNode old.wide) (sym (first_is g old.parts k was.part was.stands group held.is_part))
+                (subst (λ one. IsStorage (graph_in one) (id_of group)) (sym is) storage)
+            | inr outside ↦
+                let now = (wakes.stale k).1 goes in
+                absurd (inside k now.part now.stands now.some now.none (λ node there.
+                let has = (wakes.members k node).0 (taken_member mid.parts k now.part now.stands node there) in
+                outside node (member_taken old.parts k was.part was.stands node has)))
+          ]
+
+  pub StaysKnown-next : (large : ℕ) (holding : Option Holding) (new : MachineData) → HoldsNextIn large g old coded holding →
+      new ≡ record mid { wide = wide_after large mid.wide holding } → StaysKnown large old new
+  StaysKnown-next large holding new next same = subst (StaysKnown large old) (sym same) (stays_next large holding next)
 
 -- whatever the texts of the last build are
 pub StaysKnown-last : (large : ℕ) (old mid : MachineData) (last : List GroupTextData) → StaysKnown large old mid → StaysKnown large old (record mid { last = last })

@@ -1,4 +1,4 @@
--- The texts of the last build are known while stale parts get their codes: where these parts begin is noted, and they begin where they did.
+-- The texts of the last build are known while stale parts get their texts: where these parts begin is noted, and they begin where they did.
 use Rattle.std.proofs.Common.{◌≡◌, ℕ, ◌<◌, ◌≤◌, inl, inr, ◌⊎◌, List, length, get_or, All, Option, Some, None, Vec, Global, refl, sym, ap, subst, ◌∙◌, arith, length-append}
 use Rattle.std.specs.Prelude.{Contains, slice_index_or}
 use Rattle.std.specs.List.{AllZip}
@@ -83,7 +83,7 @@ module _ (parts : List HeldPart) (numbers : List (Option ℕ)) (count known : �
       still : (node : ℕ) → slice_index_or noted.numbers.items node None ≡ slice_index_or lasting.numbers.items node None
       still node = ap (λ (list : Vec (Option ℕ) Global). slice_index_or list.items node None) numbers_are
 
-module _ (g : GraphData) (m : MachineData) (covers : Covers g m) (groups some : List Group) (slots : List ℕ) (waiting : AreWaiting g m.parts groups some slots)
+module _ (g : GraphData) (m : MachineData) (covers : Covers g m) (groups some : List Group) (slots : List ℕ) (waiting : AreWaiting g m.parts m.uses groups some slots)
     (fresh : List HeldPart) (fresh_are : AllZip (IsFresh g) some fresh) (new : List HeldPart) (puts : Puts slots fresh m.parts new) where
   -- a part begins where it did
   BeginsAt-was : (k node : ℕ) → BeginsAt new k node → BeginsAt m.parts k node
@@ -99,7 +99,7 @@ module _ (g : GraphData) (m : MachineData) (covers : Covers g m) (groups some : 
             }
       ]
 
-  -- and one that waited for no code stays
+  -- and one that waited for no text stays
   BeginsAt-stays : (k node : ℕ) → ¬ Contains slots k → BeginsAt m.parts k node → BeginsAt new k node
   BeginsAt-stays k node no_slot begins = record {
     part = begins.part;
@@ -114,7 +114,7 @@ module _ (g : GraphData) (m : MachineData) (covers : Covers g m) (groups some : 
     number_stays : (k : ℕ) → ¬ Contains slots k → slice_index_or new_numbers k None ≡ slice_index_or old_numbers k None
     number_stays k no_slot = read_same new_numbers old_numbers k (text_puts.stays k no_slot)
 
-    -- where the parts begin that got their codes is noted
+    -- where the parts begin that got their texts is noted
     pub AreLasting-roused : AreLasting new new_numbers count known lasting
     AreLasting-roused = record {
       counted = are.counted;

@@ -4,6 +4,7 @@ pub mod HoldingLemmas
 pub mod FinishingParts
 pub mod LeavingLemmas
 pub mod ListingLemmas
+pub mod LongLemmas
 pub mod FinishingRoused
 pub mod LastingEdits
 pub mod LastingLemmas
@@ -13,4 +14,5 @@ pub mod UsedInTurn
 pub mod BodyLemmas
 pub mod LastingRoused
 pub mod DueLemmas
+pub mod WakingLemmas
 pub mod FinishingOrder

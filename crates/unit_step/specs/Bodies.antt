@@ -1,5 +1,5 @@
 -- What a machine is made of.
-use Rattle.std.specs.Prelude.{◌≡◌, ℕ, ◌<◌, ◌≤◌, ◌+◌, ◌↔◌, Bool, true, is_some, length, replicate, List, Option, None}
+use Rattle.std.specs.Prelude.{◌≡◌, ◌≢◌, ℕ, Bool, true, is_some, length, replicate, List, Option, Some, None, slice_get}
 use Rattle.kept_parts.specs.Uses.{texts_used, count_distinct}
 use Rattle.unit_step.specs.declared.body.Body.{Body}
 use Rattle.machine_laws.specs.Machines.{MachineData}
@@ -11,7 +11,6 @@ use Rattle.ternary.specs.declared.tern.Tern.{Tern}
 use Rattle.channel_groups.specs.Grouping.{GroupsData}
 use Rattle.group_text.specs.Texts.{GroupTextData}
 use Rattle.machine_parts.specs.declared.part.HeldPart.{HeldPart}
-use Rattle.machine_parts.specs.Parts.{IsStale}
 
 -- a machine that starts in this state with these parts, all of them marked, and these texts, and these at the last build: it was
 -- neither moved nor placed, and knows no groups that are stepped by vicinities
@@ -30,9 +29,11 @@ started groups parts state uses last spare = record {
   wide = None;
 }
 
--- just the last parts are stale, so many of them
-abbrev pub AreLastStale : ℕ → List HeldPart → Type 0
-AreLastStale stale parts = (stale ≤ length parts) × ((k : ℕ) → IsStale parts k ↔ (k < length parts × length parts ≤ k + stale))
+-- the part with this number has code
+pub record IsCodedAt (parts : List HeldPart) (k : ℕ) : Type 0 where
+  pub part : HeldPart
+  pub there : slice_get parts k ≡ Some part
+  pub coded : part.code ≢ None
 
 -- all that was made is of the body's parts, which are all marked, and none of its groups is stepped by vicinities: a machine can start with it
 pub record CanStart (body : Body) : Type 0 where

@@ -1,17 +1,16 @@
--- The groups without a text that a machine is to step by vicinities.
+-- The groups that a machine is to step by vicinities.
 -- After Bryant, "A Switch-Level Model and Simulator for MOS Digital Systems", 1984.
-use Rattle.std.specs.Prelude.{◌≡◌, ◌≢◌, ℕ, ◌≤◌, List, [], length, Option, None, Some, vec_capacity}
+use Rattle.std.specs.Prelude.{ℕ, ◌<◌, ◌≤◌, ◌↔◌, Bool, List, length, All, Contains, Option, None, Some, vec_capacity}
 use Rattle.ternary.specs.declared.tern.Tern.{Tern}
 use Rattle.path_meaning.specs.Graphs.{GraphData}
-use Rattle.group_meaning.specs.Groups.{Group, id_of}
-use Rattle.circuit_texts.specs.Sizes.{fault_in}
-use Rattle.circuit_texts.specs.Told.{without_text}
+use Rattle.vicinity.specs.NodeSets.{IsIn}
 use Rattle.vicinity.specs.Wides.{WideData}
+use Rattle.wide_groups.specs.Holding.{HoldsMembers}
 use Rattle.wide_groups.specs.Staying.{HoldsNode, HoldsUpTo, lowered}
 use Rattle.machine_parts.specs.declared.part.HeldPart.{HeldPart}
-use Rattle.machine_laws.specs.Machines.{MachineData, groups_in}
-use Rattle.machine_laws.specs.Finishing.{IsSlotOf}
-use Rattle.machine_laws.specs.Holding.{HoldsThese}
+use Rattle.machine_parts.specs.Parts.{HasMember, IsStale}
+use Rattle.machine_laws.specs.Machines.{MachineData}
+use Rattle.machine_laws.specs.Finishing.{first_node}
 use Rattle.unit_step.specs.declared.holding.Holding.{Holding}
 
 -- what is held, if there is something
@@ -24,16 +23,21 @@ abbrev pub room_in : Option Holding → ℕ
 room_in None = 0
 room_in (Some holding) = vec_capacity holding.noted
 
--- there are some of these groups, they are held, all awake, and there is room for a change of each node
-pub record IsHolding (large : ℕ) (g : GraphData) (these : List Group) (state : List Tern) (holding : Holding) : Type 0 where
-  pub some : these ≢ []
-  pub holds : HoldsThese large g these state holding.wide
-  pub enough : length state ≤ vec_capacity holding.noted
+-- the part's nodes are there, and its members are among them
+pub record HasNodes (count : ℕ) (part : HeldPart) : Type 0 where
+  pub below : All (λ node. node < count) part.map.items
+  pub members : part.members ≤ length part.map.items
 
--- the same, if there are such groups
-abbrev pub HoldsGroups : ℕ → GraphData → List Group → List Tern → Option Holding → Type 0
-HoldsGroups large g these state None = these ≡ []
-HoldsGroups large g these state (Some holding) = IsHolding large g these state holding
+-- the node is a member of one of these parts
+abbrev pub IsOfThese : List HeldPart → List ℕ → ℕ → Type 0
+IsOfThese parts these node = (k : ℕ) × Contains these k × HasMember parts k node
+
+-- the groups of these parts are held, all awake, and there is room for a change of each node
+pub record HoldsParts (large : ℕ) (g : GraphData) (parts : List HeldPart) (these : List ℕ) (state : List Tern) (holding : Holding) : Type 0 where
+  pub inside : List Bool
+  pub members : (node : ℕ) → IsIn inside node ↔ IsOfThese parts these node
+  pub holds : HoldsMembers large g state inside holding.wide
+  pub enough : length state ≤ vec_capacity holding.noted
 
 -- what is held anew, or else what was held, with this bound besides
 abbrev pub wide_after : ℕ → Option WideData → Option Holding → Option WideData
@@ -41,25 +45,30 @@ wide_after large old None = lowered large old
 wide_after large old (Some holding) = Some holding.wide
 
 -- the group with this least node is passed over: it is one of those that are held already, none of which has more members than the bound says
-abbrev pub IsPassed : Option ℕ → Option WideData → ℕ → Type 0
-IsPassed None wide node = ⊥
-IsPassed (Some large) wide node = HoldsUpTo large wide × HoldsNode wide node
+abbrev pub IsPassed : ℕ → Option WideData → ℕ → Type 0
+IsPassed large wide node = HoldsUpTo large wide × HoldsNode wide node
 
--- the part with this number is stale and that of a group without a text
-pub record IsUntold (g : GraphData) (parts : List HeldPart) (group : Group) (k : ℕ) : Type 0 where
-  pub slot : IsSlotOf g parts group k
-  pub untold : fault_in group ≢ None
+-- the part with this number is stale, and goes on waiting if these get their codes
+pub record GoesOn (parts : List HeldPart) (coded : List ℕ) (k : ℕ) : Type 0 where
+  pub stale : IsStale parts k
+  pub other : ¬ Contains coded k
 
--- each group without a text that has a stale part is held already
-abbrev pub HoldsUntold : GraphData → MachineData → Type 0
-HoldsUntold g m = (k : ℕ) (group : Group) → IsUntold g m.parts group k → HoldsNode m.wide (id_of group)
+-- each of them is that of a group that is held already
+abbrev pub HoldsAll : List HeldPart → Option WideData → List ℕ → Type 0
+HoldsAll parts wide coded = (k : ℕ) → GoesOn parts coded k → HoldsNode wide (first_node parts k)
 
--- some group without a text isn't held yet, and all are held anew
-pub record HoldsAnew (large : ℕ) (g : GraphData) (m : MachineData) (holding : Holding) : Type 0 where
-  pub new : ¬ HoldsUntold g m
-  pub holds : IsHolding large g (without_text (groups_in m.groups)) m.state holding
+-- some of them isn't yet, and all are held anew
+pub record HoldsAnew (large : ℕ) (g : GraphData) (parts : List HeldPart) (wide : Option WideData) (state : List Tern) (coded : List ℕ) (holding : Holding) : Type 0 where
+  pub new : ¬ HoldsAll parts wide coded
+  pub these : List ℕ
+  pub are : (k : ℕ) → Contains these k ↔ GoesOn parts coded k
+  pub holds : HoldsParts large g parts these state holding
 
 -- all are held as before, or anew
-abbrev pub HoldsNext : ℕ → GraphData → MachineData → Option Holding → Type 0
-HoldsNext large g m None = HoldsUntold g m
-HoldsNext large g m (Some holding) = HoldsAnew large g m holding
+abbrev pub HoldsNext : ℕ → GraphData → List HeldPart → Option WideData → List Tern → List ℕ → Option Holding → Type 0
+HoldsNext large g parts wide state coded None = HoldsAll parts wide coded
+HoldsNext large g parts wide state coded (Some holding) = HoldsAnew large g parts wide state coded holding
+
+-- the same of a machine
+abbrev pub HoldsNextIn : ℕ → GraphData → MachineData → List ℕ → Option Holding → Type 0
+HoldsNextIn large g m coded holding = HoldsNext large g m.parts m.wide m.state coded holding

@@ -1,17 +1,20 @@
 //! What a machine is made of.
-ghost use Rattle.std.specs.Prelude.{◌≡◌, ℕ, ◌<◌, length, All, IsTrue, IfOk};
+ghost use Rattle.std.specs.Prelude.{◌≡◌, ℕ, ◌<◌, ◌↔◌, true, length, replicate, All, Contains, IsTrue, IfOk};
 ghost use Rattle.path_meaning.specs.Words.{nodes, IsRailed, IsSound};
 ghost use Rattle.analysis_cache.specs.Keeping.{texts_of};
 ghost use Rattle.group_text.specs.FirstTexts.{is_among};
 ghost use Rattle.kept_parts.specs.Uses.{texts_used};
-ghost use Rattle.machine_parts.specs.Words.{AreApart, IsFormed};
+ghost use Rattle.machine_parts.specs.Words.{AreApart, IsFormed, IsMarked, IsStale};
 ghost use Rattle.unit_step.specs.Planning.{IsPlan};
-ghost use Rattle.machine_laws.specs.Words.{IsReady, AreInOrder, HasLast};
+ghost use Rattle.machine_laws.specs.Words.{IsReady, AreInOrder, AreUntold, HasLast};
 ghost use Rattle.unit_step.specs.Lasting.{texts_lasting};
-ghost use Rattle.unit_step.specs.Bodies.{AreLastStale, CanStart, of_body};
+ghost use Rattle.unit_step.specs.Holding.{HasNodes, HoldsNext};
+ghost use Rattle.unit_step.specs.Bodies.{CanStart, IsCodedAt, of_body};
 ghost use Rattle.part_steps.specs.Dense.{AreDense, HasInputs, HaveCodes};
 
+use crate::holding::{Holding, holding_of, holds_all, others_waiting};
 use crate::lasting::Lasting;
+use crate::long::{Codes, add_if, loosen_new};
 use crate::planning::Plan;
 use crate::seating::add_stale;
 use analysis_cache::Kept;
@@ -23,7 +26,7 @@ use part_steps::{
 };
 use part_words::Change;
 use path_meaning::{Graph, graphs_are_wired};
-use std::alloc::Global;
+use std::alloc::{AllocError, Global};
 use ternary::{NoMemory, Tern};
 use vicinity::Wide;
 
@@ -36,7 +39,7 @@ pub(crate) struct Body {
     pub(crate) parts: Vec<HeldPart>,
     // what a step reads of the parts
     pub(crate) dense: DenseParts,
-    // the text of each part that has a group and code
+    // the text of each part whose group has one, once it was found
     pub(crate) uses: TextUses,
     // the texts of the last build
     pub(crate) lasting: Lasting,
@@ -61,6 +64,7 @@ impl Body {
         alloc: Global,
         graph: &Graph,
         plan: Plan,
+        codes: Codes,
         kept: &Kept,
     ) -> Result<Body, NoMemory>
         requires plan { (large : ℕ) × IsPlan large graph.now plan.state.items plan }
@@ -70,6 +74,7 @@ impl Body {
         requires sound { IsSound plan.state.items }
         ensures starts { IfOk result CanStart }
         ensures begins { IfOk result (λ body. (spare : ℕ) → IsReady graph.now (of_body body spare)) }
+        ensures all { codes ≡ Codes.All → IfOk result (λ body. AreUntold graph.now body.parts.items) }
         ensures last { IfOk result (λ body. HasLast graph.now (texts_lasting body.uses.known body.lasting)) }
         ensures state { IfOk result (λ body. body.state ≡ plan.state) }
         ensures known { IfOk result (λ body. body.uses.known ≡ plan.uses.known) }
@@ -86,21 +91,21 @@ impl Body {
         let mut uses = uses;
         let parts = parts_by_number(alloc, kept, &uses, maps)?;
         let mut held = held_parts(alloc, parts, reads)?;
+        loosen_new(alloc, codes, &uses, &mut held);
         add_stale(alloc, graph, &groups, &large, &mut held, &mut uses)?;
-        Body::of_parts(alloc, Some(groups), held, large.len(), state, uses)
+        Body::of_parts(alloc, Some(groups), held, state, uses)
     }
 
-    // The body of these parts in this state, of which so many, the last ones, are stale.
+    // The body of these parts in this state.
     pub(crate) fn of_parts(
         alloc: Global,
         groups: Option<Groups>,
         parts: Vec<HeldPart>,
-        stale: usize,
         state: Vec<Tern>,
         uses: TextUses,
     ) -> Result<Body, NoMemory>
         requires formed { All (IsFormed (length state.items)) parts.items }
-        requires stale { AreLastStale stale parts.items }
+        requires some { All (λ part. 0 < part.members) parts.items }
         requires apart { AreApart parts.items }
         requires reads { All (λ part. All (λ node. node < length state.items) part.reads.items) parts.items }
         requires numbered { length uses.numbers ≡ length parts.items }
@@ -114,7 +119,7 @@ impl Body {
     {
         let nodes = state.len();
         let held = count_held(&parts);
-        let agenda = Agenda::with_stale(alloc, parts.len() - stale, stale)?;
+        let agenda = agenda_of(alloc, &parts)?;
         let readers = ReaderLists::of_parts(alloc, &parts, nodes)?;
         let owners = all_owners(alloc, &parts, nodes)?;
         let desk = desk_for(alloc, &parts)?;
@@ -137,6 +142,51 @@ impl Body {
             noted: Vec::new(alloc),
         })
     }
+
+    // The groups of the parts that wait, but for these, anew, under the present state, unless each of them is stepped by
+    // vicinities already.
+    pub(crate) fn holding(
+        &self,
+        graph: &Graph,
+        large: usize,
+        coded: &[usize],
+    ) -> Result<Option<Holding>, NoMemory>
+        requires counted { length self.now.state.items ≡ nodes graph.now }
+        requires there { All (HasNodes (nodes graph.now)) self.now.parts.items }
+        requires waits { (k : ℕ) → IsMarked self.now.agenda.waiting k ↔ IsStale self.now.parts.items k }
+        ensures { IfOk result (HoldsNext large graph.now self.now.parts.items self.now.wide self.now.state.items coded.now) }
+    {
+        let alloc = *self.parts.allocator();
+        let these = others_waiting(alloc, &self.agenda, coded)?;
+        if holds_all(&self.wide, &self.parts, &these) {
+            return Ok(None);
+        }
+        let holding = holding_of(alloc, graph, &self.parts, &these, large, &self.state)?;
+        Ok(Some(holding))
+    }
+}
+
+// All of these parts are marked, and those without code wait.
+fn agenda_of(alloc: Global, parts: &[HeldPart]) -> Result<Agenda, AllocError>
+    requires some { All (λ part. 0 < part.members) parts.now }
+    ensures marks { IfOk result (λ agenda. agenda.marks ≡ replicate (length parts.now) true) }
+    ensures waiting { IfOk result (λ agenda. (k : ℕ) → IsMarked agenda.waiting k ↔ IsStale parts.now k) }
+{
+    let coded = parts_with_code(alloc, parts)?;
+    let mut agenda = Agenda::with_stale(alloc, 0, parts.len())?;
+    agenda.rouse(&coded);
+    Ok(agenda)
+}
+
+// The numbers of the parts that have code.
+fn parts_with_code(alloc: Global, parts: &[HeldPart]) -> Result<Vec<usize>, AllocError>
+    ensures { IfOk result (λ coded. (k : ℕ) → Contains coded.items k ↔ IsCodedAt parts.now k) }
+{
+    let mut coded = Vec::new(alloc);
+    for (k, part) in parts.iter().enumerate() {
+        add_if(part.code.is_some(), k, &mut coded)?;
+    }
+    Ok(coded)
 }
 
 // What a step reads of these parts; those whose texts have one number share their code. More codes or nodes than

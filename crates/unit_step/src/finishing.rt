@@ -1,5 +1,6 @@
 //! The codes of the parts that an edit made stale.
-ghost use Rattle.std.specs.Prelude.{◌≡◌, ℕ, ◌⊎◌, None, Some, All, IsTrue, Err, IfOk, IfErr, IfSome, OnOk, OnErr, slice_index_or};
+ghost use Rattle.std.specs.Prelude.{◌≡◌, ℕ, ◌⊎◌, None, length, All, IsTrue, Err, IfOk, IfErr, OnOk, OnErr, slice_index_or};
+ghost use Rattle.path_meaning.specs.Graphs.{nodes};
 ghost use Rattle.path_meaning.specs.Rails.{IsRailed, IsSound};
 ghost use Rattle.group_text.specs.FirstTexts.{is_among};
 ghost use Rattle.analysis_cache.specs.Words.{texts_of, IsGrown, HoldsKept, HoldsNearlyKept};
@@ -10,13 +11,14 @@ ghost use Rattle.machine_parts.specs.declared.part.HeldPart.{HeldPart};
 ghost use Rattle.machine_parts.specs.Parts.{Stands};
 ghost use Rattle.machine_laws.specs.Words.{Covers, IsKeptBy, Finishes, Rouses, StaysKnown, AreInOrder};
 ghost use Rattle.unit_step.specs.Lasting.{IsLeft};
-ghost use Rattle.unit_step.specs.Holding.{HoldsNext};
-ghost use Rattle.unit_step.specs.Waking.{AreDue, IsWaking, Wakes};
+ghost use Rattle.unit_step.specs.Holding.{HoldsNextIn};
+ghost use Rattle.unit_step.specs.Waking.{AreDue, IsWaking, IsRisen, Wakes};
 
-use crate::holding::{Holding, holding_of};
+use crate::holding::Holding;
+use crate::long::{coded_of, long_texts, loosen_waking};
 use crate::machine::Machine;
 use crate::rousing::{numbers_of, put_texts};
-use crate::waking::{Waking, holds_all, ids_at, least_members, owners_of};
+use crate::waking::{Risen, Waking, has_no_group, ids_at, least_members, owners_of};
 use analysis_cache::{Analyst, Kept};
 use circuit_texts::{BuildFault, GroupSizes, GroupTexts, reads_at, sizes_at, texts_at};
 use kept_parts::parts_of;
@@ -54,7 +56,6 @@ impl Machine {
         requires known { IsKeptBy graph.now (texts_of kept.old) self.old }
         requires last { All (λ text. IsTrue (is_among (texts_of kept.old) text)) self.old.last }
         ensures finishes { OnOk result (Finishes graph.now self.old self.new) }
-        ensures without { OnOk result (large ≡ 0 → self.old.wide ≡ None → self.new.wide ≡ None) }
         ensures stays { OnOk result (StaysKnown large self.old self.new) }
         ensures builds { IfOk result (Builds large graph.now kept.old.bound (used_texts self.old.last (texts_of kept.old)) (used_texts self.new.last (texts_of kept.new))
             (A.analysed analyst.old) (A.analysed analyst.new)) }
@@ -75,7 +76,7 @@ impl Machine {
     }
 
     // Gives the stale parts their codes. The texts that aren't kept are analysed first, and kept behind what is
-    // kept; the answer is how many were.
+    // kept; the answer is how many were. If no group is due, only the bound changes.
     fn wake<A: Analyst>(
         &mut self,
         graph: &Graph,
@@ -88,7 +89,6 @@ impl Machine {
         requires sound { IsSound self.old.state }
         requires known { IsKeptBy graph.now (texts_of kept.old) self.old }
         ensures rouses { OnOk result (Rouses graph.now self.old self.new) }
-        ensures without { OnOk result (large ≡ 0 → self.old.wide ≡ None → self.new.wide ≡ None) }
         ensures stays { OnOk result (StaysKnown large self.old self.new) }
         ensures fills { IfOk result (Fills large graph.now (texts_of kept.old) (texts_of kept.new) (A.analysed analyst.old) (A.analysed analyst.new)) }
         ensures bound { kept.new.bound ≡ kept.old.bound }
@@ -100,26 +100,25 @@ impl Machine {
         ensures holds { OnOk result (HoldsKept kept.old (A.held analyst.old) → HoldsKept kept.new (A.held analyst.new)) }
         ensures nearly { OnErr result (HoldsKept kept.old (A.held analyst.old) → HoldsNearlyKept kept.new (A.held analyst.new)) }
     {
-        let sizes = self.due(graph, large, Some(large))?;
-        let holding = self.holding(graph, large, &sizes)?;
+        let sizes = self.due(graph, large)?;
+        if has_no_group(&sizes) {
+            self.hold(large, None);
+            return Ok(0);
+        }
         let waking = self.waking(graph, &sizes)?;
         let fresh = kept.fill(&waking.texts, analyst)?;
-        self.rouse(graph, waking, kept)?;
+        let risen = self.risen(graph, waking, kept)?;
+        let holding = self.holding(graph, large, &risen.coded)?;
+        self.rouse(graph, risen)?;
         self.hold(large, holding);
         Ok(fresh)
     }
 
-    // The ids of the groups whose parts wait. With a bound those are passed over that are stepped by vicinities already,
-    // unless one of these has more members.
-    fn due(
-        &self,
-        graph: &Graph,
-        large: usize,
-        bound: Option<usize>,
-    ) -> Result<GroupSizes, BuildFault>
+    // The ids of the groups whose parts wait. Those are passed over that are stepped by vicinities already, unless one of
+    // these has more members than `large`.
+    fn due(&self, graph: &Graph, large: usize) -> Result<GroupSizes, BuildFault>
         requires covers { Covers graph.now self.now }
-        requires bound { IfSome bound (λ most. most ≡ large) }
-        ensures due { IfOk result (AreDue graph.now self.now bound) }
+        ensures due { IfOk result (AreDue graph.now self.now large) }
         ensures few { OnOk result (NoneRefused large graph.now) }
         ensures refused { IfErr result (λ fault. (fault ≡ BuildFault.NoMemory) ⊎ TellsRefused large graph.now fault) }
     {
@@ -132,35 +131,24 @@ impl Machine {
             &self.body.parts,
             &self.body.agenda,
             &self.body.wide,
-            bound,
+            large,
         )?;
         let waiting = ids_at(alloc, graph, groups, &nodes)?;
         sizes_at(alloc, groups, &waiting, large)
     }
 
-    // The groups without a text anew, under the present state, unless each of those that are due is stepped by vicinities
-    // already.
+    // The groups of the parts that wait, but for those in these slots, anew, under the present state, unless each of them is
+    // stepped by vicinities already.
     fn holding(
         &self,
         graph: &Graph,
         large: usize,
-        sizes: &GroupSizes,
-    ) -> Result<Option<Holding>, BuildFault>
-        requires covers { Covers graph.now self.now }
-        requires due { AreDue graph.now self.now (Some large) sizes.now }
-        ensures holds { IfOk result (HoldsNext large graph.now self.now) }
-        ensures refused { IfErr result (λ fault. (fault ≡ BuildFault.NoMemory) ⊎ TellsRefused large graph.now fault) }
+        coded: &[usize],
+    ) -> Result<Option<Holding>, NoMemory>
+        requires { length self.now.state ≡ nodes graph.now }
+        ensures { IfOk result (HoldsNextIn large graph.now self.now coded.now) }
     {
-        if holds_all(&self.body.wide, &sizes.large) {
-            return Ok(None);
-        }
-        let all = self.due(graph, large, None)?;
-        let Some(groups) = &self.body.groups else {
-            unreachable!();
-        };
-        let alloc = *self.body.parts.allocator();
-        let holding = holding_of(alloc, graph, groups, large, &self.body.state, &all.large)?;
-        Ok(holding)
+        self.body.holding(graph, large, coded)
     }
 
     // The texts that the parts have now are those of the last build from now on: those that are gone are used,
@@ -189,8 +177,8 @@ impl Machine {
     // What is found of the groups that are due and have a text.
     fn waking(&self, graph: &Graph, sizes: &GroupSizes) -> Result<Waking, BuildFault>
         requires covers { Covers graph.now self.now }
-        requires due { (large : ℕ) × AreDue graph.now self.now (Some large) sizes.now }
-        ensures waking { IfOk result (IsWaking graph.now self.now.parts) }
+        requires due { (large : ℕ) × AreDue graph.now self.now large sizes.now }
+        ensures waking { IfOk result (IsWaking graph.now self.now) }
         ensures refused { IfErr result (λ fault. fault ≡ BuildFault.NoMemory) }
     {
         let alloc = *self.body.parts.allocator();
@@ -208,13 +196,12 @@ impl Machine {
         })
     }
 
-    // Gives the parts that wait their codes, which are kept, if their groups have a text.
-    fn rouse(&mut self, graph: &Graph, waking: Waking, kept: &Kept) -> Result<(), NoMemory>
-        requires covers { Covers graph.now self.old }
-        requires waking { IsWaking graph.now self.old.parts waking }
+    // What the parts become whose groups are due and have a text, which is kept.
+    fn risen(&self, graph: &Graph, waking: Waking, kept: &Kept) -> Result<Risen, NoMemory>
+        requires covers { Covers graph.now self.now }
+        requires waking { IsWaking graph.now self.now waking }
         requires kept { All (λ text. IsTrue (is_among (texts_of kept.now) text)) waking.texts.items }
-        ensures wakes { OnOk result (Wakes graph.now self.old self.new) }
-        ensures err { OnErr result (self.new ≡ self.old) }
+        ensures { IfOk result (IsRisen graph.now self.now) }
     {
         graphs_are_wired(graph);
         let alloc = *self.body.parts.allocator();
@@ -224,21 +211,47 @@ impl Machine {
             maps,
             reads,
         } = waking;
-        let fresh = held_parts(alloc, parts_of(alloc, kept, &texts, maps)?, reads)?;
-        let Some(needs) = needs_of(&fresh) else {
+        let mut parts = held_parts(alloc, parts_of(alloc, kept, &texts, maps)?, reads)?;
+        let (wide, uses) = (&self.body.wide, &self.body.uses);
+        let fresh = long_texts(alloc, kept.keys(), uses, &slots, &texts, &parts)?;
+        loosen_waking(alloc, wide, uses, &fresh, &texts, &mut parts);
+        let coded = coded_of(alloc, &slots, &parts)?;
+        Ok(Risen {
+            slots,
+            texts,
+            parts,
+            coded,
+        })
+    }
+
+    // Puts these parts in their slots. Those of them that have no code go on waiting.
+    fn rouse(&mut self, graph: &Graph, risen: Risen) -> Result<(), NoMemory>
+        requires covers { Covers graph.now self.old }
+        requires risen { IsRisen graph.now self.old risen }
+        ensures wakes { OnOk result (Wakes graph.now risen.coded.items self.old self.new) }
+        ensures err { OnErr result (self.new ≡ self.old) }
+    {
+        let alloc = *self.body.parts.allocator();
+        let Risen {
+            slots,
+            texts,
+            parts,
+            coded,
+        } = risen;
+        let Some(needs) = needs_of(&parts) else {
             return Err(NoMemory);
         };
         let numbers = numbers_of(alloc, &texts, &mut self.body.uses)?;
         widen_for_codes(&mut self.body.desk, needs.values)?;
-        let seats = self.body.dense.seats_for(alloc, &fresh)?;
+        let seats = self.body.dense.seats_for(alloc, &parts)?;
         self.body.lasting.note_all(&slots, &self.body.parts)?;
         self.body
             .readers
-            .list_all(&slots, &fresh, &self.body.parts)?;
+            .list_all(&slots, &parts, &self.body.parts)?;
         put_texts(&slots, &numbers, &mut self.body.uses);
         self.body.dense.put_all(&slots, seats);
-        put_in(&slots, fresh, &mut self.body.parts);
-        self.body.agenda.rouse(&slots);
+        put_in(&slots, parts, &mut self.body.parts);
+        self.body.agenda.rouse(&coded);
         Ok(())
     }
 }

@@ -1,24 +1,27 @@
-//! The groups without a text: they are stepped by vicinities.
-ghost use Rattle.std.specs.Prelude.{◌≡◌, ℕ, ◌<◌, ◌≤◌, ◌↔◌, length, vec_capacity, All, Contains, IfOk, IfSome};
+//! The groups that are stepped by vicinities: those without a text, and those with long code.
+ghost use Rattle.std.specs.Prelude.{◌≡◌, ℕ, ◌<◌, ◌≤◌, ◌↔◌, true, [], length, take, map, vec_capacity, All, Contains, IfOk, IfSome, slice_index_or};
+ghost use Rattle.std.specs.Bool.{OnTrue, OnFalse};
+ghost use Rattle.std.specs.List.Sorted.{IsNonDecreasing};
 ghost use Rattle.path_meaning.specs.Graphs.{nodes};
-ghost use Rattle.channel_groups.specs.Grouping.{AreOf, IsId};
-ghost use Rattle.circuit_texts.specs.Choosing.{chosen};
-ghost use Rattle.machine_parts.specs.Marking.{MarksAll};
+ghost use Rattle.machine_parts.specs.Words.{IsMarked, MarksAll};
 ghost use Rattle.vicinity.specs.NodeSets.{IsIn};
 ghost use Rattle.wide_groups.specs.Awake.{HoldsWide};
 ghost use Rattle.wide_groups.specs.Moving.{graph_in};
-ghost use Rattle.wide_groups.specs.Staying.{GrowsIn};
-ghost use Rattle.machine_laws.specs.Holding.{IsOfSome};
-ghost use Rattle.unit_step.specs.Holding.{HoldsGroups, wide_after, wide_in, room_in};
+ghost use Rattle.wide_groups.specs.Staying.{GrowsIn, HoldsNode};
+ghost use Rattle.machine_laws.specs.Finishing.{first_node};
+ghost use Rattle.unit_step.specs.Holding.{HasNodes, HoldsParts, IsOfThese, wide_after, wide_in, room_in};
 
+use crate::long::add_if;
 use crate::machine::Machine;
-use channel_groups::{GroupId, Groups};
+use crate::waking::least_member;
+use machine_parts::HeldPart;
+use part_steps::Agenda;
 use part_words::Change;
 use path_meaning::Graph;
 use std::alloc::{AllocError, Global};
 use ternary::{NoMemory, Tern};
 use vicinity::{NodeSet, Wide};
-use wide_groups::{grown, lower, wide_of};
+use wide_groups::{grown, holds_node, lower, wide_of};
 
 // The groups that a machine is to step by vicinities, and room for a change of each node.
 #[derive(Drop)]
@@ -28,7 +31,7 @@ pub(crate) struct Holding {
 }
 
 impl Machine {
-    // These groups are stepped by vicinities from now on. If there are none, those that were still are, and a group
+    // These groups are stepped by vicinities from now on. If nothing is given, those that were still are, and a group
     // without a text is one of them only if it has no more members than `large` either.
     #[tactic(auto, using(wide_groups::proofs::StayingLemmas::holds_lowered))]
     pub(crate) fn hold(&mut self, large: usize, holding: Option<Holding>)
@@ -65,46 +68,52 @@ pub(crate) fn widened(
     Ok(wide)
 }
 
-// The groups of a graph with these ids, which have no text, under a state; None if there are no such groups.
+// The groups of these parts, which are groups of the graph, under a state.
 pub(crate) fn holding_of(
     alloc: Global,
     graph: &Graph,
-    groups: &Groups,
+    parts: &[HeldPart],
+    these: &[usize],
     large: usize,
     state: &[Tern],
-    ids: &[GroupId],
-) -> Result<Option<Holding>, NoMemory>
+) -> Result<Holding, NoMemory>
     requires counted { length state.now ≡ nodes graph.now }
-    requires groups { AreOf graph.now groups.now }
-    requires ids { All (λ id. IsId groups.now.groups id.node) ids.now }
-    ensures { IfOk result (HoldsGroups large graph.now (chosen groups.now.groups ids.now) state.now) }
+    requires these { All (λ k. k < length parts.now) these.now }
+    requires there { All (HasNodes (nodes graph.now)) parts.now }
+    ensures { IfOk result (HoldsParts large graph.now parts.now these.now state.now) }
 {
-    if ids.is_empty() {
-        return Ok(None);
-    }
-    let members = member_set(alloc, graph, groups, ids)?;
+    let members = member_set(alloc, graph.nodes(), parts, these)?;
     let noted = Vec::with_capacity(alloc, state.len())?;
     let wide = wide_of(alloc, large, graph, state, &members)?;
-    Ok(Some(Holding { wide, noted }))
+    Ok(Holding { wide, noted })
 }
 
-// The members of the groups with these ids.
+// The members of these parts.
 fn member_set(
     alloc: Global,
-    graph: &Graph,
-    groups: &Groups,
-    ids: &[GroupId],
+    nodes: usize,
+    parts: &[HeldPart],
+    these: &[usize],
 ) -> Result<NodeSet, AllocError>
-    requires groups { AreOf graph.now groups.now }
-    requires ids { All (λ id. IsId groups.now.groups id.node) ids.now }
-    ensures count { IfOk result (λ set. length set.inside ≡ nodes graph.now) }
-    ensures members { IfOk result (λ set. (node : ℕ) → IsIn set.inside node ↔ IsOfSome (chosen groups.now.groups ids.now) node) }
+    requires these { All (λ k. k < length parts.now) these.now }
+    requires there { All (HasNodes nodes) parts.now }
+    ensures count { IfOk result (λ set. length set.inside ≡ nodes) }
+    ensures members { IfOk result (λ set. (node : ℕ) → IsIn set.inside node ↔ IsOfThese parts.now these.now node) }
 {
-    let mut set = NodeSet::new(alloc, graph.nodes())?;
-    for &id in ids {
-        put_all(groups.group(id).members(), &mut set);
+    let mut set = NodeSet::new(alloc, nodes)?;
+    for &k in these {
+        put_members(&parts[k], &mut set);
     }
     Ok(set)
+}
+
+// Puts the members of a part in.
+fn put_members(part: &HeldPart, set: &mut NodeSet)
+    requires members { part.now.members ≤ length part.now.map.items }
+    requires inside { (node : ℕ) → Contains (take part.now.members part.now.map.items) node → node < length set.old.inside }
+    ensures { MarksAll (Contains (take part.now.members part.now.map.items)) set.old.inside set.new.inside }
+{
+    put_all(&part.map[..part.members], set);
 }
 
 // Puts these nodes in.
@@ -114,5 +123,61 @@ fn put_all(nodes: &[usize], set: &mut NodeSet)
 {
     for &node in nodes {
         set.insert(node);
+    }
+}
+
+// Whether each of these parts is stepped by vicinities already.
+pub(crate) fn holds_all(wide: &Option<Wide>, parts: &[HeldPart], these: &[usize]) -> bool
+    requires these { All (λ k. k < length parts.now) these.now }
+    requires some { All (λ k. 0 < length (slice_index_or (map (λ part. part.map.items) parts.now) k [])) these.now }
+    ensures all { OnTrue result (All (λ k. HoldsNode wide.now (first_node parts.now k)) these.now) }
+    ensures some { OnFalse result (¬ All (λ k. HoldsNode wide.now (first_node parts.now k)) these.now) }
+{
+    for &k in these {
+        if holds_node(wide, least_member(parts, k)) {
+            continue;
+        }
+        return false;
+    }
+    true
+}
+
+// Those of the parts that wait that aren't among these.
+pub(crate) fn others_waiting(
+    alloc: Global,
+    agenda: &Agenda,
+    these: &[usize],
+) -> Result<Vec<usize>, AllocError>
+    ensures { IfOk result (λ others. (k : ℕ) → Contains others.items k ↔ (IsMarked agenda.now.waiting k × (¬ Contains these.now k))) }
+{
+    let mut taken = Vec::from_slice(alloc, these)?;
+    taken.sort_unstable();
+    let mut others = Vec::new(alloc);
+    for &k in agenda.waiters() {
+        add_if(waits_beside(k, agenda, &taken), k, &mut others)?;
+    }
+    Ok(others)
+}
+
+// Whether a part waits and isn't one of these.
+fn waits_beside(k: usize, agenda: &Agenda, these: &[usize]) -> bool
+    requires inside { k < length agenda.now.marks }
+    requires ascending { IsNonDecreasing these.now }
+    ensures { (result ≡ true) ↔ (IsMarked agenda.now.waiting k × (¬ Contains these.now k)) }
+{
+    if agenda.does_wait(k) {
+        return is_beside(k, these);
+    }
+    false
+}
+
+// Whether a number isn't one of these, which are in order.
+fn is_beside(k: usize, these: &[usize]) -> bool
+    requires { IsNonDecreasing these.now }
+    ensures { (result ≡ true) ↔ (¬ Contains these.now k) }
+{
+    match these.binary_search(&k) {
+        Ok(_place) => false,
+        Err(_place) => true,
     }
 }

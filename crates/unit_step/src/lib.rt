@@ -8,7 +8,8 @@
 //! needs no evaluation until a node that it reads changes.
 //!
 //! Groups that are too large for a text have no code: they are stepped by vicinities, beside the parts that have some. A
-//! build and a finish accept such groups up to a bound that is handed in, with 0 none.
+//! build and a finish accept such groups up to a bound that is handed in, with 0 none. So are those whose code is long and
+//! is that of few parts, unless a build is asked for all codes.
 //!
 //! ```text
 //! an inverter a -> out, both 0, not marked       a is placed at 0 again: the part is marked
@@ -30,6 +31,7 @@ mod holding;
 mod lasting;
 mod laws;
 mod listing;
+mod long;
 mod machine;
 mod planning;
 mod rousing;
@@ -40,6 +42,7 @@ mod watching;
 pub use editing::{EditRefused, NEW_NODES};
 pub use growing::grow;
 pub use laws::limits_are_as_stated;
+pub use long::Codes;
 pub use machine::Machine;
 pub use machine_laws::{
     alike_groups_keep_their_parts, columns_step_apart, empty_places_are_covered,

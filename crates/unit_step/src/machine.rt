@@ -3,7 +3,7 @@ ghost use Rattle.std.specs.Prelude.{◌≡◌, ◌≢◌, ℕ, Bool, List, [], �
 ghost use Rattle.std.specs.Bool.{OnTrue, OnFalse};
 ghost use Rattle.ternary.specs.Counts.{raised};
 ghost use Rattle.path_meaning.specs.declared.TheConstants.{RAILS};
-ghost use Rattle.path_meaning.specs.Words.{nodes, IsRailed, IsSound, IsStep};
+ghost use Rattle.path_meaning.specs.Words.{GraphData, nodes, IsRailed, IsSound, IsStep};
 ghost use Rattle.oscillation_x.specs.Moved.{ListsChanges};
 ghost use Rattle.oscillation_x.specs.Settling.{IsJoinStep, StaysOrBecomesX};
 ghost use Rattle.analysis_cache.specs.Words.{texts_of, IsGrown, HoldsKept, HoldsNearlyKept};
@@ -17,16 +17,16 @@ ghost use Rattle.unit_step.specs.Listing.{nodes_told};
 ghost use Rattle.wide_groups.specs.Awake.{IsWorked};
 
 use crate::body::Body;
-use crate::holding::holding_of;
 use crate::lasting::Lasting;
 use crate::listing::list;
+use crate::long::Codes;
 use crate::planning::plan_of;
 use analysis_cache::{Analyst, Kept};
 use channel_groups::Groups;
 use circuit_texts::BuildFault;
 use kept_parts::TextUses;
 use machine_parts::HeldPart;
-use oscillation_x::Stepper;
+use oscillation_x::{Recall, Stepper};
 use part_steps::{Agenda, DenseParts, Desk, ReaderLists, advance, mark_all};
 use path_meaning::{Graph, graphs_are_wired};
 use std::alloc::Global;
@@ -35,8 +35,8 @@ use std::sync::ledger::Ledger;
 use ternary::{Steps, Tern};
 use wide_groups::place;
 
-/// A compiled circuit: the parts of its groups, which of them are marked, and a state; and the groups that are too
-/// large for a text, which are stepped by vicinities.
+/// A compiled circuit: the parts of its groups, which of them are marked, and a state; and the groups that are stepped by
+/// vicinities, since they are too large for a text or their code is long.
 ///
 /// A step runs the code of the marked parts alone, and of those groups it looks at what is awake alone. All its room is
 /// taken before, when the machine is built, edited or finished.
@@ -67,7 +67,8 @@ impl Model for Machine {
 
 impl Machine {
     /// The machine of a graph, in this state: a part for each group, with the code of the group's text, if it has one.
-    /// The groups that are too large for a text are stepped by vicinities, and all their nodes are touched.
+    /// The groups that are too large for a text, and those whose code is long, unless all codes are asked for, are stepped by
+    /// vicinities, and all their nodes are touched.
     ///
     /// Code comes from what is kept; texts that aren't kept are analysed first, each once, in the order
     /// of the groups, and kept; the count is their number. All texts of the groups are in front of what is kept
@@ -82,6 +83,7 @@ impl Machine {
         graph: &Graph,
         state: &[Tern],
         large: usize,
+        codes: Codes,
         kept: &mut Kept,
         analyst: &mut A,
     ) -> Result<(Machine, u64), BuildFault>
@@ -89,7 +91,7 @@ impl Machine {
         requires railed { IsRailed graph.now }
         requires sound { IsSound state.now }
         ensures fits { IfOk result (λ made. FitsGraph graph.now made.0) }
-        ensures without { IfOk result (λ made. large ≡ 0 → made.0.wide ≡ None) }
+        ensures without { IfOk result (λ made. codes ≡ Codes.All → large ≡ 0 → made.0.wide ≡ None) }
         ensures fresh { IfOk result (λ made. (made.0.state ≡ state.now) × (made.0.moves ≡ 0) × (made.0.placed ≡ 0)) }
         ensures last { IfOk result (λ made. HasLast graph.now made.0.last) }
         ensures builds { IfOk result (λ made. Builds large graph.now kept.old.bound (texts_of kept.old) (texts_of kept.new) (A.analysed analyst.old) (A.analysed analyst.new) made.1) }
@@ -102,9 +104,9 @@ impl Machine {
         ensures nearly { OnErr result (HoldsKept kept.old (A.held analyst.old) → HoldsNearlyKept kept.new (A.held analyst.new)) }
     {
         let plan = plan_of(alloc, kept.keys(), graph, state, large)?;
-        let holding = holding_of(alloc, graph, &plan.groups, large, state, &plan.large)?;
         let fresh = kept.fill(plan.uses.known(), analyst)?;
-        let body = Body::of_plan(alloc, graph, plan, kept)?;
+        let body = Body::of_plan(alloc, graph, plan, codes, kept)?;
+        let holding = body.holding(graph, large, &[])?;
         kept.put_first(body.uses.known(), analyst);
         let mut machine = Machine::start(body);
         machine.hold(large, holding);
@@ -224,7 +226,7 @@ impl Machine {
         self.body.lasting.use_all(&self.body.uses, kept);
     }
 
-    /// Whether some of its groups are stepped by vicinities, since they are too large for a text.
+    /// Whether some of its groups are stepped by vicinities.
     pub fn has_wide_groups(&self) -> bool
         ensures { result ≡ is_some self.now.wide }
     {
@@ -272,6 +274,24 @@ impl Machine {
         mark_owner(owner, &mut self.body.agenda);
         mark_all(self.body.readers.of(node), &mut self.body.agenda);
         self.placed = placed_after(self.placed, owner);
+    }
+
+    /// What can remember a state of it, and remembers none. It takes no memory.
+    pub fn recall(&self) -> Recall
+        ensures { result.since ≡ None }
+    {
+        Recall::new(*self.body.state.allocator())
+    }
+
+    /// Counts so many steps more that changed the state, and led back to it.
+    pub fn count_moves(&mut self, count: u64)
+        ensures state { self.new.state ≡ self.old.state }
+        ensures fits { (g : GraphData) → FitsGraph g self.old → FitsGraph g self.new }
+        ensures moves { self.new.moves ≡ raised self.old.moves count }
+        ensures placed { self.new.placed ≡ self.old.placed }
+        ensures fixed { fixed_of self.new ≡ fixed_of self.old }
+    {
+        self.moves = moves_raised(self.moves, count);
     }
 
     /// An empty list for the nodes that steps change, if someone looks at them. It takes no memory.
@@ -397,6 +417,14 @@ impl Stepper for Machine {
 
     ghost fixed = { fixed_of };
 
+    fn states(&self) -> &[Tern] {
+        self.state()
+    }
+
+    fn skip(&mut self, count: u64) {
+        self.count_moves(count);
+    }
+
     fn step<L: Ledger>(&mut self, graph: &Graph, steps: &mut Steps<L>) -> bool
         ensures advances { Advances false self.old self.new }
         ensures ticks { IsWorked (marked_sum instructions_of self.old.parts self.old.marks) self.old.wide self.old.state steps.old steps.new }
@@ -439,6 +467,13 @@ fn moves_after(moves: u64, changed: bool) -> u64
     ensures rested { OnFalse changed (result ≡ moves) }
 {
     moves.saturating_add(u64::from(changed))
+}
+
+// The number of moves after so many steps more that changed the state.
+fn moves_raised(moves: u64, count: u64) -> u64
+    ensures { result ≡ raised moves count }
+{
+    moves.saturating_add(count)
 }
 
 // The number of placed members after a node was placed that this part owns, if one does.

@@ -1,15 +1,14 @@
 //! What is found of the parts that wait before they get their codes.
 ghost use Rattle.std.specs.Prelude.{◌≡◌, ◌≢◌, ℕ, ◌<◌, ◌⊎◌, ◌↔◌, None, Some, [], true, length, map, All, Contains, IfOk, OnOk, slice_index_or};
-ghost use Rattle.std.specs.Bool.{OnTrue, OnFalse};
 ghost use Rattle.std.specs.List.Sorted.{IsStrictlyIncreasing};
 ghost use Rattle.channel_groups.specs.Grouping.{AreOf, IsId};
 ghost use Rattle.machine_parts.specs.Marking.{IsMarked};
 ghost use Rattle.machine_laws.specs.Finishing.{first_node};
-ghost use Rattle.wide_groups.specs.Staying.{HoldsNode, HoldsUpTo};
 ghost use Rattle.unit_step.specs.Holding.{IsPassed};
 ghost use Rattle.unit_step.specs.Waking.{AddsUnlessPassed};
 
 use channel_groups::{GroupId, Groups};
+use circuit_texts::GroupSizes;
 use group_text::GroupText;
 use machine_parts::HeldPart;
 use part_steps::Agenda;
@@ -28,25 +27,35 @@ pub(crate) struct Waking {
     pub(crate) reads: Vec<Vec<usize>>,
 }
 
-// The least members of the parts that wait, in order, but for those that are passed over with this bound.
+// What the parts in these slots become, whose groups have these texts: those whose code is long have none. The last list
+// has the slots of those that have theirs.
+#[derive(Drop)]
+pub(crate) struct Risen {
+    pub(crate) slots: Vec<usize>,
+    pub(crate) texts: Vec<GroupText>,
+    pub(crate) parts: Vec<HeldPart>,
+    pub(crate) coded: Vec<usize>,
+}
+
+// The least members of the parts that wait, in order, but for those that are passed over.
 pub(crate) fn least_members(
     alloc: Global,
     parts: &[HeldPart],
     agenda: &Agenda,
     wide: &Option<Wide>,
-    bound: Option<usize>,
+    large: usize,
 ) -> Result<Vec<usize>, AllocError>
     requires counted { length agenda.now.marks ≡ length parts.now }
     requires some { (k : ℕ) → IsMarked agenda.now.waiting k → 0 < length (slice_index_or (map (λ part. part.map.items) parts.now) k []) }
     ensures ascending { IfOk result (λ nodes. IsStrictlyIncreasing nodes.items) }
     ensures all { IfOk result (λ nodes. (k : ℕ) → IsMarked agenda.now.waiting k →
-        Contains nodes.items (first_node parts.now k) ⊎ IsPassed bound wide.now (first_node parts.now k)) }
+        Contains nodes.items (first_node parts.now k) ⊎ IsPassed large wide.now (first_node parts.now k)) }
     ensures only { IfOk result (λ nodes. (node : ℕ) → Contains nodes.items node → (k : ℕ) × IsMarked agenda.now.waiting k × (first_node parts.now k ≡ node)) }
 {
     let mut nodes = Vec::new(alloc);
     for &k in agenda.waiters() {
         if agenda.does_wait(k) {
-            add_unless_passed(least_member(parts, k), wide, bound, &mut nodes)?;
+            add_unless_passed(least_member(parts, k), wide, large, &mut nodes)?;
         }
     }
     nodes.sort_unstable();
@@ -58,12 +67,12 @@ pub(crate) fn least_members(
 fn add_unless_passed(
     node: usize,
     wide: &Option<Wide>,
-    bound: Option<usize>,
+    large: usize,
     nodes: &mut Vec<usize>,
 ) -> Result<(), AllocError>
-    ensures { OnOk result (AddsUnlessPassed bound wide.now node nodes.old.items nodes.new.items) }
+    ensures { OnOk result (AddsUnlessPassed large wide.now node nodes.old.items nodes.new.items) }
 {
-    if is_passed(wide, bound, node) {
+    if is_passed(wide, large, node) {
         return Ok(());
     }
     nodes.push(node)?;
@@ -72,18 +81,8 @@ fn add_unless_passed(
 
 // Whether the group with this least node is passed over: it is stepped by vicinities already, and no such group has more
 // members than the bound.
-fn is_passed(wide: &Option<Wide>, bound: Option<usize>, node: usize) -> bool
-    ensures { (result ≡ true) ↔ IsPassed bound wide.now node }
-{
-    match bound {
-        Some(large) => holds_within(wide, large, node),
-        None => false,
-    }
-}
-
-// Whether this node is a member of a group that is stepped by vicinities, and no such group has more members than `large`.
-fn holds_within(wide: &Option<Wide>, large: usize, node: usize) -> bool
-    ensures { (result ≡ true) ↔ (HoldsUpTo large wide.now × HoldsNode wide.now node) }
+fn is_passed(wide: &Option<Wide>, large: usize, node: usize) -> bool
+    ensures { (result ≡ true) ↔ IsPassed large wide.now node }
 {
     if holds_up_to(wide, large) {
         return holds_node(wide, node);
@@ -91,27 +90,23 @@ fn holds_within(wide: &Option<Wide>, large: usize, node: usize) -> bool
     false
 }
 
-// Whether each of the groups with these ids is stepped by vicinities already.
-pub(crate) fn holds_all(wide: &Option<Wide>, ids: &[GroupId]) -> bool
-    ensures all { OnTrue result (All (λ id. HoldsNode wide.now id.node) ids.now) }
-    ensures some { OnFalse result (¬ All (λ id. HoldsNode wide.now id.node) ids.now) }
-{
-    for &id in ids {
-        if holds_node(wide, id.node()) {
-            continue;
-        }
-        return false;
-    }
-    true
-}
-
 // The least member of a part.
-fn least_member(parts: &[HeldPart], k: usize) -> usize
+pub(crate) fn least_member(parts: &[HeldPart], k: usize) -> usize
     requires inside { k < length parts.now }
     requires some { 0 < length (slice_index_or (map (λ part. part.map.items) parts.now) k []) }
     ensures { result ≡ first_node parts.now k }
 {
     parts[k].map[0]
+}
+
+// Whether there is no group, with a text or without.
+pub(crate) fn has_no_group(sizes: &GroupSizes) -> bool
+    ensures { (result ≡ true) ↔ ((sizes.now.told.items ≡ []) × (sizes.now.large.items ≡ [])) }
+{
+    if sizes.told.is_empty() {
+        return sizes.large.is_empty();
+    }
+    false
 }
 
 // The parts that own the least nodes of the groups with these ids.

@@ -56,6 +56,10 @@ impl SeenStepper for Watched<'_> {
     // It is the same machine, too.
     ghost fixed = { λ watched. (fixed_of watched.machine.now, watched.machine.ghost_name) };
 
+    fn skip(&mut self, count: u64) {
+        self.machine.count_moves(count);
+    }
+
     fn step<L: Ledger>(&mut self, graph: &Graph, steps: &mut Steps<L>) -> bool {
         self.machine.step_listed(graph, steps, self.changed)
     }

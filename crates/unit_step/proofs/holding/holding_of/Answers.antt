@@ -1,27 +1,15 @@
--- Each id is that of a group, so there are groups where there are ids.
-use Rattle.std.proofs.Common.{◌≡◌, [], length, sym, ap, ◌∙◌, arith}
-use Rattle.std.proofs.lemmas.Bool.{eqb-false}
-use Rattle.std.proofs.lemmas.List.{length-map}
-use Rattle.group_meaning.specs.Groups.{Group, id_of}
-use Rattle.channel_groups.specs.declared.group.GroupId.{GroupId}
-use Rattle.circuit_texts.proofs.ChosenLemmas.{chosen-ids}
+-- The members of these parts are held.
+use Rattle.std.proofs.Common.{All, sym, subst}
+use Rattle.unit_step.specs.Holding.{HasNodes}
 use Rattle.unit_step.proofs.holding.holding_of.Goals as goal
 
+pub member_set-requires-clause-there : goal.member_set-requires-clause-there
+member_set-requires-clause-there c = subst (λ n. All (HasNodes n) c.args.parts.now) (sym c.nodes.ensures) c.requires.there
+
 pub returns : goal.returns
-returns c =
-    let groups = c.args.groups.now.groups in
-    let ids = c.args.ids.now in
-    let some = eqb-false (length ids) 0 (sym c.is_empty.ensures ∙ c.if-is_empty.false) in
-    record {
-      some = λ none.
-          let counted : length {A = Group} [] ≡ length ids =
-          sym (ap length none) ∙ (sym (length-map _ id_of)
-          ∙ (ap length (chosen-ids groups ids c.requires.ids) ∙ length-map ids (λ (id : GroupId). id.node))) in
-          omega (arith, some, counted);
-      holds = record {
-        inside = c.in_ok-members.members.inside;
-        members = c.in_ok-members.ensures.members;
-        holds = c.in_ok-wide.ensures;
-      };
-      enough = c.in_ok-noted.ensures.capacity;
-    }
+returns c = record {
+  inside = c.in_ok-members.members.inside;
+  members = c.in_ok-members.ensures.members;
+  holds = c.in_ok-wide.ensures;
+  enough = c.in_ok-noted.ensures.capacity;
+}

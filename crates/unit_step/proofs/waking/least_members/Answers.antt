@@ -16,21 +16,21 @@ use Rattle.unit_step.proofs.waking.least_members.Goals as goal
 use Rattle.unit_step.proofs.waking.least_members.Goals.{then-does_wait+in_ok-add_unless_passed, else-does_wait}
 
 -- what comes unless it is passed over comes behind the others
-added_stays : (bound : Option ℕ) (wide : Option WideData) (node : ℕ) (old new : List ℕ) (n : ℕ) → AddsUnlessPassed bound wide node old new →
+added_stays : (large : ℕ) (wide : Option WideData) (node : ℕ) (old new : List ℕ) (n : ℕ) → AddsUnlessPassed large wide node old new →
     Contains old n → Contains new n
-added_stays bound wide node old new n (inl (same, passed)) there = subst (λ xs. Contains xs n) (sym same) there
-added_stays bound wide node old new n (inr pushed) there =
+added_stays large wide node old new n (inl (same, passed)) there = subst (λ xs. Contains xs n) (sym same) there
+added_stays large wide node old new n (inr pushed) there =
     subst (λ xs. Contains xs n) (sym pushed) (Contains-append_left old (node ∷ []) n there)
 
-added_itself : (bound : Option ℕ) (wide : Option WideData) (node : ℕ) (old new : List ℕ) → AddsUnlessPassed bound wide node old new →
-    Contains new node ⊎ IsPassed bound wide node
-added_itself bound wide node old new (inl (same, passed)) = inr passed
-added_itself bound wide node old new (inr pushed) = inl (subst (λ xs. Contains xs node) (sym pushed) (Contains-push old node))
+added_itself : (large : ℕ) (wide : Option WideData) (node : ℕ) (old new : List ℕ) → AddsUnlessPassed large wide node old new →
+    Contains new node ⊎ IsPassed large wide node
+added_itself large wide node old new (inl (same, passed)) = inr passed
+added_itself large wide node old new (inr pushed) = inl (subst (λ xs. Contains xs node) (sym pushed) (Contains-push old node))
 
-added_cases : (bound : Option ℕ) (wide : Option WideData) (node : ℕ) (old new : List ℕ) (n : ℕ) → AddsUnlessPassed bound wide node old new →
+added_cases : (large : ℕ) (wide : Option WideData) (node : ℕ) (old new : List ℕ) (n : ℕ) → AddsUnlessPassed large wide node old new →
     Contains new n → Contains old n ⊎ (node ≡ n)
-added_cases bound wide node old new n (inl (same, passed)) there = inl (subst (λ xs. Contains xs n) same there)
-added_cases bound wide node old new n (inr pushed) there = Contains-push_cases old node n (subst (λ xs. Contains xs n) pushed there)
+added_cases large wide node old new n (inl (same, passed)) there = inl (subst (λ xs. Contains xs n) same there)
+added_cases large wide node old new n (inr pushed) there = Contains-push_cases old node n (subst (λ xs. Contains xs n) pushed there)
 
 pub returns-clause-ascending : goal.returns-clause-ascending
 returns-clause-ascending c =
@@ -67,9 +67,9 @@ loop-k-preserved c =
           let waits : IsMarked waiting k = sym c.does_wait.ensures ∙ w.if-does_wait.true in
           let now : List ℕ = c.if-does_wait.nodes.items in
           let nodes_are : now ≡ w.add_unless_passed.new.nodes.items = ap (λ (v : Vec ℕ Global). v.items) w.nodes-is in
-          let added : AddsUnlessPassed c.args.bound c.args.wide.now (f k) c.loop-k.nodes.items now =
-          subst (AddsUnlessPassed c.args.bound c.args.wide.now (f k) c.loop-k.nodes.items) (sym nodes_are)
-          (subst (λ node. AddsUnlessPassed c.args.bound c.args.wide.now node c.loop-k.nodes.items w.add_unless_passed.new.nodes.items) w.least_member.ensures
+          let added : AddsUnlessPassed c.args.large c.args.wide.now (f k) c.loop-k.nodes.items now =
+          subst (AddsUnlessPassed c.args.large c.args.wide.now (f k) c.loop-k.nodes.items) (sym nodes_are)
+          (subst (λ node. AddsUnlessPassed c.args.large c.args.wide.now node c.loop-k.nodes.items w.add_unless_passed.new.nodes.items) w.least_member.ensures
           w.in_ok-add_unless_passed.ensures) in
           record {
             all = λ l there marked.
@@ -79,7 +79,7 @@ loop-k-preserved c =
                         | inl among ↦ inl (added_stays _ _ _ _ _ (f l) added among)
                         | inr passed ↦ inr passed
                       ]
-                  | inr same ↦ subst (λ n. Contains now (f n) ⊎ IsPassed c.args.bound c.args.wide.now (f n)) same (added_itself _ _ _ _ _ added)
+                  | inr same ↦ subst (λ n. Contains now (f n) ⊎ IsPassed c.args.large c.args.wide.now (f n)) same (added_itself _ _ _ _ _ added)
                 ];
             only = λ node there.
                 elim (added_cases _ _ _ _ _ node added there) [
@@ -91,7 +91,7 @@ loop-k-preserved c =
           let same_nodes : c.if-does_wait.nodes.items ≡ c.loop-k.nodes.items = ap (λ (v : Vec ℕ Global). v.items) w.nodes-is in
           record {
             all = λ l there marked.
-                subst (λ nodes. Contains nodes (f l) ⊎ IsPassed c.args.bound c.args.wide.now (f l)) (sym same_nodes)
+                subst (λ nodes. Contains nodes (f l) ⊎ IsPassed c.args.large c.args.wide.now (f l)) (sym same_nodes)
                 (elim (Contains-push_cases (take i items) k l (subst (λ xs. Contains xs l) more there)) [
                   | inl before ↦ c.loop-k.invariant.all l before marked
                   | inr same ↦

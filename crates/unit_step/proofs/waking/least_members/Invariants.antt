@@ -9,6 +9,6 @@ use Rattle.unit_step.proofs.waking.least_members.Given as goal
 abbrev pub invariant-loop-k : goal.invariant-loop-k
 invariant-loop-k l = record {
   all : (k : ℕ) → Contains (take l.k-index l.k-items) k → IsMarked l.agenda.waiting k →
-      Contains l.nodes.items (first_node l.parts k) ⊎ IsPassed l.bound l.wide (first_node l.parts k);
+      Contains l.nodes.items (first_node l.parts k) ⊎ IsPassed l.large l.wide (first_node l.parts k);
   only : (node : ℕ) → Contains l.nodes.items node → (k : ℕ) × IsMarked l.agenda.waiting k × (first_node l.parts k ≡ node);
 }

@@ -1,9 +1,11 @@
 -- The parts are those of the graph's groups, all marked, so the machine that starts is ready.
-use Rattle.std.proofs.Common.{◌≡◌, ℕ, ◌++◌, List, All, None, Some, length, map, replicate, refl, sym, ap, subst, ◌∙◌, arith}
+use Rattle.std.proofs.Common.{◌≡◌, ℕ, ◌<◌, ◌++◌, List, All, None, Some, length, map, replicate, refl, sym, ap, subst, ◌∙◌, arith}
 use Rattle.std.specs.Prelude.{zip}
 use Rattle.std.specs.List.{AllZip}
-use Rattle.std.proofs.lemmas.List.{length-map}
+use Rattle.std.specs.Vec.{with_items}
+use Rattle.std.proofs.lemmas.List.{length-map, with_items_is}
 use Rattle.std.proofs.lemmas.Slice.Zip.{AllZip-long}
+use Rattle.path_meaning.specs.Graphs.{nodes}
 use Rattle.group_meaning.specs.Groups.{id_of}
 use Rattle.channel_groups.specs.declared.group.GroupId.{GroupId}
 use Rattle.channel_groups.specs.Grouping.{IsId}
@@ -15,12 +17,17 @@ use Rattle.circuit_texts.proofs.ChosenLemmas.{chosen-ids}
 use Rattle.circuit_texts.specs.Told.{told, with_text, without_text}
 use Rattle.kept_parts.specs.Uses.{texts_used}
 use Rattle.kept_parts.proofs.GroupParts.{parts_of_groups}
-use Rattle.machine_parts.specs.Making.{held}
+use Rattle.machine_parts.specs.Making.{held, IsFormed}
+use Rattle.machine_parts.specs.Parts.{AreApart}
+use Rattle.part_steps.specs.Dense.{HaveCodes}
+use Rattle.machine_parts.specs.declared.part.HeldPart.{HeldPart}
+use Rattle.machine_laws.specs.Fitting.{AreUntold}
+use Rattle.machine_laws.specs.Finishing.{Loosens}
 use Rattle.machine_laws.specs.Holding.{IsReady}
 use Rattle.machine_laws.specs.Seating.{IsStalePartOf}
 use Rattle.unit_step.specs.Bodies.{started}
 use Rattle.unit_step.proofs.BuildLemmas.{numbers_counted, all_numbered}
-use Rattle.unit_step.proofs.BodyLemmas.{formed_planned, apart_planned, reads_planned, coded_planned, numbered_planned, stale_planned, IsReady-planned, IsReady-of_body, HasLast-of_body}
+use Rattle.unit_step.proofs.BodyLemmas.{codes_counted, formed_planned, apart_planned, reads_planned, coded_planned, numbered_planned, some_planned, untold_planned, IsReady-planned, IsReady-of_body, HasLast-of_body, AreUntold-of_body}
 use Rattle.unit_step.proofs.body.Body.of_plan.Goals.{In_ok-parts, In_ok-add_stale}
 use Rattle.unit_step.proofs.body.Body.of_plan.Goals as goal
 
@@ -49,6 +56,12 @@ held_parts-requires c =
     AllZip-long (λ group list. AreReads c.args.graph.now group list.items) (with_text c.args.plan.groups.groups) c.args.plan.reads.items c.requires.plan.1.reads
     ∙ sym (AllZip-long (IsPartOf c.args.graph.now) (with_text c.args.plan.groups.groups) c.in_ok-parts.parts.items of)
 
+pub loosen_new-requires : goal.loosen_new-requires
+loosen_new-requires c =
+    let of = of_groups (goal.at.loosen_new-requires c).In_ok-parts in
+    let counted = codes_counted c.requires.plan.0 c.args.graph.now c.args.plan c.requires.plan.1 c.in_ok-parts.parts.items of in
+    rw (c.deref_mut.ensures.value, c.in_ok-held.ensures) (record { numbered = omega (arith, counted) })
+
 pub add_stale-requires-clause-groups : goal.add_stale-requires-clause-groups
 add_stale-requires-clause-groups c = c.requires.plan.1.are
 
@@ -62,7 +75,20 @@ stale_of c =
     subst (λ groups. AllZip (λ group part. IsStalePartOf group.members part) groups c.in_ok-add_stale.ensures.adds.more)
     (ap (λ (ids : List GroupId). chosen c.args.plan.groups.groups ids) c.deref.ensures.value ∙ c.requires.plan.1.untold) c.in_ok-add_stale.ensures.adds.are
 
--- so many are these as there are such groups
+-- those in front are the parts of the others, of which some have no code any more
+fronts : In_ok-add_stale → List HeldPart
+fronts c = (with_items c.in_ok-held.held c.loosen_new.new.parts).items
+
+fronts_are : (c : In_ok-add_stale) → fronts c ≡ c.loosen_new.new.parts
+unfolding fronts
+fronts_are c = with_items_is c.in_ok-held.held c.loosen_new.new.parts (omega (arith, c.loosen_new.auto.parts, c.deref_mut.ensures.len))
+
+loosens_in : (c : In_ok-add_stale) → Loosens (map held (zip c.in_ok-parts.parts.items c.args.plan.reads.items)) (fronts c)
+loosens_in c =
+    subst (Loosens (map held (zip c.in_ok-parts.parts.items c.args.plan.reads.items))) (sym (fronts_are c))
+    (subst (λ list. Loosens list c.loosen_new.new.parts) (c.deref_mut.ensures.value ∙ c.in_ok-held.ensures) c.loosen_new.ensures.loosens)
+
+-- so many are the stale ones as there are groups without a text
 stale_long : (c : In_ok-add_stale) → length c.in_ok-add_stale.ensures.adds.more ≡ length c.args.plan.large.items
 stale_long c =
     let ids = c.args.plan.large.items in
@@ -72,8 +98,9 @@ stale_long c =
     ∙ (ap length (chosen-ids c.args.plan.groups.groups ids c.requires.plan.1.ids) ∙ length-map ids (λ (id : GroupId). id.node))))
 
 -- the parts with the stale ones behind
-parts_are : (c : In_ok-add_stale) → c.add_stale.new.parts.items ≡ map held (zip c.in_ok-parts.parts.items c.args.plan.reads.items) ++ c.in_ok-add_stale.ensures.adds.more
-parts_are c = c.in_ok-add_stale.ensures.adds.parts ∙ ap (λ list. list ++ c.in_ok-add_stale.ensures.adds.more) c.in_ok-held.ensures
+parts_are : (c : In_ok-add_stale) → c.add_stale.new.parts.items ≡ fronts c ++ c.in_ok-add_stale.ensures.adds.more
+unfolding fronts
+parts_are c = c.in_ok-add_stale.ensures.adds.parts
 
 numbers_are : (c : In_ok-add_stale) → c.add_stale.new.uses.numbers ≡ c.args.plan.uses.numbers ++ replicate (length c.in_ok-add_stale.ensures.adds.more) None
 numbers_are c =
@@ -83,6 +110,7 @@ numbers_are c =
 pub of_parts-requires : goal.of_parts-requires
 of_parts-requires c =
     let at = goal.at.of_parts-requires c in
+    let added = at.In_ok-add_stale in
     let g = c.args.graph.now in
     let plan = c.args.plan in
     let is_plan = c.requires.plan.1 in
@@ -91,16 +119,24 @@ of_parts-requires c =
     let wired = c.graphs_are_wired.ensures in
     let of = of_groups at.In_ok-parts in
     let behind = c.in_ok-add_stale.ensures.adds.more in
-    let stale = stale_of at.In_ok-add_stale in
-    let count : c.len.result ≡ length behind = omega (arith, c.len.ensures, plan.large.ok.0, stale_long at.In_ok-add_stale) in
-    rw (parts_are at.In_ok-add_stale, numbers_are at.In_ok-add_stale, c.requires.counted, count) (record {
-      formed = formed_planned large g wired plan is_plan parts of behind stale;
-      stale = stale_planned large g wired plan is_plan parts of behind stale;
-      apart = apart_planned large g wired plan is_plan parts of behind stale;
-      reads = reads_planned large g wired plan is_plan parts of behind stale;
-      numbered = numbered_planned large g wired plan is_plan parts of behind stale;
-      coded = coded_planned large g wired plan is_plan parts of behind stale c.in_ok-parts.ensures.coded;
-    })
+    let stale = stale_of added in
+    let front = fronts added in
+    let loosens = loosens_in added in
+    let counted = sym c.requires.counted in
+    let back = sym (parts_are added) in
+    record {
+      formed = subst (λ n. All (IsFormed n) c.add_stale.new.parts.items) counted
+          (subst (All (IsFormed (nodes g))) back (formed_planned large g wired plan is_plan parts of behind stale front loosens));
+      some = subst (All (λ (part : HeldPart). 0 < part.members)) back (some_planned large g wired plan is_plan parts of behind stale front loosens);
+      apart = subst AreApart back (apart_planned large g wired plan is_plan parts of behind stale front loosens);
+      reads = subst (λ n. All (λ (part : HeldPart). All (λ node. node < n) part.reads.items) c.add_stale.new.parts.items) counted
+          (subst (All (λ (part : HeldPart). All (λ node. node < nodes g) part.reads.items)) back
+          (reads_planned large g wired plan is_plan parts of behind stale front loosens));
+      numbered = ap length (numbers_are added) ∙ (numbered_planned large g wired plan is_plan parts of behind stale front loosens ∙ ap length back);
+      coded = subst (HaveCodes c.add_stale.new.uses.numbers) back
+          (subst (λ numbers. HaveCodes numbers (front ++ behind)) (sym (numbers_are added))
+          (coded_planned large g wired plan is_plan parts of behind stale front loosens c.in_ok-parts.ensures.coded));
+    }
 
 -- the machine that starts with the parts is ready
 ready : (c : In_ok-add_stale) → AllZip (IsPartOf c.args.graph.now) (with_text c.args.plan.groups.groups) c.in_ok-parts.parts.items →
@@ -110,7 +146,7 @@ ready c of last spare =
     subst (λ list. IsReady c.args.graph.now (started (Some c.args.plan.groups) list c.args.plan.state.items (texts_used c.add_stale.new.uses) last spare))
     (sym (parts_are c))
     (IsReady-planned c.requires.plan.0 c.args.graph.now c.graphs_are_wired.ensures c.args.plan c.requires.plan.1 c.in_ok-parts.parts.items of
-    c.in_ok-add_stale.ensures.adds.more (stale_of c) c.requires.counted c.add_stale.new.uses c.add_stale.ensures.known (numbers_are c) last spare)
+    c.in_ok-add_stale.ensures.adds.more (stale_of c) (fronts c) (loosens_in c) c.requires.counted c.add_stale.new.uses c.add_stale.ensures.known (numbers_are c) last spare)
 
 pub returns-clause-begins : goal.returns-clause-begins
 returns-clause-begins c =
@@ -118,6 +154,17 @@ returns-clause-begins c =
     IsReady-of_body c.args.graph.now (Some c.args.plan.groups) c.add_stale.new.parts c.args.plan.state c.add_stale.new.uses
     (ready at.In_ok-add_stale (of_groups at.In_ok-parts)) c.of_parts.result c.of_parts.ensures.groups c.of_parts.ensures.parts c.of_parts.ensures.state
     c.of_parts.ensures.uses
+
+pub returns-clause-all : goal.returns-clause-all
+returns-clause-all c = λ all.
+    let at = goal.at.returns-clause-all c in
+    let added = at.In_ok-add_stale in
+    let same : fronts added ≡ map held (zip c.in_ok-parts.parts.items c.args.plan.reads.items) =
+    fronts_are added ∙ (c.loosen_new.ensures.all all ∙ (c.deref_mut.ensures.value ∙ c.in_ok-held.ensures)) in
+    let untold = untold_planned c.requires.plan.0 c.args.graph.now c.graphs_are_wired.ensures c.args.plan c.requires.plan.1 c.in_ok-parts.parts.items
+    (of_groups at.In_ok-parts) c.in_ok-add_stale.ensures.adds.more (stale_of added) (fronts added) (loosens_in added) same in
+    AreUntold-of_body c.args.graph.now c.add_stale.new.parts c.of_parts.result
+    (subst (AreUntold c.args.graph.now) (sym (parts_are added)) untold) c.of_parts.ensures.parts
 
 pub returns-clause-last : goal.returns-clause-last
 returns-clause-last c =

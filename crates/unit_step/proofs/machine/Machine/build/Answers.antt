@@ -1,15 +1,12 @@
 -- The new ones of the distinct texts are analysed, which are the new ones of the groups' texts.
-use Rattle.std.proofs.Common.{◌≡◌, List, All, Option, None, Vec, Global, sym, ap, subst, ◌∙◌}
+use Rattle.std.proofs.Common.{◌≡◌, inl, [], length, List, All, Option, None, Vec, Global, sym, ap, subst, ◌∙◌}
 use Rattle.std.proofs.lemmas.Option.{slice_get_within, get_or_from_slice_get}
+use Rattle.std.proofs.lemmas.Result.{err_from_is_err_and}
 use Rattle.ternary.specs.declared.tern.Tern.{Tern}
-use Rattle.path_meaning.specs.Graphs.{GraphData}
+use Rattle.path_meaning.specs.Graphs.{GraphData, nodes}
 use Rattle.path_meaning.specs.Rails.{IsSound}
 use Rattle.group_meaning.proofs.UniqueGroups.{unique}
-use Rattle.channel_groups.specs.declared.group.GroupId.{GroupId}
-use Rattle.channel_groups.specs.Grouping.{IsId}
-use Rattle.circuit_texts.specs.Choosing.{chosen}
 use Rattle.circuit_texts.specs.Sizes.{NoneRefused, refused_in}
-use Rattle.circuit_texts.specs.Told.{without_text}
 use Rattle.group_text.specs.FirstTexts.{new_texts}
 use Rattle.group_text.specs.Texts.{GroupTextData}
 use Rattle.group_analysis.specs.Using.{kept_after}
@@ -18,12 +15,12 @@ use Rattle.analysis_cache.specs.Adding.{FillsAll}
 use Rattle.circuit_texts.specs.Building.{Builds, BuildsFresh}
 use Rattle.vicinity.specs.Wides.{WideData}
 use Rattle.machine_laws.specs.Machines.{MachineData}
-use Rattle.machine_laws.specs.Fitting.{FitsGraph}
+use Rattle.machine_laws.specs.Fitting.{FitsGraph, AreUntold}
 use Rattle.machine_laws.specs.Beginnings.{HasLast}
 use Rattle.machine_laws.specs.Holding.{IsReady}
 use Rattle.unit_step.specs.Planning.{IsPlan}
-use Rattle.unit_step.specs.Holding.{HoldsGroups, wide_after}
-use Rattle.unit_step.proofs.HoldingLemmas.{FitsGraph-held_by, HoldsWide-held_by, none_held, none_after, holds_anew}
+use Rattle.unit_step.specs.Holding.{HasNodes, HoldsNext, HoldsNextIn, wide_after}
+use Rattle.unit_step.proofs.HoldingLemmas.{FitsGraph-next, HoldsWide-next, none_held, none_after}
 use Rattle.analysis_cache.proofs.HoldingLemmas.{HoldsNearlyKept-same}
 use Rattle.machine_laws.proofs.FillingLemmas.{on_err, IsGrown-same, IsGrown-filled, IsGrown-cut_off, Builds-first, cut_off_front, cut_off_end}
 use Rattle.unit_step.proofs.BuildLemmas.{HasTexts-planned, planned_texts}
@@ -91,14 +88,6 @@ state_same g c =
     ap (λ (m : MachineData). m.state) c.start-machine.ensures
     ∙ (ap (λ (state : Vec Tern Global). state.items) c.in_ok-body.ensures.state ∙ c.in_ok-plan.ensures.plan.state_is)
 
--- the groups without a text are held under it
-held : (g : Over) (c : After-start-machine g) → HoldsGroups c.args.large c.args.graph.now (without_text c.in_ok-plan.plan.groups.groups) c.start-machine.result.state c.in_ok-holding.holding
-held g c =
-    let plan = c.in_ok-plan.ensures.plan in
-    subst (λ state. HoldsGroups c.args.large c.args.graph.now (without_text c.in_ok-plan.plan.groups.groups) state c.in_ok-holding.holding) (sym (state_same g c))
-    (subst (λ groups. HoldsGroups c.args.large c.args.graph.now groups c.args.state.now c.in_ok-holding.holding)
-    (ap (λ (ids : List GroupId). chosen c.in_ok-plan.plan.groups.groups ids) c.deref.ensures.value ∙ plan.untold) c.in_ok-holding.ensures)
-
 few : (g : Over) (c : After-start-machine g) → NoneRefused c.args.large c.args.graph.now
 few g c = λ groups are k group at.
     let plan = c.in_ok-plan.ensures.plan in
@@ -106,22 +95,38 @@ few g c = λ groups are k group at.
     let fits = subst (All (λ one. refused_in c.args.large one ≡ None)) same plan.fit in
     subst (λ one. refused_in c.args.large one ≡ None) (get_or_from_slice_get groups k group group at) (fits k group (slice_get_within groups k group at))
 
-pub holding_of-requires-clause-groups : goal.holding_of-requires-clause-groups
-holding_of-requires-clause-groups g c = c.in_ok-plan.ensures.plan.are
-
-pub holding_of-requires-clause-ids : goal.holding_of-requires-clause-ids
-holding_of-requires-clause-ids g c =
-    subst (All (λ (id : GroupId). IsId c.in_ok-plan.plan.groups.groups id.node)) (sym c.deref.ensures.value) c.in_ok-plan.ensures.plan.ids
-
 pub of_plan-requires-clause-plan : goal.of_plan-requires-clause-plan
 of_plan-requires-clause-plan g c =
     (c.args.large, subst (λ state. IsPlan c.args.large c.args.graph.now state c.in_ok-plan.plan) (sym c.in_ok-plan.ensures.plan.state_is) c.in_ok-plan.ensures.plan)
 
+-- what is to be held
+next_in : (g : Over) (c : After-start-machine g) → HoldsNextIn c.args.large c.args.graph.now c.start-machine.result [] c.in_ok-holding.holding
+next_in g c =
+    let body = c.in_ok-body.body in
+    let known = subst (λ wide. HoldsNext c.args.large c.args.graph.now body.parts.items wide body.state.items [] c.in_ok-holding.holding)
+    c.in_ok-body.ensures.starts.without c.in_ok-holding.ensures in
+    subst (λ (m : MachineData). HoldsNextIn c.args.large c.args.graph.now m [] c.in_ok-holding.holding) (sym c.start-machine.ensures) known
+
+pub holding-requires : goal.holding-requires
+holding-requires g c =
+    let body = c.in_ok-body.body in
+    let runs = c.in_ok-body.ensures.starts.runs.runs in
+    let counted : length body.state.items ≡ nodes c.args.graph.now =
+    ap (λ (state : Vec Tern Global). length state.items) c.in_ok-body.ensures.state ∙ (ap length c.in_ok-plan.ensures.plan.state_is ∙ c.requires.counted) in
+    record {
+      counted = counted;
+      there = subst (λ n. All (HasNodes n) body.parts.items) counted (λ k d inside.
+          let seat = runs.seated k d inside in
+          record { below = seat.below; members = seat.members });
+      waits = λ k. (runs.waits k, runs.stale k);
+    }
+
 pub hold-requires : goal.hold-requires
 hold-requires g c =
-    let begin = (goal.at.hold-requires g c).After-start-machine in
-    HoldsWide-held_by c.args.large c.args.graph.now c.start-machine.result (begins g begin) (few g begin) c.requires.railed
-    (subst IsSound (sym (state_same g begin)) c.requires.sound) c.in_ok-plan.plan.groups.groups c.in_ok-plan.ensures.plan.are.are c.in_ok-holding.holding (held g begin)
+    let at = goal.at.hold-requires g c in
+    let begin = at.After-start-machine in
+    HoldsWide-next c.args.large c.args.graph.now c.start-machine.result (begins g begin) (few g begin) c.requires.railed
+    (subst IsSound (sym (state_same g begin)) c.requires.sound) c.in_ok-holding.holding (next_in g begin)
 
 -- a machine that is another one but for the groups that are held fits, if that one fits with these groups
 fits_with : (g : GraphData) (m new : MachineData) (wide : Option WideData) → new ≡ record m { wide = wide } → FitsGraph g (record m { wide = wide }) →
@@ -130,32 +135,48 @@ fits_with g m new wide same fits = subst (FitsGraph g) (sym same) fits
 
 pub returns-clause-fits : goal.returns-clause-fits
 returns-clause-fits g c =
-    let begin = (goal.at.returns-clause-fits g c).After-start-machine in
+    let at = goal.at.returns-clause-fits g c in
+    let begin = at.After-start-machine in
     fits_with c.args.graph.now c.start-machine.result _ _ c.hold.ensures
-    (FitsGraph-held_by c.args.large c.args.graph.now c.start-machine.result (begins g begin) (few g begin) c.requires.railed
-    (subst IsSound (sym (state_same g begin)) c.requires.sound) c.in_ok-plan.plan.groups.groups c.in_ok-plan.ensures.plan.are.are c.in_ok-holding.holding (held g begin))
+    (FitsGraph-next c.args.large c.args.graph.now c.start-machine.result (begins g begin) (few g begin) c.requires.railed
+    (subst IsSound (sym (state_same g begin)) c.requires.sound) c.in_ok-holding.holding (next_in g begin))
 
 pub returns-clause-without : goal.returns-clause-without
-returns-clause-without g c = λ zero_is.
-    let begin = (goal.at.returns-clause-without g c).After-start-machine in
+returns-clause-without g c = λ all zero_is.
+    let at = goal.at.returns-clause-without g c in
+    let begin = at.After-start-machine in
+    let untold : AreUntold c.args.graph.now c.start-machine.result.parts =
+    subst (λ (m : MachineData). AreUntold c.args.graph.now m.parts) (sym c.start-machine.ensures) (c.in_ok-body.ensures.all all) in
     ap (λ (m : MachineData). m.wide) c.hold.ensures
     ∙ none_after c.args.large c.start-machine.result.wide c.in_ok-holding.holding (without g begin)
-    (none_held c.args.graph.now c.in_ok-plan.plan.groups.groups c.in_ok-plan.ensures.plan.are.are
-    (subst (λ large. NoneRefused large c.args.graph.now) zero_is (few g begin)) c.start-machine.result.state c.in_ok-holding.holding
-    (holds_anew 0 c.args.graph.now (without_text c.in_ok-plan.plan.groups.groups) c.start-machine.result.state c.in_ok-holding.holding
-    (subst (λ large. HoldsGroups large c.args.graph.now (without_text c.in_ok-plan.plan.groups.groups) c.start-machine.result.state c.in_ok-holding.holding) zero_is (held g begin))))
+    (none_held c.args.graph.now c.start-machine.result c.in_ok-holding.holding (begins g begin).covers untold
+    (subst (λ large. NoneRefused large c.args.graph.now) zero_is (few g begin))
+    (subst (λ large. HoldsNextIn large c.args.graph.now c.start-machine.result [] c.in_ok-holding.holding) zero_is (next_in g begin)))
 
 pub returns-clause-last : goal.returns-clause-last
 returns-clause-last g c =
     subst (λ (m : MachineData). HasLast c.args.graph.now m.last) (sym (c.hold.ensures ∙ ap (λ (m : MachineData). record m { wide = wide_after c.args.large m.wide c.in_ok-holding.holding }) c.start-machine.ensures))
     c.in_ok-body.ensures.last
 
+pub returns-in_err-holding-clause-cut_off : goal.returns-in_err-holding-clause-cut_off
+returns-in_err-holding-clause-cut_off g c = λ is.
+    cut_off_end c.args.large c.args.graph.now c.args.kept.now c.fill.new.self _ _ _ _ c.known.result.now _ c.known.ensures
+    (fresh_in g (goal.at.returns-in_err-holding-clause-cut_off g c).In_ok-plan) c.in_ok-fresh.fresh c.in_ok-fresh.ensures.ok
+
+pub returns-in_err-holding-clause-refused : goal.returns-in_err-holding-clause-refused
+returns-in_err-holding-clause-refused g c =
+    let told = err_from_is_err_and c.from_residual-in_err-holding.result c.from_residual-in_err-holding.ensures.1 in
+    rw told.1 (inl told.2)
+
 pub returns-in_err-holding-clause-grown : goal.returns-in_err-holding-clause-grown
-returns-in_err-holding-clause-grown g c = on_err c.from_residual-in_err-holding.result (IsGrown-same c.args.kept.now)
+returns-in_err-holding-clause-grown g c =
+    on_err c.from_residual-in_err-holding.result
+    (IsGrown-filled c.args.large c.args.graph.now c.args.kept.now c.fill.new.self _ _ _ _ c.known.result.now c.in_ok-fresh.fresh c.in_ok-fresh.ensures.ok)
 
 pub returns-in_err-holding-clause-nearly : goal.returns-in_err-holding-clause-nearly
 returns-in_err-holding-clause-nearly g c =
-    on_err c.from_residual-in_err-holding.result (HoldsNearlyKept-same c.args.kept.now (g.A.Analyst.held c.args.analyst.now))
+    on_err c.from_residual-in_err-holding.result (λ holds.
+    HoldsNearlyKept-same c.fill.new.self (g.A.Analyst.held c.fill.new.analyst) (c.in_ok-fresh.ensures.holds holds))
 
 pub returns-in_err-plan-clause-nearly : goal.returns-in_err-plan-clause-nearly
 returns-in_err-plan-clause-nearly g c =

@@ -1,5 +1,5 @@
 -- The parts that wait are found by their least members.
-use Rattle.std.proofs.Common.{◌≡◌, ℕ, ◌⊎◌, inl, inr, List, map, All, None, Some, sym, ap, subst, ◌∙◌}
+use Rattle.std.proofs.Common.{◌≡◌, ℕ, ◌⊎◌, inl, inr, List, map, All, None, Some, refl, sym, ap, subst, ◌∙◌}
 use Rattle.std.specs.Prelude.{Contains, IfOk}
 use Rattle.std.proofs.lemmas.Option.{slice_get_within, get_or_from_slice_get}
 use Rattle.group_meaning.specs.Groups.{Group}
@@ -30,7 +30,7 @@ covers_in c = subst (Covers c.args.graph.now) (sym c.self.view_is) c.requires.co
 
 -- which groups are passed over
 abbrev passed_in : In_ok-nodes → ℕ → Type 0
-passed_in c = IsPassed c.args.bound c.self.inside.body.wide
+passed_in c = IsPassed c.args.large c.self.inside.body.wide
 
 -- the nodes are the first ones of the stale parts that aren't
 nodes_all : (c : In_ok-nodes) (k : ℕ) → IsStale c.self.inside.body.parts.items k →
@@ -95,7 +95,7 @@ returns-clause-refused c =
       | inr first ↦
           inr (TellsRefused-waiting g (the_view c.self.inside) covers _ c.self.inside.body.owners.items c.self.invariant.0.own c.in_ok-nodes.nodes.items
           c.in_ok-nodes.ensures.ascending (passed_in begin) (nodes_all begin) (nodes_only begin) large
-          (passed_fits g (the_view c.self.inside) covers c.args.bound large c.requires.bound) fault
+          (passed_fits g (the_view c.self.inside) covers large) fault
           (subst (λ (groups : List Group). IsFirstRefused large groups fault) (chosen_are begin c.in_ok-waiting.waiting.items c.deref-3.result.now c.deref-3.ensures.value (c.in_ok-waiting.ensures.ids ∙ c.deref-2.ensures.value)) first))
     ]) c.sizes_at.ensures.refused
 
@@ -110,7 +110,7 @@ returns-clause-few c =
     (λ fit groups are k group stands.
     let fits = none_refused g (the_view c.self.inside) covers _ c.self.inside.body.owners.items c.self.invariant.0.own c.in_ok-nodes.nodes.items
     c.in_ok-nodes.ensures.ascending (passed_in begin) (nodes_all begin) (nodes_only begin) large
-    (passed_fits g (the_view c.self.inside) covers c.args.bound large c.requires.bound)
+    (passed_fits g (the_view c.self.inside) covers large)
     (subst (All (λ one. refused_in large one ≡ None)) (chosen_are begin c.in_ok-waiting.waiting.items c.deref-3.result.now c.deref-3.ensures.value (c.in_ok-waiting.ensures.ids ∙ c.deref-2.ensures.value)) fit) in
     let all = subst (All (λ one. refused_in large one ≡ None)) (unique g covers.groups.groups groups covers.are.are are) fits in
     subst (λ one. refused_in large one ≡ None) (get_or_from_slice_get groups k group group stands) (all k group (slice_get_within groups k group stands)))
@@ -134,18 +134,14 @@ returns-clause-due c =
     let Told : GroupSizes → Type 0 = λ sizes. chosen c.in-Some.groups.groups sizes.told.items ≡ with_text (chosen c.in-Some.groups.groups c.deref-3.result.now) in
     let Large : GroupSizes → Type 0 = λ sizes. chosen c.in-Some.groups.groups sizes.large.items ≡ without_text (chosen c.in-Some.groups.groups c.deref-3.result.now) in
     let ToldIds : GroupSizes → Type 0 = λ sizes. All (λ (id : GroupId). IsId c.in-Some.groups.groups id.node) sizes.told.items in
-    let LargeIds : GroupSizes → Type 0 = λ sizes. All (λ (id : GroupId). IsId c.in-Some.groups.groups id.node) sizes.large.items in
-    let all = both_ok result (λ sizes. Told sizes × Large sizes) (λ sizes. ToldIds sizes × LargeIds sizes)
-    (both_ok result Told Large c.sizes_at.ensures.told c.sizes_at.ensures.large)
-    (both_ok result ToldIds LargeIds c.sizes_at.ensures.told_ids c.sizes_at.ensures.large_ids) in
-    subst (λ (m : MachineData). IfOk result (AreDue g m c.args.bound)) c.self.view_is
-    (if_ok result (λ sizes. (Told sizes × Large sizes) × (ToldIds sizes × LargeIds sizes)) (AreDue g v c.args.bound)
+    subst (λ (m : MachineData). IfOk result (AreDue g m c.args.large)) c.self.view_is
+    (if_ok result (λ sizes. Told sizes × (Large sizes × ToldIds sizes)) (AreDue g v c.args.large)
     (λ sizes facts.
-    AreDue-found g v covers c.args.bound sizes due
-    (ap (λ all. chosen all sizes.told.items) (sym same) ∙ (facts.0.0 ∙ ap with_text waiting))
-    (ap (λ all. chosen all sizes.large.items) (sym same) ∙ (facts.0.1 ∙ ap without_text waiting))
-    (subst (λ all. All (λ (id : GroupId). IsId all id.node) sizes.told.items) same facts.1.0)
-    (subst (λ all. All (λ (id : GroupId). IsId all id.node) sizes.large.items) same facts.1.1)
+    AreDue-found g v covers c.args.large sizes due
+    (ap (λ all. chosen all sizes.told.items) (sym same) ∙ (facts.0 ∙ ap with_text waiting))
+    (ap (λ all. chosen all sizes.large.items) (sym same) ∙ (facts.1.0 ∙ ap without_text waiting))
+    (subst (λ all. All (λ (id : GroupId). IsId all id.node) sizes.told.items) same facts.1.1)
     (slot_now g v covers _ owners own nodes c.in_ok-nodes.ensures.ascending (passed_in begin) (nodes_all begin) (nodes_only begin))
-    (due_now g v covers _ owners own nodes c.in_ok-nodes.ensures.ascending (passed_in begin) (nodes_all begin) (nodes_only begin)))
-    all)
+    (due_now g v covers _ owners own nodes c.in_ok-nodes.ensures.ascending (passed_in begin) (nodes_all begin) (nodes_only begin)) refl)
+    (both_ok result Told (λ sizes. Large sizes × ToldIds sizes) c.sizes_at.ensures.told
+    (both_ok result Large ToldIds c.sizes_at.ensures.large c.sizes_at.ensures.told_ids)))

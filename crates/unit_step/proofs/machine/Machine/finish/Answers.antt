@@ -1,11 +1,10 @@
 -- What is woken fits the graph, and with the texts of the last build in front it leaves what a build leaves.
-use Rattle.std.proofs.Common.{◌∙◌, ◌≡◌, true, inl, All, sym, ap, subst}
+use Rattle.std.proofs.Common.{◌≡◌, true, All, sym, subst}
 use Rattle.std.proofs.lemmas.Result.{err_from_is_err_and}
 use Rattle.group_text.specs.FirstTexts.{is_among}
 use Rattle.group_analysis.specs.Using.{used_texts}
 use Rattle.analysis_cache.specs.Keeping.{texts_of}
 use Rattle.circuit_texts.specs.Building.{Builds}
-use Rattle.machine_laws.specs.Machines.{MachineData}
 use Rattle.machine_laws.specs.Editing.{StaysKnown}
 use Rattle.machine_laws.proofs.FillingLemmas.{on_err}
 use Rattle.unit_step.specs.Lasting.{IsLeft}
@@ -20,7 +19,7 @@ returns-in_err-fresh-clause-cut_off g c = λ is.
     (g.A.Analyst.analysed c.args.analyst.now) (g.A.Analyst.analysed c.wake.new.analyst) (c.in_err-fresh.ensures.cut_off (cc (p.1, p.2, is)))
 
 pub settle_last-requires-clause-textless : goal.settle_last-requires-clause-textless
-settle_last-requires-clause-textless g c = λ k part stands none. c.in_ok-fresh.ensures.rouses.fits.covers.textless k part stands (inl none)
+settle_last-requires-clause-textless g c = λ k part stands none. c.in_ok-fresh.ensures.rouses.fits.covers.textless k part stands none
 
 pub settle_last-requires-clause-last : goal.settle_last-requires-clause-last
 settle_last-requires-clause-last g c =
@@ -59,10 +58,6 @@ returns-in_err-fresh-clause-nearly g c = on_err c.from_residual.result c.in_err-
 
 pub returns-clause-holds : goal.returns-clause-holds
 returns-clause-holds g c = λ holds. c.settle_last.ensures.holds (c.in_ok-fresh.ensures.holds holds)
-
-pub returns-clause-without : goal.returns-clause-without
-returns-clause-without g c = λ zero_is none.
-    ap (λ (m : MachineData). m.wide) c.settle_last.ensures.same ∙ c.in_ok-fresh.ensures.without zero_is none
 
 pub returns-clause-stays : goal.returns-clause-stays
 returns-clause-stays g c =

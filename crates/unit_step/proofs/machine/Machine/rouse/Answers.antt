@@ -1,4 +1,4 @@
--- The stale parts get their codes.
+-- The stale parts get their texts, and some of them their codes.
 use Rattle.std.proofs.Common.{◌≡◌, ℕ, ◌<◌, ◌⊎◌, Bool, List, length, map, All, Some, refl, sym, ap, subst, ◌∙◌, arith}
 use Rattle.std.specs.Prelude.{◌↔◌, Contains, slice_get, vec_capacity}
 use Rattle.std.specs.Vec.{with_items}
@@ -7,7 +7,6 @@ use Rattle.std.proofs.lemmas.List.Elements.{All-weaker}
 use Rattle.smallvec.specs.SmallVec.{SmallVec}
 use Rattle.group_text.specs.Texts.{GroupTextData, text_of_group}
 use Rattle.kept_parts.specs.Uses.{texts_used, count_distinct}
-use Rattle.kept_parts.proofs.GroupParts.{parts_of_groups}
 use Rattle.machine_parts.specs.declared.part.HeldPart.{HeldPart}
 use Rattle.unit_step.specs.declared.lasting.Lasting.{Lasting}
 use Rattle.unit_step.specs.contracts.machine.Machine.{the_view}
@@ -16,7 +15,7 @@ use Rattle.machine_parts.specs.Making.{IsCodeRoom}
 use Rattle.part_steps.specs.Desks.{rooms}
 use Rattle.machine_parts.specs.Running.{IsMachine}
 use Rattle.machine_laws.specs.Fitting.{Covers}
-use Rattle.unit_step.specs.Waking.{IsWaking, Wakes}
+use Rattle.unit_step.specs.Waking.{AreMade, IsRisen, Wakes}
 use Rattle.machine_parts.specs.Putting.{Puts}
 use Rattle.machine_parts.specs.Marking.{AreOnce, IsMarked}
 use Rattle.machine_parts.specs.Readers.{ListsAll, HaveSameReaders}
@@ -25,45 +24,28 @@ use Rattle.machine_laws.specs.Beginnings.{BeginsAt}
 use Rattle.unit_step.specs.Lasting.{AreLasting, texts_lasting}
 use Rattle.unit_step.proofs.LastingRoused.{AreLasting-numbered, AreLasting-noted, AreLasting-roused, texts_lasting-numbered, same_texts_left}
 use Rattle.machine_laws.proofs.FillingLemmas.{on_err}
-use Rattle.unit_step.proofs.FinishingRoused.{AreMade, AreMade-held, parts_counted, unlisted, known_inside, IsMachine-roused, Wakes-roused}
+use Rattle.unit_step.proofs.FinishingRoused.{coded_below, unlisted, known_inside, IsMachine-roused, Wakes-roused}
 use Rattle.machine_laws.proofs.StayingParts.{IsMachine-wider, stale_only_roused}
 use Rattle.machine_parts.proofs.MachineLemmas.{HaveSameReaders-refl}
-use Rattle.unit_step.proofs.machine.Machine.rouse.Goals.{In_ok-fresh, After-numbers_of, In_ok-numbers, After-widen_for_codes, In_ok-seats, After-note_all, After-rouse}
+use Rattle.unit_step.proofs.machine.Machine.rouse.Goals.{In-Some, After-numbers_of, In_ok-numbers, After-widen_for_codes, In_ok-seats, After-note_all, After-rouse}
 use Rattle.wide_groups.specs.Moving.{HasStaleOnly}
 use Rattle.wide_groups.proofs.StayingLemmas.{holds_parts}
 use Rattle.unit_step.proofs.machine.Machine.rouse.Goals as goal
 
-pub held_parts-requires : goal.held_parts-requires
-held_parts-requires c =
-    let g = c.args.graph.now in
-    let i = c.self.inside in
-    let covers = subst (Covers g) (sym c.self.view_is) c.requires.covers in
-    let waking = subst (λ (m : MachineData). IsWaking g m.parts c.args.waking) (sym c.self.view_is) c.requires.waking in
-    let slots = c.args.waking.slots.items in
-    let parts = c.in_ok-parts_of.field-0.items in
-    let of = parts_of_groups g waking.some _ _ parts (c.deref.ensures.value ∙ waking.texts) waking.maps c.in_ok-parts_of.ensures in
-    parts_counted g c.graphs_are_wired.ensures waking.groups waking.some slots i.body.parts.items waking.are waking.waiting parts c.args.waking.reads.items of
-    waking.reads
-
 -- the machine covers the graph
-covers_in : (c : In_ok-fresh) → Covers c.args.graph.now (the_view c.self.inside)
+covers_in : (c : In-Some) → Covers c.args.graph.now (the_view c.self.inside)
 covers_in c = subst (Covers c.args.graph.now) (sym c.self.view_is) c.requires.covers
 
--- what was found of the parts that wait is of the machine's parts
-waking_in : (c : In_ok-fresh) → IsWaking c.args.graph.now c.self.inside.body.parts.items c.args.waking
-waking_in c = subst (λ (m : MachineData). IsWaking c.args.graph.now m.parts c.args.waking) (sym c.self.view_is) c.requires.waking
+-- what the parts that wait become
+risen_in : (c : In-Some) → IsRisen c.args.graph.now (the_view c.self.inside) c.args.risen
+risen_in c = subst (λ (m : MachineData). IsRisen c.args.graph.now m c.args.risen) (sym c.self.view_is) c.requires.risen
 
--- the fresh parts are those of the groups that wait
-parts_made : (c : In_ok-fresh) → AreMade c.args.graph.now (waking_in c).some c.args.waking.slots.items c.self.inside.body.parts.items c.in_ok-fresh.fresh.items
+-- they are parts of the groups that wait
+parts_made : (c : In-Some) → AreMade c.args.graph.now (risen_in c).some c.args.risen.slots.items c.self.inside.body.parts.items c.args.risen.parts.items
     (length c.self.inside.body.state.items)
 parts_made c =
-    let g = c.args.graph.now in
-    let i = c.self.inside in
-    let waking = waking_in c in
-    let parts = c.in_ok-parts_of.field-0.items in
-    let of = parts_of_groups g waking.some _ _ parts (c.deref.ensures.value ∙ waking.texts) waking.maps c.in_ok-parts_of.ensures in
-    AreMade-held g c.graphs_are_wired.ensures waking.groups waking.some c.args.waking.slots.items i.body.parts.items waking.are waking.waiting parts
-    c.args.waking.reads.items c.in_ok-fresh.fresh.items (length i.body.state.items) of waking.reads c.in_ok-fresh.ensures (covers_in c).counted
+    subst (AreMade c.args.graph.now (risen_in c).some c.args.risen.slots.items c.self.inside.body.parts.items c.args.risen.parts.items)
+    (sym (covers_in c).counted) (risen_in c).made
 
 -- the texts of the last build are known under more numbers
 lasting_numbered : (c : After-numbers_of) → AreLasting c.self.inside.body.parts.items c.numbers_of.new.uses.numbers (length c.self.inside.body.state.items)
@@ -86,8 +68,8 @@ left_as c noted numbers_are =
     same_texts_left (the_view i) (texts_used uses) (texts_lasting uses.known noted) c.numbers_of.ensures.same last_is ∙ c.self.view_is
 
 -- each text has its number
-texts_numbered : (c : In_ok-numbers) → map (slice_get c.numbers_of.new.uses.known) c.in_ok-numbers.numbers.items ≡ map Some c.args.waking.texts.items
-texts_numbered c = c.in_ok-numbers.ensures.numbers ∙ ap (map Some) c.deref-3.ensures.value
+texts_numbered : (c : In_ok-numbers) → map (slice_get c.numbers_of.new.uses.known) c.in_ok-numbers.numbers.items ≡ map Some c.args.risen.texts.items
+texts_numbered c = c.in_ok-numbers.ensures.numbers ∙ ap (map Some) c.deref-2.ensures.value
 
 -- the machine with more room, and lists of the same readers
 machine_wider : (c : After-widen_for_codes) (lists : List (SmallVec ℕ)) → HaveSameReaders c.self.inside.body.readers lists →
@@ -100,19 +82,19 @@ machine_wider c lists same =
     c.widen_for_codes.ensures.changes c.widen_for_codes.ensures.done c.numbers_of.ensures.numbered.numbers same c.self.invariant.0
 
 -- the seats are those of the fresh parts
-seats_of_fresh : (c : In_ok-seats) → AreSeatsOf c.in_ok-fresh.fresh.items c.seats_for.new.self.codes.items c.seats_for.new.self.nodes.items c.in_ok-seats.seats.items
+seats_of_fresh : (c : In_ok-seats) → AreSeatsOf c.args.risen.parts.items c.seats_for.new.self.codes.items c.seats_for.new.self.nodes.items c.in_ok-seats.seats.items
 seats_of_fresh c =
     subst (λ (list : List HeldPart). AreSeatsOf list c.seats_for.new.self.codes.items c.seats_for.new.self.nodes.items c.in_ok-seats.seats.items)
-    c.deref-4.ensures.value c.in_ok-seats.ensures.seats
+    c.deref-3.ensures.value c.in_ok-seats.ensures.seats
 
 -- where nodes are noted, the texts of the last build stay known
 lasting_noted : (c : After-note_all) → AreLasting c.self.inside.body.parts.items c.numbers_of.new.uses.numbers (length c.self.inside.body.state.items)
     (length c.numbers_of.new.uses.known) c.note_all.new.self
 lasting_noted c =
     let i = c.self.inside in
-    let slots = c.deref-5.result.now in
+    let slots = c.deref-4.result.now in
     let only = subst (λ parts. (node : ℕ) → Contains c.note_all.new.self.changed.items node →
-    Contains i.body.lasting.changed.items node ⊎ ((k : ℕ) × Contains slots k × BeginsAt parts k node)) c.deref-6.ensures.value c.note_all.ensures.only in
+    Contains i.body.lasting.changed.items node ⊎ ((k : ℕ) × Contains slots k × BeginsAt parts k node)) c.deref-5.ensures.value c.note_all.ensures.only in
     let more = AreLasting-numbered i.body.parts.items i.body.uses c.numbers_of.new.uses (length i.body.state.items) i.body.lasting c.numbers_of.ensures.numbered c.self.invariant.2 in
     AreLasting-noted i.body.parts.items c.numbers_of.new.uses.numbers (length i.body.state.items) (length c.numbers_of.new.uses.known) (rooms i.body.desk)
     c.self.invariant.0.runs.seated slots i.body.lasting c.note_all.new.self c.note_all.ensures.numbers c.note_all.ensures.stays only more
@@ -130,7 +112,7 @@ invariant_of-self c =
 
 pub returns-in_err-numbers-clause-err : goal.returns-in_err-numbers-clause-err
 returns-in_err-numbers-clause-err c =
-    on_err c.from_residual-in_err-numbers.result (left_as (goal.at.returns-in_err-numbers-clause-err c).After-numbers_of c.self.inside.body.lasting refl)
+    on_err c.from_residual.result (left_as (goal.at.returns-in_err-numbers-clause-err c).After-numbers_of c.self.inside.body.lasting refl)
 
 pub invariant_of-self-in_err-widen_for_codes : goal.invariant_of-self-in_err-widen_for_codes
 invariant_of-self-in_err-widen_for_codes c =
@@ -160,13 +142,13 @@ returns-in_err-seats-clause-err c =
 
 pub seats_for-requires : goal.seats_for-requires
 seats_for-requires c =
-    let made = parts_made (goal.at.seats_for-requires c).In_ok-fresh in
-    rw c.deref-4.ensures.value (record { inputs = λ k d inside code has. (made.formed k d inside).inputs code has })
+    let made = parts_made (goal.at.seats_for-requires c).In-Some in
+    rw c.deref-3.ensures.value (record { inputs = λ k d inside code has. (made.formed k d inside).inputs code has })
 
 pub note_all-requires-clause-inside : goal.note_all-requires-clause-inside
 note_all-requires-clause-inside c =
-    let made = parts_made (goal.at.note_all-requires-clause-inside c).In_ok-fresh in
-    rw (c.deref-5.ensures.value, c.deref-6.ensures.value) made.inside
+    let made = parts_made (goal.at.note_all-requires-clause-inside c).In-Some in
+    rw (c.deref-4.ensures.value, c.deref-5.ensures.value) made.inside
 
 pub invariant_of-self-in_err-note_all : goal.invariant_of-self-in_err-note_all
 invariant_of-self-in_err-note_all c =
@@ -184,27 +166,27 @@ returns-in_err-note_all-clause-err c =
 
 pub list_all-requires-clause-counted : goal.list_all-requires-clause-counted
 list_all-requires-clause-counted c =
-    let made = parts_made (goal.at.list_all-requires-clause-counted c).In_ok-fresh in
-    omega (arith, ap length c.deref-8.ensures.value, ap length c.deref-7.ensures.value, made.counted)
+    let made = parts_made (goal.at.list_all-requires-clause-counted c).In-Some in
+    omega (arith, ap length c.deref-7.ensures.value, ap length c.deref-6.ensures.value, made.counted)
 
 pub list_all-requires-clause-below : goal.list_all-requires-clause-below
 list_all-requires-clause-below c =
-    let fresh = c.in_ok-fresh.fresh.items in
-    let made = parts_made (goal.at.list_all-requires-clause-below c).In_ok-fresh in
-    rw c.deref-8.ensures.value
+    let fresh = c.args.risen.parts.items in
+    let made = parts_made (goal.at.list_all-requires-clause-below c).In-Some in
+    rw c.deref-7.ensures.value
     (subst (λ n. All (λ (part : HeldPart). All (λ node. node < n) part.reads.items) fresh) (sym c.self.invariant.0.runs.readers_counted) made.below)
 
 pub list_all-requires-clause-once : goal.list_all-requires-clause-once
 list_all-requires-clause-once c =
-    rw c.deref-7.ensures.value (waking_in (goal.at.list_all-requires-clause-once c).In_ok-fresh).waiting.once
+    rw c.deref-6.ensures.value (risen_in (goal.at.list_all-requires-clause-once c).In-Some).waiting.once
 
 pub list_all-requires-clause-unlisted : goal.list_all-requires-clause-unlisted
 list_all-requires-clause-unlisted c =
-    let found = (goal.at.list_all-requires-clause-unlisted c).In_ok-fresh in
+    let found = (goal.at.list_all-requires-clause-unlisted c).In-Some in
     let i = c.self.inside in
-    let waking = waking_in found in
-    rw c.deref-7.ensures.value
-    (unlisted c.args.graph.now (the_view i) (covers_in found) waking.groups waking.some c.args.waking.slots.items waking.waiting i.body.readers
+    let risen = risen_in found in
+    rw c.deref-6.ensures.value
+    (unlisted c.args.graph.now (the_view i) (covers_in found) risen.groups risen.some c.args.risen.slots.items risen.waiting i.body.readers
     c.self.invariant.0.runs.reads)
 
 pub invariant_of-self-in_err-list_all : goal.invariant_of-self-in_err-list_all
@@ -223,19 +205,19 @@ returns-in_err-list_all-clause-err c =
 
 pub put_texts-requires-clause-inside : goal.put_texts-requires-clause-inside
 put_texts-requires-clause-inside c =
-    let made = parts_made (goal.at.put_texts-requires-clause-inside c).In_ok-fresh in
-    rw c.deref-10.ensures.value
+    let made = parts_made (goal.at.put_texts-requires-clause-inside c).In-Some in
+    rw c.deref-9.ensures.value
     (λ k d inside. omega (arith, made.inside k d inside, c.self.invariant.0.numbered, ap length c.numbers_of.ensures.numbered.numbers))
 
 pub put_texts-requires-clause-counted : goal.put_texts-requires-clause-counted
 put_texts-requires-clause-counted c =
     let g = c.args.graph.now in
-    let found = (goal.at.put_texts-requires-clause-counted c).In_ok-fresh in
-    let waking = waking_in found in
-    let slots = c.args.waking.slots.items in
+    let found = (goal.at.put_texts-requires-clause-counted c).In-Some in
+    let risen = risen_in found in
+    let slots = c.args.risen.slots.items in
     let made = parts_made found in
     let numbers = c.in_ok-numbers.numbers.items in
-    let texts = c.args.waking.texts.items in
+    let texts = c.args.risen.texts.items in
     let numbered = texts_numbered (goal.at.put_texts-requires-clause-counted c).In_ok-numbers in
     let long : length numbers ≡ length slots =
     omega (
@@ -243,93 +225,94 @@ put_texts-requires-clause-counted c =
       ap length numbered,
       length-map numbers (slice_get c.numbers_of.new.uses.known),
       length-map texts Some,
-      ap length waking.texts,
-      length-map waking.some (text_of_group g),
+      ap length risen.texts,
+      length-map risen.some (text_of_group g),
       made.long,
     ) in
-    omega (arith, ap length c.deref-11.ensures.value, ap length c.deref-10.ensures.value, long)
+    omega (arith, ap length c.deref-10.ensures.value, ap length c.deref-9.ensures.value, long)
 
 pub put_texts-requires-clause-known : goal.put_texts-requires-clause-known
 put_texts-requires-clause-known c =
     let numbers = c.in_ok-numbers.numbers.items in
-    let texts = c.args.waking.texts.items in
+    let texts = c.args.risen.texts.items in
     let numbered = texts_numbered (goal.at.put_texts-requires-clause-known c).In_ok-numbers in
-    rw c.deref-11.ensures.value (known_inside c.numbers_of.new.uses.known numbers texts numbered)
+    rw c.deref-10.ensures.value (known_inside c.numbers_of.new.uses.known numbers texts numbered)
 
 pub put_all-requires-clause-inside : goal.put_all-requires-clause-inside
 put_all-requires-clause-inside c =
     let i = c.self.inside in
-    let made = parts_made (goal.at.put_all-requires-clause-inside c).In_ok-fresh in
+    let made = parts_made (goal.at.put_all-requires-clause-inside c).In-Some in
     let old_seats = c.seats_for.ensures.same i.body.parts.items c.self.invariant.1 in
-    rw c.deref-12.ensures.value (λ k d inside. omega (arith, made.inside k d inside, old_seats.counted))
+    rw c.deref-11.ensures.value (λ k d inside. omega (arith, made.inside k d inside, old_seats.counted))
 
 pub put_all-requires-clause-counted : goal.put_all-requires-clause-counted
 put_all-requires-clause-counted c =
-    let made = parts_made (goal.at.put_all-requires-clause-counted c).In_ok-fresh in
+    let made = parts_made (goal.at.put_all-requires-clause-counted c).In-Some in
     let fresh_seats = seats_of_fresh (goal.at.put_all-requires-clause-counted c).In_ok-seats in
-    omega (arith, ap length c.deref-12.ensures.value, made.counted, fresh_seats.counted)
+    omega (arith, ap length c.deref-11.ensures.value, made.counted, fresh_seats.counted)
 
 pub put_in-requires-clause-inside : goal.put_in-requires-clause-inside
 put_in-requires-clause-inside c =
-    let made = parts_made (goal.at.put_in-requires-clause-inside c).In_ok-fresh in
-    rw (c.deref-13.ensures.value, c.deref_mut.ensures.value) made.inside
+    let made = parts_made (goal.at.put_in-requires-clause-inside c).In-Some in
+    rw (c.deref-12.ensures.value, c.deref_mut.ensures.value) made.inside
 
 pub put_in-requires-clause-counted : goal.put_in-requires-clause-counted
 put_in-requires-clause-counted c =
-    let made = parts_made (goal.at.put_in-requires-clause-counted c).In_ok-fresh in
-    omega (arith, ap length c.deref-13.ensures.value, made.counted)
+    let made = parts_made (goal.at.put_in-requires-clause-counted c).In-Some in
+    omega (arith, ap length c.deref-12.ensures.value, made.counted)
 
 -- all but the parts that got their codes wait still
-released : (c : After-rouse) → (k : ℕ) → IsMarked c.rouse.new.self.waiting k ↔ (IsMarked c.self.inside.body.agenda.waiting k × (¬ Contains c.args.waking.slots.items k))
-released c = rw c.deref-14.ensures.value at c.rouse.ensures.waiting
+released : (c : After-rouse) → (k : ℕ) → IsMarked c.rouse.new.self.waiting k ↔ (IsMarked c.self.inside.body.agenda.waiting k × (¬ Contains c.args.risen.coded.items k))
+released c = rw c.deref-13.ensures.value at c.rouse.ensures.waiting
 
 pub rouse-requires : goal.rouse-requires
 rouse-requires c =
-    let made = parts_made (goal.at.rouse-requires c).In_ok-fresh in
-    rw c.deref-14.ensures.value (λ k d inside. omega (arith, made.inside k d inside, c.self.invariant.0.runs.counted))
+    let below : All (λ k. k < length c.self.inside.body.parts.items) c.args.risen.coded.items =
+    coded_below c.args.graph.now (the_view c.self.inside) c.args.risen (risen_in (goal.at.rouse-requires c).In-Some) in
+    rw c.deref-13.ensures.value (λ i d within. omega (arith, below i d within, c.self.invariant.0.runs.counted))
 
 pub invariant_of-self-2 : goal.invariant_of-self-2
 invariant_of-self-2 c =
     let g = c.args.graph.now in
     let i = c.self.inside in
-    let found = (goal.at.invariant_of-self-2 c).In_ok-fresh in
+    let found = (goal.at.invariant_of-self-2 c).In-Some in
     let covers = covers_in found in
-    let waking = waking_in found in
-    let slots = c.args.waking.slots.items in
-    let fresh = c.in_ok-fresh.fresh.items in
+    let risen = risen_in found in
+    let slots = c.args.risen.slots.items in
+    let fresh = c.args.risen.parts.items in
     let made = parts_made found in
     let numbers = c.in_ok-numbers.numbers.items in
     let numbered = texts_numbered (goal.at.invariant_of-self-2 c).In_ok-numbers in
     let new = c.put_in.new.all in
-    let puts : Puts slots fresh i.body.parts.items new = rw (c.deref-13.ensures.value, c.deref_mut.ensures.value) at c.put_in.ensures in
+    let puts : Puts slots fresh i.body.parts.items new = rw (c.deref-12.ensures.value, c.deref_mut.ensures.value) at c.put_in.ensures in
     let text_puts : Puts slots (map Some numbers) c.numbers_of.new.uses.numbers c.put_texts.new.uses.numbers =
-    rw (c.deref-10.ensures.value, c.deref-11.ensures.value) at c.put_texts.ensures.puts in
+    rw (c.deref-9.ensures.value, c.deref-10.ensures.value) at c.put_texts.ensures.puts in
     let parts_now : List HeldPart = (with_items i.body.parts new).items in
     let final_parts = with_items_is i.body.parts new (omega (arith, c.put_in.auto.all, c.deref_mut.ensures.len)) in
     let lists_now = c.list_all.new.self in
-    let listed : ListsAll slots fresh i.body.readers lists_now = rw (c.deref-7.ensures.value, c.deref-8.ensures.value) at c.in_ok-list_all.ensures.ok in
+    let listed : ListsAll slots fresh i.body.readers lists_now = rw (c.deref-6.ensures.value, c.deref-7.ensures.value) at c.in_ok-list_all.ensures.ok in
     let wide = rooms c.widen_for_codes.new.desk in
     let values_room : All (IsCodeRoom wide.values) fresh =
     All-weaker (IsCodeRoom c.in-Some.needs.values) (IsCodeRoom wide.values)
     (λ part room code has. omega (arith, room code has, c.in_ok-widen_for_codes.ensures.values)) fresh
-    (subst (All (IsCodeRoom c.in-Some.needs.values)) c.deref-2.ensures.value c.in-Some.ensures.values) in
-    let base = IsMachine-roused g (the_view i) covers waking.groups waking.some slots waking.waiting fresh new (length i.body.state.items) made puts
+    (subst (All (IsCodeRoom c.in-Some.needs.values)) c.deref.ensures.value c.in-Some.ensures.values) in
+    let base = IsMachine-roused g (the_view i) covers risen.groups risen.some slots risen.waiting fresh new (length i.body.state.items) made puts
     i.body.readers lists_now i.body.agenda.marks i.body.agenda.waiting c.rouse.new.self.waiting i.body.owners.items i.body.uses.numbers c.put_texts.new.uses.numbers
     i.body.held i.body.most (rooms i.body.desk) wide listed values_room (omega (arith, c.widen_for_codes.ensures.more_values))
-    c.widen_for_codes.ensures.changes c.widen_for_codes.ensures.done (released (goal.at.invariant_of-self-2 c).After-rouse) (text_puts.count ∙ ap length c.numbers_of.ensures.numbered.numbers) c.self.invariant.0 in
+    c.widen_for_codes.ensures.changes c.widen_for_codes.ensures.done c.args.risen.coded.items risen.coded (released (goal.at.invariant_of-self-2 c).After-rouse) (text_puts.count ∙ ap length c.numbers_of.ensures.numbered.numbers) c.self.invariant.0 in
     let with_parts = subst (λ (list : List HeldPart). IsMachine list i.body.agenda.marks c.rouse.new.self.waiting (length i.body.state.items) lists_now i.body.owners.items
     c.put_texts.new.uses.numbers i.body.held i.body.most wide) (sym final_parts) base in
     let old_seats = c.seats_for.ensures.same i.body.parts.items c.self.invariant.1 in
     let fresh_seats = seats_of_fresh (goal.at.invariant_of-self-2 c).In_ok-seats in
-    let once : AreOnce c.deref-12.result.now = subst AreOnce (sym c.deref-12.ensures.value) waking.waiting.once in
-    let seat_puts = subst (λ (list : List ℕ). Puts list fresh i.body.parts.items new) (sym c.deref-12.ensures.value) puts in
+    let once : AreOnce c.deref-11.result.now = subst AreOnce (sym c.deref-11.ensures.value) risen.waiting.once in
+    let seat_puts = subst (λ (list : List ℕ). Puts list fresh i.body.parts.items new) (sym c.deref-11.ensures.value) puts in
     let put_dense : AreDense new c.put_all.new.self = c.put_all.ensures fresh i.body.parts.items new once fresh_seats seat_puts old_seats in
     let dense = subst (λ (list : List HeldPart). AreDense list c.put_all.new.self) (sym final_parts) put_dense in
     let known = length c.numbers_of.new.uses.known in
     let are_noted = lasting_noted (goal.at.invariant_of-self-2 c).After-note_all in
     let noted : (k node : ℕ) → Contains slots k → BeginsAt i.body.parts.items k node → Contains c.note_all.new.self.changed.items node =
-    rw (c.deref-5.ensures.value, c.deref-6.ensures.value) at c.in_ok-note_all.ensures.all in
-    let are_lasting = AreLasting-roused g (the_view i) covers waking.groups waking.some slots waking.waiting fresh made.fresh_are new puts
+    rw (c.deref-4.ensures.value, c.deref-5.ensures.value) at c.in_ok-note_all.ensures.all in
+    let are_lasting = AreLasting-roused g (the_view i) covers risen.groups risen.some slots risen.waiting fresh made.fresh_are new puts
     c.numbers_of.new.uses.numbers c.put_texts.new.uses.numbers (map Some numbers) text_puts (length i.body.state.items) known c.note_all.new.self are_noted noted made.inside in
     let uses = c.put_texts.new.uses in
     let count = length i.body.state.items in
@@ -344,7 +327,8 @@ invariant_of-self-2 c =
       holds_parts i.body.parts.items parts_now i.body.state.items (vec_capacity i.body.noted) i.body.wide
           (λ one is.
           subst (λ list. HasStaleOnly list one.graph) (sym final_parts)
-          (stale_only_roused g (the_view i) covers waking.groups waking.some slots waking.waiting fresh made.fresh_are new puts waking.fit one is))
+          (stale_only_roused g (the_view i) covers risen.groups risen.some slots risen.waiting fresh made.fresh_are new puts
+          c.args.risen.coded.items risen.coded risen.free one is))
           c.self.invariant.3,
     )
 
@@ -352,25 +336,26 @@ pub returns-clause-wakes : goal.returns-clause-wakes
 returns-clause-wakes c =
     let g = c.args.graph.now in
     let i = c.self.inside in
-    let found = (goal.at.returns-clause-wakes c).In_ok-fresh in
+    let found = (goal.at.returns-clause-wakes c).In-Some in
     let covers = covers_in found in
-    let waking = waking_in found in
-    let slots = c.args.waking.slots.items in
-    let fresh = c.in_ok-fresh.fresh.items in
+    let risen = risen_in found in
+    let slots = c.args.risen.slots.items in
+    let fresh = c.args.risen.parts.items in
     let made = parts_made found in
     let numbers = c.in_ok-numbers.numbers.items in
-    let texts = c.args.waking.texts.items in
+    let texts = c.args.risen.texts.items in
     let numbered = texts_numbered (goal.at.returns-clause-wakes c).In_ok-numbers in
     let new = c.put_in.new.all in
-    let puts : Puts slots fresh i.body.parts.items new = rw (c.deref-13.ensures.value, c.deref_mut.ensures.value) at c.put_in.ensures in
+    let puts : Puts slots fresh i.body.parts.items new = rw (c.deref-12.ensures.value, c.deref_mut.ensures.value) at c.put_in.ensures in
     let text_puts : Puts slots (map Some numbers) c.numbers_of.new.uses.numbers c.put_texts.new.uses.numbers =
-    rw (c.deref-10.ensures.value, c.deref-11.ensures.value) at c.put_texts.ensures.puts in
+    rw (c.deref-9.ensures.value, c.deref-10.ensures.value) at c.put_texts.ensures.puts in
     let parts_now : List HeldPart = (with_items i.body.parts new).items in
     let final_parts = with_items_is i.body.parts new (omega (arith, c.put_in.auto.all, c.deref_mut.ensures.len)) in
     let v = the_view i in
     let mid_are : texts_used c.numbers_of.new.uses ≡ v.uses = c.numbers_of.ensures.same in
-    let base = Wakes-roused g v covers waking.groups waking.some slots waking.waiting fresh new (length i.body.state.items) made puts
-    c.numbers_of.new.uses c.put_texts.new.uses numbers texts mid_are c.put_texts.ensures.known text_puts numbered waking.texts waking.fit in
+    let base = Wakes-roused g v covers risen.groups risen.some slots risen.waiting fresh new (length i.body.state.items) made puts
+    c.numbers_of.new.uses c.put_texts.new.uses numbers texts mid_are c.put_texts.ensures.known text_puts numbered risen.texts risen.fit
+    c.args.risen.coded.items risen.coded risen.free in
     let used = texts_used c.put_texts.new.uses in
     let last = texts_lasting c.put_texts.new.uses.known c.note_all.new.self in
     let last_is : last ≡ v.last =
@@ -378,7 +363,7 @@ returns-clause-wakes c =
     c.put_texts.ensures.known c.note_all.ensures.numbers c.self.invariant.2.inside in
     let machine : List HeldPart → List Bool → List GroupTextData → MachineData = λ list marks texts_left.
     record v { parts = list; uses = used; marks = marks; texts = count_distinct used; last = texts_left } in
-    let with_parts = subst (λ (list : List HeldPart). Wakes g v (machine list i.body.agenda.marks v.last)) (sym final_parts) base in
-    let with_marks = subst (λ (marks : List Bool). Wakes g v (machine parts_now marks v.last)) (sym c.rouse.ensures.marks) with_parts in
-    let with_last = subst (λ (texts_left : List GroupTextData). Wakes g v (machine parts_now c.rouse.new.self.marks texts_left)) (sym last_is) with_marks in
-    subst (λ (old : MachineData). Wakes g old (machine parts_now c.rouse.new.self.marks last)) c.self.view_is with_last
+    let with_parts = subst (λ (list : List HeldPart). Wakes g c.args.risen.coded.items v (machine list i.body.agenda.marks v.last)) (sym final_parts) base in
+    let with_marks = subst (λ (marks : List Bool). Wakes g c.args.risen.coded.items v (machine parts_now marks v.last)) (sym c.rouse.ensures.marks) with_parts in
+    let with_last = subst (λ (texts_left : List GroupTextData). Wakes g c.args.risen.coded.items v (machine parts_now c.rouse.new.self.marks texts_left)) (sym last_is) with_marks in
+    subst (λ (old : MachineData). Wakes g c.args.risen.coded.items old (machine parts_now c.rouse.new.self.marks last)) c.self.view_is with_last

@@ -1,24 +1,20 @@
--- The parts that wait and whose groups have a text get their codes; the groups without one are held, as before or anew.
-use Rattle.std.proofs.Common.{◌≡◌, Option, Some, get_or, sym, ap, subst, ◌∙◌}
+-- The parts that wait and whose groups have a text get it, and most of them their codes; the others are held, as before or anew.
+use Rattle.std.proofs.Common.{[], None, get_or, sym, subst}
 use Rattle.std.proofs.lemmas.Option.{slice_get-get_or}
 use Rattle.path_meaning.specs.Rails.{IsSound}
 use Rattle.group_text.specs.FirstTexts.{new_texts}
 use Rattle.analysis_cache.specs.Keeping.{texts_of}
-use Rattle.circuit_texts.specs.Sizes.{NoneRefused}
-use Rattle.circuit_texts.specs.Told.{without_text}
 use Rattle.circuit_texts.specs.Building.{BuildsFresh}
-use Rattle.vicinity.specs.Wides.{WideData}
-use Rattle.machine_laws.specs.Machines.{MachineData, groups_in}
 use Rattle.machine_laws.specs.Editing.{Rouses}
 use Rattle.analysis_cache.proofs.HoldingLemmas.{HoldsNearlyKept-same}
 use Rattle.machine_laws.proofs.FillingLemmas.{on_err, IsGrown-same, IsGrown-filled, IsGrown-cut_off, Fills-filled, cut_off_front, cut_off_end}
 use Rattle.machine_laws.proofs.FinishingBuilds.{waiting_texts}
-use Rattle.unit_step.specs.declared.holding.Holding.{Holding}
-use Rattle.unit_step.specs.Holding.{IsHolding, wide_after}
+use Rattle.unit_step.specs.Holding.{HoldsNextIn}
 use Rattle.unit_step.proofs.FinishingOrder.{Rouses-next}
-use Rattle.unit_step.proofs.HoldingLemmas.{HoldsWide-anew, none_held, none_after, next_anew, StaysKnown-next}
+use Rattle.unit_step.proofs.HoldingLemmas.{HoldsWide-next, next_woken, StaysKnown-next}
+use Rattle.unit_step.proofs.WakingLemmas.{all_held, Wakes-none, Fills-none}
 use Rattle.unit_step.proofs.machine.Machine.wake.Given.{Over}
-use Rattle.unit_step.proofs.machine.Machine.wake.Goals.{In_ok-waking, After-hold}
+use Rattle.unit_step.proofs.machine.Machine.wake.Goals.{In_ok-waking, In_ok-holding, After-hold-2}
 use Rattle.unit_step.proofs.machine.Machine.wake.Goals as goal
 
 -- a build of the graph has the new ones of the waiting parts' texts analysed
@@ -31,18 +27,17 @@ fresh_in g c =
     (λ i d inside. c.in_ok-sizes.ensures.few waking.groups waking.are i (get_or waking.groups i d) (slice_get-get_or waking.groups i d inside))
     (texts_of c.args.kept.now) c.requires.known c.in_ok-waking.waking.texts.items waking.texts
 
--- the groups without a text are held, as before or anew
-rouses_in : (g : Over) (c : After-hold g) → Rouses c.args.graph.now c.args.self.now c.hold.new.self
-rouses_in g c =
-    Rouses-next c.args.large c.args.graph.now c.args.self.now c.rouse.new.self c.hold.new.self c.in_ok-holding.holding c.requires.covers
-    c.in_ok-rouse.ensures.wakes c.in_ok-sizes.ensures.few c.requires.railed c.requires.sound c.in_ok-sizes.ensures.due.are c.in_ok-holding.ensures.holds
-    c.hold.ensures
+-- the parts that go on waiting are held, as before or anew
+next_in : (g : Over) (c : In_ok-holding g) →
+    HoldsNextIn c.args.large c.args.graph.now c.args.self.now c.in_ok-risen.risen.coded.items c.in_ok-holding.holding
+next_in g c = rw c.deref-2.ensures.value at c.in_ok-holding.ensures
 
--- what is known of them
-wide_in_new : (g : Over) (c : After-hold g) → c.hold.new.self.wide ≡ wide_after c.args.large c.args.self.now.wide c.in_ok-holding.holding
-wide_in_new g c =
-    ap (λ (m : MachineData). m.wide) c.hold.ensures
-    ∙ ap (λ (wide : Option WideData). wide_after c.args.large wide c.in_ok-holding.holding) c.in_ok-rouse.ensures.wakes.wide
+rouses_in : (g : Over) (c : After-hold-2 g) →
+    HoldsNextIn c.args.large c.args.graph.now c.args.self.now c.in_ok-risen.risen.coded.items c.in_ok-holding.holding →
+    Rouses c.args.graph.now c.args.self.now c.hold-2.new.self
+rouses_in g c next =
+    Rouses-next c.args.large c.args.graph.now c.args.self.now c.rouse.new.self c.hold-2.new.self c.in_ok-risen.risen.coded.items c.in_ok-holding.holding
+    c.requires.covers c.in_ok-rouse.ensures.wakes c.in_ok-sizes.ensures.few c.requires.railed c.requires.sound next c.hold-2.ensures
 
 pub returns-in_err-sizes-clause-grown : goal.returns-in_err-sizes-clause-grown
 returns-in_err-sizes-clause-grown g c = IsGrown-same c.args.kept.now
@@ -51,12 +46,37 @@ pub returns-in_err-sizes-clause-nearly : goal.returns-in_err-sizes-clause-nearly
 returns-in_err-sizes-clause-nearly g c =
     on_err c.from_residual.result (HoldsNearlyKept-same c.args.kept.now (g.A.Analyst.held c.args.analyst.now))
 
-pub returns-in_err-holding-clause-grown : goal.returns-in_err-holding-clause-grown
-returns-in_err-holding-clause-grown g c = IsGrown-same c.args.kept.now
+-- if no group is due, only the bound is lowered
+pub hold-requires : goal.hold-requires
+hold-requires g c = tt
 
-pub returns-in_err-holding-clause-nearly : goal.returns-in_err-holding-clause-nearly
-returns-in_err-holding-clause-nearly g c =
-    on_err c.from_residual-in_err-holding.result (HoldsNearlyKept-same c.args.kept.now (g.A.Analyst.held c.args.analyst.now))
+pub returns-then-has_no_group-clause-rouses : goal.returns-then-has_no_group-clause-rouses
+returns-then-has_no_group-clause-rouses g c =
+    let (told, without) = c.has_no_group.ensures.0 c.if-has_no_group.true in
+    let due = c.in_ok-sizes.ensures.due in
+    let graph = c.args.graph.now in
+    let m = c.args.self.now in
+    Rouses-next c.args.large graph m m c.hold.new.self [] None c.requires.covers
+    (Wakes-none graph m c.requires.covers c.args.large c.in_ok-sizes.sizes due told without) c.in_ok-sizes.ensures.few c.requires.railed c.requires.sound
+    (all_held graph m c.requires.covers c.args.large c.in_ok-sizes.sizes due told without) c.hold.ensures
+
+pub returns-then-has_no_group-clause-stays : goal.returns-then-has_no_group-clause-stays
+returns-then-has_no_group-clause-stays g c =
+    let (told, without) = c.has_no_group.ensures.0 c.if-has_no_group.true in
+    let due = c.in_ok-sizes.ensures.due in
+    let graph = c.args.graph.now in
+    let m = c.args.self.now in
+    StaysKnown-next graph m m [] c.requires.covers (Wakes-none graph m c.requires.covers c.args.large c.in_ok-sizes.sizes due told without) c.args.large None
+    c.hold.new.self (all_held graph m c.requires.covers c.args.large c.in_ok-sizes.sizes due told without) c.hold.ensures
+
+pub returns-then-has_no_group-clause-fills : goal.returns-then-has_no_group-clause-fills
+returns-then-has_no_group-clause-fills g c =
+    let (told, without) = c.has_no_group.ensures.0 c.if-has_no_group.true in
+    Fills-none c.args.graph.now c.args.self.now c.requires.covers c.args.large c.in_ok-sizes.sizes c.in_ok-sizes.ensures.due told without
+    c.in_ok-sizes.ensures.few (texts_of c.args.kept.now) c.requires.known (g.A.Analyst.analysed c.args.analyst.now)
+
+pub returns-then-has_no_group-clause-grown : goal.returns-then-has_no_group-clause-grown
+returns-then-has_no_group-clause-grown g c = IsGrown-same c.args.kept.now
 
 pub waking-requires-clause-due : goal.waking-requires-clause-due
 waking-requires-clause-due g c = (c.args.large, c.in_ok-sizes.ensures.due)
@@ -94,35 +114,57 @@ returns-in_err-rouse-clause-nearly g c =
     on_err c.from_residual-in_err-rouse.result (λ holds.
     HoldsNearlyKept-same c.fill.new.self (g.A.Analyst.held c.fill.new.analyst) (c.in_ok-fresh.ensures.holds holds))
 
-pub hold-requires : goal.hold-requires
-hold-requires g c =
+pub returns-in_err-risen-clause-cut_off : goal.returns-in_err-risen-clause-cut_off
+returns-in_err-risen-clause-cut_off g c = λ is.
+    cut_off_end c.args.large c.args.graph.now c.args.kept.now c.fill.new.self _ _ _ _ c.deref.result.now _ c.deref.ensures.value
+    (fresh_in g (goal.at.returns-in_err-risen-clause-cut_off g c).In_ok-waking) c.in_ok-fresh.fresh c.in_ok-fresh.ensures.ok
+
+pub returns-in_err-risen-clause-grown : goal.returns-in_err-risen-clause-grown
+returns-in_err-risen-clause-grown g c =
+    IsGrown-filled c.args.large c.args.graph.now c.args.kept.now c.fill.new.self _ _ _ _ c.deref.result.now c.in_ok-fresh.fresh c.in_ok-fresh.ensures.ok
+
+pub returns-in_err-risen-clause-nearly : goal.returns-in_err-risen-clause-nearly
+returns-in_err-risen-clause-nearly g c =
+    on_err c.from_residual-in_err-risen.result (λ holds.
+    HoldsNearlyKept-same c.fill.new.self (g.A.Analyst.held c.fill.new.analyst) (c.in_ok-fresh.ensures.holds holds))
+
+pub returns-in_err-holding-clause-cut_off : goal.returns-in_err-holding-clause-cut_off
+returns-in_err-holding-clause-cut_off g c = λ is.
+    cut_off_end c.args.large c.args.graph.now c.args.kept.now c.fill.new.self _ _ _ _ c.deref.result.now _ c.deref.ensures.value
+    (fresh_in g (goal.at.returns-in_err-holding-clause-cut_off g c).In_ok-waking) c.in_ok-fresh.fresh c.in_ok-fresh.ensures.ok
+
+pub returns-in_err-holding-clause-grown : goal.returns-in_err-holding-clause-grown
+returns-in_err-holding-clause-grown g c =
+    IsGrown-filled c.args.large c.args.graph.now c.args.kept.now c.fill.new.self _ _ _ _ c.deref.result.now c.in_ok-fresh.fresh c.in_ok-fresh.ensures.ok
+
+pub returns-in_err-holding-clause-nearly : goal.returns-in_err-holding-clause-nearly
+returns-in_err-holding-clause-nearly g c =
+    on_err c.from_residual-in_err-holding.result (λ holds.
+    HoldsNearlyKept-same c.fill.new.self (g.A.Analyst.held c.fill.new.analyst) (c.in_ok-fresh.ensures.holds holds))
+
+pub holding-requires : goal.holding-requires
+holding-requires g c = c.requires.covers.counted
+
+pub hold-requires-2 : goal.hold-requires-2
+hold-requires-2 g c =
     let m = c.args.self.now in
     let wakes = c.in_ok-rouse.ensures.wakes in
-    HoldsWide-anew c.args.large c.args.graph.now c.rouse.new.self wakes.ready c.in_ok-sizes.ensures.few c.requires.railed
-    (subst IsSound (sym wakes.state) c.requires.sound) (groups_in m.groups) c.in_ok-sizes.ensures.due.are c.in_ok-holding.holding
-    (λ one is.
-    subst (λ state. IsHolding c.args.large c.args.graph.now (without_text (groups_in m.groups)) state one) (sym wakes.state)
-    (next_anew c.args.large c.args.graph.now m c.in_ok-holding.holding c.in_ok-holding.ensures.holds one is))
+    let next = next_in g (goal.at.hold-requires-2 g c).In_ok-holding in
+    HoldsWide-next c.args.large c.args.graph.now c.rouse.new.self wakes.ready c.in_ok-sizes.ensures.few c.requires.railed
+    (subst IsSound (sym wakes.state) c.requires.sound) c.in_ok-holding.holding
+    (next_woken c.args.graph.now m c.rouse.new.self c.in_ok-risen.risen.coded.items c.requires.covers wakes c.args.large c.in_ok-holding.holding next)
 
 pub returns-clause-rouses : goal.returns-clause-rouses
-returns-clause-rouses g c = rouses_in g (goal.at.returns-clause-rouses g c).After-hold
+returns-clause-rouses g c =
+    let at = goal.at.returns-clause-rouses g c in
+    rouses_in g at.After-hold-2 (next_in g at.In_ok-holding)
 
 pub returns-clause-stays : goal.returns-clause-stays
 returns-clause-stays g c =
-    let end = (goal.at.returns-clause-stays g c).After-hold in
-    StaysKnown-next c.args.large c.args.graph.now c.args.self.now c.hold.new.self c.in_ok-holding.holding c.requires.covers (rouses_in g end).fits
-    c.in_ok-holding.ensures.holds (wide_in_new g end)
-
-pub returns-clause-without : goal.returns-clause-without
-returns-clause-without g c = λ zero_is none.
-    let m = c.args.self.now in
-    let groups = groups_in m.groups in
-    let few = subst (λ large. NoneRefused large c.args.graph.now) zero_is c.in_ok-sizes.ensures.few in
-    let anew = subst (λ large. (one : Holding) → c.in_ok-holding.holding ≡ Some one → IsHolding large c.args.graph.now (without_text groups) m.state one) zero_is
-    (next_anew c.args.large c.args.graph.now m c.in_ok-holding.holding c.in_ok-holding.ensures.holds) in
-    wide_in_new g (goal.at.returns-clause-without g c).After-hold
-    ∙ none_after c.args.large m.wide c.in_ok-holding.holding none
-    (none_held c.args.graph.now groups c.in_ok-sizes.ensures.due.are few m.state c.in_ok-holding.holding anew)
+    let large = c.args.large in
+    let next = next_in g (goal.at.returns-clause-stays g c).In_ok-holding in
+    StaysKnown-next c.args.graph.now c.args.self.now c.rouse.new.self c.in_ok-risen.risen.coded.items c.requires.covers c.in_ok-rouse.ensures.wakes large
+    c.in_ok-holding.holding c.hold-2.new.self next c.hold-2.ensures
 
 pub returns-clause-fills : goal.returns-clause-fills
 returns-clause-fills g c =

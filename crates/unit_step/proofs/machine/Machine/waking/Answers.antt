@@ -22,12 +22,12 @@ use Rattle.machine_laws.specs.Finishing.{IsSlotOf}
 use Rattle.machine_laws.proofs.FinishingWaiting.{told_owned, AreWaiting-found}
 use Rattle.unit_step.specs.Holding.{IsPassed}
 use Rattle.unit_step.specs.Waking.{AreDue, IsWaking}
-use Rattle.unit_step.proofs.DueLemmas.{passed_untold}
+use Rattle.unit_step.proofs.DueLemmas.{passed_told}
 use Rattle.unit_step.proofs.machine.Machine.waking.Goals.{In-Some}
 use Rattle.unit_step.proofs.machine.Machine.waking.Goals as goal
 
 -- the groups that are due
-due_in : (c : In-Some) → AreDue c.args.graph.now c.args.self.now (Some c.requires.due.0) c.args.sizes.now
+due_in : (c : In-Some) → AreDue c.args.graph.now c.args.self.now c.requires.due.0 c.args.sizes.now
 due_in c = c.requires.due.1
 
 -- the groups that the machine has are those of the graph
@@ -81,7 +81,7 @@ owners_of-requires c =
     (record {
       owned = all_back (λ node. slice_index_or owners node None ≢ None) (λ (id : GroupId). id.node) told
           (told_owned c.args.graph.now c.args.self.now c.requires.covers _ owners (own_in at) (due_in at).due (slots_in at)
-          (IsPassed (Some c.requires.due.0) c.args.self.now.wide) (due_in at).all (map (λ (id : GroupId). id.node) told) (told_ids at));
+          (IsPassed c.requires.due.0 c.args.self.now.wide) (due_in at).all (map (λ (id : GroupId). id.node) told) (told_ids at));
     })
 
 -- those that have a text aren't too large for one
@@ -127,12 +127,12 @@ returns-clause-waking c =
       maps = c.in_ok-texts.field-0.maps;
       reads = c.in_ok-reads.reads;
     } in
-    let waking : IsWaking g m.parts made = record {
+    let waking : IsWaking g m made = record {
       groups = covers.groups.groups;
       are = covers.are.are;
       some = told_in at;
-      waiting = AreWaiting-found g m covers _ owners (own_in at) (due_in at).due (slots_in at) (IsPassed (Some c.requires.due.0) m.wide) (due_in at).all
-          (passed_untold g m covers (Some c.requires.due.0)) told_nodes c.in_ok-slots.slots.items (told_ids at) slots_are;
+      waiting = AreWaiting-found g m covers _ owners (own_in at) (due_in at).due (slots_in at) (IsPassed c.requires.due.0 m.wide) (due_in at).all
+          (passed_told g m covers c.requires.due.0) told_nodes c.in_ok-slots.slots.items (told_ids at) slots_are;
       fit = with_text_fits (filter (due_in at).due covers.groups.groups);
       texts = c.in_ok-texts.ensures.texts ∙ ap (map (text_of_group g)) chosen_texts;
       maps = c.in_ok-texts.ensures.maps ∙ ap (map (local_nodes g)) chosen_texts;

@@ -1,6 +1,6 @@
 -- Both are asked.
 use Rattle.wide_groups.specs.Staying.{HoldsNode, HoldsUpTo}
-use Rattle.unit_step.proofs.waking.holds_within.Goals as goal
+use Rattle.unit_step.proofs.waking.is_passed.Goals as goal
 
 pub returns-then-holds_up_to : goal.returns-then-holds_up_to
 returns-then-holds_up_to c = (

@@ -1,0 +1,139 @@
+-- If no group is due, each part that waits is that of a group that is stepped by vicinities already: nothing is woken, and nothing is analysed.
+use Rattle.std.proofs.Common.{◌≡◌, ℕ, false, true, inl, inr, List, [], ◌∷◌, length, filter, get_or, Some, None, refl, sym, ap, subst, ◌∙◌, arith, append-nil}
+use Rattle.std.specs.Prelude.{Contains, not, slice_get}
+use Rattle.std.proofs.lemmas.Bool.{cases_Bool}
+use Rattle.std.proofs.lemmas.List.Elements.{All-nil}
+use Rattle.std.proofs.lemmas.Option.{slice_get_read, slice_get-get_or, get_or_from_slice_get}
+use Rattle.path_meaning.specs.Graphs.{GraphData}
+use Rattle.group_meaning.specs.Groups.{Group, id_of}
+use Rattle.group_text.specs.Texts.{GroupTextData}
+use Rattle.circuit_texts.specs.declared.sizes.GroupSizes.{GroupSizes}
+use Rattle.circuit_texts.specs.Sizes.{fault_in, NoneRefused}
+use Rattle.circuit_texts.specs.Told.{has_text, with_text, without_text}
+use Rattle.circuit_texts.specs.Choosing.{chosen}
+use Rattle.circuit_texts.specs.Building.{Fills}
+use Rattle.wide_groups.specs.Staying.{HoldsNode}
+use Rattle.machine_parts.specs.declared.part.HeldPart.{HeldPart}
+use Rattle.machine_parts.specs.Parts.{Stands}
+use Rattle.machine_laws.specs.Machines.{MachineData, groups_in}
+use Rattle.machine_laws.specs.Fitting.{IsPartOf, Covers, AreTold, IsKeptBy}
+use Rattle.machine_laws.specs.Finishing.{HasText, AreWaiting}
+use Rattle.machine_laws.proofs.FilterLemmas.{filter_keeps}
+use Rattle.machine_laws.proofs.HeldLemmas.{known_or_not}
+use Rattle.machine_laws.proofs.KeptLemmas.{group_there}
+use Rattle.machine_laws.proofs.PartGroups.{some_members}
+use Rattle.machine_laws.proofs.FinishingWaiting.{first_is}
+use Rattle.machine_laws.proofs.FinishingBuilds.{waiting_texts}
+use Rattle.unit_step.specs.Holding.{IsPassed, HoldsAll}
+use Rattle.unit_step.specs.Waking.{AreDue, Wakes}
+use Rattle.unit_step.proofs.DueLemmas.{passed_told}
+use Rattle.unit_step.proofs.FinishingFits.{IsReady-covered}
+
+-- no item passes the test that none passes
+none_pass : {X : Type 0} (xs : List X) → [] ≡ filter (λ (_ : X). false) xs
+none_pass [] = refl
+none_pass (x ∷ xs) = none_pass xs
+
+not_in : {X : Type 0} (x : X) → ¬ Contains [] x
+not_in x there = absurd (omega (arith, there.1))
+
+module _ (g : GraphData) (m : MachineData) (covers : Covers g m) (large : ℕ) (sizes : GroupSizes) (are_due : AreDue g m large sizes)
+    (told : sizes.told.items ≡ []) (without : sizes.large.items ≡ []) where
+  abbrev all_groups : List Group
+  all_groups = groups_in m.groups
+
+  abbrev due_groups : List Group
+  due_groups = filter are_due.due all_groups
+
+  -- no group is due
+  not_due : (group : Group) → Contains all_groups group → ¬ (are_due.due group ≡ true)
+  not_due group there waits =
+      let passes = filter_keeps are_due.due all_groups group there waits in
+      let no_told : with_text due_groups ≡ [] = sym are_due.told ∙ ap (chosen all_groups) told in
+      let no_large : without_text due_groups ≡ [] = sym are_due.without ∙ ap (chosen all_groups) without in
+      elim (cases_Bool (has_text group)) [
+        | inl has ↦ not_in group (subst (λ groups. Contains groups group) no_told (filter_keeps has_text due_groups group passes has))
+        | inr lacks ↦
+            not_in group (subst (λ groups. Contains groups group) no_large
+            (filter_keeps (λ one. not (has_text one)) due_groups group passes (ap not lacks)))
+      ]
+
+  -- so each part that waits is that of a group that is passed over
+  all_passed : (k : ℕ) (part : HeldPart) (group : Group) → Stands m.parts k part → part.code ≡ None → IsPartOf g group part → IsPassed large m.wide (id_of group)
+  all_passed k part group stands stale is_part =
+      elim (are_due.all k part group stands stale is_part) [
+        | inr passed ↦ passed
+        | inl waits ↦
+            let (n, inside, at) = group_there g all_groups are_due.are group is_part.is_group in
+            absurd (not_due group (n, inside, get_or_from_slice_get all_groups n group group at) waits)
+      ]
+
+  -- all are held as before
+  pub all_held : HoldsAll m.parts m.wide []
+  all_held k goes =
+      let stale = goes.stale in
+      let (group, is_part) = covers.whole k stale.part stale.stands stale.some in
+      subst (HoldsNode m.wide) (sym (first_is g m.parts k stale.part stale.stands group is_part))
+      (all_passed k stale.part group stale.stands stale.none is_part).1
+
+  have_texts : AreTold g m
+  have_texts k part group stands stale is_part fits =
+      passed_told g m covers large k part group stands stale is_part (all_passed k part group stands stale is_part) fits
+
+  -- and nothing is woken
+  pub Wakes-none : Wakes g [] m m
+  Wakes-none = record {
+    ready = IsReady-covered g m covers have_texts are_due.texts;
+    last = refl;
+    wide = refl;
+    stale = λ k. (λ stale. record { stale = stale; other = not_in k }, λ goes. goes.stale);
+    members = λ k node. (λ has. has, λ has. has);
+    still = record {
+      groups = refl;
+      parts = λ k part stands coded. stands;
+      marks = refl;
+      state = refl;
+      moves = refl;
+      placed = refl;
+    };
+  }
+
+  -- no group waits
+  AreWaiting-none : AreWaiting g m.parts m.uses all_groups [] []
+  AreWaiting-none = record {
+    waits = λ group. false;
+    some_are = none_pass all_groups;
+    others = has_one;
+    slots_are = tt;
+    all = λ k part group stands stale is_part fits. inr (have_texts k part group stands stale is_part fits);
+    once = λ i j before inside. absurd (omega (arith, inside));
+  }
+    where
+      has_one : (group : Group) → Contains all_groups group → false ≡ false → fault_in group ≡ None → HasText g m.parts m.uses group
+      has_one group (i, inside, here) waits fits =
+          let same : all_groups ≡ covers.groups.groups = ap groups_in covers.kept in
+          let at = subst (λ groups. slice_get groups i ≡ Some group) same (slice_get_read all_groups (length all_groups) i group refl inside (sym here)) in
+          let has = covers.each i group at in
+          record {
+            k = has.k;
+            part = has.part;
+            stands = has.stands;
+            is_part = has.is_part;
+            numbered =
+                elim (known_or_not has.part.code) [
+                  | inl (code, is) ↦ covers.numbered has.k has.part has.stands (some_members has.is_part) (λ none. absurd (cc (none, is)))
+                  | inr none ↦ have_texts has.k has.part group has.stands none has.is_part fits
+                ];
+          }
+
+  -- so nothing is analysed
+  pub Fills-none : NoneRefused large g → (kept : List GroupTextData) → IsKeptBy g kept m → (before : List GroupTextData) →
+      Fills large g kept kept before before 0
+  Fills-none few kept known before = record {
+    fresh = [];
+    news = waiting_texts g m covers all_groups [] [] are_due.are AreWaiting-none (All-nil (λ group. fault_in group ≡ None)) large
+        (λ i d inside. few all_groups are_due.are i (get_or all_groups i d) (slice_get-get_or all_groups i d inside)) kept known [] refl;
+    kept = sym (append-nil kept);
+    analysed = sym (append-nil before);
+    number = refl;
+  }

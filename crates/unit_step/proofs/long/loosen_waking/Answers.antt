@@ -1,0 +1,45 @@
+-- One part more loses its code or keeps it.
+use Rattle.std.proofs.Common.{◌≡◌, ℕ, ◌<◌, Vec, Global, get_or, length, sym, subst, arith}
+use Rattle.std.specs.Prelude.{slice_index}
+use Rattle.std.proofs.lemmas.List.{get_or_default}
+use Rattle.std.proofs.lemmas.Option.{slice_get-get_or}
+use Rattle.machine_parts.specs.declared.part.HeldPart.{HeldPart}
+use Rattle.wide_groups.specs.Staying.{HoldsNode}
+use Rattle.unit_step.proofs.LongLemmas.{same_map, Loosens-same, Loosens-set, up_to-set}
+use Rattle.unit_step.proofs.long.loosen_waking.Goals as goal
+
+pub loop-place-init : goal.loop-place-init
+loop-place-init c = record { loosens = Loosens-same c.args.parts.now; held = λ i part below at holds. absurd (omega (arith, below)) }
+
+-- the next part has a node, as it had
+pub goes_without-loose-requires : goal.goes_without-loose-requires
+goes_without-loose-requires c =
+    let old = c.args.parts.now in
+    let parts = c.loop-place.parts in
+    let place = c.loop-place.place in
+    let loosens = c.loop-place.invariant.loosens in
+    let inside : place < length old = omega (arith, c.loop-place-test.true) in
+    let within : place < length parts = omega (arith, inside, loosens.count) in
+    let part = get_or parts place c.index-parts-place.result in
+    let at = slice_get-get_or parts place c.index-parts-place.result within in
+    let was = get_or old place part in
+    let map_is : part.map ≡ was.map = same_map was part (loosens.each place was part (slice_get-get_or old place part inside) at) in
+    subst (λ (map : Vec ℕ Global). 0 < length map.items) (sym map_is) (c.requires.some place part inside)
+
+pub loop-place-preserved : goal.loop-place-preserved
+loop-place-preserved c =
+    let parts = c.loop-place.parts in
+    let place = c.loop-place.place in
+    let wide = c.args.wide.now in
+    let loosens = c.loop-place.invariant.loosens in
+    let within : place < length parts = omega (arith, c.loop-place-test.true, loosens.count) in
+    let default = c.index-parts-place-in-loop-place.result in
+    let part = get_or parts place default in
+    let at = slice_get-get_or parts place default within in
+    let same : part ≡ get_or parts place c.index-parts-place.result = get_or_default parts place default c.index-parts-place.result within in
+    record {
+      loosens = Loosens-set c.args.parts.now parts place part c.loosen_if.new.part at c.loosen_if.ensures.loosens loosens;
+      held = up_to-set wide place parts part c.loosen_if.new.part at c.loosen_if.ensures.loosens
+          (λ holds. c.loosen_if.ensures.code (c.goes_without-loose.ensures
+          (subst (λ (one : HeldPart). HoldsNode wide (slice_index one.map.items 0)) same holds))) c.loop-place.invariant.held;
+    }

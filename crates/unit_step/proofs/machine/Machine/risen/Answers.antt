@@ -1,0 +1,96 @@
+-- The parts of the groups that are due, of which some lose their codes before the machine has them.
+use Rattle.std.proofs.Common.{◌≡◌, ◌≤◌, List, length, sym, ap, subst, ◌∙◌, arith}
+use Rattle.std.specs.Vec.{with_items}
+use Rattle.std.proofs.lemmas.List.{length-map, with_items_is}
+use Rattle.group_text.specs.Texts.{text_of_group}
+use Rattle.kept_parts.proofs.GroupParts.{parts_of_groups}
+use Rattle.machine_parts.specs.declared.part.HeldPart.{HeldPart}
+use Rattle.machine_laws.specs.Machines.{MachineData}
+use Rattle.machine_laws.specs.Finishing.{Loosens, LoosensHeld}
+use Rattle.unit_step.specs.Waking.{AreMade}
+use Rattle.unit_step.proofs.FinishingRoused.{AreMade-held, AreMade-loosened, parts_counted, has_nodes}
+use Rattle.unit_step.proofs.machine.Machine.risen.Goals.{In_ok-parts}
+use Rattle.unit_step.proofs.machine.Machine.risen.Goals as goal
+
+pub held_parts-requires : goal.held_parts-requires
+held_parts-requires c =
+    let g = c.args.graph.now in
+    let m = c.args.self.now in
+    let waking = c.requires.waking in
+    let parts = c.in_ok-parts_of.field-0.items in
+    let of = parts_of_groups g waking.some _ _ parts (c.deref.ensures.value ∙ waking.texts) waking.maps c.in_ok-parts_of.ensures in
+    parts_counted g c.graphs_are_wired.ensures waking.groups waking.some c.args.waking.slots.items m.parts m.uses waking.are waking.waiting parts
+    c.args.waking.reads.items of waking.reads
+
+-- the parts of the groups that wait
+parts_made : (c : In_ok-parts) → AreMade c.args.graph.now c.requires.waking.some c.args.waking.slots.items c.args.self.now.parts c.in_ok-parts.parts.items
+    (length c.args.self.now.state)
+parts_made c =
+    let g = c.args.graph.now in
+    let m = c.args.self.now in
+    let waking = c.requires.waking in
+    let parts = c.in_ok-parts_of.field-0.items in
+    let of = parts_of_groups g waking.some _ _ parts (c.deref.ensures.value ∙ waking.texts) waking.maps c.in_ok-parts_of.ensures in
+    AreMade-held g c.graphs_are_wired.ensures waking.groups waking.some c.args.waking.slots.items m.parts m.uses waking.are waking.waiting parts
+    c.args.waking.reads.items c.in_ok-parts.parts.items (length m.state) of waking.reads c.in_ok-parts.ensures c.requires.covers.counted
+
+pub long_texts-requires : goal.long_texts-requires
+long_texts-requires c =
+    let made = parts_made (goal.at.long_texts-requires c).In_ok-parts in
+    let waking = c.requires.waking in
+    let texts_long : length c.args.waking.texts.items ≡ length c.args.waking.slots.items =
+    ap length waking.texts ∙ length-map waking.some (text_of_group c.args.graph.now) ∙ made.long in
+    let counted : length c.args.self.now.parts ≤ length c.self.inside.body.uses.numbers =
+    subst (λ (m : MachineData). length m.parts ≤ length c.self.inside.body.uses.numbers) c.self.view_is c.self.invariant.0.numbered in
+    rw (c.deref-2.ensures.value, c.deref-3.ensures.value, c.deref-4.ensures.value) (record {
+      slots = sym made.counted;
+      texts = texts_long ∙ sym made.counted;
+      inside = λ i d inside. omega (arith, made.inside i d inside, counted);
+    })
+
+pub loosen_waking-requires : goal.loosen_waking-requires
+loosen_waking-requires c =
+    let made = parts_made (goal.at.loosen_waking-requires c).In_ok-parts in
+    let waking = c.requires.waking in
+    let texts_long : length c.args.waking.texts.items ≡ length c.args.waking.slots.items =
+    ap length waking.texts ∙ length-map waking.some (text_of_group c.args.graph.now) ∙ made.long in
+    rw (c.deref-5.ensures.value, c.deref_mut.ensures.value) (record {
+      texts = texts_long ∙ sym made.counted;
+      some = has_nodes c.args.graph.now waking.some c.in_ok-parts.parts.items made.fresh_are;
+    })
+
+pub coded_of-requires : goal.coded_of-requires
+coded_of-requires c =
+    let made = parts_made (goal.at.coded_of-requires c).In_ok-parts in
+    let now = c.loosen_waking.new.parts in
+    let final = with_items_is c.in_ok-parts.parts now (omega (arith, c.loosen_waking.auto.parts, c.deref_mut.ensures.len)) in
+    let slots : length c.deref-6.result.now ≡ length c.args.waking.slots.items = ap length c.deref-6.ensures.value in
+    let parts : length c.deref-7.result.now ≡ length now = ap length (c.deref-7.ensures.value ∙ final) in
+    omega (arith, slots, parts, c.loosen_waking.auto.parts, c.deref_mut.ensures.len, made.counted)
+
+pub returns : goal.returns
+returns c =
+    let at = (goal.at.returns c).In_ok-parts in
+    let g = c.args.graph.now in
+    let m = c.args.self.now in
+    let waking = c.requires.waking in
+    let made = parts_made at in
+    let old = c.in_ok-parts.parts.items in
+    let now = c.loosen_waking.new.parts in
+    let final = with_items_is c.in_ok-parts.parts now (omega (arith, c.loosen_waking.auto.parts, c.deref_mut.ensures.len)) in
+    let parts : List HeldPart = (with_items c.in_ok-parts.parts now).items in
+    let loosens : Loosens old parts =
+    subst (Loosens old) (sym final) (subst (λ list. Loosens list now) c.deref_mut.ensures.value c.loosen_waking.ensures.loosens) in
+    let wide = ap (λ (one : MachineData). one.wide) c.self.view_is in
+    record {
+      groups = waking.groups;
+      are = waking.are;
+      some = waking.some;
+      waiting = waking.waiting;
+      fit = waking.fit;
+      texts = waking.texts;
+      made = subst (AreMade g waking.some c.args.waking.slots.items m.parts parts) c.requires.covers.counted
+          (AreMade-loosened g waking.some c.args.waking.slots.items m.parts old parts (length m.state) loosens made);
+      coded = rw (c.deref-6.ensures.value, c.deref-7.ensures.value) at c.in_ok-coded.ensures;
+      free = subst (λ known. LoosensHeld known parts) wide (subst (LoosensHeld c.self.inside.body.wide) (sym final) c.loosen_waking.ensures.held);
+    }
