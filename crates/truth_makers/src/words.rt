@@ -1,0 +1,139 @@
+//! The bits of words: up to 64 columns.
+ghost use Rattle.std.specs.Prelude.{◌≡◌, ◌↔◌, ℕ, ◌<◌, ◌≤◌, Bool, true, false, IfOk, IsTrue};
+ghost use Rattle.straight_code.specs.Flat.{kind_value};
+ghost use Rattle.batch_words.specs.Lanes.{is_in_lane};
+ghost use Rattle.batch_words.specs.Words.{is_not, is_or};
+ghost use Rattle.truth_columns.specs.Columns.{AreKept};
+ghost use Rattle.truth_makers.specs.Columns.{AreUsed};
+
+use std::marker::Model;
+use straight_code::StepKind;
+use truth_columns::Truths;
+
+/// No fault: words don't run out.
+#[derive(Drop)]
+pub enum Never {}
+
+/// The maker of words: bit i of a word is its truth value in column i. There are up to 64 columns, and a word's other
+/// bits say nothing.
+#[derive(Drop)]
+pub struct WordTruths {
+    columns: u32,
+    // the bits of the columns
+    used: u64,
+}
+
+impl Model for WordTruths {
+    ghost use Rattle.std.specs.Prelude.{ℕ, ◌≤◌};
+    ghost use Rattle.truth_makers.specs.Columns.{AreUsed};
+
+    ghost Value = { ℕ };
+
+    ghost view = { λ words. words.columns };
+
+    ghost invariant = { λ words. (words.columns ≤ 64) × AreUsed words.columns words.used };
+}
+
+impl WordTruths {
+    /// The maker of words with so many columns. Contracts see it as their number.
+    pub fn new(columns: u32) -> WordTruths
+        requires some { 1 ≤ columns }
+        requires few { columns ≤ 64 }
+        ensures { result ≡ columns }
+    {
+        WordTruths {
+            columns,
+            used: used_bits(columns),
+        }
+    }
+
+    /// The bits of the columns.
+    pub fn used(&self) -> u64
+        ensures used { AreUsed self.now result }
+        ensures few { self.now ≤ 64 }
+    {
+        self.used
+    }
+}
+
+impl Truths for WordTruths {
+    type Truth = u64;
+
+    type Fault = Never;
+
+    ghost columns = { λ columns. columns };
+
+    ghost has = { λ columns word. word < 18446744073709551616 };
+
+    ghost holds = { λ columns word column. is_in_lane column word };
+
+    fn constant(&self, value: bool) -> u64 {
+        self.used();
+        all_or_none(value)
+    }
+
+    fn is_never(&self, truth: u64) -> bool {
+        agree(self.used(), truth, 0)
+    }
+
+    fn same(&self, a: u64, b: u64) -> bool {
+        agree(self.used(), a, b)
+    }
+
+    fn perform(&mut self, kind: StepKind, a: u64, b: u64) -> Result<u64, Never> {
+        self.used();
+        Ok(kind_word(kind, a, b))
+    }
+}
+
+// The bits of the first columns, so many.
+fn used_bits(columns: u32) -> u64
+    requires some { 1 ≤ columns }
+    requires few { columns ≤ 64 }
+    ensures { AreUsed columns result }
+{
+    u64::MAX >> (64 - columns)
+}
+
+// All bits, or none.
+fn all_or_none(value: bool) -> u64
+    ensures { (lane : ℕ) → lane < 64 → is_in_lane lane result ≡ value }
+{
+    if value { u64::MAX } else { 0 }
+}
+
+// Whether two words agree in the columns whose bits are used.
+fn agree(used: u64, a: u64, b: u64) -> bool
+    ensures { IsTrue result ↔ ((lane : ℕ) → lane < 64 → is_in_lane lane used ≡ true → is_in_lane lane a ≡ is_in_lane lane b) }
+{
+    (a ^ b) & used == 0
+}
+
+// What an instruction of this kind gives of two words. It has no branch on the kind's result.
+fn kind_word(kind: StepKind, a: u64, b: u64) -> u64
+    ensures { (lane : ℕ) → lane < 64 → is_in_lane lane result ≡ kind_value kind (is_in_lane lane a) (is_in_lane lane b) }
+{
+    let turned = not_mask(kind);
+    let either = or_mask(kind);
+    ((a & (b | turned | either)) | (b & either)) ^ turned
+}
+
+// All columns if the kind is a Not, else none.
+fn not_mask(kind: StepKind) -> u64
+    ensures { (lane : ℕ) → lane < 64 → is_in_lane lane result ≡ is_not kind }
+{
+    match kind {
+        StepKind::Not => u64::MAX,
+        StepKind::And | StepKind::Or => 0,
+    }
+}
+
+// All columns if the kind is an Or, else none.
+fn or_mask(kind: StepKind) -> u64
+    ensures { (lane : ℕ) → lane < 64 → is_in_lane lane result ≡ is_or kind }
+{
+    match kind {
+        StepKind::Or => u64::MAX,
+        StepKind::Not | StepKind::And => 0,
+    }
+}
