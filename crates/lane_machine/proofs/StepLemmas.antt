@@ -22,7 +22,8 @@ use Rattle.lane_machine.specs.declared.evaluation.WordChange.{WordChange}
 use Rattle.lane_machine.specs.Columns.{column, HasColumn}
 use Rattle.lane_machine.specs.Noting.{HasChange}
 use Rattle.lane_machine.specs.Evaluating.{Evaluated, Rooms, IsSeated}
-use Rattle.lane_machine.specs.Running.{listed_at, IsAmong, IsRunnable, IsLeftAt, AreWritten, ReadsAny, StepsTo}
+use Rattle.part_lists.specs.Listing.{listed_at, IsAmong}
+use Rattle.lane_machine.specs.Running.{IsRunnable, IsLeftAt, AreWritten, ReadsAny, StepsTo}
 use Rattle.lane_machine.proofs.ColumnLemmas.{length-column, column-value, HasLane-each}
 use Rattle.lane_machine.proofs.NotingLemmas.{no_difference, no_change}
 use Rattle.lane_machine.proofs.TakingLemmas.{AreChanged}

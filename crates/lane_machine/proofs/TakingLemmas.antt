@@ -1,14 +1,14 @@
 -- The changes of a step are taken over one by one.
-use Rattle.std.proofs.Common.{◌≡◌, ℕ, ◌+◌, ◌<◌, ◌⊎◌, Bool, true, false, ◌&&◌, ◌||◌, inl, inr, List, [], ◌∷◌, ◌++◌, length, take, get_or, refl, sym, ap, subst, ◌∙◌, Vec, Global, arith}
+use Rattle.std.proofs.Common.{◌≡◌, ℕ, ◌+◌, ◌<◌, ◌⊎◌, Bool, true, false, ◌&&◌, ◌||◌, inl, inr, List, [], ◌∷◌, ◌++◌, length, take, get_or, refl, sym, ap, subst, ◌∙◌, arith}
 use Rattle.std.specs.Prelude.{Contains, slice_index, slice_set, bit_or}
 use Rattle.std.proofs.lemmas.Bool.{cases_eq}
-use Rattle.std.proofs.lemmas.List.{get_or-set_same, get_or-set_other, get_or-map, length-set, take_more}
+use Rattle.std.proofs.lemmas.List.{get_or-set_same, get_or-set_other, length-set, take_more}
 use Rattle.std.proofs.lemmas.List.Elements.{Contains-push, Contains-push_cases, Contains-append_left}
 use Rattle.batch_words.specs.Lanes.{is_in_lane}
 use Rattle.batch_words.proofs.LaneLemmas.{lane-or}
 use Rattle.lane_machine.specs.declared.evaluation.WordChange.{WordChange}
 use Rattle.lane_machine.specs.Noting.{differs_in}
-use Rattle.lane_machine.specs.Running.{listed_at, AreWritten}
+use Rattle.lane_machine.specs.Running.{AreWritten}
 
 -- one change more is written
 AreWritten-push : (done : List WordChange) (change : WordChange) (old_hi old_lo hi lo : List ℕ) → change.node < length hi → change.node < length lo →
@@ -66,12 +66,6 @@ AreWritten-none hi lo = record {
   lows = refl;
   each = λ node. inr (record { none = λ change (k, inside, here). absurd (omega (arith, inside)); high = refl; low = refl });
 }
-
--- the list of a node that is read by its index
-pub list_read : (lists : List (Vec ℕ Global)) (node : ℕ) (found : Vec ℕ Global) → node < length lists → found ≡ get_or lists node found →
-    found.items ≡ listed_at lists node
-list_read lists node found inside is =
-    ap (λ (parts : Vec ℕ Global). parts.items) is ∙ sym (get_or-map (λ (parts : Vec ℕ Global). parts.items) lists node found [] inside)
 
 -- ---- the columns that some change changes
 

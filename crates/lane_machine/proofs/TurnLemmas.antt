@@ -355,6 +355,20 @@ IsTurning-moved used uneven new spare m machine told turning lists puts = record
     unmoved node inside out (inl same) = sym same
     unmoved node inside out (inr differs) = absurd (out (puts.set node (lists.each node inside differs)))
 
+-- and so does one whose states are the same
+pub IsTurning-counted : (used : ℕ) (uneven spare : List Bool) (m : TurnData) (machine : MachineData) → IsTurning used uneven spare m →
+    machine.state ≡ m.machine.state → IsTurning used uneven spare (record m { machine = machine })
+IsTurning-counted used uneven spare m machine turning same = record {
+  is = record { few = turning.is.few; columns = turning.is.columns; counted = ap length same ∙ turning.is.counted };
+  used_are = turning.used_are;
+  even = record {
+    counted = turning.even.counted;
+    even = λ one node below inside out.
+        turning.even.even one node below inside out ∙ ap (λ (state : List Tern). state_at state node) (sym same);
+  };
+  room = turning.room;
+}
+
 -- where a node that is no longer uneven has the machine's state in all columns, it takes turns with those that stay uneven
 pub IsTurning-evened : (used : ℕ) (uneven spare left stay : List Bool) (m : TurnData) → IsTurning used uneven spare m → length left ≡ length uneven → length stay ≡ length spare →
     ((lane node : ℕ) → lane < 64 → is_in_lane lane used ≡ true → node < length m.hi → IsIn uneven node → (¬ IsIn stay node) →

@@ -1,39 +1,19 @@
 -- What lets a machine of columns run, and what a step does in each column.
-use Rattle.std.specs.Prelude.{◌≡◌, ◌≢◌, ℕ, ◌<◌, ◌≤◌, ◌⊎◌, Bool, true, false, nat_lt, List, [], length, map, take, All, Contains, Vec, slice_index, slice_index_or}
+use Rattle.std.specs.Prelude.{◌≡◌, ◌≢◌, ℕ, ◌<◌, ◌≤◌, ◌⊎◌, Bool, true, false, nat_lt, List, length, All, Contains, Vec, slice_index}
 use Rattle.std.specs.List.{sum_by}
 use Rattle.std.proofs.Common.{Global}
 use Rattle.ternary.specs.declared.tern.Tern.{Tern}
 use Rattle.oscillation_x.specs.Settling.{StaysOrBecomesX}
 use Rattle.batch_words.specs.Lanes.{is_in_lane, HasLane}
 use Rattle.machine_parts.specs.declared.part.HeldPart.{HeldPart}
-use Rattle.machine_parts.specs.Parts.{Stands, IsStale, AreApart}
+use Rattle.machine_parts.specs.Parts.{IsStale, AreApart}
 use Rattle.machine_parts.specs.Marking.{members_of, IsReached}
 use Rattle.machine_parts.specs.Stepping.{Moves}
 use Rattle.machine_laws.specs.Columns.{KeepsMarks}
+use Rattle.part_lists.specs.Listing.{listed_at, AreLists}
 use Rattle.lane_machine.specs.Evaluating.{Rooms, IsSeated}
 use Rattle.lane_machine.specs.declared.evaluation.WordChange.{WordChange}
 use Rattle.lane_machine.specs.Columns.{column, HasColumn}
-
--- the parts that are listed for a node
-abbrev pub listed_at : List (Vec ℕ Global) → ℕ → List ℕ
-listed_at lists node = slice_index_or (map (λ parts. parts.items) lists) node []
-
--- the nodes that a part reads, or its members
-abbrev pub nodes_of : Bool → HeldPart → List ℕ
-nodes_of true part = take part.members part.map.items
-nodes_of false part = part.reads.items
-
--- the part with this number reads the node, or has it as a member
-pub record IsAmong (members : Bool) (parts : List HeldPart) (k node : ℕ) : Type 0 where
-  pub part : HeldPart
-  pub stands : Stands parts k part
-  pub among : Contains (nodes_of members part) node
-
--- for each node the parts that read it are listed, or that have it as a member, and no others
-pub record AreLists (members : Bool) (parts : List HeldPart) (count : ℕ) (lists : List (Vec ℕ Global)) : Type 0 where
-  pub counted : length lists ≡ count
-  pub listed : (node k : ℕ) → IsAmong members parts k node → Contains (listed_at lists node) k
-  pub only : (node k : ℕ) → Contains (listed_at lists node) k → IsAmong members parts k node
 
 -- the parts are seated, share no members, have marks, and none of them is stale; each node has its readers; and there is room for a step
 pub record IsRunnable (parts : List HeldPart) (marks : List Bool) (count : ℕ) (readers : List (Vec ℕ Global)) (room : Rooms) : Type 0 where

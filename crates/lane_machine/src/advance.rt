@@ -4,9 +4,9 @@ ghost use Rattle.machine_parts.specs.Marking.{MarksAll};
 ghost use Rattle.lane_machine.specs.Evaluating.{rooms, IsEven};
 ghost use Rattle.lane_machine.specs.Running.{IsRunnable, StepsInAll};
 
-use crate::agenda::{Agenda, mark_all};
 use crate::evaluation::{Desk, evaluate_all};
 use crate::taking::{changed_lanes, take_over};
+use part_lists::{Agenda, mark_all};
 use unit_step::HeldPart;
 
 // Takes a step of all columns, plain or joining, and answers with the bits of the used columns that it changes.

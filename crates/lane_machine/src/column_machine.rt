@@ -21,7 +21,7 @@ use circuit_texts::BuildFault;
 use oscillation_x::{MOST_LIMIT, Settled};
 use path_meaning::Graph;
 use std::alloc::Global;
-use unit_step::Machine;
+use unit_step::{Codes, Machine};
 
 /// What moves the columns of a circuit.
 #[derive(Drop)]
@@ -66,7 +66,15 @@ impl ColumnMachine {
             ⊎ (TellsRefused large graph.now fault × (kept.new ≡ kept.old) × (A.analysed analyst.new ≡ A.analysed analyst.old))) }
     {
         let state = some_state(alloc, graph.nodes())?;
-        let (machine, _fresh) = Machine::build(alloc, graph, &state, large, kept, analyst)?;
+        let (machine, _fresh) = Machine::build(
+            alloc,
+            graph,
+            &state,
+            large,
+            Codes::All,
+            kept,
+            analyst,
+        )?;
         if machine.has_wide_groups() {
             let turns = TurnMachine::of(alloc, lanes, machine, hi, lo)?;
             return Ok(ColumnMachine::InTurn(turns));

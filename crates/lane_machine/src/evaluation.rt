@@ -9,8 +9,8 @@ ghost use Rattle.machine_parts.specs.Words.{Stands, IsMarked, count_marked, mark
 ghost use Rattle.lane_machine.specs.Noting.{after_word, differs_in, IsNextOf, Notes};
 ghost use Rattle.lane_machine.specs.Evaluating.{rooms, IsEven, Reports, Evaluated, IsSeated};
 
-use crate::agenda::Agenda;
 use batch_words::run_words;
+use part_lists::Agenda;
 use straight_code::Code;
 use unit_step::HeldPart;
 

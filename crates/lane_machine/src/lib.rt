@@ -23,7 +23,6 @@
 #![tactic(auto)]
 
 mod advance;
-mod agenda;
 mod bits;
 mod column_machine;
 mod evaluation;

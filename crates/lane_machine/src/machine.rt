@@ -14,11 +14,11 @@ ghost use Rattle.lane_machine.specs.Stepping.{StepsLanes};
 ghost use Rattle.lane_machine.specs.Placing.{PlacesWords};
 
 use crate::advance::advance;
-use crate::agenda::{Agenda, mark_all};
 use crate::evaluation::Desk;
-use crate::making::{desk_for, lists_of, used_lanes};
+use crate::making::{desk_for, used_lanes};
 use batch_lanes::{LaneStepper, settle_lanes};
 use oscillation_x::{MOST_LIMIT, Settled};
+use part_lists::{Agenda, lists_of, mark_all};
 use path_meaning::{Graph, graphs_are_wired};
 use std::alloc::Global;
 use std::marker::Model;

@@ -4,10 +4,11 @@ ghost use Rattle.machine_parts.specs.Marking.{MarksAll};
 ghost use Rattle.batch_words.specs.Lanes.{is_in_lane};
 ghost use Rattle.lane_machine.specs.declared.evaluation.WordChange.{WordChange};
 ghost use Rattle.lane_machine.specs.Noting.{differs_in};
-ghost use Rattle.lane_machine.specs.Running.{listed_at, AreWritten, ReadsAny};
+ghost use Rattle.part_lists.specs.Listing.{listed_at};
+ghost use Rattle.lane_machine.specs.Running.{AreWritten, ReadsAny};
 
-use crate::agenda::{Agenda, mark_all};
 use crate::evaluation::{WordChange, differing};
+use part_lists::{Agenda, mark_all};
 
 // The used columns in which some of these changes changes its node.
 pub(crate) fn changed_lanes(used: u64, changes: &[WordChange], hi: &[u64], lo: &[u64]) -> u64

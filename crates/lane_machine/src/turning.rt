@@ -8,7 +8,7 @@ use crate::turns::TurnMachine;
 use oscillation_x::Stepper;
 use path_meaning::Graph;
 use std::sync::ledger::Ledger;
-use ternary::Steps;
+use ternary::{Steps, Tern};
 
 // A machine of columns that take turns, whose own state steps: the words of the columns stay.
 #[derive(Drop)]
@@ -29,6 +29,14 @@ impl Stepper for Turning<'_> {
 
     // It is the same machine, too.
     ghost fixed = { λ turning. (words_of turning.turns.now, turning.turns.ghost_name) };
+
+    fn states(&self) -> &[Tern] {
+        self.turns.state()
+    }
+
+    fn skip(&mut self, count: u64) {
+        self.turns.count_moves(count);
+    }
 
     fn step<L: Ledger>(&mut self, graph: &Graph, steps: &mut Steps<L>) -> bool {
         self.turns.step(graph, steps)

@@ -1,9 +1,9 @@
 //! One machine that takes the states of the columns in turn.
-ghost use Rattle.std.specs.Prelude.{◌≡◌, ◌≢◌, ◌^◌, ◌<◌, ◌≤◌, length, slice_set, IfOk};
+ghost use Rattle.std.specs.Prelude.{◌≡◌, ◌≢◌, ◌^◌, ◌<◌, ◌≤◌, None, length, slice_set, IfOk};
 ghost use Rattle.std.specs.Bool.{OnTrue, OnFalse};
 ghost use Rattle.ternary.specs.Counts.{raised};
 ghost use Rattle.path_meaning.specs.declared.TheConstants.{RAILS};
-ghost use Rattle.path_meaning.specs.Words.{IsStep};
+ghost use Rattle.path_meaning.specs.Words.{GraphData, IsStep};
 ghost use Rattle.oscillation_x.specs.declared.settling.Settled.{Settled};
 ghost use Rattle.oscillation_x.specs.Settling.{IsJoinStep, StaysOrBecomesX};
 ghost use Rattle.machine_laws.specs.Words.{FitsGraph};
@@ -15,7 +15,7 @@ use crate::bits::{state_in, with_bit};
 use crate::making::used_lanes;
 use crate::turning::Turning;
 use crate::uneven::{note, put_each, put_uneven, sift};
-use oscillation_x::{Settled, settle};
+use oscillation_x::{Recall, Settled, settle};
 use path_meaning::{Graph, RAILS};
 use std::alloc::{AllocError, Global};
 use std::marker::{Brand, Model};
@@ -170,8 +170,15 @@ impl TurnMachine {
         ensures moves { FitsGraph graph.now self.old.machine → MovesBy graph.now limit self.old.machine.state self.new.machine.state result }
     {
         let mut steps = Steps::<L>::new(blank);
+        let mut recall = self.recall();
         match limit {
-            Some(limit) => settle(&mut Turning { turns: self }, graph, limit, &mut steps),
+            Some(limit) => settle(
+                &mut Turning { turns: self },
+                graph,
+                limit,
+                &mut steps,
+                &mut recall,
+            ),
             None => {
                 self.step(graph, &mut steps);
                 Settled {
@@ -180,6 +187,31 @@ impl TurnMachine {
                 }
             }
         }
+    }
+
+    // What can remember a state of the machine.
+    fn recall(&self) -> Recall
+        ensures { result.since ≡ None }
+    {
+        self.machine.recall()
+    }
+
+    // The machine's own state.
+    pub(crate) fn state(&self) -> &[Tern]
+        ensures { result.now ≡ self.now.machine.state }
+    {
+        self.machine.state()
+    }
+
+    // The machine counts so many moves more, which led back to its state.
+    pub(crate) fn count_moves(&mut self, count: u64)
+        ensures words { words_of self.new ≡ words_of self.old }
+        ensures state { self.new.machine.state ≡ self.old.machine.state }
+        ensures fits { (g : GraphData) → FitsGraph g self.old.machine → FitsGraph g self.new.machine }
+        ensures moves { self.new.machine.moves ≡ raised self.old.machine.moves count }
+        ensures placed { self.new.machine.placed ≡ self.old.machine.placed }
+    {
+        self.machine.count_moves(count);
     }
 
     // The machine takes a unit step as `Stepper::step` does, and the nodes at which that changes its state become uneven.

@@ -4,8 +4,9 @@ use Rattle.std.specs.Prelude.{length}
 use Rattle.std.proofs.lemmas.List.{get_or_default}
 use Rattle.machine_parts.proofs.MarkLemmas.{MarksAll-reached}
 use Rattle.lane_machine.specs.declared.evaluation.WordChange.{WordChange}
-use Rattle.lane_machine.specs.Running.{listed_at}
-use Rattle.lane_machine.proofs.TakingLemmas.{AreWritten-none, AreWritten-more, list_read}
+use Rattle.part_lists.specs.Listing.{listed_at}
+use Rattle.part_lists.proofs.ListLemmas.{list_read}
+use Rattle.lane_machine.proofs.TakingLemmas.{AreWritten-none, AreWritten-more}
 use Rattle.lane_machine.proofs.taking.take_over.Goals as goal
 
 first : WordChange

@@ -2,8 +2,9 @@
 use Rattle.std.proofs.Common.{◌≡◌, true, false, length, ap, subst, ◌∙◌, arith}
 use Rattle.std.specs.Prelude.{replicate}
 use Rattle.lane_machine.specs.Evaluating.{rooms, HasRoomFor}
-use Rattle.lane_machine.specs.Running.{AreLists}
-use Rattle.lane_machine.proofs.MakingLemmas.{IsLaneMachine-made, nodes_inside}
+use Rattle.part_lists.specs.Listing.{AreLists}
+use Rattle.part_lists.proofs.ListLemmas.{nodes_inside}
+use Rattle.lane_machine.proofs.MakingLemmas.{IsLaneMachine-made}
 use Rattle.lane_machine.proofs.machine.LaneMachine.of_parts.Goals as goal
 
 pub lists_of-requires-clause-below : goal.lists_of-requires-clause-below

@@ -4,9 +4,10 @@ use Rattle.std.specs.Prelude.{slice_set}
 use Rattle.std.proofs.lemmas.List.{length-set}
 use Rattle.lane_machine.specs.Columns.{LaneData}
 use Rattle.lane_machine.specs.Evaluating.{rooms}
-use Rattle.lane_machine.specs.Running.{listed_at, AreColumns}
-use Rattle.lane_machine.proofs.TakingLemmas.{list_read}
-use Rattle.lane_machine.proofs.MakingLemmas.{IsLaneMachine-again, MarksAll-concerned, listed_part}
+use Rattle.part_lists.specs.Listing.{listed_at}
+use Rattle.part_lists.proofs.ListLemmas.{list_read, MarksAll-concerned, listed_part}
+use Rattle.lane_machine.specs.Running.{AreColumns}
+use Rattle.lane_machine.proofs.MakingLemmas.{IsLaneMachine-again}
 use Rattle.lane_machine.proofs.FittingLemmas.{HasLane-placed}
 use Rattle.lane_machine.proofs.machine.LaneMachine.put.Goals as goal
 
@@ -56,8 +57,8 @@ returns-clause-places c =
     c.deref.ensures.value ∙ list_read i.owners.items node c.index.result.now (omega (arith, inside, m.owners_are.counted)) c.index.ensures in
     let second : c.deref-2.result.now ≡ listed_at i.readers.items node =
     c.deref-2.ensures.value ∙ list_read i.readers.items node c.index-2.result.now (omega (arith, inside, m.runs.readers_are.counted)) c.index-2.ensures in
-    let marks = MarksAll-concerned i.parts.items (length i.hi.items) (rooms i.desk) i.readers.items i.owners.items node i.agenda c.mark_all.new.agenda
-    c.mark_all-2.new.agenda m.runs.seated m.owners_are m.runs.readers_are c.deref.result.now c.deref-2.result.now first second c.mark_all.ensures
+    let marks = MarksAll-concerned i.parts.items (length i.hi.items) i.readers.items i.owners.items node i.agenda c.mark_all.new.agenda
+    c.mark_all-2.new.agenda (λ k d within. (m.runs.seated k d within).seated.members) m.owners_are m.runs.readers_are c.deref.result.now c.deref-2.result.now first second c.mark_all.ensures
     c.mark_all-2.ensures in
     rw (← c.self.view_is) (record { highs = refl; lows = refl; marks = marks; lanes = refl; parts = refl })
 

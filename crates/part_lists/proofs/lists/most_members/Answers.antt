@@ -2,7 +2,7 @@
 use Rattle.std.proofs.Common.{◌≤◌, take, subst, arith}
 use Rattle.std.proofs.lemmas.List.Elements.{All-more, All-weaker}
 use Rattle.machine_parts.specs.declared.part.HeldPart.{HeldPart}
-use Rattle.lane_machine.proofs.making.most_members.Goals as goal
+use Rattle.part_lists.proofs.lists.most_members.Goals as goal
 
 pub loop-part-preserved : goal.loop-part-preserved
 loop-part-preserved c =

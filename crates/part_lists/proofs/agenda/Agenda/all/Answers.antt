@@ -4,7 +4,7 @@ use Rattle.std.specs.Prelude.{replicate}
 use Rattle.std.specs.List.{range_with_len}
 use Rattle.machine_parts.specs.Marking.{ListsMarked}
 use Rattle.machine_parts.proofs.MakingLemmas.{none_marked, IsAgenda-all}
-use Rattle.lane_machine.proofs.agenda.Agenda.all.Goals as goal
+use Rattle.part_lists.proofs.agenda.Agenda.all.Goals as goal
 
 all_listed : (n capacity : ℕ) → n ≤ capacity → ListsMarked (replicate n true) (map (λ k. k) (range_with_len 0 n)) capacity
 all_listed n capacity room =

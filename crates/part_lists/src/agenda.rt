@@ -3,13 +3,13 @@ ghost use Rattle.std.specs.Prelude.{◌≡◌, ℕ, ◌<◌, true, false, slice_
 ghost use Rattle.std.specs.Option.{IfNone};
 ghost use Rattle.machine_parts.specs.Marking.{IsMarked, MarksAll};
 
+use part_steps::numbers_below;
 use std::alloc::{AllocError, Global};
 use std::marker::Model;
-use unit_step::numbers_below;
 
-// A mark for each part; the marked ones stand in a list.
+/// A mark for each part; the marked ones stand in a list. Contracts see the marks.
 #[derive(Drop)]
-pub(crate) struct Agenda {
+pub struct Agenda {
     marks: Vec<bool>,
     work: Vec<usize>,
 }
@@ -26,8 +26,8 @@ impl Model for Agenda {
 }
 
 impl Agenda {
-    // All of so many parts are marked.
-    pub(crate) fn all(alloc: Global, parts: usize) -> Result<Agenda, AllocError>
+    /// All of so many parts are marked.
+    pub fn all(alloc: Global, parts: usize) -> Result<Agenda, AllocError>
         ensures { IfOk result (λ agenda. agenda ≡ replicate parts true) }
     {
         let work = numbers_below(alloc, parts)?;
@@ -37,8 +37,8 @@ impl Agenda {
         })
     }
 
-    // Marks a part. Marking twice is one mark.
-    pub(crate) fn mark(&mut self, k: usize)
+    /// Marks a part. Marking twice is one mark.
+    pub fn mark(&mut self, k: usize)
         requires { k < length self.old }
         ensures { self.new ≡ slice_set self.old k true }
     {
@@ -48,8 +48,8 @@ impl Agenda {
         }
     }
 
-    // Takes a marked part out of the list, and clears its mark; None if none is marked.
-    pub(crate) fn pop(&mut self) -> Option<usize>
+    /// Takes a marked part out of the list, and clears its mark; None if none is marked.
+    pub fn pop(&mut self) -> Option<usize>
         ensures marked { IfSome result (λ k. IsMarked self.old k) }
         ensures cleared { IfSome result (λ k. self.new ≡ slice_set self.old k false) }
         ensures none { IfNone result (self.new ≡ self.old) }
@@ -61,8 +61,8 @@ impl Agenda {
     }
 }
 
-// Marks all of these parts.
-pub(crate) fn mark_all(parts: &[usize], agenda: &mut Agenda)
+/// Marks all of these parts.
+pub fn mark_all(parts: &[usize], agenda: &mut Agenda)
     requires { (k : ℕ) → Contains parts.now k → k < length agenda.old }
     ensures { MarksAll (Contains parts.now) agenda.old agenda.new }
 {

@@ -1,7 +1,7 @@
 -- The part is listed at one node more.
 use Rattle.std.proofs.Common.{◌≡◌, ℕ, ◌<◌, [], ◌∷◌, ◌++◌, Vec, Global, get_or, length, refl, sym, ap, ◌∙◌, arith}
-use Rattle.lane_machine.proofs.MakingLemmas.{Lists-more}
-use Rattle.lane_machine.proofs.making.list_part.Goals as goal
+use Rattle.part_lists.proofs.ListLemmas.{Lists-more}
+use Rattle.part_lists.proofs.lists.list_part.Goals as goal
 
 pub loop-node-preserved : goal.loop-node-preserved
 loop-node-preserved c =

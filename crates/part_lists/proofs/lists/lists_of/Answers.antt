@@ -3,10 +3,9 @@ use Rattle.std.proofs.Common.{◌+◌, ◌<◌, ◌≤◌, ℕ, List, All, lengt
 use Rattle.std.proofs.lemmas.List.{with_items_is}
 use Rattle.machine_parts.specs.declared.part.HeldPart.{HeldPart}
 use Rattle.machine_parts.specs.Parts.{Stands}
-use Rattle.lane_machine.specs.Running.{nodes_of}
-use Rattle.lane_machine.specs.Making.{Lists, AreListed}
-use Rattle.lane_machine.proofs.MakingLemmas.{AreListed-more}
-use Rattle.lane_machine.proofs.making.lists_of.Goals as goal
+use Rattle.part_lists.specs.Listing.{nodes_of, Lists, AreListed}
+use Rattle.part_lists.proofs.ListLemmas.{AreListed-more}
+use Rattle.part_lists.proofs.lists.lists_of.Goals as goal
 
 pub loop-k-init : goal.loop-k-init
 loop-k-init c = record {

@@ -2,7 +2,7 @@
 use Rattle.std.proofs.Common.{arith, refl}
 use Rattle.std.proofs.lemmas.List.Elements.{Contains-get_or}
 use Rattle.machine_parts.proofs.MarkLemmas.{MarksAll-more}
-use Rattle.lane_machine.proofs.agenda.mark_all.Goals as goal
+use Rattle.part_lists.proofs.agenda.mark_all.Goals as goal
 
 pub mark-requires : goal.mark-requires
 mark-requires c =

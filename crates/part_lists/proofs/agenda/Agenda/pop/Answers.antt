@@ -5,7 +5,7 @@ use Rattle.std.proofs.lemmas.List.Elements.{Contains-push}
 use Rattle.machine_parts.proofs.SetMarks.{marked_inside}
 use Rattle.machine_parts.specs.Marking.{ListsMarked}
 use Rattle.machine_parts.proofs.MarkLemmas.{ListsMarked-less}
-use Rattle.lane_machine.proofs.agenda.Agenda.pop.Goals as goal
+use Rattle.part_lists.proofs.agenda.Agenda.pop.Goals as goal
 
 pub index_mut-requires : goal.index_mut-requires
 index_mut-requires c =

@@ -1,7 +1,7 @@
 -- A part that isn't marked comes to the list, in which there is room for it.
 use Rattle.std.proofs.Common.{◌<◌, length, ap, arith}
 use Rattle.machine_parts.proofs.MarkLemmas.{unmarked_read, count_marked-below, ListsMarked-more}
-use Rattle.lane_machine.proofs.agenda.Agenda.mark.Goals as goal
+use Rattle.part_lists.proofs.agenda.Agenda.mark.Goals as goal
 
 pub push_reserved-requires : goal.push_reserved-requires
 push_reserved-requires c =

@@ -1,7 +1,7 @@
 -- The nodes so far have empty lists.
 use Rattle.std.proofs.Common.{◌≡◌, map, []}
 use Rattle.std.specs.Prelude.{replicate}
-use Rattle.lane_machine.proofs.making.no_lists.Given as goal
+use Rattle.part_lists.proofs.lists.no_lists.Given as goal
 
 abbrev pub invariant-loop : goal.invariant-loop
 invariant-loop l = map (λ parts. parts.items) l.lists.items ≡ replicate l.counter []
