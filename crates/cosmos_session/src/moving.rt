@@ -135,12 +135,20 @@ fn settle_uncounted<L: Ledger, O: Onlooker>(
     ensures knows { O.knows onlooker.new machine.new.state }
 {
     let mut steps = Steps::<L>::new(blank);
+    let mut recall = machine.recall();
     let mut changed = machine.listing(onlooker.is_looking());
     let mut watched = Watched {
         machine,
         changed: &mut changed,
     };
-    unfailing(settle_seen(&mut watched, graph, limit, &mut steps, onlooker))
+    unfailing(settle_seen(
+        &mut watched,
+        graph,
+        limit,
+        &mut steps,
+        onlooker,
+        &mut recall,
+    ))
 }
 
 // One unit step from a steady state: it leaves the state and the counts, no mark but those of stale parts, and nothing

@@ -28,7 +28,7 @@ use std::alloc::Global;
 use std::marker::Model;
 use std::mem;
 use ternary::{NoMemory, Tern};
-use unit_step::{Machine, NEW_NODES};
+use unit_step::{Codes, Machine, NEW_NODES};
 
 // The state alone, or the machine that moves it.
 #[derive(Drop)]
@@ -174,7 +174,15 @@ impl Stage {
         match &mut self.held {
             Held::Built(machine) => machine.finish(graph, large, kept, analyst),
             Held::Still(state) => {
-                let (machine, fresh) = Machine::build(alloc, graph, state, large, kept, analyst)?;
+                let (machine, fresh) = Machine::build(
+                    alloc,
+                    graph,
+                    state,
+                    large,
+                    Codes::Short,
+                    kept,
+                    analyst,
+                )?;
                 self.held = Held::Built(machine);
                 Ok(fresh)
             }
