@@ -35,6 +35,7 @@ mod words;
 pub use fault::VectorFault;
 pub use laws::{limits_are_as_stated, ranges_stand_in_braces, the_first_fault_refuses};
 pub use patterns::matches_name;
+pub use ranges::{Range, first_range};
 pub use vectors::{Named, Vectors};
 
 /// The most entries of a vector.

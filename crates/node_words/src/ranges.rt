@@ -14,7 +14,7 @@ use ternary::NoMemory;
 
 /// A range `{A:B}` in a word, with what stands before it and after it.
 #[derive(Drop)]
-pub(crate) struct Range<'a> {
+pub struct Range<'a> {
     before: &'a [u8],
     first: u64,
     last: u64,
@@ -41,14 +41,14 @@ impl<'a> Range<'a> {
     }
 
     /// How many numbers the range has.
-    pub(crate) fn len(&self) -> u64
+    pub fn len(&self) -> u64
         ensures { result ≡ spec.count_between self.now.first self.now.last }
     {
         self.first.abs_diff(self.last) + 1
     }
 
     /// The word with the number at this place of the range in the range's place.
-    pub(crate) fn word(&self, alloc: Global, place: u64) -> Result<Vec<u8>, NoMemory>
+    pub fn word(&self, alloc: Global, place: u64) -> Result<Vec<u8>, NoMemory>
         requires { place < spec.count_between self.now.first self.now.last }
         ensures { IfOk result (λ word. word.items ≡ spec.word_at self.now place) }
     {
@@ -75,7 +75,7 @@ fn number_at(first: u64, last: u64, place: u64) -> u64
 }
 
 /// The first range that begins in a word.
-pub(crate) fn first_range(word: &[u8]) -> Option<Range<'_>>
+pub fn first_range(word: &[u8]) -> Option<Range<'_>>
     ensures { result ≡ spec.first_range word.now }
 {
     for at in 0..word.len() {

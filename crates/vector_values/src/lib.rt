@@ -19,5 +19,5 @@ mod reading;
 mod values;
 
 pub use laws::bits_write_the_number;
-pub use reading::read_value;
+pub use reading::{letter_of, read_value};
 pub use values::{Letter, VectorValue};

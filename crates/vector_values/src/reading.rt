@@ -58,8 +58,8 @@ fn letters_of(alloc: Global, text: &[u8], dashes: bool) -> Result<Option<Vec<Let
     Ok(Some(letters))
 }
 
-// The letter that a byte stands for: that of a state, or `-` if it may stand.
-fn letter_of(byte: u8, dashes: bool) -> Option<Letter>
+/// The letter that a byte stands for: that of a state, or `-` if it may stand.
+pub fn letter_of(byte: u8, dashes: bool) -> Option<Letter>
     ensures { result ≡ spec.letter_of dashes byte }
 {
     if dashes && byte == b'-' {

@@ -1,0 +1,4 @@
+pub mod ItemLemmas
+pub mod CommandLemmas
+pub mod NameLemmas
+pub mod SomeNames
