@@ -13,12 +13,11 @@ use Rattle.std.proofs.lemmas.Map.Lookups.{exact_unsigned}
 use Rattle.std.proofs.lemmas.Map.Views.{btree_set_contains_iff}
 use Rattle.std.proofs.lemmas.List.Elements.{Contains-append_left, Contains-push, Contains-push_cases, All-contains, All-map}
 use Rattle.bool_pool.specs.declared.gate.Gate.{Gate}
-use Rattle.bool_pool.specs.declared.gate.Gate.TheVariants.{And, Or}
 use Rattle.bool_pool.specs.declared.gate.Id.{Id}
 use Rattle.bool_pool.specs.Gate.{gate_at, IsOperand}
 use Rattle.bool_pool.specs.Reach.{Reaches, AnyReaches, here, through}
 use Rattle.bool_pool.specs.Compact.{places_of}
-use Rattle.bool_pool.specs.Collecting.{IsFound, AreCollected}
+use Rattle.bool_pool.specs.Collecting.{IsFound, IsTakenOut, AreCollected}
 use Rattle.bool_pool.proofs.ReachLemmas.{Reaches-trans, Reaches-down}
 
 -- a set has what it had, and the place that was inserted
@@ -56,23 +55,6 @@ Contains-inserted_two old middle new a b place first second =
     let of_second = Contains-inserted middle new b place second in (
       λ held. ⊎_elim (λ before. inl (of_first.0 before)) (λ same. inr same) (of_second.0 held),
       ⊎_elim (λ before. of_second.1 (inl (of_first.1 before))) (λ same. of_second.1 (inr same)),
-    )
-
--- a gate with two operands has these and no other
-operand_of_two : (gate : Gate) (a b : Id) (place : ℕ) → (gate ≡ And a b) ⊎ (gate ≡ Or a b)
-    → ((place ≡ a.place) ⊎ (place ≡ b.place)) ≡ IsOperand gate place
-operand_of_two gate a b place (inl is) = ap (λ g. IsOperand g place) (sym is)
-operand_of_two gate a b place (inr is) = ap (λ g. IsOperand g place) (sym is)
-
--- a set has what it had, and the two operands of a gate that were inserted
-pub Contains-inserted_operands : (old middle new : BTreeSet ℕ) (gate : Gate) (a b : Id) (place : ℕ) → (gate ≡ And a b) ⊎ (gate ≡ Or a b)
-    → Updates nat_cmp old middle a.place true → Updates nat_cmp middle new b.place true
-    → Contains new.keys place ↔ (Contains old.keys place ⊎ IsOperand gate place)
-Contains-inserted_operands old middle new gate a b place is first second =
-    let each = Contains-inserted_two old middle new a.place b.place place first second in
-    subst (λ P. Contains new.keys place ↔ (Contains old.keys place ⊎ P)) (operand_of_two gate a b place is) (
-      λ held. ⊎_elim (⊎_elim (λ before. inl before) (λ same. inr (inl same))) (λ same. inr (inr same)) (each.0 held),
-      ⊎_elim (λ before. each.1 (inl (inl before))) (⊎_elim (λ same. each.1 (inl (inr same))) (λ same. each.1 (inr same))),
     )
 
 -- nothing stands in a list of no places
@@ -178,37 +160,37 @@ module _ (gates : List Gate) (roots : List ℕ) where
       omega (arith, inside by.0 by.1, Reaches-down gates by.0 place by.2)
 
   -- at first the roots wait
-  pub AreCollected-roots : ((root : ℕ) → Contains roots root → root < length gates) → AreCollected gates roots roots []
-  AreCollected-roots inside = record {
+  pub AreCollected-roots : (waits : ℕ → Type 0) → ((root : ℕ) → waits root ↔ Contains roots root)
+      → ((root : ℕ) → Contains roots root → root < length gates) → AreCollected gates roots waits []
+  AreCollected-roots waits each inside = record {
     reached = λ place. ⊎_elim
-        (λ waits. AnyReaches-contained gates roots place place waits here)
+        (λ held. AnyReaches-contained gates roots place place ((each place).0 held) here)
         (λ took. absurd (not_in_none place took));
-    rooted = λ place held. inl held;
+    rooted = λ place held. inl ((each place).1 held);
     operands = λ place k took operand. absurd (not_in_none place took);
     ascending = rises_none;
-    below = inside;
+    below = λ place held. inside place ((each place).0 held);
   }
 
-  module _ (place : ℕ) (waiting rest next taken : List ℕ) (is : waiting ≡ rest ++ place ∷ [])
-      (greatest : All (λ other. other < place) rest)
+  module _ (place : ℕ) (waits rest next : ℕ → Type 0) (taken : List ℕ) (out : IsTakenOut waits rest place)
       (order : (k : ℕ) → IsOperand (gate_at gates place) k → k < place)
-      (each : (k : ℕ) → Contains next k ↔ (Contains rest k ⊎ IsOperand (gate_at gates place) k))
-      (before : AreCollected gates roots waiting taken) where
-    -- the others wait on
-    rest_waits : (k : ℕ) → Contains rest k → Contains waiting k
-    rest_waits k held = subst (λ all. Contains all k) (sym is) (Contains-append_left rest (place ∷ []) k held)
+      (each : (k : ℕ) → next k ↔ (rest k ⊎ IsOperand (gate_at gates place) k))
+      (before : AreCollected gates roots waits taken) where
+    -- the place waited
+    place_waits : waits place
+    place_waits = (out.each place).1 (inr refl)
 
     -- what was taken out stays so
     still_taken : (k : ℕ) → Contains taken k → Contains (place ∷ taken) k
     still_taken k took = (suc took.0, omega (arith, took.1), took.2)
 
     -- what was found stays so
-    place_found : (k : ℕ) → IsFound waiting taken k → IsFound next (place ∷ taken) k
-    place_found k (inl waits) =
+    place_found : (k : ℕ) → IsFound waits taken k → IsFound next (place ∷ taken) k
+    place_found k (inl held) =
         ⊎_elim
         (λ other. inl ((each k).1 (inl other)))
-        (λ same. inr (0, omega arith, same))
-        (Contains-push_cases rest place k (subst (λ all. Contains all k) is waits))
+        (λ same. inr (0, omega arith, sym same))
+        ((out.each k).0 held)
     place_found k (inr took) = inr (still_taken k took)
 
     -- one place is taken out, and its gate's operands wait
@@ -217,11 +199,11 @@ module _ (gates : List Gate) (roots : List ℕ) where
       reached = λ k found.
           ⊎_elim
           (λ held. ⊎_elim
-          (λ waits. before.reached k (inl (rest_waits k waits)))
-          (λ operand. AnyReaches-operand place k (before.reached place (inl (last_waits waiting rest place is))) (order k operand) operand)
+          (λ other. before.reached k (inl ((out.each k).1 (inl other))))
+          (λ operand. AnyReaches-operand place k (before.reached place (inl place_waits)) (order k operand) operand)
           ((each k).0 held))
           (λ took. ⊎_elim
-          (λ same. subst (AnyReaches gates roots) (sym same) (before.reached place (inl (last_waits waiting rest place is))))
+          (λ same. subst (AnyReaches gates roots) (sym same) (before.reached place (inl place_waits)))
           (λ other. before.reached k (inr other))
           (first_or_other taken place k took.0 took.1 took.2))
           found;
@@ -231,12 +213,8 @@ module _ (gates : List Gate) (roots : List ℕ) where
           (λ same. inl ((each k).1 (inr (subst (λ j. IsOperand (gate_at gates j) k) same operand))))
           (λ other. place_found k (before.operands i k other operand))
           (first_or_other taken place i took.0 took.1 took.2);
-      ascending = rises_from place taken (length gates) (before.below place (last_waits waiting rest place is)) before.ascending;
-      below = λ k held.
-          ⊎_elim
-          (λ waits. All-contains (λ other. other < place) rest k greatest waits)
-          (order k)
-          ((each k).0 held);
+      ascending = rises_from place taken (length gates) (before.below place place_waits) before.ascending;
+      below = λ k held. ⊎_elim (out.below k) (order k) ((each k).0 held);
     }
 
   -- what is reached from a place that was taken out was taken out, where nothing waits
@@ -248,12 +226,12 @@ module _ (gates : List Gate) (roots : List ℕ) where
       taken_reached taken k j closed rest (closed i k held operand)
 
   -- where nothing waits, all that is reached was taken out
-  pub taken_all : (waiting taken : List ℕ) → length waiting ≡ 0 → AreCollected gates roots waiting taken
+  pub taken_all : (waits : ℕ → Type 0) (taken : List ℕ) → ((k : ℕ) → ¬ waits k) → AreCollected gates roots waits taken
       → (place : ℕ) → Contains taken place ↔ AnyReaches gates roots place
-  taken_all waiting taken none all place = (λ held. all.reached place (inr held), back)
+  taken_all waits taken none all place = (λ held. all.reached place (inr held), back)
     where
-      took : (k : ℕ) → IsFound waiting taken k → Contains taken k
-      took k (inl waits) = absurd (omega (arith, waits.1))
+      took : (k : ℕ) → IsFound waits taken k → Contains taken k
+      took k (inl held) = absurd (none k held)
       took k (inr held) = held
 
       closed : (i k : ℕ) → Contains taken i → IsOperand (gate_at gates i) k → Contains taken k
