@@ -1,3 +1,4 @@
+use oscillation_x::Settled;
 use path_meaning::{SwitchKind, SwitchState};
 use port_edge::HonestSink;
 use std::test::Fail;
@@ -94,6 +95,33 @@ fn each_kind_of_line_is_printed_with_its_column(rt: HostRuntime) -> Result<(), F
     let sink = out.inner.into_sink();
     let text =
         "1 7 2* 1X\n10 expect q=1- got 0X after 7\n11 show bus X0\n1 look out 0 size:1\n1 at 2 n 2 closed gate a 1 end Gnd 0\n1 gate 2 n 2 closed ends Gnd 0 out 0\n64 groups 3 texts 2 new 1\nscript line 4: G1 GroupNodes s1 201\n";
+    assert_eq!(rt; sink.written(), text.as_bytes());
+    Ok(())
+}
+
+#[test]
+fn a_row_is_printed_column_by_column(rt: HostRuntime) -> Result<(), Fail> {
+    let mut out = Printer::new(rt.alloc(), HonestSink::new(rt.alloc()), true)?;
+    out.reserve(1000)?;
+    let counts = [
+        Settled {
+            steps: 1,
+            joined: false,
+        },
+        Settled {
+            steps: 4,
+            joined: true,
+        },
+    ];
+    let values = [Tern::One, Tern::Zero, Tern::Unk, Tern::One];
+    out.tell_row(3, &counts, 2, &values)?;
+    let mut round = Met {
+        inner: out,
+        missed: false,
+    };
+    round.tell_row(4, &counts, 2, &values)?;
+    let sink = round.inner.into_sink();
+    let text = "1 3 1 10\n2 3 4* X1\n1 4 1 10\n2 4 4* X1\n";
     assert_eq!(rt; sink.written(), text.as_bytes());
     Ok(())
 }

@@ -1,5 +1,6 @@
 pub mod Lines
 pub mod Hearing
+pub mod Rows
 pub mod Printing
 pub mod Meeting
 pub mod Noting

@@ -14,8 +14,10 @@
 //!     writes `1 7 2* 1X` and LF
 //! ```
 //!
-//! The proofs of crates above cite `HearingLemmas`, `PrintingLemmas`, `MetLemmas`, `NotingLemmas` and `SumLemmas`,
-//! whose heads say what they are of.
+//! A row, the waveform lines of all columns, is told as one value too: who writes sends it as one text.
+//!
+//! The proofs of crates above cite `HearingLemmas`, `RowLemmas`, `PrintingLemmas`, `MetLemmas`, `NotingLemmas` and
+//! `SumLemmas`, whose heads say what they are of.
 #![tactic(auto)]
 
 mod laws;
@@ -24,6 +26,7 @@ mod met;
 mod notes;
 mod printer;
 mod putting;
+mod rows;
 mod silence;
 mod sums;
 mod unfailing;

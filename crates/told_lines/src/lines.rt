@@ -1,8 +1,10 @@
 //! A line as a value, and the trait of those who hear lines.
 
-ghost use Rattle.std.specs.Prelude.{◌≡◌, ℕ, ◌≤◌, IsOk, OnOk, OnErr};
+ghost use Rattle.std.specs.Prelude.{◌≡◌, ℕ, ◌+◌, ◌*◌, ◌^◌, ◌<◌, ◌≤◌, length, IsOk, OnOk, OnErr};
 ghost use Rattle.port_edge.specs.Ports.{faults_after, refusals_after};
 
+use crate::rows::wave_at;
+use oscillation_x::Settled;
 use port_edge::{NotedFile, PortFault};
 use ternary::{NoMemory, Tern};
 use wave_print::{FaultCode, FaultPlace, NodeSort, SwitchTold};
@@ -77,7 +79,10 @@ pub enum Line<'a> {
 /// so a hearer that writes lacks no memory of its own once it has its room. A hearer may be given a note besides,
 /// for a human, which is no line.
 pub trait Lines {
+    ghost use Rattle.wave_print.specs.declared.lines.TheConstants.{COLUMN_ROOM, MOST_VALUES, WAVE_LINE_ROOM};
     ghost use Rattle.told_lines.specs.Lines.{Told, IsShort, room_of, line_seen};
+    ghost use Rattle.told_lines.specs.Hearing.{Hears};
+    ghost use Rattle.told_lines.specs.Rows.{wave_row};
 
     ghost Heard: { Type 0 };
 
@@ -112,6 +117,30 @@ pub trait Lines {
         ensures part { OnErr result (part (heard self.old) (record { column = column; line = line_seen line.entry }) (heard self.new)) }
         ensures faults { faults self.new ≡ faults_after (faults self.old) result }
         ensures refusals { refusals self.new ≡ refusals_after (refusals self.old) result };
+
+    /// Hears the waveform lines of all columns, in order: their number, what each column's phase counted, and the
+    /// states of each column's watched nodes, column by column, so many of each.
+    fn tell_row(
+        &mut self,
+        n: u64,
+        counts: &[Settled],
+        width: usize,
+        values: &[Tern],
+    ) -> Result<(), PortFault>
+        requires columns { length counts.now < 2 ^ 32 }
+        requires values { length values.now ≡ length counts.now * width }
+        requires width { width ≤ MOST_VALUES }
+        requires room { length counts.now * (COLUMN_ROOM + WAVE_LINE_ROOM) ≤ room self.old }
+        ensures room { room self.new ≡ room self.old }
+        ensures heard { Hears hear part (heard self.old) (heard self.new) (wave_row n counts.now width values.now) result }
+        ensures faults { faults self.new ≡ faults_after (faults self.old) result }
+        ensures refusals { refusals self.new ≡ refusals_after (refusals self.old) result }
+    {
+        for column in 0..counts.len() {
+            self.tell(column as u32, wave_at(n, counts, width, values, column))?;
+        }
+        Ok(())
+    }
 
     /// Notes for a human what a file has, by a text that follows the file's name.
     ///

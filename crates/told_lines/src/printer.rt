@@ -2,11 +2,12 @@
 ghost use Rattle.std.specs.Prelude.{◌≡◌, IfOk};
 
 use crate::lines::{Line, Lines};
-use crate::putting::put_told;
+use crate::putting::{put_row, put_told};
+use oscillation_x::Settled;
 use port_edge::{NotedFile, PortFault, Sink, send};
 use std::alloc::Global;
 use std::marker::Model;
-use ternary::NoMemory;
+use ternary::{NoMemory, Tern};
 use wave_print::LineBuf;
 
 /// A printer: it writes each line to its sink, with its column's number from 1 before it, or without.
@@ -86,6 +87,20 @@ impl<S: Sink + Drop> Lines for Printer<S> {
 
     fn tell(&mut self, column: u32, line: Line) -> Result<(), PortFault> {
         put_told(&mut self.line, self.numbered, column, line);
+        let sent = send(&mut self.sink, self.line.bytes());
+        self.line.clear();
+        sent
+    }
+
+    // All lines of the row are sent as one text.
+    fn tell_row(
+        &mut self,
+        n: u64,
+        counts: &[Settled],
+        width: usize,
+        values: &[Tern],
+    ) -> Result<(), PortFault> {
+        put_row(&mut self.line, self.numbered, n, counts, width, values);
         let sent = send(&mut self.sink, self.line.bytes());
         self.line.clear();
         sent

@@ -1,11 +1,15 @@
 //! The text of a line, in room that is there.
 
-ghost use Rattle.std.specs.Prelude.{◌≡◌, ◌≤◌, ◌+◌, ◌++◌, length};
-ghost use Rattle.wave_print.specs.declared.lines.TheConstants.{COLUMN_ROOM};
+ghost use Rattle.std.specs.Prelude.{◌≡◌, ◌<◌, ◌≤◌, ◌+◌, ◌*◌, ◌^◌, ◌++◌, length};
+ghost use Rattle.wave_print.specs.declared.lines.TheConstants.{COLUMN_ROOM, MOST_VALUES, WAVE_LINE_ROOM};
 ghost use Rattle.told_lines.specs.Lines.{IsShort, room_of, line_seen, line_text};
-ghost use Rattle.told_lines.specs.Printing.{printed, start_of};
+ghost use Rattle.told_lines.specs.Printing.{printed, start_of, text_printed};
+ghost use Rattle.told_lines.specs.Rows.{wave_row};
 
 use crate::lines::Line;
+use crate::rows::wave_at;
+use oscillation_x::Settled;
+use ternary::Tern;
 use wave_print::{
     COLUMN_ROOM, LineBuf, column_start, end_line, expect_line, fault_line, gate_line, look_line,
     report_line, show_line, wave_line,
@@ -17,11 +21,34 @@ pub fn put_told(out: &mut LineBuf, numbered: bool, column: u32, line: Line)
     requires short { IsShort (line_seen line) }
     ensures bytes { out.new.bytes ≡ out.old.bytes ++ printed numbered (record { column = column; line = line_seen line.entry }) }
     ensures spare { out.new.spare + length (printed numbered (record { column = column; line = line_seen line.entry })) ≡ out.old.spare }
+    ensures short { length (printed numbered (record { column = column; line = line_seen line.entry })) ≤ room_of (line_seen line.entry) }
 {
     if numbered {
         put_start(out, column, line);
     }
     put_line(out, line);
+}
+
+/// Puts the waveform lines of all columns, in order.
+pub(crate) fn put_row(
+    out: &mut LineBuf,
+    numbered: bool,
+    n: u64,
+    counts: &[Settled],
+    width: usize,
+    values: &[Tern],
+)
+    requires columns { length counts.now < 2 ^ 32 }
+    requires values { length values.now ≡ length counts.now * width }
+    requires width { width ≤ MOST_VALUES }
+    requires room { length counts.now * (COLUMN_ROOM + WAVE_LINE_ROOM) ≤ out.old.spare }
+    ensures bytes { out.new.bytes ≡ out.old.bytes ++ text_printed numbered (wave_row n counts.now width values.now) }
+    ensures spare { out.new.spare + length (text_printed numbered (wave_row n counts.now width values.now)) ≡ out.old.spare }
+{
+    for column in 0..counts.len() {
+        let line = wave_at(n, counts, width, values, column);
+        put_told(out, numbered, column as u32, line);
+    }
 }
 
 // Puts what stands before a column's line.
@@ -48,6 +75,7 @@ fn put_line(out: &mut LineBuf, line: Line)
     requires short { IsShort (line_seen line) }
     ensures bytes { out.new.bytes ≡ out.old.bytes ++ line_text (line_seen line.entry) }
     ensures spare { out.new.spare + length (line_text (line_seen line.entry)) ≡ out.old.spare }
+    ensures short { length (line_text (line_seen line.entry)) + COLUMN_ROOM ≤ room_of (line_seen line.entry) }
 {
     match line {
         Line::Wave { n, k, mark, values } => wave_line(out, n, k, mark, values),
