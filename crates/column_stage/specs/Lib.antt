@@ -1,0 +1,5 @@
+pub mod Acts
+pub mod Columns
+pub mod Edits
+pub mod Moving
+pub mod Seeing
