@@ -24,7 +24,7 @@ use Rattle.node_values.specs.Givings.{with_state}
 use Rattle.session_meaning.specs.declared.fault.ApplyFault.{ApplyFault}
 use Rattle.session_meaning.specs.declared.fault.ApplyFault.TheVariants as apply
 use Rattle.session_meaning.specs.declared.fault.Refusal.TheVariants as refusal
-use Rattle.session_meaning.specs.Sessions.{SessionData, HeldSession, IsReady}
+use Rattle.session_meaning.specs.Sessions.{SessionData, IsReady}
 use Rattle.session_meaning.specs.Refusals.{refusal_of, refusal_of_edit, or_else, named_refusal, given_refusal, rail_at, set_at, values_refusal, edit_refusal, is_input}
 use Rattle.session_meaning.specs.Effects.{circuit_after, state_given, with_circuit, with_inputs}
 use Rattle.session_meaning.specs.Preparing.{BuildsIf}
@@ -52,34 +52,34 @@ quiet_commands c (Stuck node state) =
     (All-cons IsQuiet (family.Give (Set (item ∷ []))) [] (record { still = refl; silent = λ old new lines effect. effect.1 }) (All-nil IsQuiet))
 
 -- what is done for a quiet command is its effect alone
-pub quiet_done : {H : Type 0} (hear : H → Told → H) (old new : HeldSession) (command : Command) (before after : H) (asked told : List GroupTextData) →
-    IsQuiet command → Accepts hear old command new before after asked told → Does old.core command new.core [] × (told ≡ asked)
+pub quiet_done : {H : Type 0} (hear : H → Told → H) (old new : SessionData) (command : Command) (before after : H) (asked told : List GroupTextData) →
+    IsQuiet command → Accepts hear old command new before after asked told → Does old command new [] × (told ≡ asked)
 quiet_done hear old new command before after asked told quiet accepts =
     let performs = accepts.performs in
-    let still : (performs.mid ≡ old.core) × (accepts.texts ≡ []) =
-    subst (λ building. BuildsIf building old.core performs.mid accepts.texts) quiet.still performs.prepares in
-    let nothing = quiet.silent performs.mid new.core accepts.lines performs.does.effect in (
-      subst (λ (session : SessionData). Does session command new.core []) still.0
-          (subst (Does performs.mid command new.core) nothing performs.does),
+    let still : (performs.mid ≡ old) × (accepts.texts ≡ []) =
+    subst (λ building. BuildsIf building old performs.mid accepts.texts) quiet.still performs.prepares in
+    let nothing = quiet.silent performs.mid new accepts.lines performs.does.effect in (
+      subst (λ (session : SessionData). Does session command new []) still.0
+          (subst (Does performs.mid command new) nothing performs.does),
       accepts.analysed ∙ ap (λ (texts : List GroupTextData). asked ++ texts) still.1 ∙ append-nil asked,
     )
 
 -- the same of what a call comes to
-pub quiet_call : {H : Type 0} (hear : H → Told → H) (part : H → Told → H → Type 0) (old new : HeldSession) (command : Command) (before after : H)
+pub quiet_call : {H : Type 0} (hear : H → Told → H) (part : H → Told → H → Type 0) (old new : SessionData) (command : Command) (before after : H)
     (asked told : List GroupTextData) (refusals now : ℕ) → IsQuiet command →
-    Obeys hear part old command new before after asked told refusals now (Ok tt) → Does old.core command new.core [] × (told ≡ asked)
+    Obeys hear part old command new before after asked told refusals now (Ok tt) → Does old command new [] × (told ≡ asked)
 quiet_call hear part old new command before after asked told refusals now quiet obeys =
     quiet_done hear old new command before after asked told quiet obeys.0
 
 -- what a call comes to, and that its hearer didn't fail
-abbrev pub CallComesTo : {H : Type 0} → (H → Told → H) → (H → Told → H → Type 0) → HeldSession → Command → HeldSession → H → H → List GroupTextData →
+abbrev pub CallComesTo : {H : Type 0} → (H → Told → H) → (H → Told → H → Type 0) → SessionData → Command → SessionData → H → H → List GroupTextData →
     List GroupTextData → ℕ → ℕ → Result (Unit {0}) ApplyFault → Type 0
 CallComesTo hear part old command new before after asked told refusals now result =
     Obeys hear part old command new before after asked told refusals now result × (0 ≡ faults_applied 0 result)
 
 -- a quiet command that isn't refused can lack memory alone
-pub quiet_fault : {H : Type 0} (hear : H → Told → H) (part : H → Told → H → Type 0) (old new : HeldSession) (command : Command) (before after : H)
-    (asked told : List GroupTextData) (refusals now : ℕ) (fault : ApplyFault) → IsQuiet command → refusal_of old.core command ≡ None →
+pub quiet_fault : {H : Type 0} (hear : H → Told → H) (part : H → Told → H → Type 0) (old new : SessionData) (command : Command) (before after : H)
+    (asked told : List GroupTextData) (refusals now : ℕ) (fault : ApplyFault) → IsQuiet command → refusal_of old command ≡ None →
     0 ≡ faults_with 0 fault → Obeys hear part old command new before after asked told refusals now (Err fault) → fault ≡ apply.NoMemory
 quiet_fault hear part old new command before after asked told refusals now (apply.Refused refusal) quiet allowed unfailed obeys =
     let cause = obeys.0.cause in

@@ -14,7 +14,7 @@ use Rattle.script_lang.specs.declared.command.Command.{Command}
 use Rattle.script_lang.specs.declared.command.Command.TheVariants as family
 use Rattle.script_lang.specs.declared.command.ScriptFault.{ScriptFault}
 use Rattle.script_lang.specs.Commands.{reading_of}
-use Rattle.session_meaning.specs.Sessions.{SessionData, HeldSession}
+use Rattle.session_meaning.specs.Sessions.{SessionData}
 use Rattle.session_meaning.specs.Preparing.{IsBuild, BuildsIf, builds}
 use Rattle.told_lines.specs.Lines.{Line, Told}
 use Rattle.session_meaning.specs.Effects.{Effect}
@@ -165,26 +165,26 @@ asked_building c vectors stuck line is =
 
 -- ---- lines
 
-module _ {H : Type 0} (hear : H → Told → H) (part : H → Told → H → Type 0) (stuck : Option (ℕ × Tern)) (cut : Option ℕ) (old new : HeldSession)
+module _ {H : Type 0} (hear : H → Told → H) (part : H → Told → H → Type 0) (stuck : Option (ℕ × Tern)) (cut : Option ℕ) (old new : SessionData)
     (line : ℕ × List ℕ) (before after : H) (asked told : List GroupTextData) where
   -- what one line comes to that is obeyed: where it builds, a build would find nothing new then
-  pub line_built : IsBuilding line.1 → TakesTurn hear part (masked_reading stuck) cut line old new before after asked told (Ok Accepted) → IsCurrent new.core
+  pub line_built : IsBuilding line.1 → TakesTurn hear part (masked_reading stuck) cut line old new before after asked told (Ok Accepted) → IsCurrent new
   line_built is (inl passed) =
-      let nothing = sym passed.idle.nothing ∙ asked_building old.core.circuit old.core.vectors stuck line.1 is in
+      let nothing = sym passed.idle.nothing ∙ asked_building old.circuit old.vectors stuck line.1 is in
       absurd (cc)
   line_built is (inr follows) =
-      let both = sym follows.asks.asked ∙ asked_building old.core.circuit old.core.vectors stuck line.1 is in
+      let both = sym follows.asks.asked ∙ asked_building old.circuit old.vectors stuck line.1 is in
       let same : is.command ≡ follows.command = cc in
-      performs_built old.core new.core follows.command follows.accepts.lines follows.accepts.texts
+      performs_built old new follows.command follows.accepts.lines follows.accepts.texts
       (subst (λ command. builds command ≡ true) same is.building) follows.accepts.performs
 
   -- and where it is calm, that stays so
-  pub line_calm : IsCalm line.1 → IsCurrent old.core →
-      TakesTurn hear part (masked_reading stuck) cut line old new before after asked told (Ok Accepted) → IsCurrent new.core
-  line_calm calm current (inl passed) = subst (λ (session : HeldSession). IsCurrent session.core) (sym passed.keeps.same) current
+  pub line_calm : IsCalm line.1 → IsCurrent old →
+      TakesTurn hear part (masked_reading stuck) cut line old new before after asked told (Ok Accepted) → IsCurrent new
+  line_calm calm current (inl passed) = subst (λ (session : SessionData). IsCurrent session) (sym passed.keeps.same) current
   line_calm calm current (inr follows) =
-      (performs_calm old.core new.core follows.command follows.accepts.lines follows.accepts.texts current
-      (asked_calm old.core.circuit old.core.vectors stuck line.1 follows.command calm follows.asks.asked) follows.accepts.performs).current
+      (performs_calm old new follows.command follows.accepts.lines follows.accepts.texts current
+      (asked_calm old.circuit old.vectors stuck line.1 follows.command calm follows.asks.asked) follows.accepts.performs).current
 
 -- all lines: nothing is analysed, and what is kept stays
 pub runs_calm : (stuck : Option (ℕ × Tern)) (cut : Option ℕ) (session : SessionData) (lines : List (ℕ × List ℕ)) (outcome : Outcome) →

@@ -11,7 +11,7 @@ use Rattle.group_text.specs.Texts.{GroupTextData}
 use Rattle.circuit_texts.specs.declared.texts.BuildFault.{BuildFault}
 use Rattle.told_lines.specs.Lines.{Line, Told}
 use Rattle.told_lines.specs.Noting.{WaveRowData, rows_in, rows_of, states_of}
-use Rattle.session_meaning.specs.Sessions.{SessionData, HeldSession}
+use Rattle.session_meaning.specs.Sessions.{SessionData}
 use Rattle.script_meaning.specs.declared.turn.Turn.{Turn}
 use Rattle.script_meaning.specs.declared.turn.Turn.TheVariants.{Accepted, Refused, TooLarge}
 use Rattle.run_ends.specs.Causes.{plain_cause}
@@ -139,60 +139,60 @@ still_accepted now number calm (TooLarge size) tells = absurd (cc)
 module _ (stuck : Option (ℕ × Tern)) (script : List ℕ) {cut : Option ℕ} (same_cut : cut ≡ cut_line script) {start : SessionData} (good : Trace)
     {rows : List WaveRowData} (same_rows : good.rows ≡ states_of rows) {asked : List GroupTextData} where
   -- at a line, after the lines before it
-  module _ (part : CompareData → Told → CompareData → Type 0) (old : HeldSession) {line : ℕ × List ℕ} {left : List (ℕ × List ℕ)} {now : CompareData}
+  module _ (part : CompareData → Told → CompareData → Type 0) (old : SessionData) {line : ℕ × List ℕ} {left : List (ℕ × List ℕ)} {now : CompareData}
       {told : List GroupTextData}
-      (come : HasCome compared (masked_reading stuck) cut start (lines_in script) (uncompared rows) asked old.core (line ∷ left) now told)
-      (new : HeldSession) (more : CompareData) (further : List GroupTextData) where
+      (come : HasCome compared (masked_reading stuck) cut start (lines_in script) (uncompared rows) asked old (line ∷ left) now told)
+      (new : SessionData) (more : CompareData) (further : List GroupTextData) where
     -- that was obeyed, and after which all is calm
-    ended_early : (from : Option ℕ) (calm : Bool) (verdict : Verdict) → IsPlaced from (line ∷ left) old.core →
+    ended_early : (from : Option ℕ) (calm : Bool) (verdict : Verdict) → IsPlaced from (line ∷ left) old →
         TakesTurn compared part (masked_reading stuck) cut line old new now more told further (Ok Accepted) → calm ≡ is_from from line.0 →
-        IsEarly more calm verdict → JudgesLines stuck script start good new.core asked further verdict
+        IsEarly more calm verdict → JudgesLines stuck script start good new asked further verdict
     ended_early from calm verdict placed turn is early =
         let here = calm_here compared part stuck cut from old new line left now more told further placed turn (sym is ∙ early.still) in
         let next = comes_on part old come new more further {turn = Accepted} turn refl in
-        judged_so_far stuck script start good rows same_rows new.core left more asked further
-        (subst (λ at. HasCome compared (masked_reading stuck) at start (lines_in script) (uncompared rows) asked new.core left more further) same_cut next)
+        judged_so_far stuck script start good rows same_rows new left more asked further
+        (subst (λ at. HasCome compared (masked_reading stuck) at start (lines_in script) (uncompared rows) asked new left more further) same_cut next)
         here.0 here.1 calm verdict early
 
     -- or that is refused, also since the circuit is too large for its command
-    ended_here : (from : Option ℕ) (calm : Bool) (verdict : Verdict) (turn : Turn) → IsPlaced from (line ∷ left) old.core →
+    ended_here : (from : Option ℕ) (calm : Bool) (verdict : Verdict) (turn : Turn) → IsPlaced from (line ∷ left) old →
         TakesTurn compared part (masked_reading stuck) cut line old new now more told further (Ok turn) → calm ≡ is_from from line.0 →
-        TellsAfter more turn line.0 calm (Some verdict) → JudgesLines stuck script start good new.core asked further verdict
+        TellsAfter more turn line.0 calm (Some verdict) → JudgesLines stuck script start good new asked further verdict
     ended_here from calm verdict Accepted placed turn is tells = ended_early from calm verdict placed turn is tells
     ended_here from calm verdict (Refused code) placed turn is tells =
         let same : verdict_of more (Some line.0) ≡ verdict = cc in
-        subst (JudgesLines stuck script start good new.core asked further) same
-        (judged_obeyed stuck script start good rows same_rows new.core more asked further (Some line.0)
+        subst (JudgesLines stuck script start good new asked further) same
+        (judged_obeyed stuck script start good rows same_rows new more asked further (Some line.0)
         (Some (record { line = line.0; cause = plain_cause code })) refl
         (halts_refused part old come new more further {turn = Refused code} turn refl same_cut))
     ended_here from calm verdict (TooLarge size) placed turn is tells =
         let same : verdict_of more (Some line.0) ≡ verdict = cc in
-        subst (JudgesLines stuck script start good new.core asked further) same
-        (judged_outgrown stuck script start good rows same_rows new.core more asked further line.0 size
+        subst (JudgesLines stuck script start good new asked further) same
+        (judged_outgrown stuck script start good rows same_rows new more asked further line.0 size
         (halts_large part old come new more further {turn = TooLarge size} turn refl same_cut))
 
-  module _ (part : CompareData → Told → CompareData → Type 0) (old : HeldSession) {line : ℕ × List ℕ} {left rest : List (ℕ × List ℕ)} {now : CompareData}
-      {told : List GroupTextData} (come : HasCome compared (masked_reading stuck) cut start (lines_in script) (uncompared rows) asked old.core left now told)
-      (steps : left ≡ line ∷ rest) (new : HeldSession) (more : CompareData) (further : List GroupTextData) (from : Option ℕ)
-      (placed : IsPlaced from left old.core) (calm : Bool) (turn : Turn)
+  module _ (part : CompareData → Told → CompareData → Type 0) (old : SessionData) {line : ℕ × List ℕ} {left rest : List (ℕ × List ℕ)} {now : CompareData}
+      {told : List GroupTextData} (come : HasCome compared (masked_reading stuck) cut start (lines_in script) (uncompared rows) asked old left now told)
+      (steps : left ≡ line ∷ rest) (new : SessionData) (more : CompareData) (further : List GroupTextData) (from : Option ℕ)
+      (placed : IsPlaced from left old) (calm : Bool) (turn : Turn)
       (takes : TakesTurn compared part (masked_reading stuck) cut line old new now more told further (Ok turn)) (found : Option Verdict)
       (tells : TellsAfter more turn line.0 calm found) where
     -- it ends with the verdict that was found
     pub ends_here : (verdict : Verdict) → found ≡ Some verdict → calm ≡ is_from from line.0 →
-        JudgesLines stuck script start good new.core asked further verdict
+        JudgesLines stuck script start good new asked further verdict
     ends_here verdict is at =
         ended_here part old (comes_to come steps) new more further from calm verdict turn
-        (subst (λ lines. IsPlaced from lines old.core) steps placed) takes at
+        (subst (λ lines. IsPlaced from lines old) steps placed) takes at
         (subst (TellsAfter more turn line.0 calm) is tells)
 
     -- or goes on
     pub goes_past : found ≡ None →
-        HasCome compared (masked_reading stuck) cut start (lines_in script) (uncompared rows) asked new.core rest more further × IsPlaced from rest new.core
+        HasCome compared (masked_reading stuck) cut start (lines_in script) (uncompared rows) asked new rest more further × IsPlaced from rest new
     goes_past none =
         let accepted = still_accepted more line.0 calm turn (subst (TellsAfter more turn line.0 calm) none tells) in
         let accepts = subst (λ one. TakesTurn compared part (masked_reading stuck) cut line old new now more told further (Ok one)) accepted takes in (
           comes_on part old (comes_to come steps) new more further {turn = turn} takes accepted,
-          placed_on compared part stuck cut from old new line rest now more told further (subst (λ lines. IsPlaced from lines old.core) steps placed) accepts,
+          placed_on compared part stuck cut from old new line rest now more told further (subst (λ lines. IsPlaced from lines old) steps placed) accepts,
         )
 
   -- after all lines

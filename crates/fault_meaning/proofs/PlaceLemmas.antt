@@ -9,7 +9,7 @@ use Rattle.line_words.specs.Files.{front_of, lines_in}
 use Rattle.line_words.specs.Lines.{lines_of}
 use Rattle.group_text.specs.Texts.{GroupTextData}
 use Rattle.told_lines.specs.Lines.{Told}
-use Rattle.session_meaning.specs.Sessions.{SessionData, HeldSession}
+use Rattle.session_meaning.specs.Sessions.{SessionData}
 use Rattle.script_meaning.specs.declared.turn.Turn.TheVariants.{Accepted}
 use Rattle.script_meaning.specs.Turns.{TakesTurn}
 use Rattle.fault_sim.specs.Masks.{masked_reading}
@@ -54,17 +54,17 @@ calm_past number next (text ∷ rest) low lasts =
     (calm_past number (next + 1) rest (omega (arith, low)) (All-tail (Lasts number) line left lasts))
 
 -- one more line was obeyed
-module _ {H : Type 0} (hear : H → Told → H) (part : H → Told → H → Type 0) (stuck : Option (ℕ × Tern)) (cut : Option ℕ) (from : Option ℕ) (old new : HeldSession)
-    (line : ℕ × List ℕ) (left : List (ℕ × List ℕ)) (before after : H) (asked told : List GroupTextData) (placed : IsPlaced from (line ∷ left) old.core)
+module _ {H : Type 0} (hear : H → Told → H) (part : H → Told → H → Type 0) (stuck : Option (ℕ × Tern)) (cut : Option ℕ) (from : Option ℕ) (old new : SessionData)
+    (line : ℕ × List ℕ) (left : List (ℕ × List ℕ)) (before after : H) (asked told : List GroupTextData) (placed : IsPlaced from (line ∷ left) old)
     (turn : TakesTurn hear part (masked_reading stuck) cut line old new before after asked told (Ok Accepted)) where
   -- if it is one from which on all is calm, a build would find nothing new after it
-  current_then : (number : ℕ) → All (Lasts number) (line ∷ left) → (number < placed.next → IsCurrent old.core) → number ≤ placed.next → IsCurrent new.core
+  current_then : (number : ℕ) → All (Lasts number) (line ∷ left) → (number < placed.next → IsCurrent old) → number ≤ placed.next → IsCurrent new
   current_then number lasts current low =
       let here = is_next placed.next placed.rest line left placed.numbered in
       let is = All-head (Lasts number) line left lasts in
       by here.at is (nat_lt number placed.next) refl
     where
-      by : line.0 ≡ placed.next → Lasts number line → (past : Bool) → nat_lt number placed.next ≡ past → IsCurrent new.core
+      by : line.0 ≡ placed.next → Lasts number line → (past : Bool) → nat_lt number placed.next ≡ past → IsCurrent new
       by at is true past =
           let high : number < placed.next = grind (arith, nat_tests) in
           line_calm hear part stuck cut old new line before after asked told (is.calm (omega (arith, at, low))) (current high) turn
@@ -72,7 +72,7 @@ module _ {H : Type 0} (hear : H → Told → H) (part : H → Told → H → Typ
           let same : number ≡ placed.next = grind (arith, nat_tests) in
           line_built hear part stuck cut old new line before after asked told (is.building (at ∙ sym same)) turn
 
-  pub placed_on : IsPlaced from left new.core
+  pub placed_on : IsPlaced from left new
   placed_on =
       let here = is_next placed.next placed.rest line left placed.numbered in
       record {
@@ -82,8 +82,8 @@ module _ {H : Type 0} (hear : H → Told → H) (part : H → Told → H → Typ
         lasts = by from placed.lasts;
       }
     where
-      by : (from : Option ℕ) → IfSome from (λ number. All (Lasts number) (line ∷ left) × (number < placed.next → IsCurrent old.core)) →
-          IfSome from (λ number. All (Lasts number) left × (number < placed.next + 1 → IsCurrent new.core))
+      by : (from : Option ℕ) → IfSome from (λ number. All (Lasts number) (line ∷ left) × (number < placed.next → IsCurrent old)) →
+          IfSome from (λ number. All (Lasts number) left × (number < placed.next + 1 → IsCurrent new))
       by None lasts = tt
       by (Some number) lasts = (
         All-tail (Lasts number) line left lasts.0,
@@ -91,11 +91,11 @@ module _ {H : Type 0} (hear : H → Told → H) (part : H → Told → H → Typ
       )
 
   -- at a line from which on all is calm a build would find nothing new, and the lines that are left are calm
-  pub calm_here : is_from from line.0 ≡ true → IsCurrent new.core × All (λ (line : ℕ × List ℕ). IsCalm line.1) left
+  pub calm_here : is_from from line.0 ≡ true → IsCurrent new × All (λ (line : ℕ × List ℕ). IsCalm line.1) left
   calm_here there = by from placed.lasts there
     where
-      by : (from : Option ℕ) → IfSome from (λ number. All (Lasts number) (line ∷ left) × (number < placed.next → IsCurrent old.core)) →
-          is_from from line.0 ≡ true → IsCurrent new.core × All (λ (line : ℕ × List ℕ). IsCalm line.1) left
+      by : (from : Option ℕ) → IfSome from (λ number. All (Lasts number) (line ∷ left) × (number < placed.next → IsCurrent old)) →
+          is_from from line.0 ≡ true → IsCurrent new × All (λ (line : ℕ × List ℕ). IsCalm line.1) left
       by None lasts there = absurd (cc)
       by (Some number) lasts there =
           let here = is_next placed.next placed.rest line left placed.numbered in

@@ -9,8 +9,7 @@ use Rattle.script_lang.specs.declared.command.Setup.{Setup}
 use Rattle.script_lang.specs.declared.command.Setup.TheVariants.{Keep, Widen}
 use Rattle.script_lang.specs.Commands.{reading_of}
 use Rattle.session_meaning.specs.Sessions.{SessionData}
-use Rattle.session_meaning.specs.Machines.{edits}
-use Rattle.session_meaning.specs.Preparing.{builds}
+use Rattle.session_meaning.specs.Preparing.{builds, edits}
 use Rattle.script_meaning.specs.declared.turn.Turn.{Turn}
 use Rattle.script_meaning.specs.declared.turn.Turn.TheVariants.{Accepted, Refused, TooLarge}
 use Rattle.script_meaning.specs.Runs.{Outcome, Runs}

@@ -31,13 +31,13 @@ pub record BenchData : Type 0 where
   pub kept : List GroupTextData
 
 -- what a session keeps, if there is one
-abbrev pub kept_in : Option HeldSession → List GroupTextData
+abbrev pub kept_in : {M : Type 0} → Option (HeldSession M) → List GroupTextData
 kept_in None = []
 kept_in (Some session) = session.core.kept
 
--- the session stands at the start in a circuit, with what it keeps
-abbrev pub StandsAtStart : CircuitData → HeldSession → Type 0
-StandsAtStart circuit session = session.core ≡ start_with circuit session.core.kept
+-- the data stand at the start in a circuit, with what is kept
+abbrev pub StandsAtStart : CircuitData → SessionData → Type 0
+StandsAtStart circuit session = session ≡ start_with circuit session.kept
 
 -- a bench ran the script under a fault or without one: the trace is that of such a run, and its texts were analysed
 pub record HasTraced (old : BenchData) (asked : List GroupTextData) (fault : Option Fault) (trace : Trace) (new : BenchData)

@@ -9,7 +9,7 @@ use Rattle.circuit_texts.specs.Sizes.{TellsRefused}
 use Rattle.script_lang.specs.declared.command.Command.{Command}
 use Rattle.script_lang.specs.declared.command.ScriptFault.{ScriptFault}
 use Rattle.script_lang.specs.declared.command.ScriptFault.TheVariants as script
-use Rattle.session_meaning.specs.Sessions.{SessionData, HeldSession, IsReady}
+use Rattle.session_meaning.specs.Sessions.{SessionData, IsReady}
 use Rattle.told_lines.specs.Lines.{Line, Told}
 use Rattle.told_lines.specs.Hearing.{hear_all, HearsFront, of_column}
 use Rattle.told_lines.proofs.HearingLemmas.{hear_all-append, of_column-append, so_far-front}
@@ -144,22 +144,22 @@ stops_here {hear = hear} part {reading} {cut} {cuts} {start} {now} {all} {left} 
 
 -- at a line, after those before it; what is told of the whole is told where the line that is too far is known in other words
 module _ {H : Type 0} {hear : H → Told → H} (part : H → Told → H → Type 0) {reading : Reading} {cut : Option ℕ} {start : SessionData}
-    {all : List (ℕ × List ℕ)} {before : H} {asked : List GroupTextData} (now : HeldSession) {line : ℕ × List ℕ} {left : List (ℕ × List ℕ)} {after : H}
-    {told : List GroupTextData} (come : HasCome hear reading cut start all before asked now.core (line ∷ left) after told) where
+    {all : List (ℕ × List ℕ)} {before : H} {asked : List GroupTextData} (now : SessionData) {line : ℕ × List ℕ} {left : List (ℕ × List ℕ)} {after : H}
+    {told : List GroupTextData} (come : HasCome hear reading cut start all before asked now (line ∷ left) after told) where
   -- past a line that asks for nothing
-  comes_past : IsIdle reading cut now.core line → HasCome hear reading cut start all before asked now.core left after told
+  comes_past : IsIdle reading cut now line → HasCome hear reading cut start all before asked now left after told
   comes_past idle = record {
     lines = come.lines;
     texts = come.texts;
     heard = come.heard;
     analysed = come.analysed;
-    goes_on = λ rest runs. come.goes_on rest (passes now.core line left rest idle runs);
+    goes_on = λ rest runs. come.goes_on rest (passes now line left rest idle runs);
     ready = come.ready;
   }
 
   -- past the line of a command, with its lines and texts
-  comes_by : (new : HeldSession) (more : H) (further : List GroupTextData) → Follows hear reading cut line now new after more told further →
-      HasCome hear reading cut start all before asked new.core left more further
+  comes_by : (new : SessionData) (more : H) (further : List GroupTextData) → Follows hear reading cut line now new after more told further →
+      HasCome hear reading cut start all before asked new left more further
   comes_by new more further follows =
       let accepts = follows.accepts in
       record {
@@ -172,34 +172,34 @@ module _ {H : Type 0} {hear : H → Told → H} (part : H → Told → H → Typ
             ∙ append_assoc asked come.texts accepts.texts;
         goes_on = λ rest runs. subst (Runs reading cut start all) (after_command-twice come.lines accepts.lines come.texts accepts.texts rest)
             (come.goes_on (after_command accepts.lines accepts.texts rest)
-            (obeys now.core new.core line left follows.command accepts.lines accepts.texts rest follows.asks accepts.performs runs));
-        ready = ready-performs now.core new.core follows.command accepts.lines accepts.texts come.ready accepts.performs;
+            (obeys now new line left follows.command accepts.lines accepts.texts rest follows.asks accepts.performs runs));
+        ready = ready-performs now new follows.command accepts.lines accepts.texts come.ready accepts.performs;
       }
 
   -- past a line that is accepted
-  comes_accepted : (new : HeldSession) (more : H) (further : List GroupTextData) →
+  comes_accepted : (new : SessionData) (more : H) (further : List GroupTextData) →
       TakesTurn hear part reading cut line now new after more told further (Ok Accepted) →
-      HasCome hear reading cut start all before asked new.core left more further
+      HasCome hear reading cut start all before asked new left more further
   comes_accepted new more further (inl passed) =
       let keeps = passed.keeps in
-      subst (λ (session : HeldSession). HasCome hear reading cut start all before asked session.core left more further) (sym keeps.same)
-      (subst (λ h. HasCome hear reading cut start all before asked now.core left h further) (sym keeps.unheard)
-      (subst (λ (texts : List GroupTextData). HasCome hear reading cut start all before asked now.core left after texts) (sym keeps.unasked)
+      subst (λ (session : SessionData). HasCome hear reading cut start all before asked session left more further) (sym keeps.same)
+      (subst (λ h. HasCome hear reading cut start all before asked now left h further) (sym keeps.unheard)
+      (subst (λ (texts : List GroupTextData). HasCome hear reading cut start all before asked now left after texts) (sym keeps.unasked)
       (comes_past passed.idle)))
   comes_accepted new more further (inr follows) = comes_by new more further follows
 
-  pub comes_on : (new : HeldSession) (more : H) (further : List GroupTextData) {turn : Turn} →
+  pub comes_on : (new : SessionData) (more : H) (further : List GroupTextData) {turn : Turn} →
       TakesTurn hear part reading cut line now new after more told further (Ok turn) → turn ≡ Accepted →
-      HasCome hear reading cut start all before asked new.core left more further
+      HasCome hear reading cut start all before asked new left more further
   comes_on new more further turn is =
       comes_accepted new more further (subst (λ one. TakesTurn hear part reading cut line now new after more told further (Ok one)) is turn)
 
   -- to a line that is refused for this cause
-  refused_here : (cause : Cause) → IsRefused reading cut now.core line cause →
-      HasObeyed hear reading cut start all now.core before after asked told (Some (record { line = line.0; cause = cause }))
+  refused_here : (cause : Cause) → IsRefused reading cut now line cause →
+      HasObeyed hear reading cut start all now before after asked told (Some (record { line = line.0; cause = cause }))
   refused_here cause is = record {
-    outcome = after_command come.lines come.texts (refused_at now.core line.0 cause);
-    runs = come.goes_on (refused_at now.core line.0 cause) (refuses now.core line left cause is);
+    outcome = after_command come.lines come.texts (refused_at now line.0 cause);
+    runs = come.goes_on (refused_at now line.0 cause) (refuses now line left cause is);
     reached = refl;
     stopped = refl;
     heard = come.heard ∙ ap (λ (lines : List Line). hear_all hear before (of_column 0 lines)) (sym (append-nil come.lines));
@@ -207,53 +207,53 @@ module _ {H : Type 0} {hear : H → Told → H} (part : H → Told → H → Typ
   }
 
   -- what is told of the data as they are is told of the data that a refused command kept
-  obeyed_kept : (new : HeldSession) (more : H) (further : List GroupTextData) (last : Option RefusedLine) →
-      Keeps now new after more told further → HasObeyed hear reading cut start all now.core before after asked told last →
-      HasObeyed hear reading cut start all new.core before more asked further last
+  obeyed_kept : (new : SessionData) (more : H) (further : List GroupTextData) (last : Option RefusedLine) →
+      Keeps now new after more told further → HasObeyed hear reading cut start all now before after asked told last →
+      HasObeyed hear reading cut start all new before more asked further last
   obeyed_kept new more further last keeps obeyed =
-      subst (λ (session : HeldSession). HasObeyed hear reading cut start all session.core before more asked further last) (sym keeps.same)
-      (subst (λ h. HasObeyed hear reading cut start all now.core before h asked further last) (sym keeps.unheard)
-      (subst (λ (texts : List GroupTextData). HasObeyed hear reading cut start all now.core before after asked texts last) (sym keeps.unasked) obeyed))
+      subst (λ (session : SessionData). HasObeyed hear reading cut start all session before more asked further last) (sym keeps.same)
+      (subst (λ h. HasObeyed hear reading cut start all now before h asked further last) (sym keeps.unheard)
+      (subst (λ (texts : List GroupTextData). HasObeyed hear reading cut start all now before after asked texts last) (sym keeps.unasked) obeyed))
 
   -- to a line that is refused under a code
-  refused_under : (new : HeldSession) (more : H) (further : List GroupTextData) (code : FaultCode) →
+  refused_under : (new : SessionData) (more : H) (further : List GroupTextData) (code : FaultCode) →
       TakesTurn hear part reading cut line now new after more told further (Ok (Refused code)) →
-      HasObeyed hear reading cut start all new.core before more asked further (Some (record { line = line.0; cause = plain_cause code }))
+      HasObeyed hear reading cut start all new before more asked further (Some (record { line = line.0; cause = plain_cause code }))
   refused_under new more further code (is, keeps) =
       obeyed_kept new more further (Some (record { line = line.0; cause = plain_cause code })) keeps (refused_here (plain_cause code) is)
 
-  pub halts_refused : (new : HeldSession) (more : H) (further : List GroupTextData) {turn : Turn} {code : FaultCode} {cuts : Option ℕ} →
+  pub halts_refused : (new : SessionData) (more : H) (further : List GroupTextData) {turn : Turn} {code : FaultCode} {cuts : Option ℕ} →
       TakesTurn hear part reading cut line now new after more told further (Ok turn) → turn ≡ Refused code → cut ≡ cuts →
-      HasObeyed hear reading cuts start all new.core before more asked further (Some (record { line = line.0; cause = plain_cause code }))
+      HasObeyed hear reading cuts start all new before more asked further (Some (record { line = line.0; cause = plain_cause code }))
   halts_refused new more further {code = code} turn is same =
-      subst (λ at. HasObeyed hear reading at start all new.core before more asked further (Some (record { line = line.0; cause = plain_cause code }))) same
+      subst (λ at. HasObeyed hear reading at start all new before more asked further (Some (record { line = line.0; cause = plain_cause code }))) same
       (refused_under new more further code (subst (λ one. TakesTurn hear part reading cut line now new after more told further (Ok one)) is turn))
 
   -- to a line for whose command the circuit is too large
-  outgrown_by : (new : HeldSession) (more : H) (further : List GroupTextData) (fault : BuildFault) →
+  outgrown_by : (new : SessionData) (more : H) (further : List GroupTextData) (fault : BuildFault) →
       TakesTurn hear part reading cut line now new after more told further (Ok (TooLarge fault)) →
-      HasOutgrown hear reading cut start all new.core before more asked further line.0 fault
+      HasOutgrown hear reading cut start all new before more asked further line.0 fault
   outgrown_by new more further fault out =
       let keeps = out.refuses.keeps in
       record {
-        first = subst (λ (session : HeldSession). TellsRefused session.core.large session.core.circuit.graph fault) (sym keeps.same) out.refuses.first;
+        first = subst (λ (session : SessionData). TellsRefused session.large session.circuit.graph fault) (sym keeps.same) out.refuses.first;
         halted = λ other cause tells named.
             obeyed_kept new more further (Some (record { line = line.0; cause = cause })) keeps
             (refused_here cause
             (too_large out.command other out.asks out.refuses.allowed out.refuses.building
-            (subst (λ (session : HeldSession). TellsRefused session.core.large session.core.circuit.graph other) keeps.same tells)
-            (subst (λ (session : HeldSession). size_cause session.core.circuit other ≡ Some cause) keeps.same named)));
+            (subst (λ (session : SessionData). TellsRefused session.large session.circuit.graph other) keeps.same tells)
+            (subst (λ (session : SessionData). size_cause session.circuit other ≡ Some cause) keeps.same named)));
       }
 
-  pub halts_large : (new : HeldSession) (more : H) (further : List GroupTextData) {turn : Turn} {fault : BuildFault} {cuts : Option ℕ} →
+  pub halts_large : (new : SessionData) (more : H) (further : List GroupTextData) {turn : Turn} {fault : BuildFault} {cuts : Option ℕ} →
       TakesTurn hear part reading cut line now new after more told further (Ok turn) → turn ≡ TooLarge fault → cut ≡ cuts →
-      HasOutgrown hear reading cuts start all new.core before more asked further line.0 fault
+      HasOutgrown hear reading cuts start all new before more asked further line.0 fault
   halts_large new more further {fault = fault} turn is same =
-      subst (λ at. HasOutgrown hear reading at start all new.core before more asked further line.0 fault) same
+      subst (λ at. HasOutgrown hear reading at start all new before more asked further line.0 fault) same
       (outgrown_by new more further fault (subst (λ one. TakesTurn hear part reading cut line now new after more told further (Ok one)) is turn))
 
   -- where it stopped in the lines of an outcome from here, a front was heard of what all lines tell
-  breaks_in : (rest : Outcome) → Runs reading cut now.core (line ∷ left) rest → (last : H) (wrote others : List Line) → rest.lines ≡ wrote ++ others →
+  breaks_in : (rest : Outcome) → Runs reading cut now (line ∷ left) rest → (last : H) (wrote others : List Line) → rest.lines ≡ wrote ++ others →
       HearsFront hear part after last (of_column 0 wrote) → BreaksOff hear part reading cut start all before last
   breaks_in rest runs last wrote others is front = record {
     outcome = after_command come.lines come.texts rest;
@@ -264,20 +264,20 @@ module _ {H : Type 0} {hear : H → Told → H} (part : H → Told → H → Typ
   }
 
   -- to a line at which it stopped: what was heard is where the lines begin that would have been told
-  breaks_off : IsSound reading → (new : HeldSession) (more : H) (further : List GroupTextData) (stop : Stop) →
+  breaks_off : IsSound reading → (new : SessionData) (more : H) (further : List GroupTextData) (stop : Stop) →
       TakesTurn hear part reading cut line now new after more told further (Err stop) → BreaksOff hear part reading cut start all before more
   breaks_off sound new more further stop (inl same) =
-      let rest = outcome_exists reading sound cut (line ∷ left) now.core come.ready in
+      let rest = outcome_exists reading sound cut (line ∷ left) now come.ready in
       breaks_in rest.0 rest.1 more [] rest.0.lines refl (inl ([], record { done = []; split = refl; heard = same }))
   breaks_off sound new more further stop (inr starts) =
       let begins = starts.begins in
       let rest = outcome_exists reading sound cut left begins.end
-      (ready-performs now.core begins.end starts.command begins.lines begins.texts come.ready begins.performs) in
+      (ready-performs now begins.end starts.command begins.lines begins.texts come.ready begins.performs) in
       breaks_in (after_command begins.lines begins.texts rest.0)
-      (obeys now.core begins.end line left starts.command begins.lines begins.texts rest.0 starts.asks begins.performs rest.1)
+      (obeys now begins.end line left starts.command begins.lines begins.texts rest.0 starts.asks begins.performs rest.1)
       more begins.lines rest.0.lines refl (inr begins.heard)
 
-  pub halts_stop : IsSound reading → (new : HeldSession) (more : H) (further : List GroupTextData) (stop : Stop) {cuts : Option ℕ} →
+  pub halts_stop : IsSound reading → (new : SessionData) (more : H) (further : List GroupTextData) (stop : Stop) {cuts : Option ℕ} →
       TakesTurn hear part reading cut line now new after more told further (Err stop) → cut ≡ cuts →
       BreaksOff hear part reading cuts start all before more
   halts_stop sound new more further stop turn same =

@@ -4,7 +4,7 @@ use Rattle.ternary.specs.declared.tern.Tern.{Tern}
 use Rattle.oscillation_x.specs.Passes.{Pass, View, Passed, Stands, see_pass, see_passes, look_all}
 use Rattle.group_text.specs.Texts.{GroupTextData}
 use Rattle.told_lines.specs.Lines.{Line, Told}
-use Rattle.session_meaning.specs.Sessions.{SessionData, HeldSession}
+use Rattle.session_meaning.specs.Sessions.{SessionData}
 use Rattle.session_meaning.proofs.PassingLemmas.{passes_unique}
 use Rattle.session_meaning.proofs.UniqueEffects.{performs_unique}
 use Rattle.script_meaning.specs.declared.turn.Turn.{Turn}
@@ -94,24 +94,24 @@ module _ {S : Type 0} {begin see : S → List Tern → S} {rest : S → ℕ → 
         }
 
   -- past a line that is accepted
-  module _ {H : Type 0} (hear : H → Told → H) (part : H → Told → H → Type 0) (now new : HeldSession) (heard more : H) (asked told : List GroupTextData)
+  module _ {H : Type 0} (hear : H → Told → H) (part : H → Told → H → Type 0) (now new : SessionData) (heard more : H) (asked told : List GroupTextData)
       {line : ℕ × List ℕ} {left : List (ℕ × List ℕ)} {mid : S}
-      (come : HasShown begin see rest reading cut start all before now.core (line ∷ left) mid) (after : S)
-      (sees : SeesLine begin see rest reading cut now.core line new.core.state mid after) where
+      (come : HasShown begin see rest reading cut start all before now (line ∷ left) mid) (after : S)
+      (sees : SeesLine begin see rest reading cut now line new.state mid after) where
     shown_accepted : TakesTurn hear part reading cut line now new heard more asked told (Ok Accepted) →
-        HasShown begin see rest reading cut start all before new.core left after
+        HasShown begin see rest reading cut start all before new left after
     shown_accepted (inl passed) =
-        subst (λ (session : HeldSession). HasShown begin see rest reading cut start all before session.core left after) (sym passed.keeps.same)
-        (shown_past now.core now.core come after
-        (subst (λ (session : HeldSession). SeesLine begin see rest reading cut now.core line session.core.state mid after) passed.keeps.same sees)
+        subst (λ (session : SessionData). HasShown begin see rest reading cut start all before session left after) (sym passed.keeps.same)
+        (shown_past now now come after
+        (subst (λ (session : SessionData). SeesLine begin see rest reading cut now line session.state mid after) passed.keeps.same sees)
         [] [] (idle passed.idle))
     shown_accepted (inr follows) =
         let accepts = follows.accepts in
-        shown_past now.core new.core come after sees accepts.lines accepts.texts
-        (done follows.command new.core accepts.lines accepts.texts follows.asks accepts.performs)
+        shown_past now new come after sees accepts.lines accepts.texts
+        (done follows.command new accepts.lines accepts.texts follows.asks accepts.performs)
 
     pub shown_on : {turn : Turn} → TakesTurn hear part reading cut line now new heard more asked told (Ok turn) → turn ≡ Accepted →
-        HasShown begin see rest reading cut start all before new.core left after
+        HasShown begin see rest reading cut start all before new left after
     shown_on takes is = shown_accepted (subst (λ one. TakesTurn hear part reading cut line now new heard more asked told (Ok one)) is takes)
 
 -- ---- one list

@@ -9,7 +9,7 @@ use Rattle.group_text.specs.Texts.{GroupTextData}
 use Rattle.told_lines.specs.Lines.{Told}
 use Rattle.session_meaning.specs.declared.fault.ApplyFault.{ApplyFault}
 use Rattle.session_meaning.specs.declared.fault.ApplyFault.TheVariants.{Refused, GroupNodes, GroupSwitches, WriteFault, NoMemory}
-use Rattle.session_meaning.specs.Sessions.{SessionData, HeldSession}
+use Rattle.session_meaning.specs.Sessions.{SessionData}
 use Rattle.session_meaning.specs.Outcomes.{Obeys}
 use Rattle.wave_print.specs.declared.faults.FaultCode.{FaultCode}
 use Rattle.run_ends.specs.Causes.{plain_cause}
@@ -21,8 +21,8 @@ use Rattle.script_meaning.specs.Turns.{TakesTurn, turn_after}
 
 -- a line that asks for a command comes to what the command comes to, and the hearer lacked memory once at the most
 module _ {H : Type 0} (hear : H → Told → H) (part : H → Told → H → Type 0) where
-  pub takes_turn : (reading : Reading) (cut : Option ℕ) (line : ℕ × List ℕ) (command : Command) (old new : HeldSession) (before after : H)
-      (asked told : List GroupTextData) (refusals now : ℕ) (ended : Result (Unit {0}) ApplyFault) → Asks reading cut old.core line command →
+  pub takes_turn : (reading : Reading) (cut : Option ℕ) (line : ℕ × List ℕ) (command : Command) (old new : SessionData) (before after : H)
+      (asked told : List GroupTextData) (refusals now : ℕ) (ended : Result (Unit {0}) ApplyFault) → Asks reading cut old line command →
       Obeys hear part old command new before after asked told refusals now ended →
       TakesTurn hear part reading cut line old new before after asked told (turn_after ended) × IsRefusedOnce refusals now (turn_after ended)
   takes_turn reading cut line command old new before after asked told refusals now (Ok _) asks (accepts, same) =

@@ -1,116 +1,106 @@
--- Builds: a session is one afterwards, whether the machine is new, got codes for its stale parts, or the build was refused.
-use Rattle.std.proofs.Common.{◌≡◌, ℕ, List, ◌++◌, length, Option, None, Some, IfSome, refl, sym, ap, subst, ◌∙◌}
-use Rattle.std.proofs.lemmas.List.{map-append}
+-- Builds: a session is one afterwards, whether the stage was built or the build was refused; and what that comes to.
+use Rattle.std.proofs.Common.{◌≡◌, ℕ, ◌<◌, ◌≤◌, ◌⊎◌, inl, inr, List, length, Option, Result, Ok, Err, refl, sym, ap, subst, ◌∙◌}
 use Rattle.ternary.specs.declared.tern.Tern.{Tern}
 use Rattle.ternary.specs.Counts.{raised}
+use Rattle.path_meaning.specs.Graphs.{GraphData}
 use Rattle.path_meaning.specs.Rails.{IsSound}
 use Rattle.group_text.specs.Texts.{GroupTextData}
 use Rattle.group_text.specs.FirstTexts.{new_texts}
-use Rattle.straight_code.specs.Code.{CodeData}
-use Rattle.analysis_cache.specs.Keeping.{KeptData, IsGrown, entry_texts, texts_of}
-use Rattle.circuit_texts.specs.Building.{Builds}
-use Rattle.machine_laws.specs.Machines.{MachineData}
-use Rattle.machine_laws.proofs.KeptLemmas.{built_texts_are_kept}
-use Rattle.session_meaning.specs.Sessions.{SessionData, HeldSession, IsSession}
-use Rattle.session_meaning.specs.Machines.{Serves, IsHeldSession, AreAmong, kept_in, last_in}
-use Rattle.session_meaning.specs.Stages.{StageData, BuiltFrom, Readied}
+use Rattle.circuit_texts.specs.declared.texts.BuildFault.{BuildFault}
+use Rattle.circuit_texts.specs.declared.texts.BuildFault.TheVariants as build
+use Rattle.circuit_texts.specs.Sizes.{TellsRefused}
+use Rattle.circuit_texts.specs.Building.{Builds, IsCutOff}
+use Rattle.session_meaning.specs.declared.fault.ApplyFault.{ApplyFault}
+use Rattle.session_meaning.specs.declared.fault.ApplyFault.TheVariants.{Refused, GroupNodes, GroupSwitches, WriteFault, NoMemory}
+use Rattle.column_stage.specs.Acts.{Act, Built}
+use Rattle.column_stage.proofs.SoundLemmas.{sound_still}
+use Rattle.session_meaning.specs.Sessions.{SessionData, HeldSession, IsHeldSession, IsSession}
+use Rattle.session_meaning.specs.Preparing.{fault_of_build}
+use Rattle.session_meaning.specs.Stages.{Readied, Readies, ReadiesBy}
 use Rattle.session_meaning.proofs.ClockLemmas.{IsSession-beside}
-use Rattle.session_meaning.proofs.LastLemmas.{more_keep, still_among, table_keeps}
 
--- more entries that are kept are more texts
-pub texts-grown : (old new : KeptData) → IsGrown old new → (more : List GroupTextData) × (texts_of new ≡ texts_of old ++ more)
-texts-grown old new grown =
-    (entry_texts grown.more, ap (λ entries. entry_texts entries) grown.grown ∙ map-append (λ (entry : GroupTextData × CodeData). entry.0) old.entries grown.more)
-
--- the machine serves what the table has, if it serves what stands there with the texts of its last build in front
-pub serves-table : (session : HeldSession) (table : List GroupTextData) → session.core.kept ≡ kept_in session.machine table →
-    AreAmong (last_in session.machine) table → IsHeldSession session →
-    IfSome session.machine (Serves session.core.circuit.graph session.core.state table)
-serves-table session table is among held = by session.machine is among held.machine
-  where
-    by : (found : Option MachineData) → session.core.kept ≡ kept_in found table → AreAmong (last_in found) table →
-        IfSome found (Serves session.core.circuit.graph session.core.state session.core.kept) →
-        IfSome found (Serves session.core.circuit.graph session.core.state table)
-    by None is among serves = tt
-    by (Some machine) is among serves = record {
-      covers = serves.covers;
-      same = serves.same;
-      known = table_keeps session.core.circuit.graph machine.last session.core.kept table machine is among serves.known;
-    }
-
--- a session is one with another bound, other texts kept, and another count of them
+-- a session is one with the same state, another bound, other texts kept, and another count of them
 pub core-kept : (session : SessionData) (state : List Tern) (bound : Option ℕ) (kept : List GroupTextData) (fresh : ℕ) → state ≡ session.state →
     IsSession session → IsSession (record session { state = state; bound = bound; kept = kept; fresh = fresh })
 core-kept session state bound kept fresh same is =
     IsSession-beside session state session.count session.missed bound kept fresh (ap length same ∙ is.ready.states) (subst IsSound (sym same) is.ready.sound) is
 
-module _ (session : HeldSession) (spare : ℕ) (bound : Option ℕ) (stage : StageData) where
-  abbrev before : StageData
-  before = record { state = session.core.state; machine = session.machine; spare = spare }
+module _ {M : Type 0} (lanes : M → ℕ) (states : M → ℕ → List Tern) (serves : M → GraphData → List GroupTextData → Type 0)
+    (session : HeldSession M) (stage : M) (bound : Option ℕ) (kept : List GroupTextData) (fresh : ℕ) (state : states stage 0 ≡ session.core.state) where
+  -- the session behind a build
+  abbrev pub built : HeldSession M
+  built = record { core = record session.core { state = states stage 0; bound = bound; kept = kept; fresh = fresh }; stage = stage }
 
-  -- if a build was refused, more texts may be kept
-  module _ (table more new : List GroupTextData) (grown : new ≡ table ++ more) (same : stage ≡ before) where
-    -- a session is one then
-    pub held-refused : session.core.kept ≡ kept_in session.machine table → IsHeldSession session →
-        IsHeldSession (record { core = record session.core { state = stage.state; bound = bound; kept = kept_in stage.machine new }; machine = stage.machine })
-    held-refused is held = record {
-      core = core-kept session.core stage.state bound (kept_in stage.machine new) session.core.fresh (ap (λ (s : StageData). s.state) same) held.core;
-      machine = subst (λ (s : StageData). IfSome s.machine (Serves session.core.circuit.graph s.state (kept_in s.machine new))) (sym same)
-          (by session.machine is held.machine);
-    }
-      where
-        by : (found : Option MachineData) → session.core.kept ≡ kept_in found table →
-            IfSome found (Serves session.core.circuit.graph session.core.state session.core.kept) →
-            IfSome found (Serves session.core.circuit.graph session.core.state (kept_in found new))
-        by None is serves = tt
-        by (Some machine) is serves = record {
-          covers = serves.covers;
-          same = serves.same;
-          known = more_keep session.core.circuit.graph machine.last session.core.kept table more new machine is grown serves.known;
-        }
+  -- it is one
+  pub held_built : lanes stage ≡ lanes session.stage →
+      ((lane : ℕ) → lane < lanes session.stage → states stage lane ≡ states session.stage lane) → serves stage session.core.circuit.graph kept →
+      IsHeldSession lanes states serves session → IsHeldSession lanes states serves built
+  held_built count each serving held = record {
+    core = core-kept session.core (states stage 0) bound kept fresh state held.core;
+    some = subst (λ (n : ℕ). 1 ≤ n) (sym count) held.some;
+    sound = sound_still lanes states session.core.circuit.graph session.stage stage count each held.sound;
+    same = refl;
+    served = serving;
+  }
 
-    -- and the texts of the last build are kept
-    pub last-refused : AreAmong (last_in session.machine) table → AreAmong (last_in stage.machine) new
-    last-refused among =
-        subst (λ (s : StageData). AreAmong (last_in s.machine) new) (sym same) (still_among (last_in session.machine) table more new grown among)
+  -- which is what a build comes to
+  pub readied_built : (did : Act → M → M → Type 0) (count : ℕ) (asked told : List GroupTextData) →
+      Builds session.core.large session.core.circuit.graph session.core.bound session.core.kept kept asked told count →
+      did (Built session.core.large session.core.circuit.graph) session.stage stage → bound ≡ session.core.bound →
+      fresh ≡ raised session.core.fresh count → Readied did session built asked told
+  readied_built did count asked told builds done same counted =
+      let number : fresh ≡ raised session.core.fresh (length (new_texts session.core.kept builds.present)) =
+      counted ∙ ap (λ (n : ℕ). raised session.core.fresh n) builds.number in
+      record {
+        texts = new_texts session.core.kept builds.present;
+        build = record {
+          present = builds.present;
+          has = builds.has;
+          news = refl;
+          used = λ i. record session.core { state = state i; bound = same i; kept = builds.kept i; fresh = number i };
+        };
+        analysed = builds.analysed;
+        built = done;
+      }
 
-  module _ (kept : List GroupTextData) (fresh count : ℕ) (asked told : List GroupTextData)
-      (built : BuiltFrom session.core.large session.core.circuit.graph before stage)
-      (builds : Builds session.core.large session.core.circuit.graph session.core.bound session.core.kept kept asked told count) where
-    -- if it was done, a session is one too
-    pub held-built : IsHeldSession session →
-        IsHeldSession (record { core = record session.core { state = stage.state; bound = bound; kept = kept; fresh = fresh }; machine = stage.machine })
-    held-built held = record {
-      core = core-kept session.core stage.state bound kept fresh built.state held.core;
-      machine = subst (λ (m : Option MachineData). IfSome m (Serves session.core.circuit.graph stage.state kept)) (sym built.there) (record {
-        covers = built.fits.covers;
-        same = built.same ∙ sym built.state;
-        known = built_texts_are_kept session.core.large session.core.circuit.graph session.core.bound session.core.kept kept asked told count built.machine built.fits builds;
-      });
-    }
+-- a build that was refused, or ran out of memory, left the stage: what that comes to, by what the stage says of one that lacks memory
+module _ {M : Type 0} (cuts : ℕ → GraphData → Option ℕ → List GroupTextData → List GroupTextData → List GroupTextData → List GroupTextData → Type 0)
+    (states : M → ℕ → List Tern) (did : Act → M → M → Type 0) (session : HeldSession M) (stage : M) (bound : Option ℕ)
+    (kept asked told : List GroupTextData) (stands : stage ≡ session.stage) (state : states stage 0 ≡ session.core.state) (limit : bound ≡ session.core.bound) where
+  -- the session behind it
+  abbrev pub unbuilt : HeldSession M
+  unbuilt = record { core = record session.core { state = states stage 0; bound = bound; kept = kept }; stage = stage }
 
-    -- which is what a build comes to
-    pub readied-built : bound ≡ session.core.bound → fresh ≡ raised session.core.fresh count →
-        Readied session (record { core = record session.core { state = stage.state; bound = bound; kept = kept; fresh = fresh }; machine = stage.machine })
-        asked told
-    readied-built same counted =
-        let number : fresh ≡ raised session.core.fresh (length (new_texts session.core.kept builds.present)) =
-        counted ∙ ap (λ (n : ℕ). raised session.core.fresh n) builds.number in
-        record {
-          texts = new_texts session.core.kept builds.present;
-          build = record {
-            present = builds.present;
-            has = builds.has;
-            news = refl;
-            used = λ i. record session.core { state = built.state i; bound = same i; kept = builds.kept i; fresh = number i };
-          };
-          analysed = builds.analysed;
-          machine = record {
-            machine = built.machine;
-            there = built.there;
-            fits = built.fits;
-            moves = built.moves;
-            placed = built.placed;
-            stays = built.stays;
-          };
-        }
+  -- where the texts that are kept stay, it is as before
+  unbuilt_same : kept ≡ session.core.kept → unbuilt ≡ session
+  unbuilt_same same = λ i. record { core = record session.core { state = state i; bound = limit i; kept = same i }; stage = stands i }
+
+  pub unready_built : (fault : BuildFault) →
+      (fault ≡ build.NoMemory) ⊎ (TellsRefused session.core.large session.core.circuit.graph fault × (kept ≡ session.core.kept) × (told ≡ asked)) →
+      (fault ≡ build.NoMemory → cuts session.core.large session.core.circuit.graph session.core.bound session.core.kept kept asked told) →
+      ReadiesBy cuts did session unbuilt asked told (Err (fault_of_build fault))
+  unready_built (build.GroupNodes node count) (inl is) cut = absurd (cc)
+  unready_built (build.GroupNodes node count) (inr (first, same, unasked)) cut = record { first = first; same = unbuilt_same same; unasked = unasked }
+  unready_built (build.GroupSwitches node count) (inl is) cut = absurd (cc)
+  unready_built (build.GroupSwitches node count) (inr (first, same, unasked)) cut = record { first = first; same = unbuilt_same same; unasked = unasked }
+  unready_built build.NoMemory refused cut = record {
+    core = λ i. record session.core { state = state i; bound = limit i; kept = kept };
+    stage = stands;
+    cut_off = cut refl;
+  }
+
+-- where a build that lacks memory is cut off, a plain session is readied so
+pub readies_plain : {M : Type 0} (cuts : ℕ → GraphData → Option ℕ → List GroupTextData → List GroupTextData → List GroupTextData → List GroupTextData → Type 0)
+    (did : Act → M → M → Type 0) (old new : HeldSession M) (asked told : List GroupTextData) (result : Result (Unit {0}) ApplyFault) →
+    ((large : ℕ) (g : GraphData) (bound : Option ℕ) (was now before after : List GroupTextData) → cuts large g bound was now before after →
+    IsCutOff large g was now before after) → ReadiesBy cuts did old new asked told result → Readies did old new asked told result
+readies_plain cuts did old new asked told (Ok done) law ready = ready
+readies_plain cuts did old new asked told (Err (Refused refusal)) law none = none
+readies_plain cuts did old new asked told (Err (GroupNodes node count)) law large = large
+readies_plain cuts did old new asked told (Err (GroupSwitches node count)) law large = large
+readies_plain cuts did old new asked told (Err WriteFault) law none = none
+readies_plain cuts did old new asked told (Err NoMemory) law cut = record {
+  core = cut.core;
+  stage = cut.stage;
+  cut_off = law old.core.large old.core.circuit.graph old.core.bound old.core.kept new.core.kept asked told cut.cut_off;
+}

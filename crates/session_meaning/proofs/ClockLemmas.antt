@@ -1,21 +1,22 @@
--- Clocks that aren't refused have the same number of places, one at least.
+-- Clocks that aren't refused have the same number of places, one at least; those of a `cycle` that isn't refused have input nodes.
 use Rattle.std.proofs.Common.{◌≡◌, ◌≢◌, ℕ, ◌<◌, Bool, true, false, List, [], ◌∷◌, length, map, All, Option, Some, None, refl, arith}
 use Rattle.std.specs.Prelude.{◌==◌, if◌then◌else◌}
 use Rattle.std.proofs.lemmas.Bool.Decides.{nat_tests}
-use Rattle.std.proofs.lemmas.List.Elements.{All-head}
+use Rattle.std.proofs.lemmas.List.Elements.{All-head, All-weaker}
 use Rattle.ternary.specs.declared.tern.Tern.{Tern}
-use Rattle.path_meaning.specs.Graphs.{nodes}
+use Rattle.strength_order.specs.declared.TheConstants.{INPUT_LEVEL}
+use Rattle.path_meaning.specs.Graphs.{level_of, nodes}
 use Rattle.path_meaning.specs.Rails.{IsSound}
 use Rattle.netlist.specs.Names.{node_of}
 use Rattle.netlist.specs.Circuits.{CircuitData}
 use Rattle.script_lang.specs.Forms.{AreBeats}
 use Rattle.line_words.specs.Visible.{IsVisibleName}
 use Rattle.group_text.specs.Texts.{GroupTextData}
-use Rattle.session_meaning.specs.declared.fault.Refusal.TheVariants.{ClockLength}
+use Rattle.session_meaning.specs.declared.fault.Refusal.TheVariants.{ClockLength, NotInput}
 use Rattle.session_meaning.specs.Sessions.{SessionData, ClockData, IsSession, places_of, have_places}
-use Rattle.session_meaning.specs.Refusals.{first_refusal, length_refusal, set_refusal}
+use Rattle.session_meaning.specs.Refusals.{first_refusal, clock_refusal, cycle_refusal, is_input, length_refusal, set_refusal}
 use Rattle.session_meaning.specs.Effects.{clock_of}
-use Rattle.session_meaning.proofs.RefusalLemmas.{first_refusal-none}
+use Rattle.session_meaning.proofs.RefusalLemmas.{first_refusal-none, none_of_all}
 use Rattle.session_meaning.proofs.StateLemmas.{set_past, clocks_past}
 
 -- a number is itself
@@ -95,3 +96,28 @@ pub IsSession-state : (session : SessionData) (state : List Tern) → length sta
     IsSession session → IsSession (record session { state = state })
 IsSession-state session state known sound is =
     IsSession-beside session state session.count session.missed session.bound session.kept session.fresh known sound is
+
+-- ---- input nodes
+
+-- a node that is an input node by the test is one
+input_level : (c : CircuitData) (node : ℕ) → is_input c node ≡ true → level_of c.graph node ≡ INPUT_LEVEL
+input_level c node is = grind (arith, nat_tests)
+
+-- clocks whose nodes aren't refused have input nodes
+clock_inputs : (c : CircuitData) (clocks : List ClockData) → first_refusal (clock_refusal c) clocks ≡ None →
+    All (λ clock. level_of c.graph clock.node ≡ INPUT_LEVEL) clocks
+clock_inputs c clocks none =
+    All-weaker (λ (clock : ClockData). clock_refusal c clock ≡ None) (λ clock. level_of c.graph clock.node ≡ INPUT_LEVEL) one clocks
+    (none_of_all (clock_refusal c) clocks none)
+  where
+    by : (node : ℕ) (input : Bool) → is_input c node ≡ input → (if input then None else Some NotInput) ≡ None → level_of c.graph node ≡ INPUT_LEVEL
+    by node true is none = input_level c node is
+    by node false is none = absurd (cc)
+
+    one : (clock : ClockData) → clock_refusal c clock ≡ None → level_of c.graph clock.node ≡ INPUT_LEVEL
+    one clock none = by clock.node (is_input c clock.node) refl none
+
+-- so have those of a `cycle` that isn't refused
+pub cycle_inputs : (c : CircuitData) (clocks : List ClockData) → cycle_refusal c clocks ≡ None → All (λ clock. level_of c.graph clock.node ≡ INPUT_LEVEL) clocks
+cycle_inputs c [] none = absurd (cc)
+cycle_inputs c (clock ∷ clocks) none = clock_inputs c (clock ∷ clocks) none

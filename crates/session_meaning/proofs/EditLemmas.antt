@@ -1,7 +1,6 @@
 -- A session after an edit of its circuit is one still, and the edit is answered by its refusal.
--- The plan: edits of switches keep the nodes, those that make names add some, whose states are X; so what speaks of nodes holds as before. The
--- machine covered the graph before, and covers the graph after.
-use Rattle.std.proofs.Common.{◌≡◌, ℕ, ◌+◌, ◌-◌, ◌<◌, ◌≤◌, Bool, true, false, List, [], ◌∷◌, ◌++◌, length, replicate, Option, None, Some, Result, Ok, Err, IfSome, OnOk, is_some, nat_lt, nat_le, refl, sym, ap, subst, ◌∙◌, inl, inr, arith, length-append, append-nil}
+-- The plan: edits of switches keep the nodes, those that make names add some, whose states are X; so what speaks of nodes holds as before.
+use Rattle.std.proofs.Common.{◌≡◌, ℕ, ◌+◌, ◌-◌, ◌<◌, ◌≤◌, Bool, true, false, List, [], ◌∷◌, ◌++◌, length, replicate, Option, None, Some, Result, Ok, Err, OnOk, is_some, nat_lt, nat_le, refl, sym, ap, subst, ◌∙◌, inl, inr, arith, length-append, append-nil}
 use Rattle.std.specs.Prelude.{◌⊎◌, if◌then◌else◌}
 use Rattle.std.proofs.lemmas.List.{length-replicate, length-set, get_or_append_left}
 use Rattle.std.proofs.lemmas.List.Elements.{All-weaker}
@@ -11,22 +10,21 @@ use Rattle.ternary.specs.declared.tern.Tern.TheVariants.{Zero, Unk}
 use Rattle.strength_order.specs.declared.TheConstants.{INPUT_LEVEL, LEAST_SIZE_LEVEL}
 use Rattle.strength_order.specs.Levels.{level_of_size}
 use Rattle.path_meaning.specs.declared.TheConstants.{GND, VDD, RAILS}
+use Rattle.path_meaning.specs.declared.switching.Switch.{Switch}
 use Rattle.path_meaning.specs.declared.switching.SwitchKind.{SwitchKind}
 use Rattle.path_meaning.specs.Graphs.{GraphData, nodes}
 use Rattle.channel_groups.specs.declared.change.Change.{Change}
-use Rattle.channel_groups.specs.Changes.{undo}
 use Rattle.group_text.specs.Texts.{GroupTextData}
-use Rattle.machine_laws.specs.Machines.{MachineData}
-use Rattle.machine_laws.specs.Fitting.{Covers}
-use Rattle.machine_laws.specs.Editing.{with_new_nodes}
-use Rattle.machine_laws.proofs.KeptLemmas.{edits_keep_texts}
+use Rattle.column_stage.specs.Columns.{AreSound, IsSoundState, with_new_nodes}
+use Rattle.column_stage.specs.Edits.{IsUndone}
+use Rattle.column_stage.specs.declared.TheConstants.{NEW_NODES}
 use Rattle.netlist.specs.declared.TheConstants.{MOST_NODES, MOST_SWITCHES}
 use Rattle.netlist.specs.declared.fault.EditFault.{EditFault}
 use Rattle.netlist.specs.declared.fault.EditFault.TheVariants as edit
 use Rattle.netlist.specs.Faults.{MakingFault, IsAnswered}
 use Rattle.netlist.specs.Names.{node_of}
 use Rattle.netlist.specs.Circuits.{CircuitData, IsCircuit}
-use Rattle.netlist.specs.Edits.{answer_of, is_strength, add_fault, node_named, rail_fault, strength_fault, switch_numbered, wire_fault, with_input, with_node, with_nodes, with_new_node, with_transistor, with_wires, with_place}
+use Rattle.netlist.specs.Edits.{answer_of, is_strength, add_fault, node_named, rail_fault, strength_fault, switch_numbered, wire_fault, with_input, with_node, with_nodes, with_new_node, with_transistor, with_wires, with_place, with_level}
 use Rattle.script_lang.specs.declared.command.Command.{Command}
 use Rattle.script_lang.specs.declared.command.Command.TheVariants as family
 use Rattle.script_lang.specs.declared.command.Edit.{Edit}
@@ -34,18 +32,14 @@ use Rattle.script_lang.specs.declared.command.Edit.TheVariants as asked
 use Rattle.session_meaning.specs.declared.switches.SwitchEdit.{SwitchEdit}
 use Rattle.session_meaning.specs.declared.switches.SwitchEdit.TheVariants.{Removal, Strength, Kind}
 use Rattle.session_meaning.specs.declared.fault.ApplyFault.{ApplyFault}
-use Rattle.session_meaning.specs.Sessions.{SessionData, HeldSession, IsReady, IsSession}
+use Rattle.session_meaning.specs.Sessions.{SessionData, HeldSession, IsHeldSession, IsReady, IsSession}
 use Rattle.session_meaning.specs.Refusals.{refusal_of, refusal_of_edit, making_refusal, edit_refusal, all_named, strength_for}
 use Rattle.session_meaning.specs.Effects.{circuit_after, with_circuit, with_inputs}
 use Rattle.session_meaning.specs.Preparing.{fault_of_edit}
 use Rattle.session_meaning.specs.Switches.{place_after, edit_fault, edit_of}
-use Rattle.session_meaning.specs.Machines.{Serves, Survives, IsHeldSession, kept_in}
 use Rattle.session_meaning.specs.Outcomes.{Does, Quietly}
-use Rattle.session_meaning.specs.Stages.{StageData, EditsFrom}
 use Rattle.node_words.proofs.WithinLemmas.{within-grown}
-use Rattle.session_meaning.proofs.UndoLemmas.{Undoes}
 use Rattle.session_meaning.proofs.SaveLemmas.{saves-grown}
-use Rattle.session_meaning.proofs.StayingLemmas.{bounding, keeps_bound}
 
 -- ---- nodes
 
@@ -63,11 +57,6 @@ nodes-with_nodes-most [] c = omega arith
 nodes-with_nodes-most (name ∷ names) c = omega (arith, nodes-with_nodes-most names (with_node c name), nodes-with_node c name)
 
 -- ---- sessions
-
--- what holds of one that is there, and leads to another fact, gives that fact of it
-IfSome-weaker : {X : Type 0} {P Q : X → Type 0} (found : Option X) → ((x : X) → P x → Q x) → IfSome found P → IfSome found Q
-IfSome-weaker None leads holds = tt
-IfSome-weaker (Some x) leads holds = leads x holds
 
 -- a session is ready with another circuit of more nodes, whose states are X
 pub IsReady-grown : (session : SessionData) (c : CircuitData) → IsCircuit c → nodes session.circuit.graph ≤ nodes c.graph → IsReady session →
@@ -127,105 +116,104 @@ nodes-after-most c vectors (asked.Add kind gate source drain strength) = nodes-w
 nodes-after-most c vectors (asked.Wire number gate source drain) = nodes-with_nodes-most (gate ∷ source ∷ drain ∷ []) c
 nodes-after-most c vectors other = omega arith
 
--- the session with this circuit, and the state and the machine of this stage
-abbrev pub edited : HeldSession → CircuitData → StageData → HeldSession
-edited session c stage = record { core = record session.core { circuit = c; state = stage.state }; machine = stage.machine }
+-- ---- room for the nodes of an edit
 
--- an edit of the circuit, told to the machine
-module _ (session : HeldSession) (c : CircuitData) (change : Change) (undoes : Undoes c.graph session.core.circuit.graph change)
-    (held : IsHeldSession session) where
-  -- the machine covers the graph before
-  pub covers-before : IfSome session.machine (Covers (undo c.graph change))
-  covers-before = by session.machine held.machine
-    where
-      by : (found : Option MachineData) → IfSome found (Serves session.core.circuit.graph session.core.state session.core.kept) →
-          IfSome found (Covers (undo c.graph change))
-      by None serves = tt
-      by (Some machine) serves = undoes.covers machine serves.covers
+-- another level of a node asks for none
+pub room_level : (before after : CircuitData) (node level spare : ℕ) → after ≡ with_level before node level →
+    nodes after.graph ≤ nodes before.graph + spare
+room_level before after node level spare is =
+    subst (λ (c : CircuitData). nodes c.graph ≤ nodes before.graph + spare) (sym is) (omega (arith, length-set before.graph.levels node level))
 
-  module _ (stage : StageData) (is_circuit : IsCircuit c)
-      (grown : stage.state ≡ with_new_nodes session.core.state (nodes c.graph))
-      (edits : IfSome stage.machine (EditsFrom c.graph change session.machine)) where
-    -- a machine that is there serves
-    serves-edited : (machine : MachineData) → EditsFrom c.graph change session.machine machine → Serves c.graph stage.state session.core.kept machine
-    serves-edited machine from =
-        let serves = subst (λ (m : Option MachineData). IfSome m (Serves session.core.circuit.graph session.core.state session.core.kept)) from.was
-        held.machine in
-        record {
-          covers = from.edits.covers;
-          same = from.edits.state ∙ ap (λ (state : List Tern). with_new_nodes state (nodes c.graph)) serves.same ∙ sym grown;
-          known = edits_keep_texts c.graph change session.core.kept from.before machine undoes.wired is_circuit.wired
-              (undoes.covers from.before serves.covers) from.edits (undoes.texts session.core.kept from.before serves.covers serves.known);
-        }
+-- nor does what stands at a transistor's place
+pub room_place : (before after : CircuitData) (number spare : ℕ) (there : Option Switch) → after ≡ with_place before number there →
+    nodes after.graph ≤ nodes before.graph + spare
+room_place before after number spare there is =
+    subst (λ (c : CircuitData). nodes c.graph ≤ nodes before.graph + spare) (sym is) (omega arith)
 
-    -- a session is one after it
-    pub held-edited : IsHeldSession (edited session c stage)
-    held-edited = record {
-      core = subst (λ (state : List Tern). IsSession (record session.core { circuit = c; state = state })) (sym grown)
-          (IsSession-grown session.core c is_circuit undoes.more held.core);
-      machine = IfSome-weaker stage.machine serves-edited edits;
+-- a transistor more asks for that of its three names at most
+pub room_transistor : (before after : CircuitData) (kind : SwitchKind) (strength spare : ℕ) (gate source drain : List ℕ) →
+    after ≡ with_transistor before kind strength gate source drain → NEW_NODES ≤ spare → nodes after.graph ≤ nodes before.graph + spare
+room_transistor before after kind strength spare gate source drain is enough =
+    let most : nodes (with_transistor before kind strength gate source drain).graph ≤ nodes before.graph + 3 =
+    nodes-with_nodes-most (gate ∷ source ∷ drain ∷ []) before in
+    let three : 3 ≤ spare = enough in
+    subst (λ (c : CircuitData). nodes c.graph ≤ nodes before.graph + spare) (sym is) (omega (arith, most, three))
+
+-- and so do other terminals
+pub room_wires : (before after : CircuitData) (number spare : ℕ) (gate source drain : List ℕ) → after ≡ with_wires before number gate source drain →
+    NEW_NODES ≤ spare → nodes after.graph ≤ nodes before.graph + spare
+room_wires before after number spare gate source drain is enough =
+    let most : nodes (with_wires before number gate source drain).graph ≤ nodes before.graph + 3 =
+    nodes-with_nodes-most (gate ∷ source ∷ drain ∷ []) before in
+    let three : 3 ≤ spare = enough in
+    subst (λ (c : CircuitData). nodes c.graph ≤ nodes before.graph + spare) (sym is) (omega (arith, most, three))
+
+-- ---- the stage
+
+module _ {M : Type 0} (lanes : M → ℕ) (states : M → ℕ → List Tern) (serves : M → GraphData → List GroupTextData → Type 0) where
+  -- what a stage asks of an edit, where it has a session's states and serves its circuit
+  pub asks_edit : (session : HeldSession M) → IsHeldSession lanes states serves session → (g : GraphData) (change : Change) (stage : M) (spare : ℕ)
+      (kept : List GroupTextData) → IsUndone session.core.circuit.graph g change →
+      AreSound session.core.circuit.graph (lanes stage) (states stage) → nodes g ≤ nodes session.core.circuit.graph + spare → serves stage session.core.circuit.graph kept →
+      (before : GraphData) × IsUndone before g change × AreSound before (lanes stage) (states stage) × (nodes g ≤ nodes before + spare) × serves stage before kept
+  asks_edit session held g change stage spare kept undone sound room serving = (
+    session.core.circuit.graph,
+    undone,
+    sound,
+    room,
+    serving,
+  )
+
+  -- the session with this circuit and this stage, under this bound, and with these texts kept
+  abbrev pub edited : HeldSession M → CircuitData → M → Option ℕ → List GroupTextData → HeldSession M
+  edited session c stage bound kept =
+      record { core = record session.core { circuit = c; state = states stage 0; bound = bound; kept = kept }; stage = stage }
+
+  module _ (session : HeldSession M) (c : CircuitData) (stage : M) (bound : Option ℕ) (kept : List GroupTextData)
+      (grown : states stage 0 ≡ with_new_nodes session.core.state (nodes c.graph)) (limit : bound ≡ session.core.bound) (same : kept ≡ session.core.kept) where
+    -- its data are those with the circuit
+    pub core_edited : (edited session c stage bound kept).core ≡ with_circuit session.core c
+    core_edited = λ i. record session.core { circuit = c; state = grown i; bound = limit i; kept = same i }
+
+    -- where no node is new, the states stay too
+    pub core_kept : nodes c.graph ≤ length session.core.state → (edited session c stage bound kept).core ≡ record session.core { circuit = c }
+    core_kept few = core_edited ∙ sym (kept_states session.core c few)
+
+    -- if each column has X for each new node, all are sound
+    sounds_edited : IsCircuit c → nodes session.core.circuit.graph ≤ nodes c.graph → lanes stage ≡ lanes session.stage →
+        ((lane : ℕ) → lane < lanes session.stage → states stage lane ≡ with_new_nodes (states session.stage lane) (nodes c.graph)) →
+        IsHeldSession lanes states serves session → AreSound c.graph (lanes stage) (states stage)
+    sounds_edited is_circuit more count each held = λ lane inside.
+        let within : lane < lanes session.stage = subst (λ (n : ℕ). lane < n) count inside in
+        let sound = held.sound lane within in
+        let ready = IsReady-grown (record session.core { state = states session.stage lane }) c is_circuit more (record {
+          netlist = held.core.ready.netlist;
+          states = sound.counted;
+          sound = sound.sound;
+          free = held.core.ready.free;
+          saved = held.core.ready.saved;
+        }) in
+        subst (λ (state : List Tern). IsSoundState c.graph state) (sym (each lane within)) (record { counted = ready.states; sound = ready.sound })
+
+    -- it is a session
+    pub held_edited : IsCircuit c → nodes session.core.circuit.graph ≤ nodes c.graph → lanes stage ≡ lanes session.stage →
+        ((lane : ℕ) → lane < lanes session.stage → states stage lane ≡ with_new_nodes (states session.stage lane) (nodes c.graph)) →
+        serves stage c.graph session.core.kept → IsHeldSession lanes states serves session →
+        IsHeldSession lanes states serves (edited session c stage bound kept)
+    held_edited is_circuit more count each serving held = record {
+      core = subst IsSession (sym core_edited) (IsSession-grown session.core c is_circuit more held.core);
+      some = subst (λ (n : ℕ). 1 ≤ n) (sym count) held.some;
+      sound = sounds_edited is_circuit more count each held;
+      same = refl;
+      served = subst (serves stage c.graph) (sym same) serving;
     }
 
-    -- and the machine, if there is one, was there before
-    pub survives-edited : IfSome stage.machine (Survives session.machine)
-    survives-edited = IfSome-weaker stage.machine
-        (λ machine from. record { before = from.before; was = from.was; moves = from.edits.moves; placed = from.edits.placed }) edits
-
--- what is kept is as before where the stage and the table of the session say so, whose machine was its own
-kept-told : (session : HeldSession) (machine : Option MachineData) (table kept : List GroupTextData) → machine ≡ session.machine →
-    session.core.kept ≡ kept_in session.machine table → kept ≡ kept_in machine table → kept ≡ session.core.kept
-kept-told session machine table kept same stood keeps = keeps ∙ ap (λ (m : Option MachineData). kept_in m table) same ∙ sym stood
-
--- so a command that edits does what it does
-pub does-told : (session : HeldSession) (c : CircuitData) (old : Option MachineData) (new : StageData) (bound : Option ℕ) (table kept : List GroupTextData) →
-    old ≡ session.machine → bound ≡ session.core.bound → session.core.kept ≡ kept_in session.machine table → kept ≡ kept_in old table →
-    (command : Command) → Does session.core command (edited session c new).core [] →
-    Does session.core command (bounding (edited session c new) bound kept).core []
-does-told session c old new bound table kept machine limit stood keeps command does =
-    keeps_bound (λ (s : HeldSession). Does session.core command s.core []) (edited session c new) bound kept limit
-    (kept-told session old table kept machine stood keeps) does
-
--- what was told of an edit to the stage of a session, which was as the session has it
-module _ (session : HeldSession) (c : CircuitData) (change : Change) (undoes : Undoes c.graph session.core.circuit.graph change)
-    (held : IsHeldSession session) (graph : GraphData) (told : graph ≡ c.graph) (is_circuit : IsCircuit c)
-    (old new : StageData) (state : old.state ≡ session.core.state)
-    (machine : old.machine ≡ session.machine) (grown : new.state ≡ with_new_nodes old.state (nodes graph))
-    (edits : IfSome new.machine (EditsFrom graph change old.machine)) where
-  grown-told : new.state ≡ with_new_nodes session.core.state (nodes c.graph)
-  grown-told = rw (← told, ← state) grown
-
-  edits-told : IfSome new.machine (EditsFrom c.graph change session.machine)
-  edits-told = rw (← told, ← machine) edits
-
-  -- the machine that is there was there before
-  pub survives-told : IfSome new.machine (Survives session.machine)
-  survives-told = survives-edited session c change undoes held new is_circuit grown-told edits-told
-
-  -- the session is one still
-  pub held-told : (bound : Option ℕ) (table kept : List GroupTextData) → bound ≡ session.core.bound → session.core.kept ≡ kept_in session.machine table →
-      kept ≡ kept_in old.machine table → IsHeldSession (bounding (edited session c new) bound kept)
-  held-told bound table kept limit stood keeps =
-      keeps_bound IsHeldSession (edited session c new) bound kept limit (kept-told session old.machine table kept machine stood keeps)
-      (held-edited session c change undoes held new is_circuit grown-told edits-told)
-
--- what no command did to the machine, no edit did
-pub survives-same : (found : Option MachineData) → IfSome found (Survives found)
-survives-same None = tt
-survives-same (Some machine) = record { before = machine; was = refl; moves = refl; placed = refl }
-
--- and what survived one edit, and then another, survived both
-pub survives-both : (old mid new : Option MachineData) → IfSome mid (Survives old) → IfSome new (Survives mid) → IfSome new (Survives old)
-survives-both old mid new first second = IfSome-weaker new one second
-  where
-    one : (machine : MachineData) → Survives mid machine → Survives old machine
-    one machine survives =
-        let earlier = subst (λ (m : Option MachineData). IfSome m (Survives old)) survives.was first in
-        record {
-          before = earlier.before;
-          was = earlier.was;
-          moves = survives.moves ∙ earlier.moves;
-          placed = survives.placed ∙ earlier.placed;
-        }
+  -- where room was taken before an edit, the columns' states are those from before with the new nodes
+  pub grown_behind : (start mid new : M) (count : ℕ) → lanes mid ≡ lanes start → ((lane : ℕ) → lane < lanes start → states mid lane ≡ states start lane) →
+      ((lane : ℕ) → lane < lanes mid → states new lane ≡ with_new_nodes (states mid lane) count) → (lane : ℕ) → lane < lanes start →
+      states new lane ≡ with_new_nodes (states start lane) count
+  grown_behind start mid new count as_many same grown lane inside =
+      grown lane (subst (λ (n : ℕ). lane < n) (sym as_many) inside) ∙ ap (λ (state : List Tern). with_new_nodes state count) (same lane inside)
 
 -- ---- refusals
 
@@ -265,8 +253,8 @@ the_fault None fault answered = absurd (cc)
 the_fault (Some other) fault answered = cc
 
 -- which refuses its command, or is lack of memory
-pub refused_quietly : (old new : HeldSession) (command : Command) (found : Option EditFault) (fault : EditFault) →
-    refusal_of old.core command ≡ edit_refusal found → found ≡ Some fault → new ≡ old → Quietly old command new (Err (fault_of_edit fault))
+pub refused_quietly : (old new : SessionData) (command : Command) (found : Option EditFault) (fault : EditFault) →
+    refusal_of old command ≡ edit_refusal found → found ≡ Some fault → new ≡ old → Quietly old command new (Err (fault_of_edit fault))
 refused_quietly old new command found edit.NoSuchSwitch is there same = (is ∙ ap edit_refusal there, same)
 refused_quietly old new command found edit.Rail is there same = (is ∙ ap edit_refusal there, same)
 refused_quietly old new command found edit.BadStrength is there same = (is ∙ ap edit_refusal there, same)
@@ -277,16 +265,16 @@ refused_quietly old new command found edit.TooManySwitches is there same = (is �
 refused_quietly old new command found edit.NoMemory is there same = same
 
 -- so does one that lacked memory or has this
-pub lacking_quietly : (old new : HeldSession) (command : Command) (found : Option EditFault) (fault : EditFault) →
-    refusal_of old.core command ≡ edit_refusal found → (fault ≡ edit.NoMemory) ⊎ (found ≡ Some fault) → new ≡ old →
+pub lacking_quietly : (old new : SessionData) (command : Command) (found : Option EditFault) (fault : EditFault) →
+    refusal_of old command ≡ edit_refusal found → (fault ≡ edit.NoMemory) ⊎ (found ≡ Some fault) → new ≡ old →
     Quietly old command new (Err (fault_of_edit fault))
 lacking_quietly old new command found fault is (inl lacks) same =
     subst (λ (other : EditFault). Quietly old command new (Err (fault_of_edit other))) (sym lacks) same
 lacking_quietly old new command found fault is (inr there) same = refused_quietly old new command found fault is there same
 
 -- and one that makes names or a transistor
-pub making_quietly : (old new : HeldSession) (command : Command) (found : Option MakingFault) (fault : EditFault) →
-    refusal_of old.core command ≡ making_refusal found → IsAnswered found fault → new ≡ old → Quietly old command new (Err (fault_of_edit fault))
+pub making_quietly : (old new : SessionData) (command : Command) (found : Option MakingFault) (fault : EditFault) →
+    refusal_of old command ≡ making_refusal found → IsAnswered found fault → new ≡ old → Quietly old command new (Err (fault_of_edit fault))
 making_quietly old new command found edit.NoSuchSwitch is answered same = absurd answered
 making_quietly old new command found edit.Rail is answered same = absurd answered
 making_quietly old new command found edit.BadStrength is answered same = (is ∙ ap making_refusal answered, same)
@@ -297,35 +285,23 @@ making_quietly old new command found edit.TooManySwitches is answered same = (is
 making_quietly old new command found edit.NoMemory is answered same = same
 
 -- by what is known of the session and of the fault that is told
-pub quietly_as : (session old new : HeldSession) (command : Command) (fault : EditFault) (told : ApplyFault) → session ≡ old →
+pub quietly_as : (session old new : SessionData) (command : Command) (fault : EditFault) (told : ApplyFault) → session ≡ old →
     told ≡ fault_of_edit fault → Quietly session command new (Err (fault_of_edit fault)) → Quietly old command new (Err told)
 quietly_as session old new command fault told is tells quiet =
     subst (λ (other : ApplyFault). Quietly old command new (Err other)) (sym tells)
-    (subst (λ (other : HeldSession). Quietly other command new (Err (fault_of_edit fault))) is quiet)
+    (subst (λ (other : SessionData). Quietly other command new (Err (fault_of_edit fault))) is quiet)
 
--- the session with this circuit and this stage, where its table stays
-abbrev pub halted : HeldSession → CircuitData → StageData → List GroupTextData → HeldSession
-halted session c stage table =
-    record { core = record session.core { circuit = c; state = stage.state; kept = kept_in stage.machine table }; machine = stage.machine }
-
--- is the one from before if they are
-pub same-halted : (session : HeldSession) (c : CircuitData) (stage : StageData) (table : List GroupTextData) → c ≡ session.core.circuit →
-    stage.state ≡ session.core.state → stage.machine ≡ session.machine → session.core.kept ≡ kept_in session.machine table →
-    halted session c stage table ≡ session
-same-halted session c stage table is state machine stood =
-    let kept : kept_in stage.machine table ≡ session.core.kept = ap (λ (m : Option MachineData). kept_in m table) machine ∙ sym stood in
-    λ i. record { core = record session.core { circuit = is i; state = state i; kept = kept i }; machine = machine i }
+-- the data with this circuit, these states and these texts are those from before if all of them are
+pub same_halted : (session : SessionData) (c : CircuitData) (state : List Tern) (kept : List GroupTextData) → c ≡ session.circuit → state ≡ session.state →
+    kept ≡ session.kept → (record session { circuit = c; state = state; kept = kept }) ≡ session
+same_halted session c state kept is same texts = λ i. record session { circuit = is i; state = same i; kept = texts i }
 
 -- ---- edits
 
 -- an edit that isn't refused, and whose new nodes are X: what its command does
-pub edit_does : (session : SessionData) (edit : Edit) (c : CircuitData) (stage : StageData) →
-    refusal_of_edit session.circuit session.vectors edit ≡ None → c ≡ circuit_after session.circuit session.vectors edit → stage.state ≡ with_new_nodes session.state (nodes c.graph) →
-    Does session (family.Edit edit) (record session { circuit = c; state = stage.state }) []
-edit_does session edit c stage allowed is grown = record {
-  allowed = allowed;
-  effect = (ap (λ (state : List Tern). record session { circuit = c; state = state }) grown ∙ ap (with_circuit session) is, refl);
-}
+pub edit_does : (session new : SessionData) (edit : Edit) (c : CircuitData) → refusal_of_edit session.circuit session.vectors edit ≡ None →
+    c ≡ circuit_after session.circuit session.vectors edit → new ≡ with_circuit session c → Does session (family.Edit edit) new []
+edit_does session new edit c allowed is same = record { allowed = allowed; effect = (same ∙ ap (with_circuit session) is, refl) }
 
 -- and of one that makes no node, where the states stay
 pub still_does : (session new : SessionData) (edit : Edit) (c : CircuitData) → refusal_of_edit session.circuit session.vectors edit ≡ None →
@@ -361,14 +337,13 @@ circuit_after-switch c vectors number (Strength strength) = refl
 circuit_after-switch c vectors number (Kind kind) = refl
 
 -- a transistor that is edited so: what its command does
-pub switched_does : (session : SessionData) (c : CircuitData) (stage : StageData) (number : ℕ) (edit : SwitchEdit) →
+pub switched_does : (session new : SessionData) (c : CircuitData) (number : ℕ) (edit : SwitchEdit) →
     Ok tt ≡ answer_of (edit_fault session.circuit number edit) → c ≡ with_place session.circuit number (place_after session.circuit number edit) →
-    stage.state ≡ with_new_nodes session.state (nodes c.graph) →
-    Does session (family.Edit (edit_of number edit)) (record session { circuit = c; state = stage.state }) []
-switched_does session c stage number edit answered is grown =
-    edit_does session (edit_of number edit) c stage
+    new ≡ with_circuit session c → Does session (family.Edit (edit_of number edit)) new []
+switched_does session new c number edit answered is same =
+    edit_does session new (edit_of number edit) c
     (refusal_of-switch session number edit ∙ ap edit_refusal (no_fault (edit_fault session.circuit number edit) answered))
-    (is ∙ sym (circuit_after-switch session.circuit session.vectors number edit)) grown
+    (is ∙ sym (circuit_after-switch session.circuit session.vectors number edit)) same
 
 -- a node past the rails is made an input node
 pub input_made : (node : ℕ) (answer : Result (Unit {0}) EditFault) (Made : Type 0) → RAILS ≤ node → answer ≡ answer_of (rail_fault node) →
@@ -380,19 +355,18 @@ input_made node answer Made past answered made = by (nat_lt node RAILS) refl ans
     by false is allowed = subst (λ (other : Result (Unit {0}) EditFault). OnOk other Made) allowed made
 
 -- a transistor that is added: what its command does
-pub added_does : (session : SessionData) (c : CircuitData) (stage : StageData) (kind : SwitchKind) (strength : Option ℕ) (given : ℕ)
+pub added_does : (session new : SessionData) (c : CircuitData) (kind : SwitchKind) (strength : Option ℕ) (given : ℕ)
     (gate source drain : List ℕ) → given ≡ strength_for kind strength → add_fault session.circuit given gate source drain ≡ None →
-    c ≡ with_transistor session.circuit kind given gate source drain → stage.state ≡ with_new_nodes session.state (nodes c.graph) →
-    Does session (family.Edit (asked.Add kind gate source drain strength)) (record session { circuit = c; state = stage.state }) []
-added_does session c stage kind strength given gate source drain same none is grown =
-    edit_does session (asked.Add kind gate source drain strength) c stage
+    c ≡ with_transistor session.circuit kind given gate source drain → new ≡ with_circuit session c →
+    Does session (family.Edit (asked.Add kind gate source drain strength)) new []
+added_does session new c kind strength given gate source drain same none is grown =
+    edit_does session new (asked.Add kind gate source drain strength) c
     (ap making_refusal (subst (λ (n : ℕ). add_fault session.circuit n gate source drain ≡ None) same none))
     (is ∙ ap (λ (n : ℕ). with_transistor session.circuit kind n gate source drain) same) grown
 
 -- a transistor whose terminals are set: what its command does
-pub rewired_does : (session : SessionData) (c : CircuitData) (stage : StageData) (number : ℕ) (gate source drain : List ℕ) →
+pub rewired_does : (session new : SessionData) (c : CircuitData) (number : ℕ) (gate source drain : List ℕ) →
     wire_fault session.circuit number gate source drain ≡ None → c ≡ with_wires session.circuit number gate source drain →
-    stage.state ≡ with_new_nodes session.state (nodes c.graph) →
-    Does session (family.Edit (asked.Wire number gate source drain)) (record session { circuit = c; state = stage.state }) []
-rewired_does session c stage number gate source drain none is grown =
-    edit_does session (asked.Wire number gate source drain) c stage (ap edit_refusal none) is grown
+    new ≡ with_circuit session c → Does session (family.Edit (asked.Wire number gate source drain)) new []
+rewired_does session new c number gate source drain none is grown =
+    edit_does session new (asked.Wire number gate source drain) c (ap edit_refusal none) is grown

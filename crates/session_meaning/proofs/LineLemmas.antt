@@ -12,11 +12,14 @@ use Rattle.script_lang.specs.declared.value.Value.{Value}
 use Rattle.node_values.specs.declared.fault.GivenFault.{GivenFault}
 use Rattle.node_values.specs.Givings.{letters_given}
 use Rattle.wave_print.specs.declared.lines.TheConstants.{COLUMN_ROOM, SHOW_LINE_ROOM}
-use Rattle.told_lines.specs.Lines.{Line, Unmet, AreInRoom, is_unmet, room_of}
+use Rattle.group_text.specs.FirstTexts.{first_texts}
+use Rattle.group_text.specs.Texts.{GroupTextData}
+use Rattle.circuit_texts.specs.Building.{HasTexts}
+use Rattle.told_lines.specs.Lines.{Line, Reported, Unmet, AreInRoom, is_unmet, room_of}
 use Rattle.told_lines.specs.Hearing.{of_column}
 use Rattle.session_meaning.specs.Sessions.{SessionData}
 use Rattle.session_meaning.specs.Refusals.{nodes_named}
-use Rattle.session_meaning.specs.Effects.{is_met, letters_in, shown_line, unmet_by, unmet_line, unmet_lines, with_told}
+use Rattle.session_meaning.specs.Effects.{IsReported, is_met, letters_in, shown_line, unmet_by, unmet_line, unmet_lines, with_told}
 use Rattle.session_meaning.specs.Stages.{AreShortLists}
 
 -- the lines from one item on are its own and those after it
@@ -135,3 +138,16 @@ shown_told session names =
     by : (missed : Bool) → record session { missed = missed } ≡ record session { missed = missed || false }
     by true = refl
     by false = refl
+
+-- ---- reports
+
+-- the line with these numbers is the report's, if they are those of the circuit's groups and of their texts
+pub reported : (session : SessionData) (texts : List GroupTextData) (has : HasTexts session.large session.circuit.graph texts) (groups distinct : ℕ) →
+    groups ≡ length has.groups → distinct ≡ length (first_texts texts) →
+    IsReported session (record session { fresh = 0 }) (Reported groups distinct session.fresh ∷ [])
+reported session texts has groups distinct counted differ = record {
+  texts = texts;
+  has = has;
+  moved = refl;
+  wrote = λ i. Reported (counted i) (differ i) session.fresh ∷ [];
+}

@@ -1,6 +1,6 @@
 -- Outcomes: a command whose effect was done, and whose lines were heard or a part of them, is obeyed; and what a build before it comes to.
 use Rattle.std.proofs.Common.{◌≡◌, ℕ, ◌<◌, Bool, true, false, List, [], ◌++◌, None, Ok, Err, refl, sym, ap, subst, ◌∙◌, inl, inr, append-nil}
-use Rattle.std.specs.Prelude.{Option, Result, OnOk, IfErr}
+use Rattle.std.specs.Prelude.{Option, Result, OnOk, OnErr, IfErr}
 use Rattle.path_meaning.specs.Graphs.{nodes}
 use Rattle.circuit_texts.specs.declared.texts.BuildFault.TheVariants as build
 use Rattle.group_text.specs.Texts.{GroupTextData}
@@ -16,8 +16,9 @@ use Rattle.session_meaning.specs.Preparing.{builds, with_present, IsBuild, IsFau
 use Rattle.told_lines.specs.Lines.{Line, Told}
 use Rattle.session_meaning.specs.Effects.{Effect, places_in}
 use Rattle.session_meaning.specs.Sinks.{IsSinkFault, faults_with, refusals_sent, refusals_with}
+use Rattle.column_stage.specs.Acts.{Act, Reserved}
 use Rattle.session_meaning.specs.Outcomes.{Performs, DoesPart, Begins, Obeys, Quietly, Sent, TakesBeats, IsDoneAndSent}
-use Rattle.session_meaning.specs.Stages.{Readied}
+use Rattle.session_meaning.specs.Stages.{IsStageAfter, IsStill, ObeysOn, Readied, Readies}
 use Rattle.circuit_texts.proofs.SizeLemmas.{told_node}
 
 -- what holds anyhow holds where all went well
@@ -28,6 +29,24 @@ on_ok P (Err fault) holds = tt
 pub on_ok-map : {T E : Type 0} (P Q : Type 0) (result : Result T E) → (P → Q) → OnOk result P → OnOk result Q
 on_ok-map P Q (Ok done) leads holds = leads holds
 on_ok-map P Q (Err fault) leads holds = tt
+
+-- a stage to which nothing was done is as it was
+pub still_yet : {M : Type 0} (did : Act → M → M → Type 0) (stage : M) → IsStill did stage stage
+still_yet did stage = inl refl
+
+-- so is one in which room was taken, but for the room
+pub still_roomed : {M : Type 0} (did : Act → M → M → Type 0) (old new : M) → did Reserved old new → IsStill did old new
+still_roomed did old new done = inr done
+
+-- so is one that is the same where a call didn't go well, or anyhow
+pub still_after : {M T E : Type 0} (did : Act → M → M → Type 0) (old new : M) (result : Result T E) → OnErr result (new ≡ old) →
+    OnErr result (IsStill did old new)
+still_after did old new (Ok done) same = tt
+still_after did old new (Err fault) same = inl same
+
+pub still_always : {M T E : Type 0} (did : Act → M → M → Type 0) (old new : M) (result : Result T E) → new ≡ old → OnErr result (IsStill did old new)
+still_always did old new (Ok done) same = tt
+still_always did old new (Err fault) same = inl same
 
 -- ---- builds
 
@@ -44,7 +63,7 @@ refusal_of-built old mid command texts build =
     ap (λ (session : SessionData). refusal_of session command) build.used ∙ refusal_of-with_present old command build.present
 
 -- a command that builds is prepared by a build
-prepared : (old mid : SessionData) (command : Command) (texts : List GroupTextData) → builds command ≡ true → IsBuild old mid texts →
+pub prepared : (old mid : SessionData) (command : Command) (texts : List GroupTextData) → builds command ≡ true → IsBuild old mid texts →
     Prepares old command mid texts
 prepared old mid command texts building build = subst (λ (does : Bool). BuildsIf does old mid texts) (sym building) build
 
@@ -53,8 +72,8 @@ unprepared : (session : SessionData) (command : Command) → builds command ≡ 
 unprepared session command still = subst (λ (does : Bool). BuildsIf does session session []) (sym still) (refl, refl)
 
 -- a build, and then the command
-pub built_performs : (old mid new : SessionData) (command : Command) (lines : List Line) (texts : List GroupTextData) → builds command ≡ true →
-    IsBuild old mid texts → refusal_of old command ≡ None → Effect mid command new lines → Performs old command new lines texts
+unfoldable pub built_performs : (old mid new : SessionData) (command : Command) (lines : List Line) (texts : List GroupTextData) →
+    builds command ≡ true → IsBuild old mid texts → refusal_of old command ≡ None → Effect mid command new lines → Performs old command new lines texts
 built_performs old mid new command lines texts building build allowed effect = record {
   mid = mid;
   prepares = prepared old mid command texts building build;
@@ -70,7 +89,7 @@ still_performs old new command lines still allowed effect =
 -- ---- what is obeyed
 
 -- a command that isn't done for its refusal, or for lack of memory, changes nothing
-pub fault_quiet : (session : HeldSession) (command : Command) (fault : ApplyFault) → IsFaultFor (refusal_of session.core command) fault →
+pub fault_quiet : (session : SessionData) (command : Command) (fault : ApplyFault) → IsFaultFor (refusal_of session command) fault →
     Quietly session command session (Err fault)
 fault_quiet session command (Refused refusal) is = (is, refl)
 fault_quiet session command (GroupNodes node count) is = absurd is
@@ -79,11 +98,11 @@ fault_quiet session command WriteFault is = absurd is
 fault_quiet session command NoMemory is = refl
 
 -- the same if the data are as before, and the fault is given by another name
-pub fault_kept : (session new : HeldSession) (command : Command) (fault told : ApplyFault) → new ≡ session → told ≡ fault →
-    IsFaultFor (refusal_of session.core command) fault → Quietly session command new (Err told)
+pub fault_kept : (session new : SessionData) (command : Command) (fault told : ApplyFault) → new ≡ session → told ≡ fault →
+    IsFaultFor (refusal_of session command) fault → Quietly session command new (Err told)
 fault_kept session new command fault told same tells is =
     subst (λ (other : ApplyFault). Quietly session command new (Err other)) (sym tells)
-    (subst (λ (other : HeldSession). Quietly session command other (Err fault)) (sym same) (fault_quiet session command fault is))
+    (subst (λ (other : SessionData). Quietly session command other (Err fault)) (sym same) (fault_quiet session command fault is))
 
 -- it is no fault of the hearer
 pub fault_uncounted : (found : Option Refusal) (fault : ApplyFault) (faults : ℕ) → IsFaultFor found fault → faults ≡ faults_with faults fault
@@ -93,11 +112,11 @@ fault_uncounted found (GroupSwitches node count) faults is = absurd is
 fault_uncounted found WriteFault faults is = absurd is
 fault_uncounted found NoMemory faults is = refl
 
-module _ {H : Type 0} (hear : H → Told → H) (part : H → Told → H → Type 0) where
+module _ {H M : Type 0} (hear : H → Told → H) (part : H → Told → H → Type 0) (did : Act → M → M → Type 0) where
   -- the hearer ended a command that was begun: the command is obeyed
-  begun_obeys : (old new : HeldSession) (command : Command) (before after : H) (asked told : List GroupTextData) (refusals now : ℕ) (fault : ApplyFault) →
-      Begins hear part old command new before after asked told → IsSinkFault fault → now ≡ refusals_with refusals fault →
-      Obeys hear part old command new before after asked told refusals now (Err fault)
+  begun_obeys : (old new : HeldSession M) (command : Command) (before after : H) (asked told : List GroupTextData) (refusals now : ℕ) (fault : ApplyFault) →
+      Begins hear part old.core command new.core before after asked told → IsSinkFault fault → now ≡ refusals_with refusals fault →
+      ObeysOn hear part did old command new before after asked told refusals now (Err fault)
   begun_obeys old new command before after asked told refusals now (Refused refusal) begun cause counted = absurd cause
   begun_obeys old new command before after asked told refusals now (GroupNodes node count) begun cause counted = absurd cause
   begun_obeys old new command before after asked told refusals now (GroupSwitches node count) begun cause counted = absurd cause
@@ -105,67 +124,149 @@ module _ {H : Type 0} (hear : H → Told → H) (part : H → Told → H → Typ
   begun_obeys old new command before after asked told refusals now NoMemory begun cause counted = inr (begun, counted)
 
   -- a command was performed and its lines were heard, or the hearer ended that: the command is obeyed
-  sent_obeys : (old new : HeldSession) (command : Command) (lines : List Line) (texts : List GroupTextData) (before after : H)
+  sent_obeys : (old new : HeldSession M) (command : Command) (lines : List Line) (texts : List GroupTextData) (before after : H)
       (asked told : List GroupTextData) (refusals now : ℕ) (result : Result (Unit {0}) ApplyFault) →
       (performs : Performs old.core command new.core lines texts) → DoesPart performs.mid command new.core → told ≡ asked ++ texts →
       Sent hear part before after lines result → IfErr result IsSinkFault → now ≡ refusals_sent refusals result →
-      Obeys hear part old command new before after asked told refusals now result
-  sent_obeys old new command lines texts before after asked told refusals now (Ok finished) performs done analysed sent cause counted =
-      (record { lines = lines; texts = texts; performs = performs; heard = sent; analysed = analysed }, counted)
-  sent_obeys old new command lines texts before after asked told refusals now (Err fault) performs done analysed sent cause counted =
+      OnOk result (IsStageAfter did old command new) → ObeysOn hear part did old command new before after asked told refusals now result
+  sent_obeys old new command lines texts before after asked told refusals now (Ok finished) performs done analysed sent cause counted later =
+      ((record { lines = lines; texts = texts; performs = performs; heard = sent; analysed = analysed }, later), counted)
+  sent_obeys old new command lines texts before after asked told refusals now (Err fault) performs done analysed sent cause counted later =
       begun_obeys old new command before after asked told refusals now fault
       (record { end = new.core; lines = lines; texts = texts; performs = performs; heard = sent; done = done; analysed = analysed }) cause counted
 
   -- so it is where nothing is built before it
-  pub still_obeys : (old new : HeldSession) (command : Command) (lines : List Line) (before after : H) (texts : List GroupTextData)
+  pub still_obeys : (old new : HeldSession M) (command : Command) (lines : List Line) (before after : H) (texts : List GroupTextData)
       (refusals now : ℕ) (result : Result (Unit {0}) ApplyFault) → builds command ≡ false → refusal_of old.core command ≡ None →
       Effect old.core command new.core lines → DoesPart old.core command new.core → Sent hear part before after lines result →
-      IfErr result IsSinkFault → now ≡ refusals_sent refusals result → Obeys hear part old command new before after texts texts refusals now result
+      IfErr result IsSinkFault → now ≡ refusals_sent refusals result → IsStageAfter did old command new →
+      ObeysOn hear part did old command new before after texts texts refusals now result
   unfolding still_performs
-  still_obeys old new command lines before after texts refusals now result still allowed effect done sent cause counted =
+  still_obeys old new command lines before after texts refusals now result still allowed effect done sent cause counted later =
       sent_obeys old new command lines [] before after texts texts refusals now result
       (still_performs old.core new.core command lines still allowed effect) done (sym (append-nil texts)) sent cause counted
+      (on_ok (IsStageAfter did old command new) result later)
+
+  -- and where it tells nothing
+  pub quiet_obeys : (old new : HeldSession M) (command : Command) (before : H) (texts : List GroupTextData) (refusals : ℕ)
+      (result : Result (Unit {0}) ApplyFault) → builds command ≡ false → Quietly old.core command new.core result →
+      OnOk result (IsStageAfter did old command new) → OnErr result (IsStill did old.stage new.stage) →
+      ObeysOn hear part did old command new before before texts texts refusals refusals result
+  quiet_obeys old new command before texts refusals (Ok done) still quiet later stays = (
+    (
+      record {
+        lines = [];
+        texts = [];
+        performs = still_performs old.core new.core command [] still quiet.allowed quiet.effect;
+        heard = refl;
+        analysed = sym (append-nil texts);
+      },
+      later,
+    ),
+    refl,
+  )
+  quiet_obeys old new command before texts refusals (Err (Refused refusal)) still quiet later stays =
+      ((record { cause = quiet.0; keeps = record { same = quiet.1; unheard = refl; unasked = refl } }, stays), refl)
+  quiet_obeys old new command before texts refusals (Err (GroupNodes node count)) still quiet later stays = absurd quiet
+  quiet_obeys old new command before texts refusals (Err (GroupSwitches node count)) still quiet later stays = absurd quiet
+  quiet_obeys old new command before texts refusals (Err WriteFault) still quiet later stays = absurd quiet
+  quiet_obeys old new command before texts refusals (Err NoMemory) still quiet later stays =
+      inl (
+        (
+          record {
+            core = subst (λ (s : SessionData). s ≡ record old.core { kept = s.kept }) (sym quiet) refl;
+            cut_off = inl (ap (λ (s : SessionData). s.kept) quiet, refl);
+            unheard = refl;
+          },
+          stays,
+        ),
+        refl,
+      )
 
   -- a command that isn't done for its refusal, or for lack of memory, is obeyed so
-  pub fault_obeys : (session : HeldSession) (command : Command) (before : H) (texts : List GroupTextData) (refusals : ℕ) (fault : ApplyFault) →
-      IsFaultFor (refusal_of session.core command) fault → Obeys hear part session command session before before texts texts refusals refusals (Err fault)
+  pub fault_obeys : (session : HeldSession M) (command : Command) (before : H) (texts : List GroupTextData) (refusals : ℕ) (fault : ApplyFault) →
+      IsFaultFor (refusal_of session.core command) fault →
+      ObeysOn hear part did session command session before before texts texts refusals refusals (Err fault)
   fault_obeys session command before texts refusals (Refused refusal) is =
-      (record { cause = is; keeps = record { same = refl; unheard = refl; unasked = refl } }, refl)
+      ((record { cause = is; keeps = record { same = refl; unheard = refl; unasked = refl } }, inl refl), refl)
   fault_obeys session command before texts refusals (GroupNodes node count) is = absurd is
   fault_obeys session command before texts refusals (GroupSwitches node count) is = absurd is
   fault_obeys session command before texts refusals WriteFault is = absurd is
   fault_obeys session command before texts refusals NoMemory is =
-      inl (record { core = refl; machine = refl; cut_off = inl (refl, refl); unheard = refl }, refl)
+      inl ((record { core = refl; cut_off = inl (refl, refl); unheard = refl }, inl refl), refl)
 
-  -- and where the circuit was built before it
-  pub ready_obeys : (old mid new : HeldSession) (command : Command) (before after : H) (asked told : List GroupTextData) (refusals now : ℕ)
+  -- so is one that lacks memory before it began
+  pub stopped_obeys : (session : HeldSession M) (command : Command) (before : H) (texts : List GroupTextData) (refusals : ℕ) →
+      ObeysOn hear part did session command session before before texts texts refusals refusals (Err NoMemory)
+  stopped_obeys session command before texts refusals = fault_obeys session command before texts refusals NoMemory tt
+
+  -- and one for which the circuit wasn't built
+  pub unready_obeys : (old new : HeldSession M) (command : Command) (before : H) (asked told : List GroupTextData) (refusals : ℕ) (fault : ApplyFault) →
+      builds command ≡ true → refusal_of old.core command ≡ None → Readies did old new asked told (Err fault) →
+      ObeysOn hear part did old command new before before asked told refusals refusals (Err fault)
+  unready_obeys old new command before asked told refusals (Refused refusal) building allowed unready = absurd unready
+  unready_obeys old new command before asked told refusals (GroupNodes node count) building allowed unready = (
+    (
+      record {
+        allowed = allowed;
+        building = building;
+        first = unready.first;
+        keeps = record { same = ap (λ (s : HeldSession M). s.core) unready.same; unheard = refl; unasked = unready.unasked };
+      },
+      inl (ap (λ (s : HeldSession M). s.stage) unready.same),
+    ),
+    refl,
+  )
+  unready_obeys old new command before asked told refusals (GroupSwitches node count) building allowed unready = (
+    (
+      record {
+        allowed = allowed;
+        building = building;
+        first = unready.first;
+        keeps = record { same = ap (λ (s : HeldSession M). s.core) unready.same; unheard = refl; unasked = unready.unasked };
+      },
+      inl (ap (λ (s : HeldSession M). s.stage) unready.same),
+    ),
+    refl,
+  )
+  unready_obeys old new command before asked told refusals WriteFault building allowed unready = absurd unready
+  unready_obeys old new command before asked told refusals NoMemory building allowed unready =
+      inl ((record { core = unready.core; cut_off = unready.cut_off; unheard = refl }, inl unready.stage), refl)
+
+  -- where the circuit was built before it
+  pub ready_obeys : (old mid new : HeldSession M) (command : Command) (before after : H) (asked told : List GroupTextData) (refusals now : ℕ)
       (result : Result (Unit {0}) ApplyFault) → builds command ≡ true → refusal_of old.core command ≡ None →
-      ((lines : List Line) → Effect mid.core command new.core lines → DoesPart mid.core command new.core) → Readied old mid asked told →
+      ((lines : List Line) → Effect mid.core command new.core lines → DoesPart mid.core command new.core) → Readied did old mid asked told →
       IsDoneAndSent (λ core next. Effect core command next) hear part mid.core new.core before after result → IfErr result IsSinkFault →
-      now ≡ refusals_sent refusals result → Obeys hear part old command new before after asked told refusals now result
+      now ≡ refusals_sent refusals result → OnOk result (IsStageAfter did old command new) →
+      ObeysOn hear part did old command new before after asked told refusals now result
   unfolding built_performs
-  ready_obeys old mid new command before after asked told refusals now result building allowed part_of ready sent cause counted =
+  ready_obeys old mid new command before after asked told refusals now result building allowed part_of ready sent cause counted later =
       sent_obeys old new command sent.lines ready.texts before after asked told refusals now result
       (built_performs old.core mid.core new.core command sent.lines ready.texts building ready.build allowed sent.done) (part_of sent.lines sent.done)
-      ready.analysed sent.sent cause counted
+      ready.analysed sent.sent cause counted later
 
   -- phases at the places of a cycle were done after a build, or a prefix of them: the cycle is obeyed
-  pub cycle_obeys : (old mid new : HeldSession) (times : ℕ) (before after : H) (asked told : List GroupTextData) (refusals now : ℕ)
-      (result : Result (Unit {0}) ApplyFault) → refusal_of old.core (family.Run (Cycle times)) ≡ None → Readied old mid asked told →
+  pub cycle_obeys : (old mid new : HeldSession M) (times : ℕ) (before after : H) (asked told : List GroupTextData) (refusals now : ℕ)
+      (result : Result (Unit {0}) ApplyFault) → refusal_of old.core (family.Run (Cycle times)) ≡ None → Readied did old mid asked told →
       TakesBeats hear part (places_in (places_of mid.core.clocks) times) mid.core new.core before after result → IfErr result IsSinkFault →
-      now ≡ refusals_sent refusals result → Obeys hear part old (family.Run (Cycle times)) new before after asked told refusals now result
+      now ≡ refusals_sent refusals result → OnOk result (IsStageAfter did old (family.Run (Cycle times)) new) →
+      ObeysOn hear part did old (family.Run (Cycle times)) new before after asked told refusals now result
   unfolding built_performs
-  cycle_obeys old mid new times before after asked told refusals now (Ok finished) allowed ready (lines, beats, heard) cause counted = (
-    record {
-      lines = lines;
-      texts = ready.texts;
-      performs = built_performs old.core mid.core new.core (family.Run (Cycle times)) lines ready.texts refl ready.build allowed beats;
-      heard = heard;
-      analysed = ready.analysed;
-    },
+  cycle_obeys old mid new times before after asked told refusals now (Ok finished) allowed ready (lines, beats, heard) cause counted later = (
+    (
+      record {
+        lines = lines;
+        texts = ready.texts;
+        performs = built_performs old.core mid.core new.core (family.Run (Cycle times)) lines ready.texts refl ready.build allowed beats;
+        heard = heard;
+        analysed = ready.analysed;
+      },
+      later,
+    ),
     counted,
   )
-  cycle_obeys old mid new times before after asked told refusals now (Err fault) allowed ready begun cause counted =
+  cycle_obeys old mid new times before after asked told refusals now (Err fault) allowed ready begun cause counted later =
       begun_obeys old new (family.Run (Cycle times)) before after asked told refusals now fault (record {
         end = begun.end;
         lines = begun.lines;
@@ -176,17 +277,30 @@ module _ {H : Type 0} (hear : H → Told → H) (part : H → Told → H → Typ
         analysed = ready.analysed;
       }) cause counted
 
-  -- a fault that tells of a group names a node of the graph
-  pub names_node : (old new : HeldSession) (command : Command) (before after : H) (asked told : List GroupTextData) (refusals now : ℕ)
+  -- what a command comes to with the stage it comes to without
+  pub obeys_alone : (old new : HeldSession M) (command : Command) (before after : H) (asked told : List GroupTextData) (refusals now : ℕ)
+      (result : Result (Unit {0}) ApplyFault) → ObeysOn hear part did old command new before after asked told refusals now result →
+      Obeys hear part old.core command new.core before after asked told refusals now result
+  obeys_alone old new command before after asked told refusals now (Ok done) obeys = (obeys.0.0, obeys.1)
+  obeys_alone old new command before after asked told refusals now (Err (Refused refusal)) obeys = (obeys.0.0, obeys.1)
+  obeys_alone old new command before after asked told refusals now (Err (GroupNodes node count)) obeys = (obeys.0.0, obeys.1)
+  obeys_alone old new command before after asked told refusals now (Err (GroupSwitches node count)) obeys = (obeys.0.0, obeys.1)
+  obeys_alone old new command before after asked told refusals now (Err WriteFault) obeys = obeys
+  obeys_alone old new command before after asked told refusals now (Err NoMemory) (inl stopped) = inl (stopped.0.0, stopped.1)
+  obeys_alone old new command before after asked told refusals now (Err NoMemory) (inr begun) = inr begun
+
+-- a fault that tells of a group names a node of the graph
+module _ {H : Type 0} (hear : H → Told → H) (part : H → Told → H → Type 0) where
+  pub names_node : (old new : SessionData) (command : Command) (before after : H) (asked told : List GroupTextData) (refusals now : ℕ)
       (result : Result (Unit {0}) ApplyFault) → Obeys hear part old command new before after asked told refusals now result →
-      IfErr result (NamesNode new.core.circuit.graph)
+      IfErr result (NamesNode new.circuit.graph)
   names_node old new command before after asked told refusals now (Ok done) obeys = tt
   names_node old new command before after asked told refusals now (Err (Refused refusal)) obeys = tt
   names_node old new command before after asked told refusals now (Err (GroupNodes node count)) obeys =
-      subst (λ (session : HeldSession). node < nodes session.core.circuit.graph) (sym obeys.0.keeps.same)
-      (told_node old.core.large old.core.circuit.graph (build.GroupNodes node count) node count obeys.0.first (inl refl))
+      subst (λ (session : SessionData). node < nodes session.circuit.graph) (sym obeys.0.keeps.same)
+      (told_node old.large old.circuit.graph (build.GroupNodes node count) node count obeys.0.first (inl refl))
   names_node old new command before after asked told refusals now (Err (GroupSwitches node count)) obeys =
-      subst (λ (session : HeldSession). node < nodes session.core.circuit.graph) (sym obeys.0.keeps.same)
-      (told_node old.core.large old.core.circuit.graph (build.GroupSwitches node count) node count obeys.0.first (inr refl))
+      subst (λ (session : SessionData). node < nodes session.circuit.graph) (sym obeys.0.keeps.same)
+      (told_node old.large old.circuit.graph (build.GroupSwitches node count) node count obeys.0.first (inr refl))
   names_node old new command before after asked told refusals now (Err WriteFault) obeys = tt
   names_node old new command before after asked told refusals now (Err NoMemory) obeys = tt

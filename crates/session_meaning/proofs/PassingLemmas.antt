@@ -20,6 +20,7 @@ use Rattle.oscillation_x.specs.Passing.{SteppingThrough, see_all}
 use Rattle.oscillation_x.specs.Passes.{Pass, state_behind, see_passes, last_behind}
 use Rattle.oscillation_x.proofs.PassingLemmas.{stepping_unique, passing_is_unique}
 use Rattle.oscillation_x.proofs.PassesLemmas.{last_behind-append, see_passes-append, same_pass}
+use Rattle.column_stage.specs.Acts.{Act}
 use Rattle.script_lang.specs.declared.command.Command.{Command}
 use Rattle.script_lang.specs.declared.command.Command.TheVariants as family
 use Rattle.script_lang.specs.declared.command.Edit.{Edit}
@@ -285,39 +286,39 @@ set_up_same old (Save name) = refl
 set_up_same old (Vector name words) = refl
 
 -- so who knew the state before a command knows so much behind it
-module _ {O : Type 0} (knows : O → List Tern → Type 0) (onlooker : O) (old new : HeldSession) (known : knows onlooker old.core.state) where
+module _ {O : Type 0} (knows : O → List Tern → Type 0) (onlooker : O) (old new : SessionData) (known : knows onlooker old.state) where
   -- if it tells nothing
   pub knows-edit : (edit : Edit) (result : Result (Unit {0}) ApplyFault) → Quietly old (family.Edit edit) new result →
-      OnOk result (KnowsBehind knows onlooker old.core (family.Edit edit) new.core)
+      OnOk result (KnowsBehind knows onlooker old (family.Edit edit) new)
   knows-edit edit (Ok _) quiet = record {
     known = known;
     moves = (
-      nodes (circuit_after old.core.circuit old.core.vectors edit).graph - length old.core.state,
+      nodes (circuit_after old.circuit old.vectors edit).graph - length old.state,
       ap (λ (s : SessionData). s.state) quiet.effect.0,
     );
   }
   knows-edit edit (Err fault) quiet = tt
 
-  pub knows-give : IsReady old.core → (give : Give) (result : Result (Unit {0}) ApplyFault) → Quietly old (family.Give give) new result →
-      OnOk result (KnowsBehind knows onlooker old.core (family.Give give) new.core)
+  pub knows-give : IsReady old → (give : Give) (result : Result (Unit {0}) ApplyFault) → Quietly old (family.Give give) new result →
+      OnOk result (KnowsBehind knows onlooker old (family.Give give) new)
   knows-give ready give (Ok _) quiet = record {
     known = known;
-    moves = (quiet.effect.0, ap (λ (s : SessionData). length s.state) quiet.effect.0 ∙ given_same old.core give ready);
+    moves = (quiet.effect.0, ap (λ (s : SessionData). length s.state) quiet.effect.0 ∙ given_same old give ready);
   }
   knows-give ready give (Err fault) quiet = tt
 
   pub knows-setup : (setup : Setup) (result : Result (Unit {0}) ApplyFault) → Quietly old (family.Setup setup) new result →
-      OnOk result (KnowsBehind knows onlooker old.core (family.Setup setup) new.core)
+      OnOk result (KnowsBehind knows onlooker old (family.Setup setup) new)
   knows-setup setup (Ok _) quiet = record {
     known = known;
-    moves = ap (λ (s : SessionData). s.state) quiet.effect.0 ∙ set_up_same old.core setup;
+    moves = ap (λ (s : SessionData). s.state) quiet.effect.0 ∙ set_up_same old setup;
   }
   knows-setup setup (Err fault) quiet = tt
 
   -- and if it tells
   pub knows-tell : {H : Type 0} (hear : H → Told → H) (part : H → Told → H → Type 0) (tell : Tell) (before after : H) (asked told : List GroupTextData)
       (refusals now : ℕ) (result : Result (Unit {0}) ApplyFault) → Obeys hear part old (family.Tell tell) new before after asked told refusals now result →
-      OnOk result (KnowsBehind knows onlooker old.core (family.Tell tell) new.core)
+      OnOk result (KnowsBehind knows onlooker old (family.Tell tell) new)
   knows-tell hear part tell before after asked told refusals now (Ok _) obeys =
       let performs = obeys.0.performs in record {
         known = known;
@@ -328,10 +329,10 @@ module _ {O : Type 0} (knows : O → List Tern → Type 0) (onlooker : O) (old n
   -- a report leaves the state
   pub knows-report : {H : Type 0} (hear : H → Told → H) (part : H → Told → H → Type 0) (before after : H) (asked told : List GroupTextData)
       (refusals now : ℕ) (result : Result (Unit {0}) ApplyFault) → Obeys hear part old (family.Run Report) new before after asked told refusals now result →
-      OnOk result (knows onlooker new.core.state)
+      OnOk result (knows onlooker new.state)
   knows-report hear part before after asked told refusals now (Ok _) obeys =
       let performs = obeys.0.performs in
-      let same : new.core.state ≡ old.core.state =
+      let same : new.state ≡ old.state =
       ap (λ (s : SessionData). s.state) performs.does.effect.moved ∙ ap (λ (s : SessionData). s.state) performs.prepares.used in
       subst (knows onlooker) (sym same) known
   knows-report hear part before after asked told refusals now (Err fault) obeys = tt
@@ -351,8 +352,8 @@ known_few old new (family.Tell tell) moves = omega (arith, ap length moves)
 
 -- ---- behind a build
 
-module _ {S : Type 0} (begin see : S → List Tern → S) (rest : S → ℕ → S) (old mid : HeldSession) (asked told : List GroupTextData)
-    (ready : Readied old mid asked told) where
+module _ {S M : Type 0} (begin see : S → List Tern → S) (rest : S → ℕ → S) (did : Act → M → M → Type 0) (old mid : HeldSession M) (asked told : List GroupTextData)
+    (ready : Readied did old mid asked told) where
   -- a command has the same steps and phases
   pub sees-readied : (run : Run) (before after : S) → Sees begin see rest (RunThrough mid.core run) before after →
       Sees begin see rest (RunThrough old.core run) before after
@@ -362,8 +363,9 @@ module _ {S : Type 0} (begin see : S → List Tern → S) (rest : S → ℕ → 
   sees-readied Report before after sees = sees
 
 -- a build leaves the state
-pub state-readied : (old mid : HeldSession) (asked told : List GroupTextData) → Readied old mid asked told → mid.core.state ≡ old.core.state
-state-readied old mid asked told ready = ap (λ (s : SessionData). s.state) ready.build.used
+pub state-readied : {M : Type 0} (did : Act → M → M → Type 0) (old mid : HeldSession M) (asked told : List GroupTextData) → Readied did old mid asked told →
+    mid.core.state ≡ old.core.state
+state-readied did old mid asked told ready = ap (λ (s : SessionData). s.state) ready.build.used
 
 -- ---- the placing of a cycle's letters
 
@@ -433,9 +435,9 @@ known_but_clocks knows onlooker clocks state within known = (
 )
 
 -- so it is behind a build
-pub known-readied : {O : Type 0} (knows : O → List Tern → Type 0) (onlooker : O) (old mid : HeldSession) (asked told : List GroupTextData) →
-    IsSession old.core → Readied old mid asked told → knows onlooker old.core.state → KnowsButClocks knows onlooker mid.core.clocks mid.core.state
-known-readied knows onlooker old mid asked told is ready known =
+pub known-readied : {O M : Type 0} (knows : O → List Tern → Type 0) (onlooker : O) (did : Act → M → M → Type 0) (old mid : HeldSession M) (asked told : List GroupTextData) →
+    IsSession old.core → Readied did old mid asked told → knows onlooker old.core.state → KnowsButClocks knows onlooker mid.core.clocks mid.core.state
+known-readied knows onlooker did old mid asked told is ready known =
     subst (λ (s : SessionData). KnowsButClocks knows onlooker s.clocks s.state) (sym ready.build.used)
     (known_but_clocks knows onlooker old.core.clocks old.core.state (rw is.ready.states is.clocks) known)
 

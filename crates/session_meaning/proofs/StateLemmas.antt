@@ -77,7 +77,7 @@ length-settles g old limit new steps joined known settles =
 -- ---- the rails
 
 -- where a node past the rails is set, they keep their states
-sound-set : (state : List Tern) (node : ℕ) (value : Tern) → RAILS ≤ node → IsSound state → IsSound (slice_set state node value)
+pub sound-set : (state : List Tern) (node : ℕ) (value : Tern) → RAILS ≤ node → IsSound state → IsSound (slice_set state node value)
 sound-set state node value past sound = record {
   gnd = get_or-set_other state node GND value Zero (λ same. absurd (omega arith)) ∙ sound.gnd;
   vdd = get_or-set_other state node VDD value Zero (λ same. absurd (omega arith)) ∙ sound.vdd;

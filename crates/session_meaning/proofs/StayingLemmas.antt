@@ -1,59 +1,63 @@
--- What a session keeps, where the texts of its last build stay: it reads as before, and these texts are among it still.
-use Rattle.std.proofs.Common.{◌≡◌, ℕ, List, Option, None, Some, sym, ap, subst, ◌∙◌}
-use Rattle.path_meaning.specs.Graphs.{GraphData}
+-- A session stays one while its stage moves: the stage has as many columns still, sound states in each, and serves.
+use Rattle.std.proofs.Common.{◌≡◌, ℕ, ◌≤◌, List, length, refl, sym, subst}
+use Rattle.ternary.specs.declared.tern.Tern.{Tern}
+use Rattle.path_meaning.specs.Graphs.{GraphData, nodes}
+use Rattle.path_meaning.specs.Rails.{IsSound}
 use Rattle.group_text.specs.Texts.{GroupTextData}
-use Rattle.group_analysis.specs.Using.{used_texts}
-use Rattle.machine_laws.specs.Machines.{MachineData}
-use Rattle.session_meaning.specs.Sessions.{HeldSession, ClockData}
-use Rattle.session_meaning.specs.Machines.{AreAmong, IsHeldSession, kept_in, last_in}
-use Rattle.session_meaning.specs.Stages.{StageData, AssignsIn, TicksIn, MovesBy}
+use Rattle.column_stage.specs.Columns.{AreSound, IsSoundState}
+use Rattle.column_stage.proofs.SoundLemmas.{first_of_some, some_alone, sound_alone}
+use Rattle.session_meaning.specs.Sessions.{SessionData, HeldSession, IsHeldSession}
+use Rattle.session_meaning.proofs.ClockLemmas.{IsSession-beside}
 
--- the session that keeps these texts
-abbrev pub keeping : HeldSession → List GroupTextData → HeldSession
-keeping session kept = record { core = record session.core { kept = kept }; machine = session.machine }
+-- the session that a fact is of
+abbrev pub session_of : {M : Type 0} {lanes : M → ℕ} {states : M → ℕ → List Tern} {serves : M → GraphData → List GroupTextData → Type 0} {session : HeldSession M} →
+    IsHeldSession lanes states serves session → HeldSession M
+session_of {session = session} held = session
 
--- under this bound
-abbrev pub bounding : HeldSession → Option ℕ → List GroupTextData → HeldSession
-bounding session bound kept = record { core = record session.core { bound = bound; kept = kept }; machine = session.machine }
+-- other states are given, and the texts that are kept are read anew
+pub core_given : (session : SessionData) (state next : List Tern) (kept : List GroupTextData) → state ≡ next → kept ≡ session.kept →
+    (record session { state = state; kept = kept }) ≡ record session { state = next }
+core_given session state next kept given same = λ i. record session { state = given i; kept = same i }
 
--- what holds of a session holds of the one that keeps the same texts
-pub keeps_same : (P : HeldSession → Type 0) (session : HeldSession) (kept : List GroupTextData) → kept ≡ session.core.kept → P session →
-    P (keeping session kept)
-keeps_same P session kept same holds = subst (λ (texts : List GroupTextData). P (keeping session texts)) (sym same) holds
+-- so they are, and a line more is counted
+pub core_moved : (session : SessionData) (state next : List Tern) (count later : ℕ) (kept : List GroupTextData) → state ≡ next → count ≡ later →
+    kept ≡ session.kept → (record session { state = state; count = count; kept = kept }) ≡ record session { state = next; count = later }
+core_moved session state next count later kept given counted same = λ i. record session { state = given i; count = counted i; kept = same i }
 
--- and so it does of the one whose bound is the same too
-pub keeps_bound : (P : HeldSession → Type 0) (session : HeldSession) (bound : Option ℕ) (kept : List GroupTextData) → bound ≡ session.core.bound →
-    kept ≡ session.core.kept → P session → P (bounding session bound kept)
-keeps_bound P session bound kept limit same holds =
-    subst (λ (b : Option ℕ). P (bounding session b kept)) (sym limit) (keeps_same P session kept same holds)
+module _ {M : Type 0} (lanes : M → ℕ) (states : M → ℕ → List Tern) (serves : M → GraphData → List GroupTextData → Type 0) where
+  -- the states of a session are sound
+  pub sound_held : (session : HeldSession M) → IsHeldSession lanes states serves session → IsSoundState session.core.circuit.graph (states session.stage 0)
+  sound_held session held =
+      subst (λ (state : List Tern). IsSoundState session.core.circuit.graph state) (sym held.same)
+      (record { counted = held.core.ready.states; sound = held.core.ready.sound })
 
--- a session whose machine's last build is the one from before, and which keeps what its table had in front of which these texts stood
-module _ (session : HeldSession) (old : Option MachineData) (table : List GroupTextData) (same : last_in session.machine ≡ last_in old)
-    (stood : session.core.kept ≡ kept_in old table) where
-  -- what holds of it holds if its table is read anew
-  pub staying : (P : HeldSession → Type 0) → P session → P (keeping session (kept_in session.machine table))
-  staying P holds =
-      keeps_same P session (kept_in session.machine table) (ap (λ (last : List GroupTextData). used_texts last table) same ∙ sym stood) holds
+  -- the session with this stage, so many lines counted, and these texts kept
+  abbrev pub moved : HeldSession M → M → ℕ → List GroupTextData → HeldSession M
+  moved session stage count kept = record { core = record session.core { state = states stage 0; count = count; kept = kept }; stage = stage }
 
-  -- and the texts are among it still
-  pub held-staying : AreAmong (last_in old) table → IsHeldSession session →
-      IsHeldSession (keeping session (kept_in session.machine table)) × AreAmong (last_in session.machine) table
-  held-staying among held = (
-    staying IsHeldSession held,
-    subst (λ (last : List GroupTextData). AreAmong last table) (sym same) among,
-  )
+  -- it is one
+  pub held_moved : (session : HeldSession M) (stage : M) (count : ℕ) (kept : List GroupTextData) → kept ≡ session.core.kept → lanes stage ≡ 1 →
+      length (states stage 0) ≡ nodes session.core.circuit.graph → IsSound (states stage 0) →
+      serves stage session.core.circuit.graph session.core.kept → IsHeldSession lanes states serves session →
+      IsHeldSession lanes states serves (moved session stage count kept)
+  held_moved session stage count kept same one counted sound serving held = record {
+    core = IsSession-beside session.core (states stage 0) count session.core.missed session.core.bound kept session.core.fresh counted sound held.core;
+    some = some_alone (lanes stage) one;
+    sound = sound_alone session.core.circuit.graph (lanes stage) (states stage) one (record { counted = counted; sound = sound });
+    same = refl;
+    served = subst (serves stage session.core.circuit.graph) (sym same) serving;
+  }
 
--- the texts of the last build stay where the machine moves
-pub last-moved : (Leads : MachineData → MachineData → Type 0) (old new : StageData) (moves : MovesBy Leads old new) →
-    moves.after.last ≡ moves.before.last → last_in new.machine ≡ last_in old.machine
-last-moved Leads old new moves same = ap last_in moves.there ∙ same ∙ ap last_in (sym moves.was)
-
--- where nodes are placed in it
-pub last-assigned : (g : GraphData) (given : List ℕ) (old new : Option MachineData) → AssignsIn g given old new → last_in new ≡ last_in old
-last-assigned g given None new none = ap last_in none
-last-assigned g given (Some machine) new (next, there, assigns) = ap last_in there ∙ assigns.last
-
--- and where clocks' nodes are
-pub last-ticked : (g : GraphData) (clocks : List ClockData) (old new : Option MachineData) → TicksIn g clocks old new → last_in new ≡ last_in old
-last-ticked g clocks None new none = ap last_in none
-last-ticked g clocks (Some machine) new (next, there, ticks) = ap last_in there ∙ ticks.last
+  -- so it is with columns that are sound
+  pub held_beside : (session : HeldSession M) (stage : M) (count : ℕ) (kept : List GroupTextData) → kept ≡ session.core.kept → 1 ≤ lanes stage →
+      AreSound session.core.circuit.graph (lanes stage) (states stage) → serves stage session.core.circuit.graph session.core.kept →
+      IsHeldSession lanes states serves session → IsHeldSession lanes states serves (moved session stage count kept)
+  held_beside session stage count kept same some sound serving held =
+      let first = sound 0 (first_of_some (lanes stage) some) in record {
+        core = IsSession-beside session.core (states stage 0) count session.core.missed session.core.bound kept session.core.fresh first.counted first.sound
+            held.core;
+        some = some;
+        sound = sound;
+        same = refl;
+        served = subst (serves stage session.core.circuit.graph) (sym same) serving;
+      }

@@ -1,59 +1,28 @@
 -- The graph before each edit of a session's circuit is the one that its change undoes to, or that with an empty place more.
-use Rattle.std.proofs.Common.{◌≡◌, ℕ, ◌≤◌, List, [], ◌∷◌, ◌++◌, length, take, Option, Some, None, refl, sym, ap, subst, ◌∙◌, arith, append-nil, ◌-◌}
+use Rattle.std.proofs.Common.{◌≡◌, ℕ, ◌≤◌, List, [], ◌∷◌, ◌++◌, length, take, Option, Some, None, inl, inr, refl, sym, ap, subst, ◌∙◌, arith, append-nil, ◌-◌}
 use Rattle.std.specs.Prelude.{slice_set}
 use Rattle.std.proofs.lemmas.List.{length-set, take_at, set-set, set-get_or, set_at, get_or_past}
-use Rattle.std.proofs.lemmas.List.Elements.{All-nil, All-cons, All-append}
 use Rattle.path_meaning.specs.declared.switching.Switch.{Switch}
 use Rattle.path_meaning.specs.declared.switching.SwitchKind.{SwitchKind}
-use Rattle.path_meaning.specs.Graphs.{GraphData, IsWired, FitsPlace, nodes, place_at}
-use Rattle.group_text.specs.Texts.{GroupTextData}
+use Rattle.path_meaning.specs.Graphs.{GraphData, IsWired, nodes, place_at}
 use Rattle.channel_groups.specs.declared.change.Change.{Change}
 use Rattle.channel_groups.specs.Changes.{undo}
 use Rattle.channel_groups.proofs.EditLemmas.{undo-level}
-use Rattle.machine_laws.specs.Machines.{MachineData}
-use Rattle.machine_laws.specs.Fitting.{Covers, IsKeptBy}
-use Rattle.machine_laws.specs.Laws.{with_empty_place}
-use Rattle.machine_laws.proofs.KeptLemmas.{empty_places_are_covered, empty_places_keep_texts}
+use Rattle.column_stage.specs.Edits.{IsUndone}
 use Rattle.netlist.specs.Circuits.{CircuitData, IsCircuit}
 use Rattle.netlist.specs.Edits.{with_transistor, with_wires, with_place, with_level}
 use Rattle.netlist.proofs.EditLemmas.{nodes-with_transistor, nodes-with_wires, levels-with_transistor, levels-with_wires, places-with_transistor, places-with_wires}
 use Rattle.session_meaning.specs.Stages.{before_place, before_level}
 
--- what a machine is of the graph before an edit it is of the graph that the change undoes to; and no node was taken away
-pub record Undoes (g before : GraphData) (change : Change) : Type 0 where
-  pub more : nodes before ≤ nodes g
-  pub wired : IsWired (undo g change)
-  pub covers : (machine : MachineData) → Covers before machine → Covers (undo g change) machine
-  pub texts : (kept : List GroupTextData) (machine : MachineData) → Covers before machine → IsKeptBy before kept machine →
-      IsKeptBy (undo g change) kept machine
-
 -- if that is the graph before
 undoes-same : (g before : GraphData) (change : Change) → undo g change ≡ before → nodes before ≤ nodes g → IsWired before →
-    Undoes g before change
-undoes-same g before change is more wired = record {
-  more = more;
-  wired = subst IsWired (sym is) wired;
-  covers = λ machine covers. subst (λ (h : GraphData). Covers h machine) (sym is) covers;
-  texts = λ kept machine covers known. subst (λ (h : GraphData). IsKeptBy h kept machine) (sym is) known;
-}
+    IsUndone before g change
+undoes-same g before change is more wired = record { wired = wired; more = more; is = inl is }
 
--- a graph is well formed with an empty place more
-wired-more : (g : GraphData) → IsWired g → IsWired (with_empty_place g)
-wired-more g wired = record {
-  levels = wired.levels;
-  places = All-append (FitsPlace (nodes g)) g.places (None ∷ []) wired.places (All-cons (FitsPlace (nodes g)) None [] tt (All-nil (FitsPlace (nodes g))));
-}
-
--- or where it is that graph with an empty place more
-undoes-more : (g before : GraphData) (change : Change) → undo g change ≡ with_empty_place before → nodes before ≤ nodes g →
-    IsWired before → Undoes g before change
-undoes-more g before change is more wired = record {
-  more = more;
-  wired = subst IsWired (sym is) (wired-more before wired);
-  covers = λ machine covers. subst (λ (h : GraphData). Covers h machine) (sym is) (empty_places_are_covered before machine wired covers);
-  texts = λ kept machine covers known.
-      subst (λ (h : GraphData). IsKeptBy h kept machine) (sym is) (empty_places_keep_texts before kept machine wired covers known);
-}
+-- or if it is that graph with an empty place more
+undoes-more : (g before : GraphData) (change : Change) → undo g change ≡ record before { places = before.places ++ None ∷ [] } → nodes before ≤ nodes g →
+    IsWired before → IsUndone before g change
+undoes-more g before change is more wired = record { wired = wired; more = more; is = inr is }
 
 -- levels that were there are there still
 levels_before : (before levels more : List ℕ) → levels ≡ before ++ more → take (length before) levels ≡ before
@@ -71,7 +40,7 @@ undone-place g before place switch more levels places =
 
 -- a switch more, and perhaps new nodes
 undone-switch : (g before : GraphData) (switch : Switch) (more : List ℕ) → g.levels ≡ before.levels ++ more →
-    g.places ≡ before.places ++ Some switch ∷ [] → undo g (before_place before (length before.places)) ≡ with_empty_place before
+    g.places ≡ before.places ++ Some switch ∷ [] → undo g (before_place before (length before.places)) ≡ record before { places = before.places ++ None ∷ [] }
 undone-switch g before switch more levels places =
     let count : ℕ = length before.places in
     let same : take (nodes before) g.levels ≡ before.levels = levels_before before.levels g.levels more levels in
@@ -86,20 +55,20 @@ undone-switch g before switch more levels places =
 
 -- something else at a transistor's place
 undoes-with_place : (c : CircuitData) (number : ℕ) (there : Option Switch) → IsCircuit c →
-    Undoes (with_place c number there).graph c.graph (before_place c.graph (number - 1))
+    IsUndone c.graph (with_place c number there).graph (before_place c.graph (number - 1))
 undoes-with_place c number there is =
     undoes-same (with_place c number there).graph c.graph (before_place c.graph (number - 1))
     (undone-place (with_place c number there).graph c.graph (number - 1) there [] (sym (append-nil c.graph.levels)) refl) (omega arith) is.wired
 
 -- another level of a node
-undoes-with_level : (c : CircuitData) (node level : ℕ) → IsCircuit c → Undoes (with_level c node level).graph c.graph (before_level c.graph node)
+undoes-with_level : (c : CircuitData) (node level : ℕ) → IsCircuit c → IsUndone c.graph (with_level c node level).graph (before_level c.graph node)
 undoes-with_level c node level is =
     undoes-same (with_level c node level).graph c.graph (before_level c.graph node) (undo-level c.graph node level)
     (omega (arith, length-set c.graph.levels node level)) is.wired
 
 -- a transistor more
 undoes-with_transistor : (c : CircuitData) (kind : SwitchKind) (strength : ℕ) (gate source drain : List ℕ) → IsCircuit c →
-    Undoes (with_transistor c kind strength gate source drain).graph c.graph (before_place c.graph (length c.graph.places))
+    IsUndone c.graph (with_transistor c kind strength gate source drain).graph (before_place c.graph (length c.graph.places))
 undoes-with_transistor c kind strength gate source drain is =
     let g : GraphData = (with_transistor c kind strength gate source drain).graph in
     let (count, levels) = levels-with_transistor c kind strength gate source drain in
@@ -109,7 +78,7 @@ undoes-with_transistor c kind strength gate source drain is =
 
 -- other terminals of a transistor
 undoes-with_wires : (c : CircuitData) (number : ℕ) (gate source drain : List ℕ) → IsCircuit c →
-    Undoes (with_wires c number gate source drain).graph c.graph (before_place c.graph (number - 1))
+    IsUndone c.graph (with_wires c number gate source drain).graph (before_place c.graph (number - 1))
 undoes-with_wires c number gate source drain is =
     let g : GraphData = (with_wires c number gate source drain).graph in
     let (count, levels) = levels-with_wires c number gate source drain in
@@ -120,33 +89,33 @@ undoes-with_wires c number gate source drain is =
 -- ---- the edits that a session made, by what is known of the circuit after them and of the change that was told before them
 
 undoes-by : (before after : CircuitData) (change : Change) {target : CircuitData} {wanted : Change} → after ≡ target → change ≡ wanted →
-    Undoes target.graph before.graph wanted → Undoes after.graph before.graph change
+    IsUndone before.graph target.graph wanted → IsUndone before.graph after.graph change
 undoes-by before after change {target} {wanted} is told undoes =
-    subst (λ (c : CircuitData). Undoes c.graph before.graph change) (sym is)
-    (subst (λ (other : Change). Undoes target.graph before.graph other) (sym told) undoes)
+    subst (λ (c : CircuitData). IsUndone before.graph c.graph change) (sym is)
+    (subst (λ (other : Change). IsUndone before.graph target.graph other) (sym told) undoes)
 
 module _ (before after : CircuitData) (graph : GraphData) (change : Change) (is : IsCircuit before) (same : graph ≡ before.graph) where
   -- something else was put at a transistor's place
   pub undoes-place : (number : ℕ) (there : Option Switch) → change ≡ before_place graph (number - 1) → after ≡ with_place before number there →
-      Undoes after.graph before.graph change
+      IsUndone before.graph after.graph change
   undoes-place number there told made =
       undoes-by before after change made (told ∙ ap (λ (g : GraphData). before_place g (number - 1)) same) (undoes-with_place before number there is)
 
   -- a node got another level
-  pub undoes-level : (node level : ℕ) → change ≡ before_level graph node → after ≡ with_level before node level → Undoes after.graph before.graph change
+  pub undoes-level : (node level : ℕ) → change ≡ before_level graph node → after ≡ with_level before node level → IsUndone before.graph after.graph change
   undoes-level node level told made =
       undoes-by before after change made (told ∙ ap (λ (g : GraphData). before_level g node) same) (undoes-with_level before node level is)
 
   -- a transistor was added
   pub undoes-transistor : (kind : SwitchKind) (strength place : ℕ) (gate source drain : List ℕ) → place ≡ length before.graph.places →
-      change ≡ before_place graph place → after ≡ with_transistor before kind strength gate source drain → Undoes after.graph before.graph change
+      change ≡ before_place graph place → after ≡ with_transistor before kind strength gate source drain → IsUndone before.graph after.graph change
   undoes-transistor kind strength place gate source drain last told made =
       undoes-by before after change made (told ∙ ap (λ (g : GraphData). before_place g place) same ∙ ap (before_place before.graph) last)
       (undoes-with_transistor before kind strength gate source drain is)
 
   -- a transistor got other terminals
   pub undoes-wires : (number : ℕ) (gate source drain : List ℕ) → change ≡ before_place graph (number - 1) →
-      after ≡ with_wires before number gate source drain → Undoes after.graph before.graph change
+      after ≡ with_wires before number gate source drain → IsUndone before.graph after.graph change
   undoes-wires number gate source drain told made =
       undoes-by before after change made (told ∙ ap (λ (g : GraphData). before_place g (number - 1)) same)
       (undoes-with_wires before number gate source drain is)

@@ -3,6 +3,9 @@ use Rattle.std.specs.Prelude.{◌≡◌, ℕ, List, length}
 use Rattle.ternary.specs.declared.tern.Tern.{Tern}
 use Rattle.group_text.specs.Texts.{GroupTextData}
 use Rattle.script_lang.specs.declared.command.Command.{Command}
+use Rattle.lane_script.specs.declared.command.LaneCommand.{LaneCommand}
+use Rattle.lane_script.specs.Commands.{in_column}
+use Rattle.session_meaning.specs.Refusals.{refusal_of}
 use Rattle.session_meaning.specs.Saves.{state_back, with_save}
 use Rattle.session_meaning.specs.Sessions.{SessionData}
 use Rattle.told_lines.specs.Lines.{Line}
@@ -34,3 +37,9 @@ abbrev pub CommandsPassThroughOneList : Type 0
 CommandsPassThroughOneList =
     (old : SessionData) (command : Command) (passes other : List Pass) → PassesThrough old command passes → PassesThrough old command other →
     passes ≡ other
+
+-- whether a command for columns is refused, and why, doesn't depend on the column, nor on its state
+abbrev pub ColumnsRefuseAlike : Type 0
+ColumnsRefuseAlike =
+    (session : SessionData) (state : List Tern) (command : LaneCommand) (lane other : ℕ) →
+    refusal_of (record session { state = state }) (in_column lane command) ≡ refusal_of session (in_column other command)

@@ -6,7 +6,7 @@ pub mod Effects
 pub mod Passing
 pub mod Sinks
 pub mod Switches
-pub mod Machines
 pub mod Outcomes
 pub mod Stages
+pub mod Columns
 pub mod Laws

@@ -15,7 +15,7 @@ use Rattle.circuit_texts.specs.declared.texts.BuildFault.TheVariants as build
 use Rattle.circuit_texts.specs.Sizes.{TellsRefused}
 use Rattle.circuit_texts.specs.Building.{IsCutOff}
 use Rattle.session_meaning.specs.Preparing.{Prepares, builds}
-use Rattle.session_meaning.specs.Sessions.{SessionData, HeldSession, places_of}
+use Rattle.session_meaning.specs.Sessions.{SessionData, places_of}
 use Rattle.session_meaning.specs.Refusals.{refusal_of}
 use Rattle.session_meaning.specs.Effects.{Effect, AreBeats, places_in}
 
@@ -31,40 +31,39 @@ pub record Performs (old : SessionData) (command : Command) (new : SessionData) 
   pub does : Does mid command new lines
 
 -- the command has its effect, its lines were heard, and the analyst's list grew by the texts that it analysed for it
-pub record Accepts {H : Type 0} (hear : H → Told → H) (old : HeldSession) (command : Command) (new : HeldSession) (before after : H)
+pub record Accepts {H : Type 0} (hear : H → Told → H) (old : SessionData) (command : Command) (new : SessionData) (before after : H)
     (asked told : List GroupTextData) : Type 0 where
   pub lines : List Line
   pub texts : List GroupTextData
-  pub performs : Performs old.core command new.core lines texts
+  pub performs : Performs old command new lines texts
   pub heard : after ≡ hear_all hear before (of_column 0 lines)
   pub analysed : told ≡ asked ++ texts
 
 -- all is as before, nothing was heard, and nothing was analysed
-pub record Keeps {H : Type 0} (old new : HeldSession) (before after : H) (asked told : List GroupTextData) : Type 0 where
+pub record Keeps {H : Type 0} (old new : SessionData) (before after : H) (asked told : List GroupTextData) : Type 0 where
   pub same : new ≡ old
   pub unheard : after ≡ before
   pub unasked : told ≡ asked
 
 -- the command is refused so, and all is as before
-pub record Refuses {H : Type 0} (old : HeldSession) (command : Command) (new : HeldSession) (before after : H) (asked told : List GroupTextData)
+pub record Refuses {H : Type 0} (old : SessionData) (command : Command) (new : SessionData) (before after : H) (asked told : List GroupTextData)
     (refusal : Refusal) : Type 0 where
-  pub cause : refusal_of old.core command ≡ Some refusal
+  pub cause : refusal_of old command ≡ Some refusal
   pub keeps : Keeps old new before after asked told
 
 -- the command has no refusal by the data, but the circuit can't be built for it: the first group that is too large is told, and all is as
 -- before
-pub record RefusesSize {H : Type 0} (old : HeldSession) (command : Command) (new : HeldSession) (before after : H) (asked told : List GroupTextData)
+pub record RefusesSize {H : Type 0} (old : SessionData) (command : Command) (new : SessionData) (before after : H) (asked told : List GroupTextData)
     (fault : BuildFault) : Type 0 where
-  pub allowed : refusal_of old.core command ≡ None
+  pub allowed : refusal_of old command ≡ None
   pub building : builds command ≡ true
-  pub first : TellsRefused old.core.large old.core.circuit.graph fault
+  pub first : TellsRefused old.large old.circuit.graph fault
   pub keeps : Keeps old new before after asked told
 
 -- all is as before, but that a prefix of the texts that a build analyses may be kept
-pub record Stays {H : Type 0} (old new : HeldSession) (before after : H) (asked told : List GroupTextData) : Type 0 where
-  pub core : new.core ≡ record old.core { kept = new.core.kept }
-  pub machine : new.machine ≡ old.machine
-  pub cut_off : IsCutOff old.core.large old.core.circuit.graph old.core.kept new.core.kept asked told
+pub record Stays {H : Type 0} (old new : SessionData) (before after : H) (asked told : List GroupTextData) : Type 0 where
+  pub core : new ≡ record old { kept = new.kept }
+  pub cut_off : IsCutOff old.large old.circuit.graph old.kept new.kept asked told
   pub unheard : after ≡ before
 
 -- the phases at a prefix of these places were done, and none of those after it
@@ -81,20 +80,20 @@ DoesPart old (family.Run (Cycle times)) new = FrontDone (places_in (places_of ol
 DoesPart old command new = (lines : List Line) × Effect old command new lines
 
 -- the command isn't refused; of the lines of its effect a part was heard, from the start, and a whole part of it was done
-pub record Begins {H : Type 0} (hear : H → Told → H) (part : H → Told → H → Type 0) (old : HeldSession) (command : Command) (new : HeldSession)
+pub record Begins {H : Type 0} (hear : H → Told → H) (part : H → Told → H → Type 0) (old : SessionData) (command : Command) (new : SessionData)
     (before after : H) (asked told : List GroupTextData) : Type 0 where
   pub end : SessionData
   pub lines : List Line
   pub texts : List GroupTextData
-  pub performs : Performs old.core command end lines texts
+  pub performs : Performs old command end lines texts
   pub heard : HearsPart hear part before after (of_column 0 lines)
-  pub done : DoesPart performs.mid command new.core
+  pub done : DoesPart performs.mid command new
   pub analysed : told ≡ asked ++ texts
 
 -- inside the session: what a command that tells nothing comes to
-abbrev pub Quietly : HeldSession → Command → HeldSession → Result (Unit {0}) ApplyFault → Type 0
-Quietly old command new (Ok _) = Does old.core command new.core []
-Quietly old command new (Err (Refused refusal)) = (refusal_of old.core command ≡ Some refusal) × (new ≡ old)
+abbrev pub Quietly : SessionData → Command → SessionData → Result (Unit {0}) ApplyFault → Type 0
+Quietly old command new (Ok _) = Does old command new []
+Quietly old command new (Err (Refused refusal)) = (refusal_of old command ≡ Some refusal) × (new ≡ old)
 Quietly old command new (Err (GroupNodes node count)) = ⊥
 Quietly old command new (Err (GroupSwitches node count)) = ⊥
 Quietly old command new (Err NoMemory) = new ≡ old
@@ -114,7 +113,7 @@ Outcome Accepted RefusedFor OutgrownBy Stopped Begun refusals now (Err NoMemory)
     (Stopped × (now ≡ refusals)) ⊎ (Begun × (now ≡ raised refusals 1))
 
 -- what a command comes to: where the command itself wants memory, all is as before but for what is kept
-abbrev pub Obeys : {H : Type 0} → (H → Told → H) → (H → Told → H → Type 0) → HeldSession → Command → HeldSession → H → H → List GroupTextData →
+abbrev pub Obeys : {H : Type 0} → (H → Told → H) → (H → Told → H → Type 0) → SessionData → Command → SessionData → H → H → List GroupTextData →
     List GroupTextData → ℕ → ℕ → Result (Unit {0}) ApplyFault → Type 0
 Obeys hear part old command new before after asked told refusals now result =
     Outcome (Accepts hear old command new before after asked told) (Refuses old command new before after asked told)

@@ -1,12 +1,13 @@
 -- What an onlooker sees of a command while it is obeyed: its steps and phases, and the states that each passes through.
 -- In the manner of MOSSIM II: Bryant, "A Switch-Level Model and Simulator for MOS Digital Systems", 1984.
-use Rattle.std.specs.Prelude.{◌≡◌, ℕ, ◌⊎◌, Bool, List, [], ◌∷◌, length, map, Result, IfErr}
+use Rattle.std.specs.Prelude.{◌≡◌, ℕ, ◌⊎◌, List, [], ◌∷◌, length, map, Result, IfErr}
 use Rattle.ternary.specs.declared.tern.Tern.{Tern}
 use Rattle.ternary.specs.Counts.{raised}
 use Rattle.path_meaning.specs.Graphs.{GraphData}
 use Rattle.oscillation_x.specs.Moved.{IsGrown, ListsChanges}
-use Rattle.oscillation_x.specs.Passing.{SteppingThrough, SettlesThrough, last_state, see_all}
+use Rattle.oscillation_x.specs.Passing.{SteppingThrough}
 use Rattle.oscillation_x.specs.Passes.{Pass, state_behind, see_pass, see_passes, last_behind}
+pub use Rattle.column_stage.specs.Seeing.{PhaseThrough, SeesStates}
 use Rattle.script_lang.specs.declared.command.Command.{Command}
 use Rattle.script_lang.specs.declared.command.Command.TheVariants as family
 use Rattle.script_lang.specs.declared.command.Run.{Run}
@@ -14,10 +15,6 @@ use Rattle.script_lang.specs.declared.command.Run.TheVariants.{Step, Phase, Cycl
 use Rattle.session_meaning.specs.declared.fault.ApplyFault.{ApplyFault}
 use Rattle.session_meaning.specs.Sessions.{SessionData, ClockData, places_of}
 use Rattle.session_meaning.specs.Effects.{state_given, states_with, places_in}
-
--- a state settles under a limit, by this number of unit steps, which pass through these states
-abbrev pub PhaseThrough : GraphData → ℕ → List Tern → ℕ → List (List Tern) → Type 0
-PhaseThrough g limit old steps passed = (joined : Bool) × SettlesThrough g old limit passed joined × (steps ≡ length passed)
 
 -- a unit step: through the new state if it changes, and one unit step is told of it in either case
 pub record IsStepPass (g : GraphData) (old : List Tern) (pass : Pass) : Type 0 where
@@ -72,13 +69,6 @@ pub record SeesPass {S : Type 0} (begin see : S → List Tern → S) (rest : S �
   pub through : Through pass
   pub last : new ≡ state_behind pass
   pub seen : after ≡ see_pass begin see rest before pass
-
--- an observer saw states that are passed through in this way, from one state to another
-pub record SeesStates {S : Type 0} (see : S → List Tern → S) (Through : List (List Tern) → Type 0) (old new : List Tern) (before after : S) : Type 0 where
-  pub passed : List (List Tern)
-  pub through : Through passed
-  pub last : new ≡ last_state old passed
-  pub seen : after ≡ see_all see before passed
 
 -- an onlooker saw the phases at these places of a session's clocks, from one state to another
 abbrev pub SeesBeats : {S : Type 0} → (S → List Tern → S) → (S → List Tern → S) → (S → ℕ → S) → List ℕ → SessionData → SessionData → S → S → Type 0

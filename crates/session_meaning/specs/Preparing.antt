@@ -26,6 +26,11 @@ abbrev pub builds : Command → Bool
 builds (family.Run run) = true
 builds other = false
 
+-- the command edits the circuit
+abbrev pub edits : Command → Bool
+edits (family.Edit edit) = true
+edits other = false
+
 -- the data after a build with these present texts: they are in front of what is kept, what is past the bound is cut, and the new ones are
 -- counted
 abbrev pub with_present : SessionData → List GroupTextData → SessionData

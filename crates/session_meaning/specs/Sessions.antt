@@ -3,14 +3,14 @@ use Rattle.std.specs.Prelude.{◌≡◌, ◌≢◌, ℕ, Bool, true, false, ◌-
 use Rattle.std.specs.List.{list_all}
 use Rattle.ternary.specs.declared.tern.Tern.{Tern}
 use Rattle.ternary.specs.declared.tern.Tern.TheVariants.{Zero, One, Unk}
-use Rattle.path_meaning.specs.Graphs.{nodes}
+use Rattle.path_meaning.specs.Graphs.{GraphData, nodes}
 use Rattle.path_meaning.specs.Rails.{IsSound}
 use Rattle.path_meaning.specs.declared.TheConstants.{RAILS}
 use Rattle.group_text.specs.Texts.{GroupTextData}
-use Rattle.machine_laws.specs.Machines.{MachineData}
 use Rattle.netlist.specs.Circuits.{CircuitData, IsCircuit}
 use Rattle.script_lang.specs.declared.TheConstants.{MOST_TIMES}
 use Rattle.session_meaning.specs.declared.TheConstants.{MOST_WATCHED, FIRST_LIMIT}
+use Rattle.column_stage.specs.Columns.{AreSound}
 use Rattle.node_words.specs.Vectors.{AreWithin}
 use Rattle.session_meaning.specs.Saves.{AreSaves}
 
@@ -38,10 +38,10 @@ pub record SessionData : Type 0 where
   pub kept : List GroupTextData
   pub fresh : ℕ
 
--- a session: its data, and the machine that moves its state, if there is one
-pub record HeldSession : Type 0 where
+-- a session: its data, and the stage that moves its state
+pub record HeldSession (M : Type 0) : Type 0 where
   pub core : SessionData
-  pub machine : Option MachineData
+  pub stage : M
 
 -- at the start Gnd is 0, Vdd is 1 and every other node X; nothing is watched, there are no clocks, nothing was missed, nothing is kept,
 -- there is no bound on that, and a group without a text is refused
@@ -92,3 +92,13 @@ pub record IsSession (session : SessionData) : Type 0 where
   pub vectors : AreWithin (nodes session.circuit.graph) session.vectors
   pub low : 1 ≤ session.limit
   pub high : session.limit ≤ MOST_TIMES
+
+-- the data are those of a session; the stage has a column or more, in each of which the states are sound, those of the first are the data's, and
+-- it serves their circuit with what they keep
+pub record IsHeldSession {M : Type 0} (lanes : M → ℕ) (states : M → ℕ → List Tern) (serves : M → GraphData → List GroupTextData → Type 0)
+    (session : HeldSession M) : Type 0 where
+  pub core : IsSession session.core
+  pub some : 1 ≤ lanes session.stage
+  pub sound : AreSound session.core.circuit.graph (lanes session.stage) (states session.stage)
+  pub same : states session.stage 0 ≡ session.core.state
+  pub served : serves session.stage session.core.circuit.graph session.core.kept

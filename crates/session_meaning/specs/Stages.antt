@@ -1,56 +1,39 @@
--- The state of a session's nodes, and the machine that moves it, if there is one: what calls inside the session do to both.
-use Rattle.std.specs.Prelude.{◌≡◌, ◌≢◌, ℕ, ◌<◌, ◌≤◌, ◌⊎◌, Bool, false, List, length, ◌++◌, All, Option, None, Some, Result, Ok, Err}
+-- What a command does to the stage of a session, act by act; and what calls inside the session do to both.
+use Rattle.std.specs.Prelude.{◌≡◌, ◌≢◌, ℕ, ◌≤◌, ◌⊎◌, Bool, List, [], ◌∷◌, ◌++◌, length, map, All, Option, None, Some, Result, Ok, Err}
 use Rattle.ternary.specs.declared.tern.Tern.{Tern}
-use Rattle.ternary.specs.Counts.{raised}
-use Rattle.strength_order.specs.declared.TheConstants.{INPUT_LEVEL}
 use Rattle.path_meaning.specs.Graphs.{GraphData, nodes, level_of, place_at}
 use Rattle.path_meaning.specs.Step.{IsStep}
+use Rattle.path_meaning.specs.Switching.{state_at}
+use Rattle.oscillation_x.specs.declared.settling.Settled.{Settled}
 use Rattle.oscillation_x.specs.Settling.{Settles}
 use Rattle.group_text.specs.Texts.{GroupTextData}
 use Rattle.circuit_texts.specs.declared.texts.BuildFault.{BuildFault}
 use Rattle.circuit_texts.specs.declared.texts.BuildFault.TheVariants as build
 use Rattle.circuit_texts.specs.Sizes.{TellsRefused}
 use Rattle.circuit_texts.specs.Building.{IsCutOff}
-use Rattle.machine_parts.specs.declared.part.HeldPart.{HeldPart}
-use Rattle.machine_parts.specs.Parts.{HasMember, IsStale}
-use Rattle.machine_laws.specs.Machines.{MachineData, Places, TouchesChanged, IsAtRest}
-use Rattle.machine_parts.specs.Marking.{IsMarked}
-use Rattle.machine_parts.specs.Stepping.{ReadsChange}
-use Rattle.machine_laws.specs.Fitting.{Covers, FitsGraph, IsKeptBy}
-use Rattle.machine_laws.specs.Editing.{Edits}
 use Rattle.channel_groups.specs.declared.change.Change.{Change}
+use Rattle.column_stage.specs.Acts.{Act, Reserved, Placed, Edited, Built, Stepped, Rested, Leads, LeadsBy}
 use Rattle.netlist.specs.Circuits.{CircuitData}
+use Rattle.script_lang.specs.declared.command.Command.{Command}
+use Rattle.script_lang.specs.declared.command.Command.TheVariants as family
+use Rattle.script_lang.specs.declared.command.Give.{Give}
+use Rattle.script_lang.specs.declared.command.Give.TheVariants.{Set, Charge, Back}
+use Rattle.script_lang.specs.declared.command.Run.{Run}
+use Rattle.script_lang.specs.declared.command.Run.TheVariants.{Step, Phase, Cycle, Report}
 use Rattle.session_meaning.specs.Refusals.{nodes_named}
 use Rattle.session_meaning.specs.declared.fault.ApplyFault.{ApplyFault}
 use Rattle.session_meaning.specs.declared.fault.ApplyFault.TheVariants.{Refused, GroupNodes, GroupSwitches, WriteFault, NoMemory}
-use Rattle.session_meaning.specs.Sessions.{SessionData, HeldSession, ClockData}
-use Rattle.told_lines.specs.Lines.{Line}
-use Rattle.session_meaning.specs.Effects.{IsPhase, AreBeats, moved_to}
+use Rattle.session_meaning.specs.Sessions.{SessionData, HeldSession, ClockData, places_of}
+use Rattle.told_lines.specs.Lines.{Line, Told, Wave}
+use Rattle.session_meaning.specs.Effects.{RunEffect, IsPhase, AreBeats, moved_to, places_in, states_by}
+use Rattle.session_meaning.specs.Outcomes.{Accepts, Refuses, RefusesSize, Stays, Begins, Outcome}
 use Rattle.session_meaning.specs.Preparing.{IsBuild}
-use Rattle.session_meaning.specs.Machines.{ConcernsGiven, ConcernsOther, BuildsMachine, MovesMachine, StaysKnownIn, moves_of, placed_of}
 
 -- each of these names has so many nodes at most
 abbrev pub AreShortLists : CircuitData → List (List ℕ × List ℕ) → ℕ → List (List ℕ) → Type 0
 AreShortLists c vectors most names = All (λ name. length (nodes_named c vectors name) ≤ most) names
 
--- the state, the machine, if there is one, and for how many nodes more there is room
-pub record StageData : Type 0 where
-  pub state : List Tern
-  pub machine : Option MachineData
-  pub spare : ℕ
-
--- the machine that is there fits the graph: it is the one from before with its stale parts made, or a new one; its state is the one from
--- before, and it neither moved nor had a member placed; the groups that it steps by vicinities are known still, if no others came to be
--- stepped so
-pub record BuiltFrom (large : ℕ) (g : GraphData) (old new : StageData) : Type 0 where
-  pub machine : MachineData
-  pub there : new.machine ≡ Some machine
-  pub fits : FitsGraph g machine
-  pub same : machine.state ≡ old.state
-  pub state : new.state ≡ old.state
-  pub moves : machine.moves ≡ moves_of old.machine
-  pub placed : machine.placed ≡ placed_of old.machine
-  pub stays : StaysKnownIn large old.machine machine
+-- ---- edits
 
 -- how a graph was before another switch, or none, came to stand at a place
 abbrev pub before_place : GraphData → ℕ → Change
@@ -60,139 +43,158 @@ before_place g place = record { nodes = nodes g; place = Some (place, place_at g
 abbrev pub before_level : GraphData → ℕ → Change
 before_level g node = record { nodes = nodes g; place = None; level = Some (node, level_of g node) }
 
--- the machine is the one from before, after an edit of the graph
-pub record EditsFrom (g : GraphData) (change : Change) (old : Option MachineData) (machine : MachineData) : Type 0 where
-  pub before : MachineData
-  pub was : old ≡ Some before
-  pub edits : Edits g change before machine
+-- the act is one of an edit: room is taken for new nodes, or the graph is edited
+abbrev pub IsEditing : Act → Type 0
+IsEditing Reserved = Unit {0}
+IsEditing (Edited g change) = Unit {0}
+IsEditing (Placed g node letters) = ⊥
+IsEditing (Built large g) = ⊥
+IsEditing (Stepped g) = ⊥
+IsEditing (Rested g limit counts) = ⊥
 
--- a node was placed in a machine
-pub record PutsNode (g : GraphData) (node : ℕ) (value : Tern) (old new : MachineData) : Type 0 where
-  pub places : Places node value old new
-  pub covers : Covers g old → Covers g new
-  pub fits : FitsGraph g old → FitsGraph g new
-  pub unplaced : ((k : ℕ) → ¬ HasMember old.parts k node) → new.placed ≡ old.placed
+-- ---- states that are given
 
--- a node was placed in the machine, if there is one
-abbrev pub PutsIn : GraphData → ℕ → Tern → Option MachineData → Option MachineData → Type 0
-PutsIn g node value None new = new ≡ None
-PutsIn g node value (Some machine) new = (next : MachineData) × (new ≡ Some next) × PutsNode g node value machine next
+-- the acts that give these nodes their states, from left to right
+abbrev pub acts_of_states : GraphData → List (ℕ × Tern) → List Act
+acts_of_states g pairs = map (λ pair. Placed g pair.0 (pair.1 ∷ [])) pairs
 
--- some nodes were placed in a machine: it covers a graph that it covered, its texts are kept that were, those of the last build and the parts
--- are the same, it didn't move, and it marked no more than what these nodes concern
-pub record PlacesSome (g : GraphData) (Concerned : List HeldPart → ℕ → Type 0) (old new : MachineData) : Type 0 where
-  pub covers : Covers g old → Covers g new
-  pub known : (kept : List GroupTextData) → IsKeptBy g kept old → IsKeptBy g kept new
-  pub last : new.last ≡ old.last
-  pub parts : new.parts ≡ old.parts
-  pub moves : new.moves ≡ old.moves
-  pub marks : (k : ℕ) → IsMarked new.marks k → IsMarked old.marks k ⊎ Concerned old.parts k
+-- the acts that give each clock's node its state at a place, from left to right
+abbrev pub acts_of_clocks : GraphData → List ClockData → ℕ → List Act
+acts_of_clocks g clocks place = map (λ clock. Placed g clock.node (state_at clock.states place ∷ [])) clocks
 
--- these nodes were placed in a machine: it covers a graph that it covered, its texts are kept that were, those of the last build are the
--- same, it didn't move, those parts alone are marked more that the nodes concern, and if all are input nodes no member was placed
-pub record Assigns (g : GraphData) (given : List ℕ) (old new : MachineData) : Type 0 where
-  pub some : PlacesSome g (ConcernsGiven given) old new
-  pub open some use *
-  pub unplaced : Covers g old → All (λ node. level_of g node ≡ INPUT_LEVEL) given → new.placed ≡ old.placed
+-- the act gives a node a state whose states differ
+pub record PlacesOther (g : GraphData) (before after : List Tern) (act : Act) : Type 0 where
+  pub node : ℕ
+  pub letters : List Tern
+  pub differs : state_at before node ≢ state_at after node
+  pub is : act ≡ Placed g node letters
 
--- these nodes were placed in the machine, if there is one
-abbrev pub AssignsIn : GraphData → List ℕ → Option MachineData → Option MachineData → Type 0
-AssignsIn g given None new = new ≡ None
-AssignsIn g given (Some machine) new = (next : MachineData) × (new ≡ Some next) × Assigns g given machine next
+-- a node with this state was given that one: it is the same, or the node was placed
+abbrev pub GivesOther : {M : Type 0} → (Act → M → M → Type 0) → GraphData → ℕ → Tern → Tern → M → M → Type 0
+GivesOther did g node value before old new = ((value ≡ before) × (new ≡ old)) ⊎ ((value ≢ before) × did (Placed g node (value ∷ [])) old new)
 
--- a node with this state was given that one: it is the same, or the node was placed in the machine, if there is one
-abbrev pub PutsOtherIn : GraphData → ℕ → Tern → Tern → Option MachineData → Option MachineData → Type 0
-PutsOtherIn g node value before old new = ((value ≡ before) × (new ≡ old)) ⊎ ((value ≢ before) × PutsIn g node value old new)
+-- nodes were given states: just those of the command, or, if they come back, those alone whose states differ
+abbrev pub GivesOn : {M : Type 0} → (Act → M → M → Type 0) → HeldSession M → Give → HeldSession M → Type 0
+GivesOn did old (Set list) new =
+    Leads did old.stage (acts_of_states old.core.circuit.graph (states_by old.core.circuit old.core.vectors list)) new.stage
+GivesOn did old (Charge list) new =
+    Leads did old.stage (acts_of_states old.core.circuit.graph (states_by old.core.circuit old.core.vectors list)) new.stage
+GivesOn did old (Back name) new = LeadsBy did (PlacesOther old.core.circuit.graph old.core.state new.core.state) old.stage new.stage
 
--- the nodes whose states differ were placed in a machine: it covers a graph that it covered, its texts are kept that were, those of the last
--- build are the same, it didn't move, and those parts alone are marked more that such a node concerns
-abbrev pub PutsOthers : GraphData → List Tern → List Tern → MachineData → MachineData → Type 0
-PutsOthers g before after old new = PlacesSome g (ConcernsOther before after) old new
+-- ---- phases
 
--- they were placed in the machine, if there is one
-abbrev pub PutsOthersIn : GraphData → List Tern → List Tern → Option MachineData → Option MachineData → Type 0
-PutsOthersIn g before after None new = new ≡ None
-PutsOthersIn g before after (Some machine) new = (next : MachineData) × (new ≡ Some next) × PutsOthers g before after machine next
+-- the act of a phase, in one column, whose waveform line tells its count
+pub record RestsBy (g : GraphData) (limit : ℕ) (lines : List Line) (act : Act) : Type 0 where
+  pub n : ℕ
+  pub count : Settled
+  pub values : List Tern
+  pub line : lines ≡ Wave n count.steps count.joined values ∷ []
+  pub is : act ≡ Rested g limit (count ∷ [])
 
--- clocks' nodes were placed in a machine: it fits a graph that it fitted, its texts are kept that were, those of the last build are the
--- same, it didn't move, and where all are input nodes no member was placed
-pub record Ticks (g : GraphData) (clocks : List ClockData) (old new : MachineData) : Type 0 where
-  pub fits : FitsGraph g old → FitsGraph g new
-  pub known : (kept : List GroupTextData) → IsKeptBy g kept old → IsKeptBy g kept new
-  pub last : new.last ≡ old.last
-  pub moves : new.moves ≡ old.moves
-  pub unplaced : FitsGraph g old → All (λ clock. level_of g clock.node ≡ INPUT_LEVEL) clocks → new.placed ≡ old.placed
+-- the acts of phases with these lines, at these places of the clocks: at each place the clocks' nodes are given their states, and the stage settles
+abbrev pub AreBeatActs : GraphData → ℕ → List ClockData → List ℕ → List Line → List Act → Type 0
+AreBeatActs g limit clocks [] lines acts = (lines ≡ []) × (acts ≡ [])
+AreBeatActs g limit clocks (place ∷ places) lines acts =
+    (front : List Line) × (back : List Line) × (act : Act) × (more : List Act) × RestsBy g limit front act ×
+    AreBeatActs g limit clocks places back more × (lines ≡ front ++ back) × (acts ≡ acts_of_clocks g clocks place ++ act ∷ more)
 
--- clocks' nodes were placed in the machine, if there is one
-abbrev pub TicksIn : GraphData → List ClockData → Option MachineData → Option MachineData → Type 0
-TicksIn g clocks None new = new ≡ None
-TicksIn g clocks (Some machine) new = (next : MachineData) × (new ≡ Some next) × Ticks g clocks machine next
+-- the acts behind the build of a command that settles, with its lines
+abbrev pub AreRunActs : SessionData → Run → List Line → List Act → Type 0
+AreRunActs mid Phase lines acts = (act : Act) × RestsBy mid.circuit.graph mid.limit lines act × (acts ≡ act ∷ [])
+AreRunActs mid (Cycle times) lines acts =
+    AreBeatActs mid.circuit.graph mid.limit mid.clocks (places_in (places_of mid.clocks) times) lines acts
+AreRunActs mid other lines acts = ⊥
 
--- a machine took a unit step of the graph: it moved once if something changed, those parts alone are marked that read a node which
--- did or are stale, of the groups that are stepped by vicinities those nodes alone are touched at which a switch changed, and the texts of the
--- last build are the same
-pub record TakesStep (g : GraphData) (old new : MachineData) : Type 0 where
-  pub step : IsStep g old.state new.state
-  pub fits : FitsGraph g new
-  pub moved : new.state ≢ old.state → new.moves ≡ raised old.moves 1
-  pub rested : new.state ≡ old.state → new.moves ≡ old.moves
-  pub placed : new.placed ≡ old.placed
-  pub last : new.last ≡ old.last
-  pub marks : (k : ℕ) → IsMarked new.marks k → ReadsChange new.parts old.state new.state k ⊎ IsStale new.parts k
-  pub touched : TouchesChanged new old.state new.state
+-- the circuit was built, and the phases of the command were done, from the data after the build
+pub record SettlesOn {M : Type 0} (did : Act → M → M → Type 0) (old : HeldSession M) (run : Run) (new : HeldSession M) : Type 0 where
+  pub mid : SessionData
+  pub same : mid ≡ record old.core { kept = mid.kept; fresh = mid.fresh }
+  pub lines : List Line
+  pub effect : RunEffect mid run new.core lines
+  pub acts : List Act
+  pub are : AreRunActs mid run lines acts
+  pub leads : Leads did old.stage (Built old.core.large old.core.circuit.graph ∷ acts) new.stage
 
--- a machine settled: it made each step that changed something, if it came to rest in time it is at rest, and the texts of the last build
--- are the same
-pub record TakesPhase (g : GraphData) (limit : ℕ) (old new : MachineData) (steps : ℕ) (joined : Bool) : Type 0 where
-  pub settles : Settles g old.state limit new.state steps joined
-  pub fits : FitsGraph g new
-  pub moves : new.moves ≡ raised old.moves steps
-  pub placed : new.placed ≡ old.placed
-  pub last : new.last ≡ old.last
-  pub rests : joined ≡ false → steps < limit → IsAtRest new
+-- the circuit was built, and more was done, as the command says
+abbrev pub RunsOn : {M : Type 0} → (Act → M → M → Type 0) → HeldSession M → Run → HeldSession M → Type 0
+RunsOn did old Step new = Leads did old.stage (Built old.core.large old.core.circuit.graph ∷ Stepped old.core.circuit.graph ∷ []) new.stage
+RunsOn did old Phase new = SettlesOn did old Phase new
+RunsOn did old (Cycle times) new = SettlesOn did old (Cycle times) new
+RunsOn did old Report new = Leads did old.stage (Built old.core.large old.core.circuit.graph ∷ []) new.stage
 
--- there was a machine and there is one, whose states are these, and this leads from the one to the other
-pub record MovesBy (Leads : MachineData → MachineData → Type 0) (old new : StageData) : Type 0 where
-  pub before : MachineData
-  pub after : MachineData
-  pub was : old.machine ≡ Some before
-  pub there : new.machine ≡ Some after
-  pub from : before.state ≡ old.state
-  pub to : after.state ≡ new.state
-  pub leads : Leads before after
+-- ---- commands
 
--- the circuit was built: there is a machine, and what was not kept was analysed
-pub record Readied (old new : HeldSession) (asked told : List GroupTextData) : Type 0 where
+-- what an accepted command does to the stage, by what one act does
+abbrev pub IsStageAfter : {M : Type 0} → (Act → M → M → Type 0) → HeldSession M → Command → HeldSession M → Type 0
+IsStageAfter did old (family.Edit edit) new = LeadsBy did IsEditing old.stage new.stage
+IsStageAfter did old (family.Give give) new = GivesOn did old give new
+IsStageAfter did old (family.Setup setup) new = new.stage ≡ old.stage
+IsStageAfter did old (family.Run run) new = RunsOn did old run new
+IsStageAfter did old (family.Tell tell) new = new.stage ≡ old.stage
+
+-- the stage is as before, but that room for new nodes may have been taken
+abbrev pub IsStill : {M : Type 0} → (Act → M → M → Type 0) → M → M → Type 0
+IsStill did old new = (new ≡ old) ⊎ did Reserved old new
+
+-- what a command comes to, and what becomes of the stage: where the command is refused, and where it wants memory itself, the stage is as before
+abbrev pub ObeysOn : {H M : Type 0} → (H → Told → H) → (H → Told → H → Type 0) → (Act → M → M → Type 0) → HeldSession M → Command → HeldSession M →
+    H → H → List GroupTextData → List GroupTextData → ℕ → ℕ → Result (Unit {0}) ApplyFault → Type 0
+ObeysOn hear part did old command new before after asked told refusals now result =
+    Outcome (Accepts hear old.core command new.core before after asked told × IsStageAfter did old command new)
+    (λ refusal. Refuses old.core command new.core before after asked told refusal × IsStill did old.stage new.stage)
+    (λ fault. RefusesSize old.core command new.core before after asked told fault × IsStill did old.stage new.stage)
+    (Stays old.core new.core before after asked told × IsStill did old.stage new.stage)
+    (Begins hear part old.core command new.core before after asked told) refusals now result
+
+-- ---- builds
+
+-- the circuit was built: what was not kept was analysed
+pub record Readied {M : Type 0} (did : Act → M → M → Type 0) (old new : HeldSession M) (asked told : List GroupTextData) : Type 0 where
   pub texts : List GroupTextData
   pub build : IsBuild old.core new.core texts
   pub analysed : told ≡ asked ++ texts
-  pub machine : BuildsMachine old new
+  pub built : did (Built old.core.large old.core.circuit.graph) old.stage new.stage
 
 -- a build ran out of memory: all is as before, but that a prefix of the texts that it analyses may be kept
-pub record CutOff (old new : HeldSession) (asked told : List GroupTextData) : Type 0 where
+pub record CutOff {M : Type 0} (old new : HeldSession M) (asked told : List GroupTextData) : Type 0 where
   pub core : new.core ≡ record old.core { kept = new.core.kept }
-  pub machine : new.machine ≡ old.machine
+  pub stage : new.stage ≡ old.stage
   pub cut_off : IsCutOff old.core.large old.core.circuit.graph old.core.kept new.core.kept asked told
 
 -- the circuit can't be built: the first group that is too large is told, and all is as before
-pub record TooLarge (old new : HeldSession) (asked told : List GroupTextData) (fault : BuildFault) : Type 0 where
+pub record TooLarge {M : Type 0} (old new : HeldSession M) (asked told : List GroupTextData) (fault : BuildFault) : Type 0 where
   pub first : TellsRefused old.core.large old.core.circuit.graph fault
   pub same : new ≡ old
   pub unasked : told ≡ asked
 
 -- what making a session ready for unit steps comes to
-abbrev pub Readies : HeldSession → HeldSession → List GroupTextData → List GroupTextData → Result (Unit {0}) ApplyFault → Type 0
-Readies old new asked told (Ok _) = Readied old new asked told
-Readies old new asked told (Err (Refused refusal)) = ⊥
-Readies old new asked told (Err (GroupNodes node count)) = TooLarge old new asked told (build.GroupNodes node count)
-Readies old new asked told (Err (GroupSwitches node count)) = TooLarge old new asked told (build.GroupSwitches node count)
-Readies old new asked told (Err WriteFault) = ⊥
-Readies old new asked told (Err NoMemory) = CutOff old new asked told
+abbrev pub Readies : {M : Type 0} → (Act → M → M → Type 0) → HeldSession M → HeldSession M → List GroupTextData → List GroupTextData →
+    Result (Unit {0}) ApplyFault → Type 0
+Readies did old new asked told (Ok _) = Readied did old new asked told
+Readies did old new asked told (Err (Refused refusal)) = ⊥
+Readies did old new asked told (Err (GroupNodes node count)) = TooLarge old new asked told (build.GroupNodes node count)
+Readies did old new asked told (Err (GroupSwitches node count)) = TooLarge old new asked told (build.GroupSwitches node count)
+Readies did old new asked told (Err WriteFault) = ⊥
+Readies did old new asked told (Err NoMemory) = CutOff old new asked told
 
--- the machine, if there is one, neither moved nor had a member placed
-pub record StaysPut (old new : Option MachineData) : Type 0 where
-  pub moves : moves_of new ≡ moves_of old
-  pub placed : placed_of new ≡ placed_of old
+-- a build ran out of memory: all is as before, but for the texts that it may have analysed, and that are kept, as the stage says
+pub record CutOffBy {M : Type 0} (cuts : ℕ → GraphData → Option ℕ → List GroupTextData → List GroupTextData → List GroupTextData → List GroupTextData → Type 0)
+    (old new : HeldSession M) (asked told : List GroupTextData) : Type 0 where
+  pub core : new.core ≡ record old.core { kept = new.core.kept }
+  pub stage : new.stage ≡ old.stage
+  pub cut_off : cuts old.core.large old.core.circuit.graph old.core.bound old.core.kept new.core.kept asked told
+
+-- what making a session over any stage ready comes to
+abbrev pub ReadiesBy : {M : Type 0} → (ℕ → GraphData → Option ℕ → List GroupTextData → List GroupTextData → List GroupTextData → List GroupTextData → Type 0) →
+    (Act → M → M → Type 0) → HeldSession M → HeldSession M → List GroupTextData → List GroupTextData → Result (Unit {0}) ApplyFault → Type 0
+ReadiesBy cuts did old new asked told (Ok _) = Readied did old new asked told
+ReadiesBy cuts did old new asked told (Err (Refused refusal)) = ⊥
+ReadiesBy cuts did old new asked told (Err (GroupNodes node count)) = TooLarge old new asked told (build.GroupNodes node count)
+ReadiesBy cuts did old new asked told (Err (GroupSwitches node count)) = TooLarge old new asked told (build.GroupSwitches node count)
+ReadiesBy cuts did old new asked told (Err WriteFault) = ⊥
+ReadiesBy cuts did old new asked told (Err NoMemory) = CutOffBy cuts old new asked told
+
+-- ---- steps and phases
 
 -- what steps leave alone: the circuit, the clocks, the limit and the watch list
 pub record SameSetup (old new : SessionData) : Type 0 where
@@ -207,29 +209,29 @@ pub record IsUnitStepDone (old new : SessionData) : Type 0 where
   pub step : IsStep old.circuit.graph old.state next
   pub moved : new ≡ moved_to old next
 
--- the state settled by the machine
-pub record IsSettled (old new : HeldSession) (steps : ℕ) (joined : Bool) : Type 0 where
+-- the state settled
+pub record IsSettled (old new : SessionData) (steps : ℕ) (joined : Bool) : Type 0 where
   pub next : List Tern
-  pub settles : Settles old.core.circuit.graph old.core.state old.core.limit next steps joined
-  pub moved : new.core ≡ moved_to old.core next
-  pub machine : MachineData
-  pub there : new.machine ≡ Some machine
-  pub moves : machine.moves ≡ raised (moves_of old.machine) steps
-  pub placed : machine.placed ≡ placed_of old.machine
-  pub rests : joined ≡ false → steps < old.core.limit → IsAtRest machine
+  pub settles : Settles old.circuit.graph old.state old.limit next steps joined
+  pub moved : new ≡ moved_to old next
 
--- a phase was done by the machine
-pub record PhaseMoves (old new : HeldSession) : Type 0 where
+-- a phase was done on the stage
+pub record PhaseOn {M : Type 0} (did : Act → M → M → Type 0) (old new : HeldSession M) : Type 0 where
   pub lines : List Line
   pub phase : IsPhase old.core new.core lines
-  pub moves : MovesMachine old.core.limit old.machine new.machine lines
+  pub act : Act
+  pub rests : RestsBy old.core.circuit.graph old.core.limit lines act
+  pub done : did act old.stage new.stage
 
--- phases at these places were done by the machine
-pub record BeatsMove (places : List ℕ) (old new : HeldSession) : Type 0 where
+-- phases at these places were done on the stage
+pub record BeatsOn {M : Type 0} (did : Act → M → M → Type 0) (places : List ℕ) (old new : HeldSession M) : Type 0 where
   pub lines : List Line
   pub beats : AreBeats old.core places new.core lines
-  pub moves : MovesMachine old.core.limit old.machine new.machine lines
+  pub acts : List Act
+  pub are : AreBeatActs old.core.circuit.graph old.core.limit old.core.clocks places lines acts
+  pub leads : Leads did old.stage acts new.stage
 
--- behind phases at any places the machine did those at these
-abbrev pub BeatsMoveOn : List ℕ → HeldSession → HeldSession → Type 0
-BeatsMoveOn places old new = (start : HeldSession) (done : List ℕ) → BeatsMove done start old → BeatsMove (done ++ places) start new
+-- behind phases at any places those at these were done on the stage
+abbrev pub BeatsGoOn : {M : Type 0} → (Act → M → M → Type 0) → List ℕ → HeldSession M → HeldSession M → Type 0
+BeatsGoOn {M} did places old new =
+    (start : HeldSession M) (done : List ℕ) → BeatsOn did done start old → BeatsOn did (done ++ places) start new

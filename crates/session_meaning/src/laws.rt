@@ -1,16 +1,10 @@
-//! What holds of a session's machine and of its commands, whatever they are.
+//! What holds of a session's commands, whatever they are.
 
 ghost use Rattle.std.specs.Prelude.{◌≡◌};
-ghost use Rattle.session_meaning.specs.Laws.{CommandsPassThroughOneList, CommandsPerformOneThing, EffectsAreUnique, SavesComeBack};
-ghost use Rattle.session_meaning.specs.Machines.{OnlyEditsLoseMachines};
+ghost use Rattle.session_meaning.specs.Laws.{ColumnsRefuseAlike, CommandsPassThroughOneList, CommandsPerformOneThing, EffectsAreUnique, SavesComeBack};
 ghost use Rattle.session_meaning.specs.declared.TheConstants.{MOST_WATCHED, MOST_SAVES, FIRST_LIMIT};
 ghost use Rattle.script_lang.specs.declared.TheConstants.{LEAST_WIDE};
 ghost use Rattle.group_text.specs.declared.text.TheConstants.{MOST_MEMBERS};
-
-/// A law: where an accepted command found a machine and leaves none, it edited the circuit.
-pub fn only_edits_lose_the_machine()
-    ensures { OnlyEditsLoseMachines }
-{}
 
 /// A law: the watch list has up to 256 entries, up to 64 names keep states, and the limit of a phase is 100 at the start.
 /// The least bound that `wide` sets is as large as a group with code may be, so no bound leaves a group between the two.
@@ -36,4 +30,9 @@ pub fn commands_have_one_effect()
 /// A law: the steps and phases of a command, and the states that they pass through, are determined.
 pub fn commands_pass_through_one_list()
     ensures { CommandsPassThroughOneList }
+{}
+
+/// A law: whether a command for columns is refused, and why, doesn't depend on the column.
+pub fn columns_refuse_alike()
+    ensures { ColumnsRefuseAlike }
 {}

@@ -1,0 +1,316 @@
+-- The columns of a session: each is one, and what is done to what they share and to their states is done to each.
+-- The plan: what the columns share is the data's, so an equation of the data is one of each column once its states are put in; and the states of a
+-- column move as the acts say that were done to the stage.
+use Rattle.std.proofs.Common.{◌≡◌, ℕ, ◌+◌, ◌-◌, ◌<◌, false, List, [], ◌∷◌, ◌++◌, length, map, replicate, All, Ok, Err, refl, sym, ap, subst, ◌∙◌, inl, inr, arith, append_assoc, append-nil, length-append}
+use Rattle.std.specs.Prelude.{Result, OnErr, OnOk}
+use Rattle.std.proofs.lemmas.List.{get_or-replicate, length-replicate, replicate-append-replicate}
+use Rattle.std.proofs.lemmas.List.Elements.{All-head, All-tail}
+use Rattle.ternary.specs.declared.tern.Tern.{Tern}
+use Rattle.ternary.specs.declared.tern.Tern.TheVariants.{Unk}
+use Rattle.path_meaning.specs.Graphs.{GraphData, nodes}
+use Rattle.path_meaning.specs.Step.{IsStep}
+use Rattle.path_meaning.specs.Switching.{state_at}
+use Rattle.oscillation_x.specs.declared.settling.Settled.{Settled}
+use Rattle.oscillation_x.specs.Settling.{Settles}
+use Rattle.group_text.specs.Texts.{GroupTextData}
+use Rattle.netlist.specs.Circuits.{CircuitData, IsCircuit}
+use Rattle.netlist.specs.Edits.{node_named}
+use Rattle.column_stage.specs.Acts.{Act, Reserved, Placed, Edited, Built, Stepped, Rested, Leads, LeadsBy}
+use Rattle.column_stage.specs.Columns.{AreSound, with_new_nodes}
+use Rattle.column_stage.specs.Moving.{MovesColumns, MovesState}
+use Rattle.script_lang.specs.declared.command.Command.TheVariants as family
+use Rattle.script_lang.specs.declared.command.Edit.{Edit}
+use Rattle.script_lang.specs.declared.command.Setup.{Setup}
+use Rattle.script_lang.specs.declared.command.Setup.TheVariants.{Watch, Limit, Clock, Keep, Widen, Save, Vector}
+use Rattle.lane_script.specs.declared.command.LaneCommand.TheVariants.{Shared}
+use Rattle.lane_script.specs.Commands.{IsSharedSetup, value_in}
+use Rattle.session_meaning.specs.declared.fault.ApplyFault.{ApplyFault}
+use Rattle.session_meaning.specs.declared.fault.ApplyFault.TheVariants.{Refused, GroupNodes, GroupSwitches, WriteFault, NoMemory}
+use Rattle.session_meaning.specs.Sessions.{SessionData, HeldSession, ClockData, IsHeldSession, IsReady, IsSession}
+use Rattle.session_meaning.specs.Preparing.{IsBuild, with_present}
+use Rattle.session_meaning.specs.Effects.{assigned, circuit_after, one_more, setup_after, states_with, with_beat, with_circuit}
+use Rattle.session_meaning.specs.Outcomes.{Quietly}
+use Rattle.session_meaning.specs.Stages.{IsEditing, IsStill, Readied, ReadiesBy, acts_of_clocks}
+use Rattle.session_meaning.specs.Columns.{BeatInAll, Cuts, QuietlyInAll, SettledInAll, StepInAll, acts_of_letters, column_of, count_in, given_states}
+use Rattle.session_meaning.proofs.ClockLemmas.{IsSession-beside}
+use Rattle.session_meaning.proofs.LetterLemmas.{refused_alike}
+use Rattle.session_meaning.proofs.StateLemmas.{length-settles, sound-settles, sound-step}
+
+-- ---- each column is a session
+
+module _ {M : Type 0} (lanes : M → ℕ) (states : M → ℕ → List Tern) (serves : M → GraphData → List GroupTextData → Type 0) (session : HeldSession M)
+    (held : IsHeldSession lanes states serves session) where
+  pub column_session : (lane : ℕ) → lane < lanes session.stage → IsSession (column_of states session lane)
+  column_session lane inside =
+      let core = session.core in
+      let sound = held.sound lane inside in
+      IsSession-beside core (states session.stage lane) core.count core.missed core.bound core.kept core.fresh sound.counted sound.sound held.core
+
+  pub column_ready : (lane : ℕ) → lane < lanes session.stage → IsReady (column_of states session lane)
+  column_ready lane inside = (column_session lane inside).ready
+
+-- ---- data
+
+-- what holds of the data, with a column's states in their place
+pub column_data : {M : Type 0} (states : M → ℕ → List Tern) (new : HeldSession M) (core : SessionData) (lane : ℕ) (state : List Tern) → new.core ≡ core →
+    states new.stage lane ≡ state → column_of states new lane ≡ record core { state = state }
+column_data states new core lane state same is =
+    ap (λ (s : SessionData). record s { state = states new.stage lane }) same ∙ ap (λ (one : List Tern). record core { state = one }) is
+
+-- ---- acts
+
+module _ {M : Type 0} (lanes : M → ℕ) (states : M → ℕ → List Tern) (did : Act → M → M → Type 0)
+    (moves : (act : Act) (old new : M) → did act old new → MovesColumns lanes states act old new) where
+  -- an act of an edit adds some nodes that are X
+  grown_one : (act : Act) → IsEditing act → (lane : ℕ) (old new : List Tern) → MovesState lane act old new → (count : ℕ) × (new ≡ old ++ replicate count Unk)
+  grown_one Reserved editing lane old new same = (0, same ∙ sym (append-nil old))
+  grown_one (Edited g change) editing lane old new grown = (nodes g - length old, grown)
+  grown_one (Placed g node letters) editing lane old new moved = absurd editing
+  grown_one (Built large g) editing lane old new moved = absurd editing
+  grown_one (Stepped g) editing lane old new moved = absurd editing
+  grown_one (Rested g limit counts) editing lane old new moved = absurd editing
+
+  -- so do the acts of an edit, one after the other
+  grown_by : (acts : List Act) (old new : M) → All IsEditing acts → Leads did old acts new →
+      (lanes new ≡ lanes old) × ((lane : ℕ) → lane < lanes old → (count : ℕ) × (states new lane ≡ states old lane ++ replicate count Unk))
+  grown_by [] old new each same =
+      (ap lanes same, λ lane inside. (0, ap (λ (stage : M). states stage lane) same ∙ sym (append-nil (states old lane))))
+  grown_by (act ∷ acts) old new each (mid, done, rest) =
+      let moved = moves act old mid done in
+      let later = grown_by acts mid new (All-tail IsEditing act acts each) rest in (
+        later.0 ∙ moved.count,
+        λ lane inside.
+            let within : lane < lanes mid = subst (λ (n : ℕ). lane < n) (sym moved.count) inside in
+            let one = grown_one act (All-head IsEditing act acts each) lane (states old lane) (states mid lane) (moved.each lane inside) in
+            let more = later.1 lane within in (
+              one.0 + more.0,
+              more.1 ∙ ap (λ (state : List Tern). state ++ replicate more.0 Unk) one.1
+                  ∙ append_assoc (states old lane) (replicate one.0 Unk) (replicate more.0 Unk)
+                  ∙ ap (λ (rest : List Tern). states old lane ++ rest) (replicate-append-replicate one.0 more.0 Unk),
+            ),
+      )
+
+  -- as many nodes are new as there are more
+  new_nodes : (old new : List Tern) (count all : ℕ) → new ≡ old ++ replicate count Unk → length new ≡ all → new ≡ with_new_nodes old all
+  new_nodes old new count all is counted =
+      let whole : length old + count ≡ all =
+      omega (arith, ap length is, length-append old (replicate count Unk), length-replicate count Unk, counted) in
+      let more : count ≡ all - length old = omega (arith, whole) in
+      is ∙ ap (λ (n : ℕ). old ++ replicate n Unk) more
+
+  -- a stage that is still has each column's states
+  still_states : (old new : M) → IsStill did old new → (lanes new ≡ lanes old) × ((lane : ℕ) → lane < lanes old → states new lane ≡ states old lane)
+  still_states old new (inl same) = (ap lanes same, λ lane inside. ap (λ (stage : M). states stage lane) same)
+  still_states old new (inr roomed) = ((moves Reserved old new roomed).count, (moves Reserved old new roomed).each)
+
+  -- letters that nodes are given, from left to right, are each column's
+  letters_led : (c : CircuitData) (list : List (List ℕ × List Tern)) (old new : M) → Leads did old (acts_of_letters c list) new →
+      (lanes new ≡ lanes old)
+      × ((lane : ℕ) → lane < lanes old → states new lane ≡ assigned (states old lane) (given_states c (map (value_in lane) list)))
+  letters_led c [] old new same = (ap lanes same, λ lane inside. ap (λ (stage : M). states stage lane) same)
+  letters_led c (item ∷ list) old new (mid, done, rest) =
+      let node = node_named c item.0 in
+      let moved = moves (Placed c.graph node item.1) old mid done in
+      let later = letters_led c list mid new rest in (
+        later.0 ∙ moved.count,
+        λ lane inside.
+            later.1 lane (subst (λ (n : ℕ). lane < n) (sym moved.count) inside)
+            ∙ ap (λ (state : List Tern). assigned state (given_states c (map (value_in lane) list))) (moved.each lane inside),
+      )
+
+  pub letters_moved : (c : CircuitData) (list : List (List ℕ × List Tern)) (old new : M) → Leads did old (acts_of_letters c list) new → (lane : ℕ) →
+      lane < lanes old → states new lane ≡ assigned (states old lane) (given_states c (map (value_in lane) list))
+  letters_moved c list old new leads = (letters_led c list old new leads).1
+
+  -- clocks' nodes are given their states in each column
+  clocks_led : (g : GraphData) (clocks : List ClockData) (place : ℕ) (old new : M) → Leads did old (acts_of_clocks g clocks place) new →
+      (lanes new ≡ lanes old) × ((lane : ℕ) → lane < lanes old → states new lane ≡ states_with clocks place (states old lane))
+  clocks_led g [] place old new same = (ap lanes same, λ lane inside. ap (λ (stage : M). states stage lane) same)
+  clocks_led g (clock ∷ clocks) place old new (mid, done, rest) =
+      let moved = moves (Placed g clock.node (state_at clock.states place ∷ [])) old mid done in
+      let later = clocks_led g clocks place mid new rest in (
+        later.0 ∙ moved.count,
+        λ lane inside.
+            later.1 lane (subst (λ (n : ℕ). lane < n) (sym moved.count) inside) ∙ ap (states_with clocks place) (moved.each lane inside),
+      )
+
+  pub clocks_count : (g : GraphData) (clocks : List ClockData) (place : ℕ) (old new : M) → Leads did old (acts_of_clocks g clocks place) new →
+      lanes new ≡ lanes old
+  clocks_count g clocks place old new leads = (clocks_led g clocks place old new leads).0
+
+  -- so the beat is put in each
+  pub beat_put : (old new : HeldSession M) (place : ℕ) → new.core ≡ with_beat old.core place →
+      Leads did old.stage (acts_of_clocks old.core.circuit.graph old.core.clocks place) new.stage →
+      BeatInAll (lanes old.stage) (column_of states old) (column_of states new) place
+  beat_put old new place beat leads = record {
+    each = λ lane inside.
+        column_data states new (with_beat old.core place) lane (states_with old.core.clocks place (states old.stage lane)) beat
+        ((clocks_led old.core.circuit.graph old.core.clocks place old.stage new.stage leads).1 lane inside);
+  }
+
+  -- ---- edits
+
+  module _ (serves : M → GraphData → List GroupTextData → Type 0) (old new : HeldSession M) (edit : Edit)
+      (held : IsHeldSession lanes states serves new) where
+    -- where it was done, each column has X for each node that is new
+    edited_states : LeadsBy did IsEditing old.stage new.stage → (lane : ℕ) → lane < lanes old.stage →
+        states new.stage lane ≡ with_new_nodes (states old.stage lane) (nodes new.core.circuit.graph)
+    edited_states led lane inside =
+        let grown = grown_by led.acts old.stage new.stage led.each led.leads in
+        let within : lane < lanes new.stage = subst (λ (n : ℕ). lane < n) (sym grown.0) inside in
+        let one = grown.1 lane inside in
+        new_nodes (states old.stage lane) (states new.stage lane) one.0 (nodes new.core.circuit.graph) one.1 (held.sound lane within).counted
+
+    -- what an edit comes to in each column
+    pub edit_in_all : (result : Result (Unit {0}) ApplyFault) → Quietly old.core (family.Edit edit) new.core result →
+        OnOk result (LeadsBy did IsEditing old.stage new.stage) → OnErr result (IsStill did old.stage new.stage) →
+        QuietlyInAll (lanes old.stage) (column_of states old) (Shared (family.Edit edit)) (column_of states new) result
+    edit_in_all (Ok done) quiet led still lane inside =
+        let c = circuit_after old.core.circuit old.core.vectors edit in
+        let same : new.core.circuit ≡ c = ap (λ (s : SessionData). s.circuit) quiet.effect.0 in
+        record {
+          allowed = quiet.allowed;
+          effect = (
+            column_data states new (with_circuit old.core c) lane (with_new_nodes (states old.stage lane) (nodes c.graph)) quiet.effect.0
+                (subst (λ (after : CircuitData). states new.stage lane ≡ with_new_nodes (states old.stage lane) (nodes after.graph)) same
+                (edited_states led lane inside)),
+            refl,
+          );
+        }
+    edit_in_all (Err (Refused refusal)) quiet led still lane inside =
+        (quiet.0, column_data states new old.core lane (states old.stage lane) quiet.1 ((still_states old.stage new.stage still).1 lane inside))
+    edit_in_all (Err (GroupNodes node count)) quiet led still lane inside = absurd quiet
+    edit_in_all (Err (GroupSwitches node count)) quiet led still lane inside = absurd quiet
+    edit_in_all (Err WriteFault) quiet led still lane inside = absurd quiet
+    edit_in_all (Err NoMemory) quiet led still lane inside =
+        column_data states new old.core lane (states old.stage lane) quiet ((still_states old.stage new.stage still).1 lane inside)
+
+    -- and there are as many columns
+    pub edit_keeps_columns : (result : Result (Unit {0}) ApplyFault) → OnOk result (LeadsBy did IsEditing old.stage new.stage) →
+        OnErr result (IsStill did old.stage new.stage) → lanes new.stage ≡ lanes old.stage
+    edit_keeps_columns (Ok done) led still = (grown_by led.acts old.stage new.stage led.each led.leads).0
+    edit_keeps_columns (Err fault) led still = (still_states old.stage new.stage still).0
+
+  -- ---- builds
+
+  module _ (old mid : HeldSession M) (asked known : List GroupTextData) (ready : Readied did old mid asked known) where
+    -- there are as many
+    pub built_count : lanes mid.stage ≡ lanes old.stage
+    built_count = (moves (Built old.core.large old.core.circuit.graph) old.stage mid.stage ready.built).count
+
+    -- what was built for all columns was built for each
+    pub column_built : (lane : ℕ) → lane < lanes old.stage → IsBuild (column_of states old lane) (column_of states mid lane) ready.texts
+    column_built lane inside = record {
+      present = ready.build.present;
+      has = ready.build.has;
+      news = ready.build.news;
+      used = column_data states mid (with_present old.core ready.build.present) lane (states old.stage lane) ready.build.used
+          ((moves (Built old.core.large old.core.circuit.graph) old.stage mid.stage ready.built).each lane inside);
+    }
+
+  -- there are as many columns, whatever a build comes to
+  pub ready_count : (cuts : Cuts) (old mid : HeldSession M) (asked known : List GroupTextData) (result : Result (Unit {0}) ApplyFault) →
+      ReadiesBy cuts did old mid asked known result → lanes mid.stage ≡ lanes old.stage
+  ready_count cuts old mid asked known (Ok done) ready = built_count old mid asked known ready
+  ready_count cuts old mid asked known (Err (Refused refusal)) none = absurd none
+  ready_count cuts old mid asked known (Err (GroupNodes node count)) large = ap (λ (s : HeldSession M). lanes s.stage) large.same
+  ready_count cuts old mid asked known (Err (GroupSwitches node count)) large = ap (λ (s : HeldSession M). lanes s.stage) large.same
+  ready_count cuts old mid asked known (Err WriteFault) none = absurd none
+  ready_count cuts old mid asked known (Err NoMemory) cut = ap lanes cut.stage
+
+-- ---- settings
+
+-- what is set doesn't depend on the states, unless these are kept
+setup_beside : (core : SessionData) (state : List Tern) (setup : Setup) → IsSharedSetup setup →
+    setup_after (record core { state = state }) setup ≡ record (setup_after core setup) { state = state }
+setup_beside core state (Watch names) shared = refl
+setup_beside core state (Limit number) shared = refl
+setup_beside core state (Clock list) shared = refl
+setup_beside core state (Keep number) shared = absurd shared
+setup_beside core state (Widen number) shared = refl
+setup_beside core state (Save name) shared = absurd shared
+setup_beside core state (Vector name words) shared = refl
+
+-- so it is set in each column
+pub setup_in_all : {M : Type 0} (lanes : M → ℕ) (states : M → ℕ → List Tern) (old new : HeldSession M) (setup : Setup) → IsSharedSetup setup →
+    new.stage ≡ old.stage → (result : Result (Unit {0}) ApplyFault) → Quietly old.core (family.Setup setup) new.core result →
+    QuietlyInAll (lanes old.stage) (column_of states old) (Shared (family.Setup setup)) (column_of states new) result
+setup_in_all {M} lanes states old new setup shared same (Ok done) quiet lane inside = record {
+  allowed = refused_alike old.core (states old.stage lane) (Shared (family.Setup setup)) lane 0 ∙ quiet.allowed;
+  effect = (
+    column_data states new (setup_after old.core setup) lane (states old.stage lane) quiet.effect.0 (ap (λ (stage : M). states stage lane) same)
+        ∙ sym (setup_beside old.core (states old.stage lane) setup shared),
+    refl,
+  );
+}
+setup_in_all {M} lanes states old new setup shared same (Err (Refused refusal)) quiet lane inside = (
+  refused_alike old.core (states old.stage lane) (Shared (family.Setup setup)) lane 0 ∙ quiet.0,
+  column_data states new old.core lane (states old.stage lane) quiet.1 (ap (λ (stage : M). states stage lane) same),
+)
+setup_in_all lanes states old new setup shared same (Err (GroupNodes node count)) quiet lane inside = absurd quiet
+setup_in_all lanes states old new setup shared same (Err (GroupSwitches node count)) quiet lane inside = absurd quiet
+setup_in_all lanes states old new setup shared same (Err WriteFault) quiet lane inside = absurd quiet
+setup_in_all {M} lanes states old new setup shared same (Err NoMemory) quiet lane inside =
+    column_data states new old.core lane (states old.stage lane) quiet (ap (λ (stage : M). states stage lane) same)
+
+-- ---- states that stay sound
+
+-- in a unit step of each column
+pub sounds_stepped : (c : CircuitData) → IsCircuit c → (old new : ℕ → List Tern) (count after : ℕ) → after ≡ count →
+    ((lane : ℕ) → lane < count → IsStep c.graph (old lane) (new lane)) → AreSound c.graph count old → AreSound c.graph after new
+sounds_stepped c is old new count after same steps sound = λ lane inside.
+    let within : lane < count = subst (λ (n : ℕ). lane < n) same inside in
+    let step = steps lane within in
+    record { counted = step.count; sound = sound-step c is (old lane) (new lane) step (sound lane within).sound }
+
+-- and in a phase of each
+pub sounds_settled : (c : CircuitData) → IsCircuit c → (old new : ℕ → List Tern) (count after limit : ℕ) (told : ℕ → Settled) → after ≡ count →
+    ((lane : ℕ) → lane < count → Settles c.graph (old lane) limit (new lane) (told lane).steps (told lane).joined) → AreSound c.graph count old →
+    AreSound c.graph after new
+sounds_settled c is old new count after limit told same settles sound = λ lane inside.
+    let within : lane < count = subst (λ (n : ℕ). lane < n) same inside in
+    let before = sound lane within in
+    record {
+      counted = length-settles c.graph (old lane) limit (new lane) (told lane).steps (told lane).joined before.counted (settles lane within);
+      sound = sound-settles c is (old lane) limit (new lane) (told lane).steps (told lane).joined before.counted (settles lane within) before.sound;
+    }
+
+-- ---- counts
+
+-- counts that are the same are each column's
+pub counts_alike : (lanes : ℕ) (count : Settled) (counts : List Settled) → counts ≡ replicate lanes count → (lane : ℕ) → lane < lanes →
+    count_in counts lane ≡ count
+counts_alike lanes count counts is lane inside =
+    ap (λ (list : List Settled). count_in list lane) is ∙ get_or-replicate lanes lane count (record { steps = 0; joined = false }) inside
+
+-- there is one for each
+pub counts_counted : (lanes : ℕ) (count : Settled) (counts : List Settled) → counts ≡ replicate lanes count → length counts ≡ lanes
+counts_counted lanes count counts is = ap length is ∙ length-replicate lanes count
+
+-- ---- steps and phases
+
+module _ {M : Type 0} (lanes : M → ℕ) (states : M → ℕ → List Tern) (old new : HeldSession M)
+    (core : new.core ≡ record old.core { state = new.core.state; count = one_more old.core.count }) where
+  -- a unit step of each
+  pub stepped_in_all : ((lane : ℕ) → lane < lanes old.stage → IsStep old.core.circuit.graph (states old.stage lane) (states new.stage lane)) →
+      StepInAll (lanes old.stage) (column_of states old) (column_of states new)
+  stepped_in_all steps = record {
+    each = λ lane inside. record {
+      next = states new.stage lane;
+      step = steps lane inside;
+      moved = column_data states new (record old.core { state = new.core.state; count = one_more old.core.count }) lane (states new.stage lane) core refl;
+    };
+  }
+
+  -- or a phase
+  pub settled_in_all : (count : ℕ → Settled) →
+      ((lane : ℕ) → lane < lanes old.stage →
+      Settles old.core.circuit.graph (states old.stage lane) old.core.limit (states new.stage lane) (count lane).steps (count lane).joined) →
+      SettledInAll (lanes old.stage) (column_of states old) (column_of states new) count
+  settled_in_all count settles = record {
+    each = λ lane inside. record {
+      next = states new.stage lane;
+      settles = settles lane inside;
+      moved = column_data states new (record old.core { state = new.core.state; count = one_more old.core.count }) lane (states new.stage lane) core refl;
+    };
+  }
