@@ -1,0 +1,11 @@
+pub mod RoomLemmas
+pub mod RestLemmas
+pub mod LastLemmas
+pub mod PlacingLemmas
+pub mod TickLemmas
+pub mod OtherLemmas
+pub mod ServingLemmas
+pub mod LetterLemmas
+pub mod ReportLemmas
+pub mod MovingLemmas
+pub mod ActLemmas

@@ -1,0 +1,16 @@
+-- The machine's step is the stage's.
+use Rattle.machine_stage.proofs.ServingLemmas.{fits_stepped, last_stepped, serves_stepped, step_between}
+use Rattle.machine_stage.proofs.plain.MachineStagePlainStage.step_seen.Goals as goal
+
+pub returns-clause-step : goal.returns-clause-step
+returns-clause-step g c = step_between c.args.graph.now c.args.self.now c.step_machine.new.self c.step_machine.ensures.moves
+
+pub returns-clause-last : goal.returns-clause-last
+returns-clause-last g c = last_stepped c.args.graph.now c.args.self.now c.step_machine.new.self c.step_machine.ensures.moves
+
+pub returns-clause-serves : goal.returns-clause-serves
+returns-clause-serves g c = λ kept serves.
+    serves_stepped c.args.graph.now c.args.self.now c.step_machine.new.self c.step_machine.ensures.moves kept c.requires.fits serves
+
+pub returns-clause-fits : goal.returns-clause-fits
+returns-clause-fits g c = fits_stepped c.args.graph.now c.args.self.now c.step_machine.new.self c.step_machine.ensures.moves

@@ -1,0 +1,4 @@
+pub mod Machines
+pub mod Stages
+pub mod Held
+pub mod Laws

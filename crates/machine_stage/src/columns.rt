@@ -1,0 +1,79 @@
+//! The machine's stage as a stage of one column.
+
+use crate::stage::MachineStage;
+use analysis_cache::{Analyst, Kept};
+use channel_groups::Change;
+use circuit_texts::BuildFault;
+use column_stage::Stage;
+use oscillation_x::{Blind, Settled};
+use path_meaning::{Graph, graphs_are_wired};
+use std::alloc::Global;
+use ternary::{NoMemory, Tern};
+
+impl Stage for MachineStage {
+    ghost use Rattle.circuit_texts.specs.Building.{IsCutOff};
+    ghost use Rattle.machine_stage.specs.Machines.{FitsIn, ServesIn, lanes_in, last_in, states_in};
+    ghost use Rattle.machine_stage.specs.Stages.{DidAct};
+
+    ghost lanes = { lanes_in };
+
+    ghost states = { states_in };
+
+    ghost spare = { λ stage. stage.spare };
+
+    ghost last = { λ stage. last_in stage.machine };
+
+    ghost serves = { ServesIn };
+
+    ghost fits = { λ stage g. FitsIn g stage.machine };
+
+    ghost cuts = { λ large g _. IsCutOff large g };
+
+    ghost did = { DidAct };
+
+    fn lanes(&self) -> u32 {
+        1
+    }
+
+    fn state(&self, node: usize, _lane: u32) -> Tern {
+        self.states()[node]
+    }
+
+    fn place(&mut self, graph: &Graph, node: usize, letters: &[Tern]) {
+        self.is_the_machines();
+        self.set_node(graph, node, letters[0]);
+        self.is_the_machines();
+    }
+
+    fn reserve(&mut self) -> Result<(), NoMemory> {
+        self.take_room()
+    }
+
+    fn edit(&mut self, alloc: Global, graph: &Graph, change: &Change, kept: &mut Kept) {
+        graphs_are_wired(graph);
+        self.regroup(alloc, graph, change, kept);
+    }
+
+    fn build<A: Analyst>(
+        &mut self,
+        alloc: Global,
+        graph: &Graph,
+        large: usize,
+        kept: &mut Kept,
+        analyst: &mut A,
+    ) -> Result<u64, BuildFault> {
+        self.make(alloc, graph, large, kept, analyst)
+    }
+
+    fn step(&mut self, graph: &Graph) {
+        self.step_machine(graph, &mut Blind {});
+    }
+
+    fn settle(&mut self, graph: &Graph, limit: u64, counts: &mut [Settled]) {
+        counts[0] = self.settle_machine(graph, limit, &mut Blind {});
+    }
+
+    fn use_last(&self, kept: &mut Kept) {
+        self.put_last(kept);
+    }
+}
