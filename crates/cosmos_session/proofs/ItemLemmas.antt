@@ -20,11 +20,11 @@ pub item_stops : (found : List ℕ × Value → Option Refusal) (item : List ℕ
 item_stops found item name fault same stops = of_item (λ (one : List ℕ × Value). IsFaultFor (found one) fault) item name same stops
 
 -- what ends an assignment by a session's fields ends it by the session
-pub session_stops : (at : ℕ → Option Refusal) (old new : HeldSession) (item : List ℕ × Value) (fault : ApplyFault) → old ≡ new →
+pub session_stops : {M : Type 0} (at : ℕ → Option Refusal) (old new : HeldSession M) (item : List ℕ × Value) (fault : ApplyFault) → old ≡ new →
     IsFaultFor (given_refusal at (letters_given old.core.circuit old.core.vectors item)) fault →
     IsFaultFor (given_refusal at (letters_given new.core.circuit new.core.vectors item)) fault
 session_stops at old new item fault same stops =
-    subst (λ (s : HeldSession). IsFaultFor (given_refusal at (letters_given s.core.circuit s.core.vectors item)) fault) same stops
+    subst (λ (s : HeldSession _). IsFaultFor (given_refusal at (letters_given s.core.circuit s.core.vectors item)) fault) same stops
 
 -- what ends the same letters
 pub letters_stop : (at : ℕ → Option Refusal) (old new : Result (List (ℕ × Letter)) GivenFault) (fault : ApplyFault) → old ≡ new →

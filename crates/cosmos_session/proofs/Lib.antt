@@ -1,2 +1,4 @@
 mod ItemLemmas
+mod LetterLemmas
 mod ShowingLemmas
+mod UnreadyLemmas

@@ -7,24 +7,28 @@ ghost use Rattle.netlist.specs.Edits.{answer_of, with_input, with_place};
 ghost use Rattle.script_lang.specs.declared.command.Command.TheVariants as family;
 ghost use Rattle.script_lang.specs.declared.command.Edit.TheVariants as asked;
 ghost use Rattle.session_meaning.specs.Effects as effect;
-ghost use Rattle.session_meaning.specs.Machines.{EditsMachine};
+ghost use Rattle.column_stage.specs.Acts.{LeadsBy};
 ghost use Rattle.session_meaning.specs.Outcomes.{Quietly};
+ghost use Rattle.session_meaning.specs.Stages.{IsEditing, IsStill};
 ghost use Rattle.session_meaning.specs.Switches.{place_after, edit_fault, edit_of};
 
+use crate::changes::{change_at, change_of, change_of_level};
 use crate::naming::all_nodes;
+use crate::placing::{edit_stage, take_room};
 use crate::refusals;
-use crate::regrouping::{change_at, change_of, change_of_level};
 use crate::session::Session;
+use column_stage::Stage;
 use netlist::{Circuit, EditFault, RAILS, usual_strength};
 use path_meaning::SwitchKind;
 use script_lang::{Edit, Name, NameList};
 use session_meaning::{ApplyFault, Refusal, SwitchEdit};
 
-impl Session {
+impl<M: Stage> Session<M> {
     /// Does an edit.
     pub(crate) fn edit(&mut self, edit: &Edit) -> Result<(), ApplyFault>
-        ensures quiet { Quietly self.old (family.Edit edit.now) self.new result }
-        ensures machine { OnOk result (EditsMachine self.old self.new) }
+        ensures quiet { Quietly self.old.core (family.Edit edit.now) self.new.core result }
+        ensures stage { OnOk result (LeadsBy M.did IsEditing self.old.stage self.new.stage) }
+        ensures still { OnErr result (IsStill M.did self.old.stage self.new.stage) }
     {
         match edit {
             Edit::Input(names) => self.input(names),
@@ -51,9 +55,11 @@ impl Session {
     }
 
     // `input`: makes the named nodes input nodes.
+    #[tactic(auto, using(session_meaning::proofs::OutcomeLemmas::still_yet, session_meaning::proofs::OutcomeLemmas::still_roomed))]
     fn input(&mut self, names: &NameList) -> Result<(), ApplyFault>
-        ensures quiet { Quietly self.old (family.Edit (asked.Input names.now)) self.new result }
-        ensures machine { OnOk result (EditsMachine self.old self.new) }
+        ensures quiet { Quietly self.old.core (family.Edit (asked.Input names.now)) self.new.core result }
+        ensures stage { OnOk result (LeadsBy M.did IsEditing self.old.stage self.new.stage) }
+        ensures still { OnErr result (IsStill M.did self.old.stage self.new.stage) }
     {
         let (circuit, vectors) = (&self.circuit, &self.vectors);
         if let Some(refusal) = refusals::input_refusal(circuit, vectors, names.items()) {
@@ -65,11 +71,12 @@ impl Session {
     }
 
     // Makes these nodes, none of which is a rail, input nodes.
+    #[tactic(auto, using(column_stage::proofs::LeadingLemmas::leads_by_none, column_stage::proofs::LeadingLemmas::leads_by_both))]
     fn make_inputs(&mut self, list: &[usize])
         requires within { All (λ node. node < nodes self.old.core.circuit.graph) list.now }
         requires past { All (λ node. RAILS ≤ node) list.now }
         ensures made { self.new.core ≡ record self.old.core { circuit = effect.with_inputs self.old.core.circuit list.now } }
-        ensures machine { EditsMachine self.old self.new }
+        ensures stage { LeadsBy M.did IsEditing self.old.stage self.new.stage }
     {
         for &node in list {
             self.make_input(node);
@@ -81,18 +88,25 @@ impl Session {
         requires within { node < nodes self.old.core.circuit.graph }
         requires past { RAILS ≤ node }
         ensures made { self.new.core ≡ record self.old.core { circuit = with_input self.old.core.circuit node } }
-        ensures machine { EditsMachine self.old self.new }
+        ensures stage { LeadsBy M.did IsEditing self.old.stage self.new.stage }
     {
         let change = change_of_level(self.circuit.graph(), node);
         put_input(&mut self.circuit, node);
-        self.stage
-            .edit(self.alloc, self.circuit.graph(), &change, &mut self.kept);
+        edit_stage(
+            self.alloc,
+            self.circuit.graph(),
+            &change,
+            &mut self.stage,
+            &mut self.kept,
+        );
     }
 
     // `store`: makes the named node a storage node of this size.
+    #[tactic(auto, using(session_meaning::proofs::OutcomeLemmas::still_yet, session_meaning::proofs::OutcomeLemmas::still_roomed))]
     fn store(&mut self, name: &Name, size: u64) -> Result<(), ApplyFault>
-        ensures quiet { Quietly self.old (family.Edit (asked.Store name.now size)) self.new result }
-        ensures machine { OnOk result (EditsMachine self.old self.new) }
+        ensures quiet { Quietly self.old.core (family.Edit (asked.Store name.now size)) self.new.core result }
+        ensures stage { OnOk result (LeadsBy M.did IsEditing self.old.stage self.new.stage) }
+        ensures still { OnErr result (IsStill M.did self.old.stage self.new.stage) }
     {
         let Some(node) = self.circuit.find(name.items()) else {
             return Err(ApplyFault::Refused(Refusal::UnknownNode));
@@ -100,8 +114,13 @@ impl Session {
         let change = change_of_level(self.circuit.graph(), node);
         match self.circuit.make_store(node, size) {
             Ok(()) => {
-                self.stage
-                    .edit(self.alloc, self.circuit.graph(), &change, &mut self.kept);
+                edit_stage(
+                    self.alloc,
+                    self.circuit.graph(),
+                    &change,
+                    &mut self.stage,
+                    &mut self.kept,
+                );
                 Ok(())
             }
             Err(_) if node < RAILS => Err(ApplyFault::Refused(Refusal::Rail)),
@@ -110,6 +129,7 @@ impl Session {
     }
 
     // `add`: adds a transistor; each node that its names make is X.
+    #[tactic(auto, using(session_meaning::proofs::OutcomeLemmas::still_yet, session_meaning::proofs::OutcomeLemmas::still_roomed))]
     fn add(
         &mut self,
         kind: SwitchKind,
@@ -118,17 +138,23 @@ impl Session {
         drain: &Name,
         strength: Option<u64>,
     ) -> Result<(), ApplyFault>
-        ensures quiet { Quietly self.old (family.Edit (asked.Add kind gate.now source.now drain.now strength)) self.new result }
-        ensures machine { OnOk result (EditsMachine self.old self.new) }
+        ensures quiet { Quietly self.old.core (family.Edit (asked.Add kind gate.now source.now drain.now strength)) self.new.core result }
+        ensures stage { OnOk result (LeadsBy M.did IsEditing self.old.stage self.new.stage) }
+        ensures still { OnErr result (IsStill M.did self.old.stage self.new.stage) }
     {
         let strength = strength.unwrap_or(usual_strength(kind));
-        self.stage.reserve()?;
+        take_room(&mut self.stage)?;
         let change = change_at(self.circuit.graph(), self.circuit.graph().places());
         let (gate, source, drain) = (gate.items(), source.items(), drain.items());
         match self.circuit.add_switch(kind, strength, gate, source, drain) {
             Ok(_) => {
-                self.stage
-                    .edit(self.alloc, self.circuit.graph(), &change, &mut self.kept);
+                edit_stage(
+                    self.alloc,
+                    self.circuit.graph(),
+                    &change,
+                    &mut self.stage,
+                    &mut self.kept,
+                );
                 Ok(())
             }
             Err(fault) => Err(ApplyFault::of_edit(fault)),
@@ -136,15 +162,22 @@ impl Session {
     }
 
     // Does an edit of the transistor with this number that leaves its terminals.
+    #[tactic(auto, using(session_meaning::proofs::OutcomeLemmas::still_yet, session_meaning::proofs::OutcomeLemmas::still_roomed))]
     fn edit_switch(&mut self, number: u64, edit: SwitchEdit) -> Result<(), ApplyFault>
-        ensures quiet { Quietly self.old (family.Edit (edit_of number edit)) self.new result }
-        ensures machine { OnOk result (EditsMachine self.old self.new) }
+        ensures quiet { Quietly self.old.core (family.Edit (edit_of number edit)) self.new.core result }
+        ensures stage { OnOk result (LeadsBy M.did IsEditing self.old.stage self.new.stage) }
+        ensures still { OnErr result (IsStill M.did self.old.stage self.new.stage) }
     {
         let change = change_of(self.circuit.graph(), number);
         match edited(&mut self.circuit, number, edit) {
             Ok(()) => {
-                self.stage
-                    .edit(self.alloc, self.circuit.graph(), &change, &mut self.kept);
+                edit_stage(
+                    self.alloc,
+                    self.circuit.graph(),
+                    &change,
+                    &mut self.stage,
+                    &mut self.kept,
+                );
                 Ok(())
             }
             Err(fault) => Err(ApplyFault::of_edit(fault)),
@@ -153,6 +186,7 @@ impl Session {
 
     // `wire`: sets the terminals of the transistor with this number; each node that the names make is
     // X.
+    #[tactic(auto, using(session_meaning::proofs::OutcomeLemmas::still_yet, session_meaning::proofs::OutcomeLemmas::still_roomed))]
     fn rewire(
         &mut self,
         number: u64,
@@ -160,16 +194,22 @@ impl Session {
         source: &Name,
         drain: &Name,
     ) -> Result<(), ApplyFault>
-        ensures quiet { Quietly self.old (family.Edit (asked.Wire number gate.now source.now drain.now)) self.new result }
-        ensures machine { OnOk result (EditsMachine self.old self.new) }
+        ensures quiet { Quietly self.old.core (family.Edit (asked.Wire number gate.now source.now drain.now)) self.new.core result }
+        ensures stage { OnOk result (LeadsBy M.did IsEditing self.old.stage self.new.stage) }
+        ensures still { OnErr result (IsStill M.did self.old.stage self.new.stage) }
     {
-        self.stage.reserve()?;
+        take_room(&mut self.stage)?;
         let change = change_of(self.circuit.graph(), number);
         let (gate, source, drain) = (gate.items(), source.items(), drain.items());
         match self.circuit.rewire(number, gate, source, drain) {
             Ok(()) => {
-                self.stage
-                    .edit(self.alloc, self.circuit.graph(), &change, &mut self.kept);
+                edit_stage(
+                    self.alloc,
+                    self.circuit.graph(),
+                    &change,
+                    &mut self.stage,
+                    &mut self.kept,
+                );
                 Ok(())
             }
             Err(fault) => Err(ApplyFault::of_edit(fault)),

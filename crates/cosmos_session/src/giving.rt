@@ -1,32 +1,35 @@
 //! The commands that give nodes states.
 
-ghost use Rattle.std.specs.Prelude.{◌≡◌, ◌<◌, ◌≤◌, None, map, length, All, IfErr, IfOk, IfSome, OnOk};
-ghost use Rattle.path_meaning.specs.Graphs.{nodes, level_of};
+ghost use Rattle.std.specs.Prelude.{◌≡◌, ◌<◌, ◌≤◌, None, List, All, IfErr, IfOk, OnOk, OnErr};
+ghost use Rattle.path_meaning.specs.Graphs.{nodes};
 ghost use Rattle.path_meaning.specs.declared.TheConstants.{RAILS};
 ghost use Rattle.script_lang.specs.declared.command.Command.TheVariants as family;
 ghost use Rattle.script_lang.specs.declared.command.Give.TheVariants as asked;
 ghost use Rattle.session_meaning.specs.Effects as effect;
-ghost use Rattle.session_meaning.specs.Machines.{GivesMachine, PlacesIn, placed_of};
-ghost use Rattle.session_meaning.specs.Stages.{AssignsIn};
+ghost use Rattle.column_stage.specs.Acts.{Leads};
+ghost use Rattle.column_stage.specs.Columns.{IsSoundState};
+ghost use Rattle.group_text.specs.Texts.{GroupTextData};
+ghost use Rattle.session_meaning.specs.Stages.{GivesOn, acts_of_states};
 ghost use Rattle.session_meaning.specs.Refusals.{values_refusal};
 ghost use Rattle.session_meaning.specs.Outcomes.{Quietly};
 ghost use Rattle.session_meaning.specs.Preparing.{IsFaultFor};
 ghost use Rattle.cosmos_session.specs.Targets.{target_at};
 
+use crate::placing::put_node;
 use crate::session::Session;
-use crate::stage::Stage;
 use crate::values::{Target, all_states, place_refusal};
+use column_stage::{PlainStage, Stage};
 use netlist::{Circuit, RAILS};
 use script_lang::{Give, ValueList};
 use session_meaning::ApplyFault;
-use strength_order::INPUT_LEVEL;
 use ternary::Tern;
 
-impl Session {
+impl<M: PlainStage> Session<M> {
     /// Gives named nodes states.
     pub(crate) fn give(&mut self, give: &Give) -> Result<(), ApplyFault>
-        ensures quiet { Quietly self.old (family.Give give.now) self.new result }
-        ensures machine { OnOk result (GivesMachine self.old give.now self.new) }
+        ensures quiet { Quietly self.old.core (family.Give give.now) self.new.core result }
+        ensures stage { OnOk result (GivesOn M.did self.old give.now self.new) }
+        ensures still { OnErr result (self.new.stage ≡ self.old.stage) }
     {
         match give {
             Give::Set(list) => self.set(list),
@@ -38,8 +41,9 @@ impl Session {
     // `set`: gives the named input nodes their states, from left to right.
     #[tactic(auto, using(session_meaning::proofs::OutcomeLemmas::fault_quiet))]
     fn set(&mut self, list: &ValueList) -> Result<(), ApplyFault>
-        ensures quiet { Quietly self.old (family.Give (asked.Set list.now)) self.new result }
-        ensures machine { OnOk result (GivesMachine self.old (asked.Set list.now) self.new) }
+        ensures quiet { Quietly self.old.core (family.Give (asked.Set list.now)) self.new.core result }
+        ensures stage { OnOk result (GivesOn M.did self.old (asked.Set list.now) self.new) }
+        ensures still { OnErr result (self.new.stage ≡ self.old.stage) }
     {
         let states = self.states_for(list, Target::Inputs)?;
         self.put_assigned(&states);
@@ -49,14 +53,27 @@ impl Session {
     // `charge`: gives the named storage nodes their states, from left to right.
     #[tactic(auto, using(session_meaning::proofs::OutcomeLemmas::fault_quiet))]
     fn charge(&mut self, list: &ValueList) -> Result<(), ApplyFault>
-        ensures quiet { Quietly self.old (family.Give (asked.Charge list.now)) self.new result }
-        ensures machine { OnOk result (GivesMachine self.old (asked.Charge list.now) self.new) }
+        ensures quiet { Quietly self.old.core (family.Give (asked.Charge list.now)) self.new.core result }
+        ensures stage { OnOk result (GivesOn M.did self.old (asked.Charge list.now) self.new) }
+        ensures still { OnErr result (self.new.stage ≡ self.old.stage) }
     {
         let states = self.states_for(list, Target::Stores)?;
         self.put_assigned(&states);
         Ok(())
     }
 
+    // Gives these nodes, none of which is a rail, their states, from left to right.
+    fn put_assigned(&mut self, states: &[(usize, Tern)])
+        requires within { All (λ pair. pair.0 < nodes self.old.core.circuit.graph) states.now }
+        requires past { All (λ pair. RAILS ≤ pair.0) states.now }
+        ensures state { self.new.core ≡ record self.old.core { state = effect.assigned self.old.core.state states.now } }
+        ensures stage { Leads M.did self.old.stage (acts_of_states self.old.core.circuit.graph states.now) self.new.stage }
+    {
+        assign(&self.circuit, states, &mut self.stage);
+    }
+}
+
+impl<M: Stage> Session<M> {
     /// The states that these assignments give nodes, from left to right.
     pub(crate) fn states_for(
         &self,
@@ -75,31 +92,21 @@ impl Session {
         }
         all_states(self.alloc, circuit, vectors, list.items(), target)
     }
-
-    // Gives these nodes, none of which is a rail, their states, from left to right.
-    fn put_assigned(&mut self, states: &[(usize, Tern)])
-        requires within { All (λ pair. pair.0 < nodes self.old.core.circuit.graph) states.now }
-        requires past { All (λ pair. RAILS ≤ pair.0) states.now }
-        ensures state { self.new.core ≡ record self.old.core { state = effect.assigned self.old.core.state states.now } }
-        ensures machine { PlacesIn (map (λ pair. pair.0) states.now) self.old.machine self.new.machine }
-        ensures unplaced { All (λ node. level_of self.old.core.circuit.graph node ≡ INPUT_LEVEL) (map (λ pair. pair.0) states.now)
-            → placed_of self.new.machine ≡ placed_of self.old.machine }
-    {
-        assign(&self.circuit, states, &mut self.stage);
-    }
 }
 
 // Gives these nodes, none of which is a rail, their states, from left to right.
-fn assign(circuit: &Circuit, states: &[(usize, Tern)], stage: &mut Stage)
-    requires states { length stage.old.state ≡ nodes circuit.now.graph }
+fn assign<M: PlainStage>(circuit: &Circuit, states: &[(usize, Tern)], stage: &mut M)
+    requires one { M.lanes stage.old ≡ 1 }
+    requires sound { IsSoundState circuit.now.graph (M.states stage.old 0) }
     requires within { All (λ pair. pair.0 < nodes circuit.now.graph) states.now }
     requires past { All (λ pair. RAILS ≤ pair.0) states.now }
-    ensures state { stage.new.state ≡ effect.assigned stage.old.state states.now }
-    ensures machine { AssignsIn circuit.now.graph (map (λ pair. pair.0) states.now) stage.old.machine stage.new.machine }
-    ensures same { IfSome stage.new.machine (λ machine. machine.state ≡ stage.new.state) }
+    ensures one { M.lanes stage.new ≡ 1 }
+    ensures state { M.states stage.new 0 ≡ effect.assigned (M.states stage.old 0) states.now }
+    ensures last { M.last stage.new ≡ M.last stage.old }
+    ensures serves { (kept : List GroupTextData) → M.serves stage.old circuit.now.graph kept → M.serves stage.new circuit.now.graph kept }
+    ensures did { Leads M.did stage.old (acts_of_states circuit.now.graph states.now) stage.new }
 {
     for (node, value) in states {
-        stage.set_node(circuit.graph(), *node, *value);
+        put_node(circuit.graph(), *node, *value, stage);
     }
-    stage.is_the_machines();
 }

@@ -8,14 +8,18 @@
 //! `Session::apply_seen` does the same under the eyes of an onlooker, who is shown the steps and phases of the
 //! command, and `Session::show_behind` shows it the state behind the command.
 //!
-//! Unit steps are the compiled machine's. It is built at the first command that needs it, over the
-//! analyses that are kept. An edit makes the parts of the groups that it touches stale, and the next
-//! command that needs the machine gives these their codes; `IsMachineAfter` says what each command does
-//! to it. The state is held once, by the machine if there is one: `specs/Held.antt`. The lemmas on commands
+//! Unit steps are those of its stage, whatever that is: a session is generic over a `PlainStage` of `column_stage`, and
+//! `machine_stage` has the compiled machine as one. What needs the circuit built has the stage built first, over the
+//! analyses that are kept; an edit is told to it. `ObeysOn` says which acts each command does to the stage. The lemmas on commands
 //! are those of `session_meaning`, and crates above cite them there.
 //!
+//! A session over a stage of columns, `Session::over`, does the commands of a script for columns, `Session::apply_columns`:
+//! each column gets its letters, and is then told as the session of a plain script would tell it, waveform line by waveform
+//! line in the order of the columns. What a plain session does that a row of columns can't tell, `expect` and `report`, isn't
+//! there for columns.
+//!
 //! ```text
-//! let mut session = Session::new(alloc, circuit)?;
+//! let mut session = Session::<MachineStage>::new(alloc, circuit)?;
 //! session.apply(&command, analyst, out)?     for `set a=1`, then for `phase`: the line `1 1 10` is told
 //! ```
 //!
@@ -23,21 +27,22 @@
 //! Brace, Cho and Sheffler, "COSMOS: A Compiled Simulator for MOS Circuits", 1987.
 #![tactic(auto)]
 
+mod changes;
+mod columns;
 mod edits;
 mod giving;
 mod looking;
-mod moving;
 mod naming;
+mod placing;
 mod preparing;
 mod putting;
 mod refusals;
-mod regrouping;
 mod reporting;
+mod rows;
 mod saving;
 mod session;
 mod setting;
 mod showing;
-mod stage;
 mod stepping;
 mod telling;
 mod values;
@@ -45,6 +50,4 @@ mod waves;
 
 pub use refusals::cycle_refusal;
 pub use session::Session;
-pub use session_meaning::{
-    ApplyFault, Clock, FIRST_LIMIT, MOST_WATCHED, Refusal, only_edits_lose_the_machine, places_of,
-};
+pub use session_meaning::{ApplyFault, Clock, FIRST_LIMIT, MOST_WATCHED, Refusal, places_of};

@@ -10,9 +10,11 @@ ghost use Rattle.script_lang.specs.declared.command.Command.TheVariants as famil
 ghost use Rattle.script_lang.specs.declared.command.Tell.TheVariants as asked;
 ghost use Rattle.session_meaning.specs.Refusals.{first_refusal, known_refusal};
 ghost use Rattle.session_meaning.specs.Sinks.{IsSinkFault, faults_applied, refusals_sent};
-ghost use Rattle.session_meaning.specs.Outcomes.{Obeys, Sent};
+ghost use Rattle.session_meaning.specs.Outcomes.{Sent};
+ghost use Rattle.session_meaning.specs.Stages.{ObeysOn};
 
 use crate::session::Session;
+use column_stage::PlainStage;
 use netlist::Circuit;
 use node_looks::{room_to_look, tell_node};
 use script_lang::{Name, NameList};
@@ -20,20 +22,19 @@ use session_meaning::{ApplyFault, Refusal};
 use ternary::Tern;
 use told_lines::Lines;
 
-impl Session {
+impl<M: PlainStage> Session<M> {
     /// `look`: tells the lines of the node of each of these names.
     pub(crate) fn look<L: Lines>(&mut self, names: &NameList, out: &mut L) -> Result<(), ApplyFault>
-        ensures obeys { (texts : List GroupTextData) → Obeys L.hear L.part self.old (family.Tell (asked.Look names.now)) self.new
+        ensures obeys { (texts : List GroupTextData) → ObeysOn L.hear L.part M.did self.old (family.Tell (asked.Look names.now)) self.new
             (L.heard out.old) (L.heard out.new) texts texts (L.refusals out.old) (L.refusals out.new) result }
         ensures faults { L.faults out.new ≡ faults_applied (L.faults out.old) result }
-        ensures machine { self.new.machine ≡ self.old.machine }
     {
         if let Some(refusal) = node_refusal(&self.circuit, names.items()) {
             return Err(ApplyFault::Refused(refusal));
         }
         let room = room_to_look(&self.circuit)?;
         out.reserve(room)?;
-        tell_looked(&self.circuit, self.stage.state(), names.items(), out)
+        tell_looked(&self.circuit, self.stage.column(), names.items(), out)
     }
 }
 

@@ -1,30 +1,47 @@
-//! Building the machine before the commands that need it.
+//! Building the circuit before the commands that need it.
 
-ghost use Rattle.session_meaning.specs.Stages.{Readies};
+ghost use Rattle.std.specs.Prelude.{OnOk};
+ghost use Rattle.session_meaning.specs.Stages.{Readies, ReadiesBy};
 
+use crate::placing::build_stage;
 use crate::session::Session;
 use analysis_cache::Analyst;
+use column_stage::{PlainStage, Stage};
 use session_meaning::ApplyFault;
 
-impl Session {
-    /// Gets the session a machine that fits its circuit: the parts that edits made stale get their codes, or
-    /// the machine is built if there is none. The texts that aren't kept are analysed, kept and counted, and
-    /// what is past the bound is cut.
+impl<M: Stage> Session<M> {
+    /// Has the stage built for the session's circuit, so that it fits: what is there goes on, and if there is nothing it
+    /// is made. The texts that aren't kept are analysed, kept and counted, and what is past the bound is cut.
     ///
     /// It is the last call of a command that can lack memory.
-    pub(crate) fn prepare<A: Analyst>(&mut self, analyst: &mut A) -> Result<(), ApplyFault>
-        ensures { Readies self.old self.new (A.analysed analyst.old) (A.analysed analyst.new) result }
+    pub(crate) fn make_ready<A: Analyst>(&mut self, analyst: &mut A) -> Result<(), ApplyFault>
+        ensures readies { ReadiesBy M.cuts M.did self.old self.new (A.analysed analyst.old) (A.analysed analyst.new) result }
+        ensures fits { OnOk result (M.fits self.new.stage self.new.core.circuit.graph) }
     {
         let graph = self.circuit.graph();
-        match self
-            .stage
-            .build(self.alloc, graph, self.large, &mut self.kept, analyst)
-        {
+        match build_stage(
+            self.alloc,
+            graph,
+            self.large,
+            &mut self.stage,
+            &mut self.kept,
+            analyst,
+        ) {
             Ok(fresh) => {
                 self.fresh = self.fresh.saturating_add(fresh);
                 Ok(())
             }
             Err(fault) => Err(ApplyFault::of_build(fault)),
         }
+    }
+}
+
+impl<M: PlainStage> Session<M> {
+    /// Has the stage of one column built so: a build that ran out of memory analysed nothing, or a prefix of what is new.
+    pub(crate) fn prepare<A: Analyst>(&mut self, analyst: &mut A) -> Result<(), ApplyFault>
+        ensures readies { Readies M.did self.old self.new (A.analysed analyst.old) (A.analysed analyst.new) result }
+        ensures fits { OnOk result (M.fits self.new.stage self.new.core.circuit.graph) }
+    {
+        self.make_ready(analyst)
     }
 }

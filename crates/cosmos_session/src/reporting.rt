@@ -1,55 +1,57 @@
 //! Reports: how many groups and texts there are, and how many texts were new.
 
-ghost use Rattle.std.specs.Prelude.{◌≡◌, ◌≤◌, ◌+◌, List, OnOk, IfErr};
+ghost use Rattle.std.specs.Prelude.{◌≡◌, ◌≤◌, ◌+◌, List, IfErr};
 ghost use Rattle.group_text.specs.Texts.{GroupTextData};
 ghost use Rattle.circuit_texts.specs.Building.{HasTexts};
 ghost use Rattle.wave_print.specs.declared.lines.TheConstants.{COLUMN_ROOM, REPORT_LINE_ROOM};
 ghost use Rattle.script_lang.specs.declared.command.Command.TheVariants as family;
 ghost use Rattle.script_lang.specs.declared.command.Run.TheVariants as asked;
-ghost use Rattle.session_meaning.specs.Machines.{BuildsMachine, IsBuilt};
 ghost use Rattle.session_meaning.specs.Effects.{IsReported};
 ghost use Rattle.session_meaning.specs.Sinks.{IsSinkFault, faults_applied, refusals_sent};
-ghost use Rattle.session_meaning.specs.Outcomes.{IsDoneAndSent, Obeys};
+ghost use Rattle.session_meaning.specs.Outcomes.{IsDoneAndSent};
+ghost use Rattle.session_meaning.specs.Stages.{ObeysOn};
 
 use crate::session::Session;
 use crate::waves::tell_line;
 use analysis_cache::Analyst;
+use column_stage::PlainStage;
 use session_meaning::ApplyFault;
 use told_lines::{Line, Lines};
 use wave_print::{COLUMN_ROOM, REPORT_LINE_ROOM};
 
-impl Session {
+impl<M: PlainStage> Session<M> {
     /// `report`: a line with the numbers of groups, of distinct texts, and of texts that were analysed
     /// since the last report.
+    #[tactic(auto, using(session_meaning::proofs::OutcomeLemmas::stopped_obeys))]
     pub(crate) fn report<A: Analyst, L: Lines>(
         &mut self,
         analyst: &mut A,
         out: &mut L,
     ) -> Result<(), ApplyFault>
-        ensures obeys { Obeys L.hear L.part self.old (family.Run asked.Report) self.new (L.heard out.old) (L.heard out.new)
+        ensures obeys { ObeysOn L.hear L.part M.did self.old (family.Run asked.Report) self.new (L.heard out.old) (L.heard out.new)
             (A.analysed analyst.old) (A.analysed analyst.new) (L.refusals out.old) (L.refusals out.new) result }
         ensures faults { L.faults out.new ≡ faults_applied (L.faults out.old) result }
-        ensures machine { OnOk result (BuildsMachine self.old self.new) }
     {
         out.reserve(COLUMN_ROOM + REPORT_LINE_ROOM)?;
         self.prepare(analyst)?;
         self.tell_report(out)
     }
 
-    // Tells the line of a report, with the machine's numbers, and begins to count anew. The machine fits, and
-    // no group is too large.
+    // Tells the line of a report, with the stage's numbers, and begins to count anew. The stage fits, and no group is too
+    // large.
     fn tell_report<L: Lines>(&mut self, out: &mut L) -> Result<(), ApplyFault>
-        requires built { IsBuilt self.old }
+        requires fits { M.fits self.old.stage self.old.core.circuit.graph }
         requires texts { (texts : List GroupTextData) × HasTexts self.old.core.large self.old.core.circuit.graph texts }
         requires line { COLUMN_ROOM + REPORT_LINE_ROOM ≤ L.room out.old }
         ensures report { IsDoneAndSent IsReported L.hear L.part self.old.core self.new.core (L.heard out.old) (L.heard out.new) result }
-        ensures machine { self.new.machine ≡ self.old.machine }
+        ensures stage { self.new.stage ≡ self.old.stage }
         ensures cause { IfErr result IsSinkFault }
         ensures faults { L.faults out.new ≡ faults_applied (L.faults out.old) result }
         ensures refusals { L.refusals out.new ≡ refusals_sent (L.refusals out.old) result }
     {
-        let groups = self.stage.groups() as u64;
-        let texts = self.stage.texts() as u64;
+        let graph = self.circuit.graph();
+        let groups = self.stage.groups(graph) as u64;
+        let texts = self.stage.texts(graph) as u64;
         let fresh = self.fresh;
         self.fresh = 0;
         tell_line(

@@ -1,20 +1,24 @@
 //! States that are kept under names, and given back.
 
-ghost use Rattle.std.specs.Prelude.{◌≡◌, ◌<◌, ◌≤◌, length, position, slice_set, option_map, IfSome, OnOk, OnErr};
+ghost use Rattle.std.specs.Prelude.{◌≡◌, ◌<◌, ◌≤◌, List, length, position, slice_set, option_map, OnOk, OnErr};
+ghost use Rattle.path_meaning.specs.Graphs.{nodes};
 ghost use Rattle.path_meaning.specs.Rails.{IsSound};
 ghost use Rattle.path_meaning.specs.Switching.{state_at};
 ghost use Rattle.path_meaning.specs.declared.TheConstants.{RAILS};
 ghost use Rattle.script_lang.specs.declared.command.Command.TheVariants as family;
 ghost use Rattle.script_lang.specs.declared.command.Give.TheVariants as given;
 ghost use Rattle.script_lang.specs.declared.command.Setup.TheVariants as asked;
-ghost use Rattle.session_meaning.specs.Machines.{GivesMachine};
+ghost use Rattle.column_stage.specs.Acts.{LeadsBy};
+ghost use Rattle.column_stage.specs.Columns.{IsSoundState};
+ghost use Rattle.group_text.specs.Texts.{GroupTextData};
 ghost use Rattle.session_meaning.specs.Outcomes.{Quietly};
 ghost use Rattle.session_meaning.specs.Refusals as refused;
 ghost use Rattle.session_meaning.specs.Saves as spec;
-ghost use Rattle.session_meaning.specs.Stages.{PutsOthersIn, PutsOtherIn};
+ghost use Rattle.session_meaning.specs.Stages.{GivesOn, GivesOther, PlacesOther};
 
+use crate::placing::put_node;
 use crate::session::Session;
-use crate::stage::Stage;
+use column_stage::PlainStage;
 use netlist::RAILS;
 use path_meaning::Graph;
 use script_lang::{Name, StateList};
@@ -22,16 +26,16 @@ use session_meaning::{ApplyFault, MOST_SAVES, Refusal};
 use std::alloc::AllocError;
 use ternary::{NoMemory, Tern};
 
-impl Session {
+impl<M: PlainStage> Session<M> {
     /// `save`: keeps the present states of all nodes under a name, in the place of those that it kept.
     pub(crate) fn save(&mut self, name: &Name) -> Result<(), ApplyFault>
-        ensures quiet { Quietly self.old (family.Setup (asked.Save name.now)) self.new result }
-        ensures machine { self.new.machine ≡ self.old.machine }
+        ensures quiet { Quietly self.old.core (family.Setup (asked.Save name.now)) self.new.core result }
+        ensures stage { self.new.stage ≡ self.old.stage }
     {
         if let Some(refusal) = save_refusal(&self.saves, name.items()) {
             return Err(ApplyFault::Refused(refusal));
         }
-        let state = StateList::from_slice(self.alloc, self.stage.state())?;
+        let state = StateList::from_slice(self.alloc, self.stage.column())?;
         let name = Name::from_slice(self.alloc, name.items())?;
         put_save(&mut self.saves, name, state)?;
         Ok(())
@@ -39,8 +43,9 @@ impl Session {
 
     /// `back`: gives each node that was there at the save the state that was kept under the name.
     pub(crate) fn back(&mut self, name: &Name) -> Result<(), ApplyFault>
-        ensures quiet { Quietly self.old (family.Give (given.Back name.now)) self.new result }
-        ensures machine { OnOk result (GivesMachine self.old (given.Back name.now) self.new) }
+        ensures quiet { Quietly self.old.core (family.Give (given.Back name.now)) self.new.core result }
+        ensures stage { OnOk result (GivesOn M.did self.old (given.Back name.now) self.new) }
+        ensures still { OnErr result (self.new.stage ≡ self.old.stage) }
     {
         let Some(kept) = kept_under(&self.saves, name.items()) else {
             return Err(ApplyFault::Refused(Refusal::NoSave));
@@ -104,29 +109,37 @@ fn put_save(
 }
 
 // Gives the nodes past the rails the states that were kept, each that differs.
-fn give_back(graph: &Graph, kept: &[Tern], stage: &mut Stage)
-    requires few { length kept.now ≤ length stage.old.state }
+fn give_back<M: PlainStage>(graph: &Graph, kept: &[Tern], stage: &mut M)
+    requires one { M.lanes stage.old ≡ 1 }
+    requires sound { IsSoundState graph.now (M.states stage.old 0) }
+    requires few { length kept.now ≤ nodes graph.now }
     requires railed { RAILS ≤ length kept.now }
     requires kept { IsSound kept.now }
-    requires sound { IsSound stage.old.state }
-    ensures state { stage.new.state ≡ spec.back_to kept.now stage.old.state }
-    ensures machine { PutsOthersIn graph.now stage.old.state stage.new.state stage.old.machine stage.new.machine }
-    ensures same { IfSome stage.new.machine (λ machine. machine.state ≡ stage.new.state) }
+    ensures one { M.lanes stage.new ≡ 1 }
+    ensures state { M.states stage.new 0 ≡ spec.back_to kept.now (M.states stage.old 0) }
+    ensures last { M.last stage.new ≡ M.last stage.old }
+    ensures serves { (texts : List GroupTextData) → M.serves stage.old graph.now texts → M.serves stage.new graph.now texts }
+    ensures did { LeadsBy M.did (PlacesOther graph.now (M.states stage.old 0) (M.states stage.new 0)) stage.old stage.new }
 {
     for node in RAILS..kept.len() {
         give_one(graph, node, kept[node], stage);
     }
-    stage.is_the_machines();
 }
 
 // Gives a node past the rails this state, if it has another.
-fn give_one(graph: &Graph, node: usize, value: Tern, stage: &mut Stage)
-    requires inside { node < length stage.old.state }
+fn give_one<M: PlainStage>(graph: &Graph, node: usize, value: Tern, stage: &mut M)
+    requires one { M.lanes stage.old ≡ 1 }
+    requires sound { IsSoundState graph.now (M.states stage.old 0) }
+    requires inside { node < nodes graph.now }
     requires no_rail { RAILS ≤ node }
-    ensures state { stage.new.state ≡ slice_set stage.old.state node value }
-    ensures machine { PutsOtherIn graph.now node value (state_at stage.old.state node) stage.old.machine stage.new.machine }
+    ensures one { M.lanes stage.new ≡ 1 }
+    ensures state { M.states stage.new 0 ≡ slice_set (M.states stage.old 0) node value }
+    ensures sound { IsSoundState graph.now (M.states stage.new 0) }
+    ensures last { M.last stage.new ≡ M.last stage.old }
+    ensures serves { (texts : List GroupTextData) → M.serves stage.old graph.now texts → M.serves stage.new graph.now texts }
+    ensures did { GivesOther M.did graph.now node value (state_at (M.states stage.old 0) node) stage.old stage.new }
 {
-    if stage.state()[node] != value {
-        stage.set_node(graph, node, value);
+    if stage.column()[node] != value {
+        put_node(graph, node, value, stage);
     }
 }

@@ -1,16 +1,17 @@
 //! The data of a session, and what each command does to them.
 
-ghost use Rattle.std.specs.Prelude.{◌≡◌, not, None, option_map, IfOk, IfErr, IfSome, OnOk};
+ghost use Rattle.std.specs.Prelude.{◌≡◌, not, None, IfOk, IfErr, OnOk};
+ghost use Rattle.analysis_cache.specs.Keeping.{texts_of};
 ghost use Rattle.script_lang.specs.Forms.{IsFormed};
-ghost use Rattle.session_meaning.specs.Sessions.{start_of, HeldSession};
+ghost use Rattle.session_meaning.specs.Sessions.{start_of, IsHeldSession};
 ghost use Rattle.session_meaning.specs.Passing.{IsUnseen, KnowsBehind, PassesThrough, Sees};
 ghost use Rattle.session_meaning.specs.Preparing.{NamesNode};
-ghost use Rattle.session_meaning.specs.Machines.{IsMachineOf, IsHeldSession, IsMachineAfter, without_room};
 ghost use Rattle.session_meaning.specs.Sinks.{faults_applied};
 ghost use Rattle.session_meaning.specs.Outcomes.{Obeys};
+ghost use Rattle.session_meaning.specs.Stages.{ObeysOn};
 
-use crate::stage::Stage;
 use analysis_cache::{Analyst, Kept};
+use column_stage::{PlainStage, Stage};
 use netlist::Circuit;
 use node_words::Vectors;
 use oscillation_x::{Blind, Onlooker};
@@ -20,7 +21,6 @@ use std::alloc::Global;
 use std::marker::Model;
 use ternary::{NoMemory, Tern};
 use told_lines::Lines;
-use unit_step::Machine;
 
 /// A simulation session: a circuit, the state of its nodes, the nodes that are watched, the clocks,
 /// the limit of a phase, how many waveform lines there were, whether some expectation was not met, the vectors
@@ -28,13 +28,13 @@ use unit_step::Machine;
 /// recently used first, perhaps a bound on their number, how many members a group without a text may have, and how
 /// many texts were analysed since the last report.
 ///
-/// Beside these data contracts see the machine that moves the state, if there is one: it is built
-/// at the first command that wants it, and lives through edits of the circuit.
+/// Beside these data contracts see the stage that moves the state, whatever it is: what it is built of comes at the
+/// first command that wants it, and lives through edits of the circuit.
 #[derive(Drop)]
-pub struct Session {
+pub struct Session<M: Stage> {
     pub(crate) alloc: Global,
     pub(crate) circuit: Circuit,
-    pub(crate) stage: Stage,
+    pub(crate) stage: M,
     pub(crate) watched: Vec<usize>,
     pub(crate) clocks: Vec<Clock>,
     pub(crate) limit: u64,
@@ -47,80 +47,27 @@ pub struct Session {
     pub(crate) fresh: u64,
 }
 
-impl Model for Session {
+impl<M: Stage> Model for Session<M> {
+    ghost use Rattle.group_analysis.specs.Using.{used_texts};
     ghost use Rattle.analysis_cache.specs.Keeping.{texts_of};
-    ghost use Rattle.session_meaning.specs.Sessions.{HeldSession};
-    ghost use Rattle.session_meaning.specs.Machines.{IsHeldSession, AreAmong, kept_in, last_in};
+    ghost use Rattle.column_stage.specs.Columns.{AreAmong};
+    ghost use Rattle.session_meaning.specs.Sessions.{HeldSession, IsHeldSession};
 
-    ghost Value = { HeldSession };
+    ghost Value = { HeldSession M };
 
-    ghost view = { λ session. record { core = record { circuit = session.circuit; state = session.stage.state; watched = session.watched.items; clocks = session.clocks.items; limit = session.limit; count = session.count; missed = session.missed; vectors = session.vectors; saves = session.saves.items; bound = session.kept.bound; large = session.large; kept = kept_in session.stage.machine (texts_of session.kept); fresh = session.fresh }; machine = session.stage.machine } };
+    ghost view = { λ session. record { core = record { circuit = session.circuit; state = M.states session.stage 0; watched = session.watched.items; clocks = session.clocks.items; limit = session.limit; count = session.count; missed = session.missed; vectors = session.vectors; saves = session.saves.items; bound = session.kept.bound; large = session.large; kept = used_texts (M.last session.stage) (texts_of session.kept); fresh = session.fresh }; stage = session.stage } };
 
-    ghost invariant = { λ session. IsHeldSession (record { core = record { circuit = session.circuit; state = session.stage.state; watched = session.watched.items; clocks = session.clocks.items; limit = session.limit; count = session.count; missed = session.missed; vectors = session.vectors; saves = session.saves.items; bound = session.kept.bound; large = session.large; kept = kept_in session.stage.machine (texts_of session.kept); fresh = session.fresh }; machine = session.stage.machine })
-        × AreAmong (last_in session.stage.machine) (texts_of session.kept) };
+    ghost invariant = { λ session. IsHeldSession M.lanes M.states M.serves (record { core = record { circuit = session.circuit; state = M.states session.stage 0; watched = session.watched.items; clocks = session.clocks.items; limit = session.limit; count = session.count; missed = session.missed; vectors = session.vectors; saves = session.saves.items; bound = session.kept.bound; large = session.large; kept = used_texts (M.last session.stage) (texts_of session.kept); fresh = session.fresh }; stage = session.stage })
+        × AreAmong (M.last session.stage) (texts_of session.kept) };
 }
 
-impl Session {
-    /// A session at its start: Gnd is 0, Vdd is 1 and every other node X; nothing is watched, there
-    /// are no clocks, a phase has the limit 100, nothing is kept, and there is no bound. Out of memory the circuit is
-    /// dropped.
-    pub fn new(alloc: Global, circuit: Circuit) -> Result<Session, NoMemory>
-        ensures { IfOk result (λ session. session ≡ record { core = start_of circuit; machine = None }) }
-    {
-        let mut state = vec![in alloc; Tern::Unk; circuit.graph().nodes()]?;
-        state[0] = Tern::Zero;
-        state[1] = Tern::One;
-        let kept = Kept::with_keys(alloc, circuit.keys());
-        let vectors = Vectors::new(alloc, circuit.keys());
-        Ok(Session {
-            alloc,
-            circuit,
-            stage: Stage::still(state),
-            watched: Vec::new(alloc),
-            clocks: Vec::new(alloc),
-            limit: FIRST_LIMIT,
-            count: 0,
-            missed: false,
-            vectors,
-            saves: Vec::new(alloc),
-            kept,
-            large: 0,
-            fresh: 0,
-        })
-    }
-
-    /// A session at its start over another circuit, in which what this one keeps is kept still, without a bound.
-    /// Out of memory both are dropped.
-    pub fn restart(self, circuit: Circuit) -> Result<Session, NoMemory>
-        ensures { IfOk result (λ session. session
-            ≡ record { core = record (start_of circuit) { kept = self.core.kept }; machine = None }) }
-    {
-        let Session {
-            alloc,
-            stage,
-            mut kept,
-            ..
-        } = self;
-        stage.use_last(&mut kept);
-        kept.set_bound(None);
-        let mut session = Session::new(alloc, circuit)?;
-        session.kept = kept;
-        Ok(session)
-    }
-
+impl<M: Stage> Session<M> {
     /// The circuit, as edited so far.
     pub fn circuit(&self) -> &Circuit
         ensures value { result.now ≡ self.now.core.circuit }
-        ensures session { IsHeldSession self.now }
+        ensures session { IsHeldSession M.lanes M.states M.serves self.now }
     {
         &self.circuit
-    }
-
-    /// The state of each node.
-    pub fn state(&self) -> &[Tern]
-        ensures { result.now ≡ self.now.core.state }
-    {
-        self.stage.state()
     }
 
     /// The nodes that are watched, in the order of the watch list.
@@ -151,21 +98,91 @@ impl Session {
         &self.vectors
     }
 
+    /// The stage that moves the state: it serves the circuit with what is kept. After a unit step, a phase, a cycle or a
+    /// report it fits the circuit, until an edit.
+    pub fn stage(&self) -> &M
+        ensures value { result.now ≡ self.now.stage }
+        ensures session { IsHeldSession M.lanes M.states M.serves self.now }
+    {
+        &self.stage
+    }
+
+    /// Each session is well formed: a call of this is for its contract alone.
+    pub(crate) fn is_well_formed(&self)
+        ensures { IsHeldSession M.lanes M.states M.serves self.now }
+    {
+        let _ = &self.alloc;
+    }
+}
+
+impl<M: PlainStage> Session<M> {
+    /// A session at its start: Gnd is 0, Vdd is 1 and every other node X; nothing is watched, there
+    /// are no clocks, a phase has the limit 100, nothing is kept, and there is no bound. Out of memory the circuit is
+    /// dropped.
+    pub fn new(alloc: Global, circuit: Circuit) -> Result<Session<M>, NoMemory>
+        ensures core { IfOk result (λ session. session.core ≡ start_of circuit) }
+        ensures starts { IfOk result (λ session. M.starts session.stage) }
+    {
+        let kept = Kept::with_keys(alloc, circuit.keys());
+        Self::start(alloc, circuit, kept)
+    }
+
+    // A session at its start which keeps these, without a bound.
+    fn start(alloc: Global, circuit: Circuit, kept: Kept) -> Result<Session<M>, NoMemory>
+        requires { kept.bound ≡ None }
+        ensures core { IfOk result (λ session. session.core ≡ record (start_of circuit) { kept = texts_of kept }) }
+        ensures starts { IfOk result (λ session. M.starts session.stage) }
+    {
+        let state = first_states(alloc, &circuit)?;
+        // For the proof alone: a circuit's graph is well formed.
+        let _graph = circuit.graph();
+        let vectors = Vectors::new(alloc, circuit.keys());
+        Ok(Session {
+            alloc,
+            circuit,
+            stage: M::still(state),
+            watched: Vec::new(alloc),
+            clocks: Vec::new(alloc),
+            limit: FIRST_LIMIT,
+            count: 0,
+            missed: false,
+            vectors,
+            saves: Vec::new(alloc),
+            kept,
+            large: 0,
+            fresh: 0,
+        })
+    }
+
+    /// A session at its start over another circuit, in which what this one keeps is kept still, without a bound.
+    /// Out of memory both are dropped.
+    pub fn restart(self, circuit: Circuit) -> Result<Session<M>, NoMemory>
+        ensures core { IfOk result (λ session. session.core ≡ record (start_of circuit) { kept = self.core.kept }) }
+        ensures starts { IfOk result (λ session. M.starts session.stage) }
+    {
+        let Session {
+            alloc,
+            stage,
+            mut kept,
+            ..
+        } = self;
+        stage.use_last(&mut kept);
+        kept.set_bound(None);
+        Self::start(alloc, circuit, kept)
+    }
+
+    /// The state of each node.
+    pub fn state(&self) -> &[Tern]
+        ensures { result.now ≡ self.now.core.state }
+    {
+        self.stage.column()
+    }
+
     /// Whether each expectation so far was met.
     pub fn met(&self) -> bool
         ensures { result ≡ not self.now.core.missed }
     {
         !self.missed
-    }
-
-    /// The machine that moves the state, if there is one: it covers the circuit, has the state, and
-    /// each text whose code a part has is kept. After a unit step, a phase, a cycle or a report it fits the
-    /// circuit, until an edit makes some of its parts stale. How much room it has for new nodes isn't told.
-    pub fn machine(&self) -> Option<&Machine>
-        ensures value { option_map (λ machine. without_room machine.now) result ≡ self.now.machine }
-        ensures machine { IfSome self.now.machine (IsMachineOf self.now.core) }
-    {
-        self.stage.machine()
     }
 
     /// Does a command, and tells its lines.
@@ -176,10 +193,8 @@ impl Session {
     /// analyst is given each text of its groups that isn't kept, once, and its code is kept. The texts of its
     /// groups are the most recently used ones then, and what is past the bound is cut, but none of these.
     ///
-    /// The machine then stays. An edit makes the parts of the groups that it touches stale, and no others;
-    /// these get their codes at the next build. Only an edit can end with no machine if there was one: it
-    /// lacked memory for that, or most of the machine's parts were left by groups that earlier edits dissolved; it
-    /// is accepted, and the next build makes another machine, without analysing again what is kept.
+    /// What is done to the stage is told act by act, and what an act does to it is the stage's own. A command that is
+    /// refused, or lacks memory before it began, leaves it as it was, but that room for new nodes may have been taken.
     ///
     /// A fault of the hearer ends the command: nothing is told after the one call that failed, so its count
     /// rose by one, and at no other answer. Then a prefix of the command's lines was heard, and of the next one a
@@ -194,12 +209,14 @@ impl Session {
         out: &mut L,
     ) -> Result<(), ApplyFault>
         requires { IsFormed command.now }
-        ensures obeys { Obeys L.hear L.part self.old command.now self.new (L.heard out.old) (L.heard out.new)
+        ensures obeys { Obeys L.hear L.part self.old.core command.now self.new.core (L.heard out.old) (L.heard out.new)
+            (A.analysed analyst.old) (A.analysed analyst.new) (L.refusals out.old) (L.refusals out.new) result }
+        ensures stage { ObeysOn L.hear L.part M.did self.old command.now self.new (L.heard out.old) (L.heard out.new)
             (A.analysed analyst.old) (A.analysed analyst.new) (L.refusals out.old) (L.refusals out.new) result }
         ensures faults { L.faults out.new ≡ faults_applied (L.faults out.old) result }
-        ensures machine { OnOk result (IsMachineAfter self.old command.now self.new) }
         ensures named { IfErr result (NamesNode self.new.core.circuit.graph) }
-        ensures session { IsHeldSession self.new }
+        ensures before { IsHeldSession M.lanes M.states M.serves self.old }
+        ensures session { IsHeldSession M.lanes M.states M.serves self.new }
     {
         self.apply_seen(command, analyst, out, &mut Blind {})
     }
@@ -220,12 +237,14 @@ impl Session {
     ) -> Result<(), ApplyFault>
         requires formed { IsFormed command.now }
         requires knows { O.knows onlooker.old self.old.core.state }
-        ensures obeys { Obeys L.hear L.part self.old command.now self.new (L.heard out.old) (L.heard out.new)
+        ensures obeys { Obeys L.hear L.part self.old.core command.now self.new.core (L.heard out.old) (L.heard out.new)
+            (A.analysed analyst.old) (A.analysed analyst.new) (L.refusals out.old) (L.refusals out.new) result }
+        ensures stage { ObeysOn L.hear L.part M.did self.old command.now self.new (L.heard out.old) (L.heard out.new)
             (A.analysed analyst.old) (A.analysed analyst.new) (L.refusals out.old) (L.refusals out.new) result }
         ensures faults { L.faults out.new ≡ faults_applied (L.faults out.old) result }
-        ensures machine { OnOk result (IsMachineAfter self.old command.now self.new) }
         ensures named { IfErr result (NamesNode self.new.core.circuit.graph) }
-        ensures session { IsHeldSession self.new }
+        ensures before { IsHeldSession M.lanes M.states M.serves self.old }
+        ensures session { IsHeldSession M.lanes M.states M.serves self.new }
         ensures seen { OnOk result (Sees O.begin O.see O.rest (PassesThrough self.old.core command.now) (O.seen onlooker.old) (O.seen onlooker.new)) }
         ensures knows { OnOk result (KnowsBehind O.knows onlooker.new self.old.core command.now self.new.core) }
         ensures unseen { IsUnseen onlooker.old onlooker.new (L.faults out.old) (L.faults out.new) (L.refusals out.old) (L.refusals out.new) result }
@@ -234,13 +253,6 @@ impl Session {
         let outcome = self.obey(command, analyst, out, onlooker);
         self.is_well_formed();
         outcome
-    }
-
-    // Each session is well formed: a call of this is for its contract alone.
-    fn is_well_formed(&self)
-        ensures { IsHeldSession self.now }
-    {
-        let _ = &self.alloc;
     }
 
     // Does a command, and tells its lines.
@@ -253,11 +265,10 @@ impl Session {
     ) -> Result<(), ApplyFault>
         requires formed { IsFormed command.now }
         requires knows { O.knows onlooker.old self.old.core.state }
-        requires session { IsHeldSession self.old }
-        ensures obeys { Obeys L.hear L.part self.old command.now self.new (L.heard out.old) (L.heard out.new)
+        requires session { IsHeldSession M.lanes M.states M.serves self.old }
+        ensures obeys { ObeysOn L.hear L.part M.did self.old command.now self.new (L.heard out.old) (L.heard out.new)
             (A.analysed analyst.old) (A.analysed analyst.new) (L.refusals out.old) (L.refusals out.new) result }
         ensures faults { L.faults out.new ≡ faults_applied (L.faults out.old) result }
-        ensures machine { OnOk result (IsMachineAfter self.old command.now self.new) }
         ensures seen { OnOk result (Sees O.begin O.see O.rest (PassesThrough self.old.core command.now) (O.seen onlooker.old) (O.seen onlooker.new)) }
         ensures knows { OnOk result (KnowsBehind O.knows onlooker.new self.old.core command.now self.new.core) }
         ensures unseen { IsUnseen onlooker.old onlooker.new (L.faults out.old) (L.faults out.new) (L.refusals out.old) (L.refusals out.new) result }
@@ -270,4 +281,14 @@ impl Session {
             Command::Tell(tell) => self.tell(tell, out),
         }
     }
+}
+
+// The states at a start: Gnd is 0, Vdd is 1 and every other node X.
+fn first_states(alloc: Global, circuit: &Circuit) -> Result<Vec<Tern>, NoMemory>
+    ensures { IfOk result (λ states. states.items ≡ (start_of circuit.now).state) }
+{
+    let mut states = vec![in alloc; Tern::Unk; circuit.graph().nodes()]?;
+    states[0] = Tern::Zero;
+    states[1] = Tern::One;
+    Ok(states)
 }

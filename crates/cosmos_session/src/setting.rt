@@ -6,24 +6,26 @@ ghost use Rattle.netlist.specs.Names.{node_of};
 ghost use Rattle.script_lang.specs.declared.command.Command.TheVariants as family;
 ghost use Rattle.script_lang.specs.declared.command.Setup.TheVariants as asked;
 ghost use Rattle.script_lang.specs.Forms.{AreBeats, IsFormedSetup, IsTimes};
+ghost use Rattle.lane_script.specs.Commands.{IsSharedSetup};
 ghost use Rattle.session_meaning.specs.Effects as effect;
 ghost use Rattle.session_meaning.specs.Outcomes.{Quietly};
 
 use crate::naming::few_nodes;
 use crate::refusals;
 use crate::session::Session;
+use column_stage::{PlainStage, Stage};
 use netlist::Circuit;
 use script_lang::{ClockList, Name, NameList, Setup, StateList};
 use session_meaning::{ApplyFault, Clock, MOST_WATCHED, Refusal};
 use std::alloc::Global;
 use ternary::NoMemory;
 
-impl Session {
+impl<M: PlainStage> Session<M> {
     /// Sets what later commands go by.
     pub(crate) fn set_up(&mut self, setup: &Setup) -> Result<(), ApplyFault>
         requires { IsFormedSetup setup.now }
-        ensures quiet { Quietly self.old (family.Setup setup.now) self.new result }
-        ensures machine { self.new.machine ≡ self.old.machine }
+        ensures quiet { Quietly self.old.core (family.Setup setup.now) self.new.core result }
+        ensures stage { self.new.stage ≡ self.old.stage }
     {
         match setup {
             Setup::Watch(names) => self.watch(names),
@@ -35,11 +37,29 @@ impl Session {
             Setup::Vector(name, words) => self.set_vector(name, words),
         }
     }
+}
+
+impl<M: Stage> Session<M> {
+    /// Sets what later commands go by, which is the same in all columns.
+    pub(crate) fn set_up_alike(&mut self, setup: &Setup) -> Result<(), ApplyFault>
+        requires { IsFormedSetup setup.now × IsSharedSetup setup.now }
+        ensures quiet { Quietly self.old.core (family.Setup setup.now) self.new.core result }
+        ensures stage { self.new.stage ≡ self.old.stage }
+    {
+        match setup {
+            Setup::Watch(names) => self.watch(names),
+            Setup::Limit(number) => self.set_limit(*number),
+            Setup::Clock(list) => self.set_clocks(list),
+            Setup::Widen(number) => self.set_large(*number),
+            Setup::Vector(name, words) => self.set_vector(name, words),
+            Setup::Keep(_) | Setup::Save(_) => unreachable!(),
+        }
+    }
 
     // `watch`: appends the named nodes to the watch list.
     fn watch(&mut self, names: &NameList) -> Result<(), ApplyFault>
-        ensures quiet { Quietly self.old (family.Setup (asked.Watch names.now)) self.new result }
-        ensures machine { self.new.machine ≡ self.old.machine }
+        ensures quiet { Quietly self.old.core (family.Setup (asked.Watch names.now)) self.new.core result }
+        ensures stage { self.new.stage ≡ self.old.stage }
     {
         let (circuit, vectors) = (&self.circuit, &self.vectors);
         if let Some(refusal) = refusals::known_refusal(circuit, vectors, names.items()) {
@@ -56,8 +76,8 @@ impl Session {
 
     // `vector`: gives a name to the nodes that these words stand for.
     fn set_vector(&mut self, name: &Name, words: &NameList) -> Result<(), ApplyFault>
-        ensures quiet { Quietly self.old (family.Setup (asked.Vector name.now words.now)) self.new result }
-        ensures machine { self.new.machine ≡ self.old.machine }
+        ensures quiet { Quietly self.old.core (family.Setup (asked.Vector name.now words.now)) self.new.core result }
+        ensures stage { self.new.stage ≡ self.old.stage }
     {
         let vectors = &mut self.vectors;
         match vectors.define(self.alloc, &self.circuit, name.items(), words.items()) {
@@ -69,8 +89,8 @@ impl Session {
     // `limit`: sets the limit of a phase.
     fn set_limit(&mut self, limit: u64) -> Result<(), ApplyFault>
         requires { IsTimes limit }
-        ensures quiet { Quietly self.old (family.Setup (asked.Limit limit)) self.new result }
-        ensures machine { self.new.machine ≡ self.old.machine }
+        ensures quiet { Quietly self.old.core (family.Setup (asked.Limit limit)) self.new.core result }
+        ensures stage { self.new.stage ≡ self.old.stage }
     {
         self.limit = limit;
         Ok(())
@@ -78,8 +98,8 @@ impl Session {
 
     // `keep`: sets the bound on the number of texts that are kept. The next build cuts what is past it.
     fn set_bound(&mut self, number: u64) -> Result<(), ApplyFault>
-        ensures quiet { Quietly self.old (family.Setup (asked.Keep number)) self.new result }
-        ensures machine { self.new.machine ≡ self.old.machine }
+        ensures quiet { Quietly self.old.core (family.Setup (asked.Keep number)) self.new.core result }
+        ensures stage { self.new.stage ≡ self.old.stage }
     {
         self.kept.set_bound(Some(number));
         Ok(())
@@ -87,8 +107,8 @@ impl Session {
 
     // `wide`: sets how many members a group without a text may have. The next build goes by it.
     fn set_large(&mut self, number: u64) -> Result<(), ApplyFault>
-        ensures quiet { Quietly self.old (family.Setup (asked.Widen number)) self.new result }
-        ensures machine { self.new.machine ≡ self.old.machine }
+        ensures quiet { Quietly self.old.core (family.Setup (asked.Widen number)) self.new.core result }
+        ensures stage { self.new.stage ≡ self.old.stage }
     {
         self.large = number as usize;
         Ok(())
@@ -97,8 +117,8 @@ impl Session {
     // `clock`: puts these clocks in place of all others.
     fn set_clocks(&mut self, list: &ClockList) -> Result<(), ApplyFault>
         requires { AreBeats list.now }
-        ensures quiet { Quietly self.old (family.Setup (asked.Clock list.now)) self.new result }
-        ensures machine { self.new.machine ≡ self.old.machine }
+        ensures quiet { Quietly self.old.core (family.Setup (asked.Clock list.now)) self.new.core result }
+        ensures stage { self.new.stage ≡ self.old.stage }
     {
         if let Some(refusal) = refusals::clocks_refusal(&self.circuit, list.items()) {
             return Err(ApplyFault::Refused(refusal));

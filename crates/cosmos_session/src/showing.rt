@@ -10,6 +10,7 @@ ghost use Rattle.cosmos_session.specs.Showing.{IsGivenBy};
 
 use crate::session::Session;
 use crate::values::Target;
+use column_stage::PlainStage;
 use oscillation_x::{Moved, Onlooker, unfailing};
 use script_lang::{Command, Give};
 use ternary::{NoMemory, Tern};
@@ -64,7 +65,7 @@ impl Moved for Whole<'_> {
     }
 }
 
-impl Session {
+impl<M: PlainStage> Session<M> {
     /// Shows an onlooker the state behind a command that was accepted under its eyes, by `apply_seen`.
     ///
     /// It looks at the nodes to which the command gave states, and behind `back` at all. Out of memory, which an edit alone
@@ -80,7 +81,7 @@ impl Session {
         ensures edit { OnErr result ((edit : Edit) × (command.now ≡ family.Edit edit)) }
     {
         match command {
-            Command::Edit(_) => onlooker.grow(self.stage.state())?,
+            Command::Edit(_) => onlooker.grow(self.stage.column())?,
             Command::Give(give) => self.show_given(give, onlooker),
             Command::Setup(_) | Command::Run(_) | Command::Tell(_) => self.show_still(onlooker),
         }
@@ -93,7 +94,7 @@ impl Session {
         ensures seen { O.seen onlooker.new ≡ O.see (O.seen onlooker.old) self.now.core.state }
         ensures knows { O.knows onlooker.new self.now.core.state }
     {
-        let state = self.stage.state();
+        let state = self.stage.column();
         unfailing(onlooker.see(&Given { state, pairs: &[] }));
     }
 
@@ -103,7 +104,7 @@ impl Session {
         ensures seen { O.seen onlooker.new ≡ O.see (O.seen onlooker.old) self.now.core.state }
         ensures knows { O.knows onlooker.new self.now.core.state }
     {
-        let state = self.stage.state();
+        let state = self.stage.column();
         match self.given_by(give, onlooker.is_looking()) {
             Some(pairs) => unfailing(onlooker.see(&Given {
                 state,

@@ -1,8 +1,8 @@
 //! The commands that have the circuit built: unit steps, phases and cycles, and their waveform lines.
 
-ghost use Rattle.std.specs.Prelude.{◌≡◌, ◌<◌, ◌≤◌, ◌+◌, [], ◌∷◌, length, slice_set, All, IfErr, IfSome, OnOk};
+ghost use Rattle.std.specs.Prelude.{◌≡◌, ◌<◌, ◌≤◌, ◌+◌, List, [], ◌∷◌, length, slice_set, All, IfErr, OnOk};
 ghost use Rattle.std.specs.List.{range_with_len};
-ghost use Rattle.path_meaning.specs.Graphs.{level_of};
+ghost use Rattle.path_meaning.specs.Graphs.{nodes};
 ghost use Rattle.path_meaning.specs.Switching.{state_at};
 ghost use Rattle.path_meaning.specs.declared.TheConstants.{RAILS};
 ghost use Rattle.wave_print.specs.declared.lines.TheConstants.{COLUMN_ROOM, WAVE_LINE_ROOM};
@@ -12,27 +12,29 @@ ghost use Rattle.script_lang.specs.Forms.{IsFormedRun, IsTimes};
 ghost use Rattle.session_meaning.specs.Sessions.{places_of, IsReady};
 ghost use Rattle.session_meaning.specs.Effects as effect;
 ghost use Rattle.session_meaning.specs.Effects.{IsPhase};
-ghost use Rattle.session_meaning.specs.Machines.{IsBuilt, RunsMachine, StepsMachine, SettlesMachine};
+ghost use Rattle.column_stage.specs.Acts.{Leads, Placed, Rested, Stepped};
+ghost use Rattle.column_stage.specs.Columns.{AreSound};
+ghost use Rattle.group_text.specs.Texts.{GroupTextData};
 ghost use Rattle.session_meaning.specs.Passing.{IsPhasePass, IsStepPass, IsUnseen, KnowsButClocks, RunThrough, Sees, SeesBeats, SeesPass};
-ghost use Rattle.session_meaning.specs.Stages.{IsUnitStepDone, IsSettled, PhaseMoves, BeatsMove, BeatsMoveOn, PutsIn, TicksIn, StaysPut, SameSetup};
+ghost use Rattle.session_meaning.specs.Stages.{IsUnitStepDone, IsSettled, ObeysOn, PhaseOn, BeatsOn, BeatsGoOn, SameSetup, acts_of_clocks};
 ghost use Rattle.session_meaning.specs.Sinks.{IsSinkFault, faults_applied, refusals_sent};
-ghost use Rattle.session_meaning.specs.Outcomes.{Obeys, TakesBeats, IsDoneAndSent, Sent};
+ghost use Rattle.session_meaning.specs.Outcomes.{TakesBeats, IsDoneAndSent, Sent};
 
+use crate::placing::put_in_all;
 use crate::putting::begin_at;
 use crate::refusals;
 use crate::session::Session;
-use crate::stage::Stage;
 use crate::waves::WaveRoom;
 use analysis_cache::Analyst;
+use column_stage::{PlainStage, Stage};
 use oscillation_x::{Onlooker, Settled};
-use path_meaning::{Graph, graphs_are_wired};
+use path_meaning::Graph;
 use script_lang::Run;
 use session_meaning::{ApplyFault, Clock, places_of};
-use strength_order::INPUT_LEVEL;
 use told_lines::Lines;
 use wave_print::{COLUMN_ROOM, WAVE_LINE_ROOM};
 
-impl Session {
+impl<M: PlainStage> Session<M> {
     /// Has the circuit built, and does what the command says, under the eyes of an onlooker.
     pub(crate) fn run<A: Analyst, L: Lines, O: Onlooker>(
         &mut self,
@@ -43,10 +45,9 @@ impl Session {
     ) -> Result<(), ApplyFault>
         requires formed { IsFormedRun run.now }
         requires knows { O.knows onlooker.old self.old.core.state }
-        ensures obeys { Obeys L.hear L.part self.old (family.Run run.now) self.new (L.heard out.old) (L.heard out.new)
+        ensures obeys { ObeysOn L.hear L.part M.did self.old (family.Run run.now) self.new (L.heard out.old) (L.heard out.new)
             (A.analysed analyst.old) (A.analysed analyst.new) (L.refusals out.old) (L.refusals out.new) result }
         ensures faults { L.faults out.new ≡ faults_applied (L.faults out.old) result }
-        ensures machine { OnOk result (RunsMachine self.old run.now self.new) }
         ensures seen { OnOk result (Sees O.begin O.see O.rest (RunThrough self.old.core run.now) (O.seen onlooker.old) (O.seen onlooker.new)) }
         ensures knows { OnOk result (O.knows onlooker.new self.new.core.state) }
         ensures unseen { IsUnseen onlooker.old onlooker.new (L.faults out.old) (L.faults out.new) (L.refusals out.old) (L.refusals out.new) result }
@@ -60,6 +61,7 @@ impl Session {
     }
 
     // `step`: one unit step, and its waveform line.
+    #[tactic(auto, using(session_meaning::proofs::OutcomeLemmas::stopped_obeys))]
     fn step<A: Analyst, L: Lines, O: Onlooker>(
         &mut self,
         analyst: &mut A,
@@ -67,10 +69,9 @@ impl Session {
         onlooker: &mut O,
     ) -> Result<(), ApplyFault>
         requires knows { O.knows onlooker.old self.old.core.state }
-        ensures obeys { Obeys L.hear L.part self.old (family.Run asked.Step) self.new (L.heard out.old) (L.heard out.new)
+        ensures obeys { ObeysOn L.hear L.part M.did self.old (family.Run asked.Step) self.new (L.heard out.old) (L.heard out.new)
             (A.analysed analyst.old) (A.analysed analyst.new) (L.refusals out.old) (L.refusals out.new) result }
         ensures faults { L.faults out.new ≡ faults_applied (L.faults out.old) result }
-        ensures machine { OnOk result (StepsMachine self.old self.new) }
         ensures seen { OnOk result (Sees O.begin O.see O.rest (RunThrough self.old.core asked.Step) (O.seen onlooker.old) (O.seen onlooker.new)) }
         ensures knows { OnOk result (O.knows onlooker.new self.new.core.state) }
         ensures unseen { IsUnseen onlooker.old onlooker.new (L.faults out.old) (L.faults out.new) (L.refusals out.old) (L.refusals out.new) result }
@@ -83,7 +84,7 @@ impl Session {
     }
 
     // `phase`: unit steps until nothing changes, past the limit joining ones, and a waveform line.
-    #[tactic(auto, using(session_meaning::proofs::OutcomeLemmas::on_ok, session_meaning::proofs::MoveLemmas::phase_readied))]
+    #[tactic(auto, using(session_meaning::proofs::OutcomeLemmas::on_ok, session_meaning::proofs::MoveLemmas::phase_readied, session_meaning::proofs::OutcomeLemmas::stopped_obeys))]
     fn phase<A: Analyst, L: Lines, O: Onlooker>(
         &mut self,
         analyst: &mut A,
@@ -91,10 +92,9 @@ impl Session {
         onlooker: &mut O,
     ) -> Result<(), ApplyFault>
         requires knows { O.knows onlooker.old self.old.core.state }
-        ensures obeys { Obeys L.hear L.part self.old (family.Run asked.Phase) self.new (L.heard out.old) (L.heard out.new)
+        ensures obeys { ObeysOn L.hear L.part M.did self.old (family.Run asked.Phase) self.new (L.heard out.old) (L.heard out.new)
             (A.analysed analyst.old) (A.analysed analyst.new) (L.refusals out.old) (L.refusals out.new) result }
         ensures faults { L.faults out.new ≡ faults_applied (L.faults out.old) result }
-        ensures machine { OnOk result (SettlesMachine self.old asked.Phase self.new) }
         ensures seen { OnOk result (Sees O.begin O.see O.rest (RunThrough self.old.core asked.Phase) (O.seen onlooker.old) (O.seen onlooker.new)) }
         ensures knows { OnOk result (O.knows onlooker.new self.new.core.state) }
         ensures unseen { IsUnseen onlooker.old onlooker.new (L.faults out.old) (L.faults out.new) (L.refusals out.old) (L.refusals out.new) result }
@@ -107,6 +107,7 @@ impl Session {
 
     // `cycle`: so many times, for each place of the clocks in order, sets their nodes and does what
     // a phase does.
+    #[tactic(auto, using(session_meaning::proofs::OutcomeLemmas::stopped_obeys, session_meaning::proofs::OutcomeLemmas::fault_obeys))]
     fn cycle<A: Analyst, L: Lines, O: Onlooker>(
         &mut self,
         times: u64,
@@ -116,10 +117,9 @@ impl Session {
     ) -> Result<(), ApplyFault>
         requires times { IsTimes times }
         requires knows { O.knows onlooker.old self.old.core.state }
-        ensures obeys { Obeys L.hear L.part self.old (family.Run (asked.Cycle times)) self.new (L.heard out.old) (L.heard out.new)
+        ensures obeys { ObeysOn L.hear L.part M.did self.old (family.Run (asked.Cycle times)) self.new (L.heard out.old) (L.heard out.new)
             (A.analysed analyst.old) (A.analysed analyst.new) (L.refusals out.old) (L.refusals out.new) result }
         ensures faults { L.faults out.new ≡ faults_applied (L.faults out.old) result }
-        ensures machine { OnOk result (SettlesMachine self.old (asked.Cycle times) self.new) }
         ensures seen { OnOk result (Sees O.begin O.see O.rest (RunThrough self.old.core (asked.Cycle times)) (O.seen onlooker.old) (O.seen onlooker.new)) }
         ensures knows { OnOk result (O.knows onlooker.new self.new.core.state) }
         ensures unseen { IsUnseen onlooker.old onlooker.new (L.faults out.old) (L.faults out.new) (L.refusals out.old) (L.refusals out.new) result }
@@ -133,8 +133,7 @@ impl Session {
         self.run_cycles(times, &mut room, out, onlooker)
     }
 
-    // Runs the clocks through all their places, so many times. The machine fits, and the clocks' nodes
-    // are input nodes.
+    // Runs the clocks through all their places, so many times. The stage fits.
     fn run_cycles<L: Lines, O: Onlooker>(
         &mut self,
         times: u64,
@@ -143,14 +142,13 @@ impl Session {
         onlooker: &mut O,
     ) -> Result<(), ApplyFault>
         requires knows { O.knows onlooker.old self.old.core.state }
-        requires built { IsBuilt self.old }
-        requires inputs { All (λ clock. level_of self.old.core.circuit.graph clock.node ≡ INPUT_LEVEL) self.old.core.clocks }
+        requires fits { M.fits self.old.stage self.old.core.circuit.graph }
         requires ready { IsReady self.old.core }
         requires room { length self.old.core.watched ≤ room.old }
         requires line { COLUMN_ROOM + WAVE_LINE_ROOM ≤ L.room out.old }
         ensures beats { TakesBeats L.hear L.part (effect.places_in (places_of self.old.core.clocks) times) self.old.core self.new.core (L.heard out.old) (L.heard out.new) result }
-        ensures moves { OnOk result (BeatsMove (effect.places_in (places_of self.old.core.clocks) times) self.old self.new) }
-        ensures built { IsBuilt self.new }
+        ensures stage { OnOk result (BeatsOn M.did (effect.places_in (places_of self.old.core.clocks) times) self.old self.new) }
+        ensures fits { M.fits self.new.stage self.new.core.circuit.graph }
         ensures cause { IfErr result IsSinkFault }
         ensures faults { L.faults out.new ≡ faults_applied (L.faults out.old) result }
         ensures refusals { L.refusals out.new ≡ refusals_sent (L.refusals out.old) result }
@@ -163,8 +161,7 @@ impl Session {
         Ok(())
     }
 
-    // Runs the clocks through all their places once. The machine fits, and the clocks' nodes are input
-    // nodes.
+    // Runs the clocks through all their places once. The stage fits.
     fn run_cycle<L: Lines, O: Onlooker>(
         &mut self,
         room: &mut WaveRoom,
@@ -172,16 +169,15 @@ impl Session {
         onlooker: &mut O,
     ) -> Result<(), ApplyFault>
         requires knows { O.knows onlooker.old self.old.core.state }
-        requires built { IsBuilt self.old }
-        requires inputs { All (λ clock. level_of self.old.core.circuit.graph clock.node ≡ INPUT_LEVEL) self.old.core.clocks }
+        requires fits { M.fits self.old.stage self.old.core.circuit.graph }
         requires room { length self.old.core.watched ≤ room.old }
         requires line { COLUMN_ROOM + WAVE_LINE_ROOM ≤ L.room out.old }
         ensures beats { TakesBeats L.hear L.part (range_with_len 0 (places_of self.old.core.clocks)) self.old.core self.new.core (L.heard out.old) (L.heard out.new) result }
-        ensures moves { OnOk result (BeatsMoveOn (range_with_len 0 (places_of self.old.core.clocks)) self.old self.new) }
+        ensures stage { OnOk result (BeatsGoOn M.did (range_with_len 0 (places_of self.old.core.clocks)) self.old self.new) }
         ensures room { room.new ≡ room.old }
         ensures line { L.room out.new ≡ L.room out.old }
         ensures setup { SameSetup self.old.core self.new.core }
-        ensures built { IsBuilt self.new }
+        ensures fits { M.fits self.new.stage self.new.core.circuit.graph }
         ensures cause { IfErr result IsSinkFault }
         ensures faults { L.faults out.new ≡ faults_applied (L.faults out.old) result }
         ensures refusals { L.refusals out.new ≡ refusals_sent (L.refusals out.old) result }
@@ -195,44 +191,32 @@ impl Session {
         Ok(())
     }
 
-    // Gives each clock's node its state at a place. The machine fits, and the nodes are input nodes.
-    fn put_clocks(&mut self, place: usize)
-        requires built { IsBuilt self.old }
-        requires place { place < places_of self.old.core.clocks }
-        requires inputs { All (λ clock. level_of self.old.core.circuit.graph clock.node ≡ INPUT_LEVEL) self.old.core.clocks }
-        ensures beat { self.new.core ≡ effect.with_beat self.old.core place }
-        ensures built { IsBuilt self.new }
-        ensures stays { StaysPut self.old.machine self.new.machine }
-    {
-        put_states(&self.clocks, place, self.circuit.graph(), &mut self.stage);
-    }
-
     // Shows that a step or a phase begins.
     fn begin<O: Onlooker>(&self, onlooker: &mut O)
         requires { KnowsButClocks O.knows onlooker.old self.now.core.clocks self.now.core.state }
         ensures seen { O.seen onlooker.new ≡ O.begin (O.seen onlooker.old) self.now.core.state }
         ensures knows { O.knows onlooker.new self.now.core.state }
     {
-        begin_at(self.stage.state(), &self.clocks, onlooker);
+        begin_at(self.stage.column(), &self.clocks, onlooker);
     }
 
-    // Takes a unit step under the eyes of an onlooker, and counts its waveform line. The machine fits.
+    // Takes a unit step under the eyes of an onlooker, and counts its waveform line. The stage fits.
     fn take_step<O: Onlooker>(&mut self, onlooker: &mut O)
-        requires built { IsBuilt self.old }
+        requires fits { M.fits self.old.stage self.old.core.circuit.graph }
         requires knows { KnowsButClocks O.knows onlooker.old self.old.core.clocks self.old.core.state }
         ensures step { IsUnitStepDone self.old.core self.new.core }
-        ensures machine { StepsMachine self.old self.new }
+        ensures stage { M.did (Stepped self.old.core.circuit.graph) self.old.stage self.new.stage }
         ensures seen { SeesPass O.begin O.see O.rest (IsStepPass self.old.core.circuit.graph self.old.core.state)
             self.new.core.state (O.seen onlooker.old) (O.seen onlooker.new) }
         ensures knows { O.knows onlooker.new self.new.core.state }
     {
         self.begin(onlooker);
-        self.stage.step(self.circuit.graph(), onlooker);
+        self.stage.step_seen(self.circuit.graph(), onlooker);
         self.count = self.count.saturating_add(1);
         onlooker.rest(1);
     }
 
-    // Does what a phase does, and tells its waveform line. The machine fits.
+    // Does what a phase does, and tells its waveform line. The stage fits.
     fn settle_and_tell<L: Lines, O: Onlooker>(
         &mut self,
         room: &mut WaveRoom,
@@ -240,12 +224,12 @@ impl Session {
         onlooker: &mut O,
     ) -> Result<(), ApplyFault>
         requires knows { KnowsButClocks O.knows onlooker.old self.old.core.clocks self.old.core.state }
-        requires built { IsBuilt self.old }
+        requires fits { M.fits self.old.stage self.old.core.circuit.graph }
         requires room { length self.old.core.watched ≤ room.old }
         requires line { COLUMN_ROOM + WAVE_LINE_ROOM ≤ L.room out.old }
         ensures phase { IsDoneAndSent IsPhase L.hear L.part self.old.core self.new.core (L.heard out.old) (L.heard out.new) result }
-        ensures moves { PhaseMoves self.old self.new }
-        ensures built { IsBuilt self.new }
+        ensures stage { PhaseOn M.did self.old self.new }
+        ensures fits { M.fits self.new.stage self.new.core.circuit.graph }
         ensures setup { SameSetup self.old.core self.new.core }
         ensures room { room.new ≡ room.old }
         ensures line { L.room out.new ≡ L.room out.old }
@@ -260,19 +244,20 @@ impl Session {
         self.tell_wave(settled.steps, settled.joined, room, out)
     }
 
-    // Settles under the eyes of an onlooker, and counts the waveform line. The machine fits.
+    // Settles under the eyes of an onlooker, and counts the waveform line. The stage fits.
     fn settle<O: Onlooker>(&mut self, onlooker: &mut O) -> Settled
-        requires built { IsBuilt self.old }
+        requires fits { M.fits self.old.stage self.old.core.circuit.graph }
         requires knows { KnowsButClocks O.knows onlooker.old self.old.core.clocks self.old.core.state }
-        ensures settled { IsSettled self.old self.new result.steps result.joined }
-        ensures built { IsBuilt self.new }
+        ensures settled { IsSettled self.old.core self.new.core result.steps result.joined }
+        ensures stage { M.did (Rested self.old.core.circuit.graph self.old.core.limit (result ∷ [])) self.old.stage self.new.stage }
+        ensures fits { M.fits self.new.stage self.new.core.circuit.graph }
         ensures seen { SeesPass O.begin O.see O.rest (IsPhasePass self.old.core.circuit.graph self.old.core.limit self.old.core.state)
             self.new.core.state (O.seen onlooker.old) (O.seen onlooker.new) }
         ensures knows { O.knows onlooker.new self.new.core.state }
     {
         self.begin(onlooker);
         let graph = self.circuit.graph();
-        let settled = self.stage.settle(graph, self.limit, onlooker);
+        let settled = self.stage.settle_seen(graph, self.limit, onlooker);
         self.count = self.count.saturating_add(1);
         onlooker.rest(settled.steps);
         settled
@@ -295,34 +280,58 @@ impl Session {
         ensures faults { L.faults out.new ≡ faults_applied (L.faults out.old) result }
         ensures refusals { L.refusals out.new ≡ refusals_sent (L.refusals out.old) result }
     {
-        let state = self.stage.state();
+        let state = self.stage.column();
         room.tell(self.count, k, mark, state, &self.watched, out)
     }
 }
 
-// Gives each clock's node its state at a place.
-fn put_states(clocks: &[Clock], place: usize, graph: &Graph, stage: &mut Stage)
-    requires within { All (λ clock. clock.node < length stage.old.state) clocks.now }
+impl<M: Stage> Session<M> {
+    /// Gives each clock's node its state at a place, in each column. The stage fits.
+    pub(crate) fn put_clocks(&mut self, place: usize)
+        requires fits { M.fits self.old.stage self.old.core.circuit.graph }
+        requires place { place < places_of self.old.core.clocks }
+        ensures beat { self.new.core ≡ effect.with_beat self.old.core place }
+        ensures fits { M.fits self.new.stage self.new.core.circuit.graph }
+        ensures stage { Leads M.did self.old.stage (acts_of_clocks self.old.core.circuit.graph self.old.core.clocks place) self.new.stage }
+    {
+        put_states(&self.clocks, place, self.circuit.graph(), &mut self.stage);
+    }
+}
+
+// Gives each clock's node its state at a place, in each column.
+fn put_states<M: Stage>(clocks: &[Clock], place: usize, graph: &Graph, stage: &mut M)
+    requires some { 1 ≤ M.lanes stage.old }
+    requires sound { AreSound graph.now (M.lanes stage.old) (M.states stage.old) }
+    requires within { All (λ clock. clock.node < nodes graph.now) clocks.now }
     requires free { All (λ clock. RAILS ≤ clock.node) clocks.now }
     requires places { All (λ clock. place < length clock.states) clocks.now }
-    ensures state { stage.new.state ≡ effect.states_with clocks.now place stage.old.state }
-    ensures machine { TicksIn graph.now clocks.now stage.old.machine stage.new.machine }
-    ensures same { IfSome stage.new.machine (λ machine. machine.state ≡ stage.new.state) }
+    ensures lanes { M.lanes stage.new ≡ M.lanes stage.old }
+    ensures state { M.states stage.new 0 ≡ effect.states_with clocks.now place (M.states stage.old 0) }
+    ensures sound { AreSound graph.now (M.lanes stage.new) (M.states stage.new) }
+    ensures last { M.last stage.new ≡ M.last stage.old }
+    ensures serves { (kept : List GroupTextData) → M.serves stage.old graph.now kept → M.serves stage.new graph.now kept }
+    ensures fits { M.fits stage.old graph.now → M.fits stage.new graph.now }
+    ensures did { Leads M.did stage.old (acts_of_clocks graph.now clocks.now place) stage.new }
 {
-    graphs_are_wired(graph);
     for clock in clocks {
         put_state(clock, place, graph, stage);
     }
-    stage.is_the_machines();
 }
 
-// Gives a clock's node its state at a place.
-fn put_state(clock: &Clock, place: usize, graph: &Graph, stage: &mut Stage)
-    requires within { clock.now.node < length stage.old.state }
+// Gives a clock's node its state at a place, in each column.
+fn put_state<M: Stage>(clock: &Clock, place: usize, graph: &Graph, stage: &mut M)
+    requires some { 1 ≤ M.lanes stage.old }
+    requires sound { AreSound graph.now (M.lanes stage.old) (M.states stage.old) }
+    requires within { clock.now.node < nodes graph.now }
     requires free { RAILS ≤ clock.now.node }
     requires place { place < length clock.now.states }
-    ensures state { stage.new.state ≡ slice_set stage.old.state clock.now.node (state_at clock.now.states place) }
-    ensures machine { PutsIn graph.now clock.now.node (state_at clock.now.states place) stage.old.machine stage.new.machine }
+    ensures lanes { M.lanes stage.new ≡ M.lanes stage.old }
+    ensures state { M.states stage.new 0 ≡ slice_set (M.states stage.old 0) clock.now.node (state_at clock.now.states place) }
+    ensures sound { AreSound graph.now (M.lanes stage.new) (M.states stage.new) }
+    ensures last { M.last stage.new ≡ M.last stage.old }
+    ensures serves { (kept : List GroupTextData) → M.serves stage.old graph.now kept → M.serves stage.new graph.now kept }
+    ensures fits { M.fits stage.old graph.now → M.fits stage.new graph.now }
+    ensures did { M.did (Placed graph.now clock.now.node (state_at clock.now.states place ∷ [])) stage.old stage.new }
 {
-    stage.set_node(graph, clock.node, clock.states[place]);
+    put_in_all(graph, clock.node, clock.states[place], stage);
 }

@@ -11,8 +11,8 @@ ghost use Rattle.script_lang.specs.declared.command.Tell.TheVariants as asked;
 ghost use Rattle.session_meaning.specs.Effects as effect;
 ghost use Rattle.session_meaning.specs.Refusals.{given_refusal, nodes_named, none_at, values_refusal};
 ghost use Rattle.session_meaning.specs.Sinks.{IsSinkFault, faults_applied, refusals_sent};
-ghost use Rattle.session_meaning.specs.Stages.{AreShortLists};
-ghost use Rattle.session_meaning.specs.Outcomes.{Obeys, Sent};
+ghost use Rattle.session_meaning.specs.Stages.{AreShortLists, ObeysOn};
+ghost use Rattle.session_meaning.specs.Outcomes.{Sent};
 ghost use Rattle.node_values.specs.Givings.{letters_given};
 ghost use Rattle.session_meaning.specs.Preparing.{IsFaultFor};
 
@@ -21,6 +21,7 @@ use crate::refusals;
 use crate::session::Session;
 use crate::values::{pairs_given, place_refusal};
 use crate::waves::{WaveRoom, tell_line};
+use column_stage::PlainStage;
 use netlist::Circuit;
 use node_words::{Named, Vectors};
 use script_lang::{Name, NameList, Tell, Value, ValueList};
@@ -52,13 +53,12 @@ impl Model for UnmetLine {
     ghost invariant = { λ line. (length line.want.items < 2 ^ 60) × (length line.got.items < 2 ^ 60) };
 }
 
-impl Session {
+impl<M: PlainStage> Session<M> {
     /// Tells of what is there. Nothing is analysed for it, whatever was before.
     pub(crate) fn tell<L: Lines>(&mut self, tell: &Tell, out: &mut L) -> Result<(), ApplyFault>
-        ensures obeys { (texts : List GroupTextData) → Obeys L.hear L.part self.old (family.Tell tell.now) self.new (L.heard out.old) (L.heard out.new)
+        ensures obeys { (texts : List GroupTextData) → ObeysOn L.hear L.part M.did self.old (family.Tell tell.now) self.new (L.heard out.old) (L.heard out.new)
             texts texts (L.refusals out.old) (L.refusals out.new) result }
         ensures faults { L.faults out.new ≡ faults_applied (L.faults out.old) result }
-        ensures machine { self.new.machine ≡ self.old.machine }
     {
         match tell {
             Tell::Expect(list) => self.expect(list, out),
@@ -69,10 +69,9 @@ impl Session {
 
     // `expect`: tells the line of each assignment that isn't met.
     fn expect<L: Lines>(&mut self, list: &ValueList, out: &mut L) -> Result<(), ApplyFault>
-        ensures obeys { (texts : List GroupTextData) → Obeys L.hear L.part self.old (family.Tell (asked.Expect list.now)) self.new
+        ensures obeys { (texts : List GroupTextData) → ObeysOn L.hear L.part M.did self.old (family.Tell (asked.Expect list.now)) self.new
             (L.heard out.old) (L.heard out.new) texts texts (L.refusals out.old) (L.refusals out.new) result }
         ensures faults { L.faults out.new ≡ faults_applied (L.faults out.old) result }
-        ensures machine { self.new.machine ≡ self.old.machine }
     {
         let lines = self.unmet_lines(list.items())?;
         out.reserve(room_for(&lines))?;
@@ -120,7 +119,7 @@ impl Session {
         requires { All (λ pair. pair.0 < nodes self.now.core.circuit.graph) pairs.now }
         ensures { IfOk result (λ found. found ≡ effect.unmet_by self.now.core name.now pairs.now) }
     {
-        let state = self.stage.state();
+        let state = self.stage.column();
         let met = are_met(state, pairs);
         if met {
             return Ok(None);
@@ -134,10 +133,9 @@ impl Session {
 
     // `show`: tells the line of each of these names.
     fn show<L: Lines>(&mut self, names: &NameList, out: &mut L) -> Result<(), ApplyFault>
-        ensures obeys { (texts : List GroupTextData) → Obeys L.hear L.part self.old (family.Tell (asked.Show names.now)) self.new
+        ensures obeys { (texts : List GroupTextData) → ObeysOn L.hear L.part M.did self.old (family.Tell (asked.Show names.now)) self.new
             (L.heard out.old) (L.heard out.new) texts texts (L.refusals out.old) (L.refusals out.new) result }
         ensures faults { L.faults out.new ≡ faults_applied (L.faults out.old) result }
-        ensures machine { self.new.machine ≡ self.old.machine }
     {
         let (circuit, vectors) = (&self.circuit, &self.vectors);
         if let Some(refusal) = refusals::known_refusal(circuit, vectors, names.items()) {
@@ -185,7 +183,7 @@ impl Session {
         ensures faults { L.faults out.new ≡ faults_applied (L.faults out.old) result }
         ensures refusals { L.refusals out.new ≡ refusals_sent (L.refusals out.old) result }
     {
-        let state = self.stage.state();
+        let state = self.stage.column();
         match self.vectors.named(&self.circuit, name) {
             Named::Node(node) => values.show(name, state, &[node], out),
             Named::Vector(nodes) => values.show(name, state, nodes, out),

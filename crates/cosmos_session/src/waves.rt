@@ -1,21 +1,25 @@
-//! Waveform lines: the room of one, taken before the first unit step, and how a line is told.
+//! Waveform lines: the room of one or of a row of them, taken before the first unit step, and how a line or a row is told.
 
-ghost use Rattle.std.specs.Prelude.{◌≡◌, ◌<◌, ◌≤◌, ◌+◌, ◌++◌, [], ◌∷◌, length, map, vec_len, vec_capacity, All, IfErr, IfOk};
+ghost use Rattle.std.specs.Prelude.{◌≡◌, ◌<◌, ◌≤◌, ℕ, ◌+◌, ◌*◌, ◌^◌, ◌++◌, [], ◌∷◌, length, map, vec_len, vec_capacity, All, IfErr, IfOk};
 ghost use Rattle.path_meaning.specs.Switching.{state_at};
-ghost use Rattle.wave_print.specs.declared.lines.TheConstants.{COLUMN_ROOM, WAVE_LINE_ROOM};
+ghost use Rattle.wave_print.specs.declared.lines.TheConstants.{COLUMN_ROOM, MOST_VALUES, WAVE_LINE_ROOM};
+ghost use Rattle.told_lines.specs.Hearing.{Hears, row_of};
 ghost use Rattle.told_lines.specs.Lines.{Shown, Wave, IsShort, room_of, line_seen};
+ghost use Rattle.told_lines.specs.Rows.{count_at, values_at, wave_row};
 ghost use Rattle.session_meaning.specs.Sinks.{IsSinkFault, faults_applied, refusals_sent};
 ghost use Rattle.session_meaning.specs.Outcomes.{Sent};
 
+use column_stage::Stage;
+use oscillation_x::Settled;
 use session_meaning::{ApplyFault, MOST_WATCHED};
 use std::alloc::Global;
 use std::marker::Model;
 use ternary::{NoMemory, Tern};
 use told_lines::{Line, Lines};
 
-/// The room of one waveform line's values, the states of so many nodes.
+/// The room of the values of a waveform line, or of a row of them: so many states.
 ///
-/// Contracts see for how many nodes. It is empty but within a call.
+/// Contracts see of how many. It is empty but within a call.
 #[derive(Drop)]
 pub(crate) struct WaveRoom {
     values: Vec<Tern>,
@@ -32,12 +36,12 @@ impl Model for WaveRoom {
 }
 
 impl WaveRoom {
-    /// Room for the states of so many nodes.
-    pub(crate) fn new(alloc: Global, nodes: usize) -> Result<WaveRoom, NoMemory>
-        ensures { IfOk result (λ room. nodes ≤ room) }
+    /// Room for so many states.
+    pub(crate) fn new(alloc: Global, states: usize) -> Result<WaveRoom, NoMemory>
+        ensures { IfOk result (λ room. states ≤ room) }
     {
         Ok(WaveRoom {
-            values: Vec::with_capacity(alloc, nodes)?,
+            values: Vec::with_capacity(alloc, states)?,
         })
     }
 
@@ -97,6 +101,63 @@ impl WaveRoom {
     }
 }
 
+impl WaveRoom {
+    /// Tells the waveform lines with this number of all columns in order, of so many steps each, with the states of these nodes in
+    /// the column.
+    pub(crate) fn tell_row<M: Stage, L: Lines>(
+        &mut self,
+        n: u64,
+        counts: &[Settled],
+        stage: &M,
+        nodes: &[usize],
+        out: &mut L,
+    ) -> Result<(), ApplyFault>
+        requires counts { length counts.now ≡ M.lanes stage.now }
+        requires room { M.lanes stage.now * length nodes.now ≤ self.old }
+        requires line { M.lanes stage.now * (COLUMN_ROOM + WAVE_LINE_ROOM) ≤ L.room out.old }
+        requires few { length nodes.now ≤ MOST_WATCHED }
+        requires within { (lane : ℕ) → lane < M.lanes stage.now → All (λ node. node < length (M.states stage.now lane)) nodes.now }
+        ensures room { self.new ≡ self.old }
+        ensures line { L.room out.new ≡ L.room out.old }
+        ensures sent { Hears L.hear L.part (L.heard out.old) (L.heard out.new)
+            (row_of (λ lane. Wave n (count_at counts.now lane).steps (count_at counts.now lane).joined (map (state_at (M.states stage.now lane)) nodes.now) ∷ [])
+            (M.lanes stage.now)) result }
+        ensures cause { IfErr result IsSinkFault }
+        ensures faults { L.faults out.new ≡ faults_applied (L.faults out.old) result }
+        ensures refusals { L.refusals out.new ≡ refusals_sent (L.refusals out.old) result }
+    {
+        push_columns(&mut self.values, stage, nodes);
+        let values = &self.values;
+        let told = tell_values(n, counts, nodes.len(), values, out);
+        self.values.clear();
+        told
+    }
+}
+
+// Tells a row with these values. A fault of the hearer is what ends a command.
+fn tell_values<L: Lines>(
+    n: u64,
+    counts: &[Settled],
+    width: usize,
+    values: &[Tern],
+    out: &mut L,
+) -> Result<(), ApplyFault>
+    requires columns { length counts.now < 2 ^ 32 }
+    requires values { length values.now ≡ length counts.now * width }
+    requires width { width ≤ MOST_VALUES }
+    requires room { length counts.now * (COLUMN_ROOM + WAVE_LINE_ROOM) ≤ L.room out.old }
+    ensures room { L.room out.new ≡ L.room out.old }
+    ensures sent { Hears L.hear L.part (L.heard out.old) (L.heard out.new) (wave_row n counts.now width values.now) result }
+    ensures cause { IfErr result IsSinkFault }
+    ensures faults { L.faults out.new ≡ faults_applied (L.faults out.old) result }
+    ensures refusals { L.refusals out.new ≡ refusals_sent (L.refusals out.old) result }
+{
+    match out.tell_row(n, counts, width, values) {
+        Ok(()) => Ok(()),
+        Err(fault) => Err(ApplyFault::of_sink(fault)),
+    }
+}
+
 /// Tells a line. A fault of the hearer is what ends a command.
 pub(crate) fn tell_line<L: Lines>(line: Line, out: &mut L) -> Result<(), ApplyFault>
     requires room { room_of (line_seen line) ≤ L.room out.old }
@@ -110,6 +171,35 @@ pub(crate) fn tell_line<L: Lines>(line: Line, out: &mut L) -> Result<(), ApplyFa
     match out.tell(0, line) {
         Ok(()) => Ok(()),
         Err(fault) => Err(ApplyFault::of_sink(fault)),
+    }
+}
+
+// Puts the states of these nodes in each column, column by column, in room that is there.
+fn push_columns<M: Stage>(values: &mut Vec<Tern>, stage: &M, nodes: &[usize])
+    requires empty { values.old.items ≡ [] }
+    requires room { M.lanes stage.now * length nodes.now ≤ vec_capacity values.old }
+    requires within { (lane : ℕ) → lane < M.lanes stage.now → All (λ node. node < length (M.states stage.now lane)) nodes.now }
+    ensures few { M.lanes stage.now < 2 ^ 32 }
+    ensures length { length values.new.items ≡ M.lanes stage.now * length nodes.now }
+    ensures each { (lane : ℕ) → lane < M.lanes stage.now
+        → values_at (length nodes.now) values.new.items lane ≡ map (state_at (M.states stage.now lane)) nodes.now }
+    ensures capacity { vec_capacity values.new ≡ vec_capacity values.old }
+{
+    for lane in 0..stage.lanes() {
+        push_column(values, lane, stage, nodes);
+    }
+}
+
+// Appends the states of these nodes in a column, in room that is there.
+fn push_column<M: Stage>(values: &mut Vec<Tern>, lane: u32, stage: &M, nodes: &[usize])
+    requires lane { lane < M.lanes stage.now }
+    requires room { vec_len values.old + length nodes.now ≤ vec_capacity values.old }
+    requires within { All (λ node. node < length (M.states stage.now lane)) nodes.now }
+    ensures items { values.new.items ≡ values.old.items ++ map (state_at (M.states stage.now lane)) nodes.now }
+    ensures capacity { vec_capacity values.new ≡ vec_capacity values.old }
+{
+    for &node in nodes {
+        values.push_reserved(stage.state(node, lane));
     }
 }
 

@@ -1,13 +1,19 @@
--- The nodes before this one are done.
-use Rattle.std.proofs.Common.{◌≡◌, length, drop, map}
-use Rattle.path_meaning.specs.Graphs.{nodes}
+-- The nodes before this one are done; and what is left leads on from here.
+use Rattle.std.proofs.Common.{◌≡◌, List, drop}
+use Rattle.group_text.specs.Texts.{GroupTextData}
+use Rattle.column_stage.specs.Acts.{Leads}
+use Rattle.column_stage.specs.Columns.{IsSoundState}
 use Rattle.session_meaning.specs.Effects.{assigned}
-use Rattle.session_meaning.specs.Stages.{AssignsIn}
+use Rattle.session_meaning.specs.Stages.{acts_of_states}
 use Rattle.cosmos_session.proofs.giving.assign.Given as goal
 
 abbrev pub invariant-loop-node : goal.invariant-loop-node
-invariant-loop-node l = record {
-  state : assigned l.stage.state (drop l.node-index l.states) ≡ assigned l.initial.stage.state l.states;
-  count : length l.stage.state ≡ nodes l.circuit.graph;
-  machine : AssignsIn l.circuit.graph (map (λ pair. pair.0) l.states) l.initial.stage.machine l.stage.machine;
+invariant-loop-node g l = record {
+  one : g.M.Stage.lanes l.stage ≡ 1;
+  state : assigned (g.M.Stage.states l.stage 0) (drop l.node-index l.states) ≡ assigned (g.M.Stage.states l.fn.stage 0) l.states;
+  sound : IsSoundState l.circuit.graph (g.M.Stage.states l.stage 0);
+  last : g.M.Stage.last l.stage ≡ g.M.Stage.last l.fn.stage;
+  serves : (kept : List GroupTextData) → g.M.Stage.serves l.fn.stage l.circuit.graph kept → g.M.Stage.serves l.stage l.circuit.graph kept;
+  did : (end : _) → Leads g.M.Stage.did l.stage (acts_of_states l.circuit.graph (drop l.node-index l.states)) end →
+      Leads g.M.Stage.did l.fn.stage (acts_of_states l.circuit.graph l.states) end;
 }

@@ -1,11 +1,18 @@
 -- The nodes before this one have the states that were kept.
-use Rattle.std.proofs.Common.{◌≡◌, ◌++◌, take, drop}
+use Rattle.std.proofs.Common.{◌≡◌, ◌++◌, List, take, drop}
+use Rattle.group_text.specs.Texts.{GroupTextData}
+use Rattle.column_stage.specs.Acts.{LeadsBy}
+use Rattle.column_stage.specs.Columns.{IsSoundState}
 use Rattle.session_meaning.specs.Saves.{back_to}
-use Rattle.session_meaning.specs.Stages.{PutsOthersIn}
+use Rattle.session_meaning.specs.Stages.{PlacesOther}
 use Rattle.cosmos_session.proofs.saving.give_back.Given as goal
 
 abbrev pub invariant-loop-node : goal.invariant-loop-node
-invariant-loop-node l = record {
-  state : l.stage.state ≡ take l.node l.kept ++ drop l.node l.initial.stage.state;
-  machine : PutsOthersIn l.graph l.initial.stage.state (back_to l.kept l.initial.stage.state) l.initial.stage.machine l.stage.machine;
+invariant-loop-node g l = record {
+  one : g.M.Stage.lanes l.stage ≡ 1;
+  state : g.M.Stage.states l.stage 0 ≡ take l.node l.kept ++ drop l.node (g.M.Stage.states l.fn.stage 0);
+  sound : IsSoundState l.graph (g.M.Stage.states l.stage 0);
+  last : g.M.Stage.last l.stage ≡ g.M.Stage.last l.fn.stage;
+  serves : (texts : List GroupTextData) → g.M.Stage.serves l.fn.stage l.graph texts → g.M.Stage.serves l.stage l.graph texts;
+  did : LeadsBy g.M.Stage.did (PlacesOther l.graph (g.M.Stage.states l.fn.stage 0) (back_to l.kept (g.M.Stage.states l.fn.stage 0))) l.fn.stage l.stage;
 }

@@ -1,25 +1,52 @@
-use Rattle.std.proofs.Common.{◌<◌, length, refl, ap, ◌∙◌, arith}
-use Rattle.std.proofs.lemmas.List.{length-set}
+use Rattle.std.proofs.Common.{◌<◌, ◌≤◌, ◌∷◌, [], ℕ, List, length, refl, sym, subst, ◌∙◌, arith}
+use Rattle.std.proofs.lemmas.List.{drop_all}
 use Rattle.path_meaning.specs.Switching.{state_at}
+use Rattle.column_stage.specs.Acts.{Act, Leads, Placed}
+use Rattle.column_stage.proofs.LeadingLemmas.{acts_next}
+use Rattle.session_meaning.specs.Sessions.{ClockData}
+use Rattle.session_meaning.specs.Stages.{acts_of_clocks}
 use Rattle.session_meaning.proofs.StateLemmas.{states_with-more}
-use Rattle.session_meaning.proofs.MachineLemmas.{ticks_in-none, ticks_in-more}
 use Rattle.cosmos_session.proofs.stepping.put_states.Goals as goal
 
 pub loop-clock-init : goal.loop-clock-init
-loop-clock-init c = record { state = refl; nodes = refl; machine = ticks_in-none c.args.graph.now c.args.clocks.now c.args.stage.now.machine }
+loop-clock-init g c = record {
+  lanes = refl;
+  state = refl;
+  sound = c.requires.sound;
+  last = refl;
+  serves = λ kept serving. serving;
+  fits = λ fits. fits;
+  did = λ end rest. rest;
+}
+
+pub put_state-requires-clause-some : goal.put_state-requires-clause-some
+put_state-requires-clause-some g c = subst (λ (n : ℕ). 1 ≤ n) (sym c.loop-clock.invariant.lanes) c.requires.some
 
 pub loop-clock-preserved : goal.loop-clock-preserved
-loop-clock-preserved c =
+loop-clock-preserved g c =
+    let graph = c.args.graph.now in
+    let clocks = c.args.clocks.now in
     let clock = c.clock-item.result in
     let k = c.loop-clock.clock-index in
-    let inside : k < length c.args.clocks.now = omega arith in
-    let set = c.put_state.ensures.state in
+    let place = c.args.place in
+    let inside : k < length clocks = omega arith in
     record {
-      state = states_with-more c.args.clocks.now k c.args.place clock c.loop-clock.stage.state c.put_state.new.stage.state inside c.clock-item.is set
-          ∙ c.loop-clock.invariant.state;
-      nodes = ap length set ∙ length-set c.loop-clock.stage.state clock.node (state_at clock.states c.args.place) ∙ c.loop-clock.invariant.nodes;
-      machine = ticks_in-more c.args.graph.now c.args.clocks.now clock (state_at clock.states c.args.place) c.args.stage.now.machine
-          c.loop-clock.stage.machine c.put_state.new.stage.machine
-          (λ inputs. rw c.clock-item.is (inputs k clock inside))
-          c.loop-clock.invariant.machine c.put_state.ensures.machine;
+      lanes = c.put_state.ensures.lanes ∙ c.loop-clock.invariant.lanes;
+      state = states_with-more clocks k place clock (g.M.Stage.states c.loop-clock.stage 0) (g.M.Stage.states c.put_state.new.stage 0) inside c.clock-item.is
+          c.put_state.ensures.state ∙ c.loop-clock.invariant.state;
+      sound = c.put_state.ensures.sound;
+      last = c.put_state.ensures.last ∙ c.loop-clock.invariant.last;
+      serves = λ kept serving. c.put_state.ensures.serves kept (c.loop-clock.invariant.serves kept serving);
+      fits = λ fits. c.put_state.ensures.fits (c.loop-clock.invariant.fits fits);
+      did = λ end rest. c.loop-clock.invariant.did end
+          (subst (λ (acts : List Act). Leads g.M.Stage.did c.loop-clock.stage acts end)
+          (sym (acts_next (λ (one : ClockData). Placed graph one.node (state_at one.states place ∷ [])) clocks k clock inside c.clock-item.is))
+          (c.put_state.new.stage, c.put_state.ensures.did, rest));
     }
+
+pub returns-clause-did : goal.returns-clause-did
+returns-clause-did g c =
+    let graph = c.args.graph.now in
+    c.loop-clock.invariant.did c.loop-clock.stage
+    (subst (λ (left : List ClockData). Leads g.M.Stage.did c.loop-clock.stage (acts_of_clocks graph left c.args.place) c.loop-clock.stage)
+    (sym (drop_all c.loop-clock.clock-index c.args.clocks.now (omega arith))) refl)

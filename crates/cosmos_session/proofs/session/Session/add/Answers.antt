@@ -1,63 +1,105 @@
-use Rattle.std.proofs.Common.{◌≡◌, ℕ, length, Option, refl, sym, ap, ◌∙◌, rules}
-use Rattle.netlist.specs.Edits.{add_fault}
+-- A transistor more; its names may make nodes, for which there is room.
+use Rattle.std.proofs.Common.{◌≡◌, ◌≤◌, ℕ, List, length, Option, sym, ap, subst, ◌∙◌, rules}
+use Rattle.group_text.specs.Texts.{GroupTextData}
+use Rattle.group_analysis.specs.Using.{used_texts}
 use Rattle.analysis_cache.specs.Keeping.{texts_of}
+use Rattle.netlist.specs.Edits.{add_fault}
 use Rattle.path_meaning.specs.Graphs.{GraphData}
+use Rattle.column_stage.specs.Acts.{Reserved}
+use Rattle.column_stage.specs.Edits.{IsUndone}
+use Rattle.column_stage.proofs.LeadingLemmas.{leads_by_both, leads_by_one}
+use Rattle.column_stage.proofs.SoundLemmas.{sound_still}
 use Rattle.script_lang.specs.declared.command.Command.TheVariants as family
 use Rattle.script_lang.specs.declared.command.Edit.TheVariants.{Add}
 use Rattle.session_meaning.specs.declared.fault.Refusal.{Refusal}
 use Rattle.session_meaning.specs.Refusals.{making_refusal, strength_for}
-use Rattle.cosmos_session.specs.contracts.session.Session.{the_view}
-use Rattle.session_meaning.proofs.UndoLemmas.{Undoes, undoes-transistor}
-use Rattle.session_meaning.proofs.EditLemmas.{covers-before, held-told, does-told, added_does, making_quietly, quietly_as, halted, same-halted}
+use Rattle.session_meaning.specs.Sessions.{HeldSession, SessionData}
+use Rattle.session_meaning.specs.Stages.{IsEditing}
+use Rattle.session_meaning.proofs.UndoLemmas.{undoes-transistor}
+use Rattle.session_meaning.proofs.EditLemmas.{grown_behind, added_does, asks_edit, core_edited, held_edited, making_quietly, quietly_as, room_transistor, same_halted}
+use Rattle.session_meaning.proofs.StayingLemmas.{session_of}
+use Rattle.cosmos_session.proofs.session.Session.add.Given.{Over}
 use Rattle.cosmos_session.proofs.session.Session.add.Goals.{In-Ok}
 use Rattle.cosmos_session.proofs.session.Session.add.Goals as goal
 
 -- the change undoes the edit
-undoes : (c : In-Ok) → Undoes c.add_switch.new.self.graph (the_view c.self.inside).core.circuit.graph c.change_at-change.result
-undoes c =
-    undoes-transistor (the_view c.self.inside).core.circuit c.add_switch.new.self _ _ c.self.invariant.0.core.ready.netlist c.graph.ensures.value c.args.kind
+undone : (g : Over) (c : In-Ok g) → IsUndone (session_of c.self.invariant.0).core.circuit.graph c.add_switch.new.self.graph c.change_at-change.result
+undone g c =
+    undoes-transistor (session_of c.self.invariant.0).core.circuit c.add_switch.new.self _ _ c.self.invariant.0.core.ready.netlist c.graph.ensures.value c.args.kind
     c.unwrap_or-strength.result c.places.result c.items-gate.result.now c.items-source.result.now c.items-drain.result.now
     (c.places.ensures ∙ ap (λ (g : GraphData). length g.places) c.graph-2.ensures.value) c.change_at-change.ensures c.in-Ok.ensures.ok
 
-pub edit-requires-clause-covers : goal.edit-requires-clause-covers
-edit-requires-clause-covers c =
-    rw (c.graph-in-Ok.ensures.value, c.reserve.ensures.machine)
-    (covers-before _ c.add_switch.new.self _ (undoes (goal.at.edit-requires-clause-covers c).In-Ok) c.self.invariant.0)
+pub take_room-requires : goal.take_room-requires
+take_room-requires g c = c.self.invariant.0.some
 
-pub edit-requires-clause-wired : goal.edit-requires-clause-wired
-edit-requires-clause-wired c = rw c.graph-in-Ok.ensures.value (undoes (goal.at.edit-requires-clause-wired c).In-Ok).wired
+pub edit_stage-requires-clause-some : goal.edit_stage-requires-clause-some
+edit_stage-requires-clause-some g c = subst (λ (n : ℕ). 1 ≤ n) (sym c.take_room.ensures.lanes) c.self.invariant.0.some
+
+pub edit_stage-requires-clause-before : goal.edit_stage-requires-clause-before
+edit_stage-requires-clause-before g c =
+    let session = session_of c.self.invariant.0 in
+    let stage = c.take_room.new.stage in
+    let serves : g.M.Stage.serves stage session.core.circuit.graph (used_texts (g.M.Stage.last stage) (texts_of c.self.inside.kept)) =
+    subst (λ (last : List GroupTextData). g.M.Stage.serves stage session.core.circuit.graph (used_texts last (texts_of c.self.inside.kept)))
+    (sym c.take_room.ensures.last) (c.take_room.ensures.serves session.core.circuit.graph session.core.kept c.self.invariant.0.served) in
+    rw c.graph-in-Ok.ensures.value
+    (asks_edit g.M.Stage.lanes g.M.Stage.states g.M.Stage.serves session c.self.invariant.0 c.add_switch.new.self.graph c.change_at-change.result
+    stage (g.M.Stage.spare stage) _ (undone g (goal.at.edit_stage-requires-clause-before g c).In-Ok)
+    (sound_still g.M.Stage.lanes g.M.Stage.states session.core.circuit.graph c.self.inside.stage stage c.take_room.ensures.lanes c.take_room.ensures.states
+    c.self.invariant.0.sound)
+    (room_transistor session.core.circuit c.add_switch.new.self c.args.kind c.unwrap_or-strength.result (g.M.Stage.spare stage)
+    c.items-gate.result.now c.items-source.result.now c.items-drain.result.now c.in-Ok.ensures.ok c.in_ok-take_room.ensures.room) serves)
 
 pub invariant_of-self-in-Ok : goal.invariant_of-self-in-Ok
-invariant_of-self-in-Ok c = (
-  held-told (the_view c.self.inside) c.add_switch.new.self _ (undoes (goal.at.invariant_of-self-in-Ok c).In-Ok) c.self.invariant.0 _ c.graph-in-Ok.ensures.value
-      c.graph-in-Ok.ensures.netlist c.reserve.new.self c.edit.new.self c.reserve.ensures.state c.reserve.ensures.machine c.edit.ensures.state c.edit.ensures.machine
-      _ (texts_of c.self.inside.kept) _ c.edit.ensures.bound refl c.edit.ensures.kept,
-  c.edit.ensures.last,
-)
+invariant_of-self-in-Ok g c =
+    let session = session_of c.self.invariant.0 in
+    let table = texts_of c.self.inside.kept in
+    let front = ap (λ (last : List GroupTextData). used_texts last table) c.take_room.ensures.last in (
+      held_edited g.M.Stage.lanes g.M.Stage.states g.M.Stage.serves session c.add_switch.new.self c.edit_stage.new.stage c.edit_stage.new.kept.bound _
+          (rw (c.graph-in-Ok.ensures.value, c.take_room.ensures.state) at c.edit_stage.ensures.state) c.edit_stage.ensures.bound
+          (c.edit_stage.ensures.kept ∙ front) c.graph-in-Ok.ensures.netlist (undone g (goal.at.invariant_of-self-in-Ok g c).In-Ok).more
+          (c.edit_stage.ensures.lanes ∙ c.take_room.ensures.lanes)
+          (grown_behind g.M.Stage.lanes g.M.Stage.states g.M.Stage.serves c.self.inside.stage c.take_room.new.stage c.edit_stage.new.stage _
+          c.take_room.ensures.lanes c.take_room.ensures.states (rw c.graph-in-Ok.ensures.value at c.edit_stage.ensures.states))
+          (rw (c.graph-in-Ok.ensures.value, c.take_room.ensures.last) at c.edit_stage.ensures.serves) c.self.invariant.0,
+      c.edit_stage.ensures.last,
+    )
 
 pub returns-in-Ok-clause-quiet : goal.returns-in-Ok-clause-quiet
-returns-in-Ok-clause-quiet c =
+returns-in-Ok-clause-quiet g c =
+    let session = session_of c.self.invariant.0 in
+    let table = texts_of c.self.inside.kept in
+    let front = ap (λ (last : List GroupTextData). used_texts last table) c.take_room.ensures.last in
     rw (← c.self.view_is)
-    (does-told (the_view c.self.inside) c.add_switch.new.self _ c.edit.new.self _ (texts_of c.self.inside.kept) _ c.reserve.ensures.machine c.edit.ensures.bound refl c.edit.ensures.kept
-    (family.Edit (Add c.args.kind c.args.gate.now c.args.source.now c.args.drain.now c.args.strength))
-    (added_does (the_view c.self.inside).core c.add_switch.new.self c.edit.new.self c.args.kind c.args.strength c.unwrap_or-strength.result
+    (added_does session.core _ c.add_switch.new.self c.args.kind c.args.strength c.unwrap_or-strength.result
     c.args.gate.now c.args.source.now c.args.drain.now (search rules)
     (rw (c.items-gate.ensures, c.items-source.ensures, c.items-drain.ensures) at c.in-Ok.ensures.allowed)
     (rw (c.items-gate.ensures, c.items-source.ensures, c.items-drain.ensures) at c.in-Ok.ensures.ok)
-    (rw (c.graph-in-Ok.ensures.value, c.reserve.ensures.state) at c.edit.ensures.state)))
+    (core_edited g.M.Stage.lanes g.M.Stage.states g.M.Stage.serves session c.add_switch.new.self c.edit_stage.new.stage c.edit_stage.new.kept.bound _
+    (rw (c.graph-in-Ok.ensures.value, c.take_room.ensures.state) at c.edit_stage.ensures.state) c.edit_stage.ensures.bound
+    (c.edit_stage.ensures.kept ∙ front)))
+
+-- room was taken, and the graph was edited
+pub returns-in-Ok-clause-stage : goal.returns-in-Ok-clause-stage
+returns-in-Ok-clause-stage g c =
+    rw (← c.self.view_is)
+    (leads_by_both g.M.Stage.did IsEditing c.self.inside.stage c.take_room.new.stage c.edit_stage.new.stage
+    (leads_by_one g.M.Stage.did IsEditing Reserved c.self.inside.stage c.take_room.new.stage tt c.take_room.ensures.did) c.edit_stage.ensures.did)
 
 pub returns-in-Err-clause-quiet : goal.returns-in-Err-clause-quiet
-returns-in-Err-clause-quiet c =
-    let session = the_view c.self.inside in
-    let new = halted session c.add_switch.new.self c.reserve.new.self (texts_of c.self.inside.kept) in
+returns-in-Err-clause-quiet g c =
+    let session = session_of c.self.invariant.0 in
+    let core = session.core in
     let command = family.Edit (Add c.args.kind c.args.gate.now c.args.source.now c.args.drain.now c.args.strength) in
     let refusal : ℕ → Option Refusal =
-    λ strength. making_refusal (add_fault session.core.circuit strength c.args.gate.now c.args.source.now c.args.drain.now) in
+    λ strength. making_refusal (add_fault core.circuit strength c.args.gate.now c.args.source.now c.args.drain.now) in
     let given : c.unwrap_or-strength.result ≡ strength_for c.args.kind c.args.strength = search rules in
-    quietly_as session c.args.self.now new command c.in-Err.fault c.of_edit.result c.self.view_is c.of_edit.ensures
-    (making_quietly session new command
-    (add_fault session.core.circuit c.unwrap_or-strength.result c.args.gate.now c.args.source.now c.args.drain.now) c.in-Err.fault
+    let kept : List GroupTextData = used_texts (g.M.Stage.last c.take_room.new.stage) (texts_of c.self.inside.kept) in
+    let new : SessionData = record core { circuit = c.add_switch.new.self; state = g.M.Stage.states c.take_room.new.stage 0; kept = kept } in
+    quietly_as core c.args.self.now.core new command c.in-Err.fault c.of_edit.result (ap (λ (s : HeldSession _). s.core) c.self.view_is) c.of_edit.ensures
+    (making_quietly core new command
+    (add_fault core.circuit c.unwrap_or-strength.result c.args.gate.now c.args.source.now c.args.drain.now) c.in-Err.fault
     (ap refusal (sym given))
     (rw (c.items-gate.ensures, c.items-source.ensures, c.items-drain.ensures) at c.in-Err.ensures.refused)
-    (same-halted session c.add_switch.new.self c.reserve.new.self (texts_of c.self.inside.kept) c.in-Err.ensures.err c.reserve.ensures.state
-    c.reserve.ensures.machine refl))
+    (same_halted core c.add_switch.new.self _ _ c.in-Err.ensures.err c.take_room.ensures.state
+    (ap (λ (last : List GroupTextData). used_texts last (texts_of c.self.inside.kept)) c.take_room.ensures.last)))

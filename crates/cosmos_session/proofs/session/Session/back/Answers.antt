@@ -1,57 +1,84 @@
-use Rattle.std.proofs.Common.{◌≡◌, List, [], Option, Some, refl, sym, ap, arith, ◌∙◌}
+use Rattle.std.proofs.Common.{◌≡◌, List, [], Option, Some, length, refl, sym, ap, subst, ◌∙◌}
 use Rattle.std.specs.Prelude.{unwrap_or}
 use Rattle.ternary.specs.declared.tern.Tern.{Tern}
-use Rattle.analysis_cache.specs.Keeping.{texts_of}
 use Rattle.path_meaning.specs.Graphs.{nodes}
+use Rattle.path_meaning.specs.Rails.{IsSound}
+use Rattle.group_text.specs.Texts.{GroupTextData}
+use Rattle.group_analysis.specs.Using.{used_texts}
+use Rattle.analysis_cache.specs.Keeping.{texts_of}
+use Rattle.column_stage.proofs.FrontLemmas.{same_among}
 use Rattle.session_meaning.specs.Saves.{kept_under, back_to, state_back, FitsSave}
-use Rattle.session_meaning.specs.Stages.{PutsOthersIn}
-use Rattle.cosmos_session.specs.contracts.session.Session.{the_view}
-use Rattle.session_meaning.proofs.StayingLemmas.{held-staying}
-use Rattle.session_meaning.proofs.MachineLemmas.{placed_on}
-use Rattle.session_meaning.proofs.SaveLemmas.{found-fits}
-use Rattle.session_meaning.proofs.BackLemmas.{held-back, last-put, places-put}
+use Rattle.session_meaning.proofs.SaveLemmas.{found-fits, kept-fits, length-back, sound-back}
+use Rattle.session_meaning.specs.Refusals.{back_refusal}
+use Rattle.session_meaning.proofs.StayingLemmas.{core_given, held_moved, session_of, sound_held}
+use Rattle.cosmos_session.proofs.session.Session.back.Given.{Over}
 use Rattle.cosmos_session.proofs.session.Session.back.Goals.{In-Some, After-give_back}
 use Rattle.cosmos_session.proofs.session.Session.back.Goals as goal
 
 -- the states that were found are kept under the name
-found : (c : In-Some) → kept_under (the_view c.self.inside).core.saves c.args.name.now ≡ Some c.in-Some.kept.now
-found c = sym (rw (c.items.ensures, c.deref.ensures.value) at c.in-Some.ensures)
+found : (g : Over) (c : In-Some g) → kept_under (session_of c.self.invariant.0).core.saves c.args.name.now ≡ Some c.in-Some.kept.now
+found g c = sym (rw (c.items.ensures, c.deref.ensures.value) at c.in-Some.ensures)
 
 -- they fit the circuit
-fits : (c : In-Some) → FitsSave (nodes (the_view c.self.inside).core.circuit.graph) c.in-Some.kept.now
-fits c = found-fits (the_view c.self.inside).core c.args.name.now c.in-Some.kept.now c.self.invariant.0.core.ready (found c)
+fits : (g : Over) (c : In-Some g) → FitsSave (nodes (session_of c.self.invariant.0).core.circuit.graph) c.in-Some.kept.now
+fits g c =
+    found-fits (session_of c.self.invariant.0).core c.args.name.now c.in-Some.kept.now c.self.invariant.0.core.ready (found g c)
 
--- the machine is given those that differ
-put : (c : After-give_back) → PutsOthersIn (the_view c.self.inside).core.circuit.graph (the_view c.self.inside).core.state c.give_back.new.stage.state
-    (the_view c.self.inside).machine c.give_back.new.stage.machine
-put c = rw c.graph.ensures.value at c.give_back.ensures.machine
+pub give_back-requires-clause-one : goal.give_back-requires-clause-one
+give_back-requires-clause-one g c = g.met.M.PlainStage.one c.self.inside.stage
+
+pub give_back-requires-clause-sound : goal.give_back-requires-clause-sound
+give_back-requires-clause-sound g c =
+    rw c.graph.ensures.value (sound_held g.M.Stage.lanes g.M.Stage.states g.M.Stage.serves _ c.self.invariant.0)
 
 pub give_back-requires-clause-few : goal.give_back-requires-clause-few
-give_back-requires-clause-few c =
-    let few = (fits (goal.at.give_back-requires-clause-few c).In-Some).few in
-    let counted = c.self.invariant.0.core.ready.states in
-    rw c.items-2.ensures (omega (arith, few, counted))
+give_back-requires-clause-few g c =
+    rw (c.items-2.ensures, c.graph.ensures.value) (fits g (goal.at.give_back-requires-clause-few g c).In-Some).few
 
 pub give_back-requires-clause-railed : goal.give_back-requires-clause-railed
-give_back-requires-clause-railed c = rw c.items-2.ensures (fits (goal.at.give_back-requires-clause-railed c).In-Some).railed
+give_back-requires-clause-railed g c = rw c.items-2.ensures (fits g (goal.at.give_back-requires-clause-railed g c).In-Some).railed
 
 pub give_back-requires-clause-kept : goal.give_back-requires-clause-kept
-give_back-requires-clause-kept c = rw c.items-2.ensures (fits (goal.at.give_back-requires-clause-kept c).In-Some).sound
+give_back-requires-clause-kept g c = rw c.items-2.ensures (fits g (goal.at.give_back-requires-clause-kept g c).In-Some).sound
+
+-- the states are those that were kept, and behind them those of the nodes that were made since
+moved : (g : Over) (c : After-give_back g) →
+    g.M.Stage.states c.give_back.new.stage 0 ≡ state_back (session_of c.self.invariant.0).core.saves c.args.name.now (session_of c.self.invariant.0).core.state
+moved g c =
+    let core = (session_of c.self.invariant.0).core in
+    (rw c.items-2.ensures at c.give_back.ensures.state)
+    ∙ ap (λ (kept : Option (List Tern)). back_to (unwrap_or kept []) core.state) (rw (c.items.ensures, c.deref.ensures.value) at c.in-Some.ensures)
 
 pub invariant_of-self : goal.invariant_of-self
-invariant_of-self c =
-    let session = the_view c.self.inside in
+invariant_of-self g c =
+    let held = c.self.invariant.0 in
+    let session = session_of c.self.invariant.0 in
+    let core = session.core in
     let stage = c.give_back.new.stage in
-    let given : stage.state ≡ back_to c.in-Some.kept.now session.core.state = rw c.items-2.ensures at c.give_back.ensures.state in
-    let moved : stage.state ≡ state_back session.core.saves c.args.name.now session.core.state =
-    given ∙ ap (λ (kept : Option (List Tern)). back_to (unwrap_or kept []) session.core.state) (sym (found (goal.at.invariant_of-self c).In-Some)) in
-    let changed = put (goal.at.invariant_of-self c).After-give_back in
-    let last = last-put session.core.circuit.graph session.core.state stage.state session.machine stage.machine changed in
-    held-staying (placed_on session stage) session.machine (texts_of c.self.inside.kept) last refl c.self.invariant.1
-    (held-back session c.args.name.now stage moved changed c.give_back.ensures.same c.self.invariant.0)
+    let table = texts_of c.self.inside.kept in
+    let is = moved g (goal.at.invariant_of-self g c).After-give_back in
+    let saves = kept-fits (nodes core.circuit.graph) core.saves c.args.name.now held.core.ready.saved in (
+      held_moved g.M.Stage.lanes g.M.Stage.states g.M.Stage.serves session stage core.count (used_texts (g.M.Stage.last stage) table)
+          (ap (λ (last : List GroupTextData). used_texts last table) c.give_back.ensures.last) c.give_back.ensures.one
+          (ap length is ∙ length-back (nodes core.circuit.graph) (kept_under core.saves c.args.name.now) core.state held.core.ready.states saves
+          ∙ held.core.ready.states)
+          (subst IsSound (sym is) (sound-back (nodes core.circuit.graph) (kept_under core.saves c.args.name.now) core.state held.core.ready.sound saves))
+          ((rw c.graph.ensures.value at c.give_back.ensures.serves) core.kept held.served) held,
+      same_among _ _ table c.give_back.ensures.last c.self.invariant.1,
+    )
 
-pub returns-clause-machine : goal.returns-clause-machine
-returns-clause-machine c =
-    let session = the_view c.self.inside in
-    rw (← c.self.view_is) (places-put session.core.circuit.graph session.core.state c.give_back.new.stage.state session.machine
-    c.give_back.new.stage.machine (put (goal.at.returns-clause-machine c).After-give_back))
+pub returns-clause-stage : goal.returns-clause-stage
+returns-clause-stage g c = rw (← c.self.view_is) (rw c.graph.ensures.value at c.give_back.ensures.did)
+
+pub returns-clause-quiet : goal.returns-clause-quiet
+returns-clause-quiet g c =
+    let at = goal.at.returns-clause-quiet g c in
+    let core = (session_of c.self.invariant.0).core in
+    let table = texts_of c.self.inside.kept in
+    rw (← c.self.view_is) (record {
+      allowed = ap back_refusal (found g at.In-Some);
+      effect = (
+        core_given core _ _ _ (moved g at.After-give_back) (ap (λ (last : List GroupTextData). used_texts last table) c.give_back.ensures.last),
+        refl,
+      );
+    })

@@ -6,5 +6,5 @@ use Rattle.cosmos_session.proofs.session.Session.begin.Goals as goal
 
 pub begin_at-requires : goal.begin_at-requires
 begin_at-requires g c =
-    rw (c.state.ensures, c.deref.ensures.value)
-    (subst (λ (s : HeldSession). KnowsButClocks g.O.Observer.knows c.args.onlooker.now s.core.clocks s.core.state) (sym c.self.view_is) c.requires)
+    rw (c.column.ensures.value, c.deref.ensures.value)
+    (subst (λ (s : HeldSession _). KnowsButClocks g.O.Observer.knows c.args.onlooker.now s.core.clocks s.core.state) (sym c.self.view_is) c.requires)

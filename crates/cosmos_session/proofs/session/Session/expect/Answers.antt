@@ -7,7 +7,7 @@ use Rattle.script_lang.specs.declared.command.Command.TheVariants as family
 use Rattle.script_lang.specs.declared.command.Tell.TheVariants as asked
 use Rattle.session_meaning.specs.Refusals.{refusal_of}
 use Rattle.session_meaning.specs.Effects.{unmet_lines}
-use Rattle.cosmos_session.specs.contracts.session.Session.{the_view}
+use Rattle.session_meaning.proofs.StayingLemmas.{session_of}
 use Rattle.session_meaning.proofs.LineLemmas.{unmet_any}
 use Rattle.session_meaning.proofs.OutcomeLemmas.{fault_obeys, fault_uncounted, still_obeys}
 use Rattle.cosmos_session.proofs.session.Session.expect.Goals as goal
@@ -16,7 +16,7 @@ pub returns-in_err-lines-clause-obeys : goal.returns-in_err-lines-clause-obeys
 returns-in_err-lines-clause-obeys g c = λ texts.
     let stopped = err_from_is_err_and c.from_residual.result c.from_residual.ensures.1 in
     rw (stopped.1, stopped.2)
-    (fault_obeys g.L.Lines.hear g.L.Lines.part c.args.self.now (family.Tell (asked.Expect c.args.list.now)) _ texts _ _
+    (fault_obeys g.L.Lines.hear g.L.Lines.part g.M.Stage.did c.args.self.now (family.Tell (asked.Expect c.args.list.now)) _ texts _ _
     (rw c.items.ensures at c.in_err-lines.ensures.refused))
 
 pub returns-in_err-lines-clause-faults : goal.returns-in_err-lines-clause-faults
@@ -34,7 +34,7 @@ tell_unmet-told-requires g c = record {
 
 pub returns-clause-obeys : goal.returns-clause-obeys
 returns-clause-obeys g c = λ texts.
-    let session = the_view c.self.inside in
+    let session = session_of c.self.invariant.0 in
     let core = session.core in
     let command = family.Tell (asked.Expect c.args.list.now) in
     let lines = unmet_lines core c.args.list.now in
@@ -43,6 +43,6 @@ returns-clause-obeys g c = λ texts.
     let any : not c.is_empty.result ≡ list_any is_unmet lines = rw (← told) (search (rules, sym (unmet_any core c.args.list.now), told)) in
     let missed = λ (any : Bool). record core { missed = core.missed || any } in
     rw (← c.self.view_is)
-    (still_obeys g.L.Lines.hear g.L.Lines.part session _ command lines _ _ texts _ _ c.tell_unmet-told.result refl allowed
+    (still_obeys g.L.Lines.hear g.L.Lines.part g.M.Stage.did session _ command lines _ _ texts _ _ c.tell_unmet-told.result refl allowed
     (ap missed any, refl) (lines, (ap missed any, refl)) (rw (c.deref-2.ensures.value, told, c.reserve.ensures.heard) at c.tell_unmet-told.ensures.sent)
-    c.tell_unmet-told.ensures.cause (rw c.reserve.ensures.refusals at c.tell_unmet-told.ensures.refusals))
+    c.tell_unmet-told.ensures.cause (rw c.reserve.ensures.refusals at c.tell_unmet-told.ensures.refusals) refl)

@@ -1,14 +1,15 @@
 -- The nodes before this one are input nodes.
 use Rattle.std.proofs.Common.{◌≡◌, drop}
 use Rattle.path_meaning.specs.Graphs.{nodes}
+use Rattle.column_stage.specs.Acts.{LeadsBy}
 use Rattle.session_meaning.specs.Effects.{with_inputs}
-use Rattle.session_meaning.specs.Machines.{EditsMachine}
+use Rattle.session_meaning.specs.Stages.{IsEditing}
 use Rattle.cosmos_session.proofs.session.Session.make_inputs.Given as goal
 
 abbrev pub invariant-loop-node : goal.invariant-loop-node
-invariant-loop-node l = record {
+invariant-loop-node g l = record {
   made : with_inputs l.self.core.circuit (drop l.node-index l.list) ≡ with_inputs l.initial.self.core.circuit l.list;
   count : nodes l.self.core.circuit.graph ≡ nodes l.initial.self.core.circuit.graph;
   same : l.self.core ≡ record l.initial.self.core { circuit = l.self.core.circuit };
-  machine : EditsMachine l.initial.self l.self;
+  stage : LeadsBy g.M.Stage.did IsEditing l.initial.self.stage l.self.stage;
 }

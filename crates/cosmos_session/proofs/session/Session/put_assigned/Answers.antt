@@ -1,49 +1,46 @@
-use Rattle.std.proofs.Common.{◌≡◌, ◌<◌, ℕ, List, All, map, refl, sym, ap, subst}
+use Rattle.std.proofs.Common.{◌<◌, ℕ, List, All, length, sym, ap, subst, ◌∙◌}
 use Rattle.ternary.specs.declared.tern.Tern.{Tern}
 use Rattle.path_meaning.specs.Graphs.{nodes}
+use Rattle.path_meaning.specs.Rails.{IsSound}
+use Rattle.group_text.specs.Texts.{GroupTextData}
+use Rattle.group_analysis.specs.Using.{used_texts}
 use Rattle.analysis_cache.specs.Keeping.{texts_of}
+use Rattle.column_stage.proofs.FrontLemmas.{same_among}
 use Rattle.session_meaning.specs.Sessions.{HeldSession}
-use Rattle.session_meaning.specs.Effects.{assigned}
-use Rattle.cosmos_session.specs.contracts.session.Session.{the_view}
-use Rattle.session_meaning.proofs.StayingLemmas.{staying, held-staying, last-assigned}
-use Rattle.session_meaning.proofs.MachineLemmas.{placed_on, held-assigned, places-assigned, unplaced-assigned, covers-serves}
+use Rattle.session_meaning.proofs.StateLemmas.{length-assigned, sound-assigned}
+use Rattle.session_meaning.proofs.StayingLemmas.{core_given, held_moved, session_of, sound_held}
 use Rattle.cosmos_session.proofs.session.Session.put_assigned.Goals as goal
 
+pub assign-requires-clause-one : goal.assign-requires-clause-one
+assign-requires-clause-one g c = g.met.M.PlainStage.one c.self.inside.stage
+
+pub assign-requires-clause-sound : goal.assign-requires-clause-sound
+assign-requires-clause-sound g c = sound_held g.M.Stage.lanes g.M.Stage.states g.M.Stage.serves _ c.self.invariant.0
+
 pub assign-requires-clause-within : goal.assign-requires-clause-within
-assign-requires-clause-within c =
-    subst (λ (s : HeldSession). All (λ (pair : ℕ × Tern). pair.0 < nodes s.core.circuit.graph) c.args.states.now) (sym c.self.view_is) c.requires.within
+assign-requires-clause-within g c =
+    subst (λ (s : HeldSession _). All (λ (pair : ℕ × Tern). pair.0 < nodes s.core.circuit.graph) c.args.states.now) (sym c.self.view_is) c.requires.within
 
 pub invariant_of-self : goal.invariant_of-self
-invariant_of-self c =
-    let session = the_view c.self.inside in
+invariant_of-self g c =
+    let session = session_of c.self.invariant.0 in
+    let held = c.self.invariant.0 in
+    let list = c.args.states.now in
     let stage = c.assign.new.stage in
-    let given : List ℕ = map (λ (pair : ℕ × Tern). pair.0) c.args.states.now in
-    let last = last-assigned session.core.circuit.graph given session.machine stage.machine c.assign.ensures.machine in
-    held-staying (placed_on session stage) session.machine (texts_of c.self.inside.kept) last refl c.self.invariant.1
-    (held-assigned session c.args.states.now stage c.requires.past c.assign.ensures.state c.assign.ensures.machine c.assign.ensures.same c.self.invariant.0)
+    let table = texts_of c.self.inside.kept in (
+      held_moved g.M.Stage.lanes g.M.Stage.states g.M.Stage.serves session stage session.core.count (used_texts (g.M.Stage.last stage) table)
+          (ap (λ (last : List GroupTextData). used_texts last table) c.assign.ensures.last) c.assign.ensures.one
+          (ap length c.assign.ensures.state ∙ length-assigned list session.core.state ∙ held.core.ready.states)
+          (subst IsSound (sym c.assign.ensures.state) (sound-assigned list session.core.state c.requires.past held.core.ready.sound))
+          (c.assign.ensures.serves session.core.kept held.served) held,
+      same_among _ _ table c.assign.ensures.last c.self.invariant.1,
+    )
 
 pub returns-clause-state : goal.returns-clause-state
-returns-clause-state c =
-    let session = the_view c.self.inside in
-    let stage = c.assign.new.stage in
-    let given : List ℕ = map (λ (pair : ℕ × Tern). pair.0) c.args.states.now in
-    let last = last-assigned session.core.circuit.graph given session.machine stage.machine c.assign.ensures.machine in
+returns-clause-state g c =
+    let table = texts_of c.self.inside.kept in
     rw (← c.self.view_is)
-    (staying (placed_on session stage) session.machine (texts_of c.self.inside.kept) last refl
-    (λ (new : HeldSession). new.core ≡ record session.core { state = assigned session.core.state c.args.states.now })
-    (ap (λ (state : List Tern). record session.core { state = state }) c.assign.ensures.state))
+    (core_given (session_of c.self.invariant.0).core _ _ _ c.assign.ensures.state (ap (λ (last : List GroupTextData). used_texts last table) c.assign.ensures.last))
 
-pub returns-clause-machine : goal.returns-clause-machine
-returns-clause-machine c =
-    let session = the_view c.self.inside in
-    rw (← c.self.view_is)
-    (places-assigned session.core.circuit.graph (map (λ (pair : ℕ × Tern). pair.0) c.args.states.now) session.machine c.assign.new.stage.machine
-    c.assign.ensures.machine)
-
-pub returns-clause-unplaced : goal.returns-clause-unplaced
-returns-clause-unplaced c =
-    let session = the_view c.self.inside in
-    rw (← c.self.view_is)
-    (unplaced-assigned session.core.circuit.graph (map (λ (pair : ℕ × Tern). pair.0) c.args.states.now) session.machine
-    c.assign.new.stage.machine
-    (covers-serves session.core.circuit.graph session.core.state session.core.kept session.machine c.self.invariant.0.machine) c.assign.ensures.machine)
+pub returns-clause-stage : goal.returns-clause-stage
+returns-clause-stage g c = rw (← c.self.view_is) c.assign.ensures.did

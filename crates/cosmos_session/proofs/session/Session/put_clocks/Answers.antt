@@ -1,60 +1,47 @@
--- The clocks' nodes are input nodes, and past the rails.
-use Rattle.std.proofs.Common.{◌≡◌, All, List, refl, sym, ap, subst}
-use Rattle.ternary.specs.declared.tern.Tern.{Tern}
-use Rattle.strength_order.specs.declared.TheConstants.{INPUT_LEVEL}
-use Rattle.path_meaning.specs.Graphs.{level_of}
+-- The clocks' nodes are past the rails.
+use Rattle.std.proofs.Common.{ℕ, ◌≤◌, List, sym, ap, subst}
+use Rattle.group_text.specs.Texts.{GroupTextData}
+use Rattle.group_analysis.specs.Using.{used_texts}
 use Rattle.analysis_cache.specs.Keeping.{texts_of}
+use Rattle.column_stage.proofs.FrontLemmas.{same_among}
 use Rattle.session_meaning.specs.Sessions.{HeldSession}
-use Rattle.session_meaning.specs.Effects.{states_with, with_beat}
-use Rattle.session_meaning.specs.Machines.{IsBuilt}
-use Rattle.session_meaning.specs.Stages.{TicksIn}
-use Rattle.cosmos_session.specs.contracts.session.Session.{the_view}
-use Rattle.session_meaning.proofs.StayingLemmas.{staying, held-staying, last-ticked}
-use Rattle.session_meaning.proofs.MachineLemmas.{placed_on}
-use Rattle.session_meaning.proofs.TickLemmas.{fits-ticked, stays-ticked, held-ticked}
+use Rattle.session_meaning.proofs.StayingLemmas.{core_given, held_beside, session_of}
 use Rattle.cosmos_session.proofs.session.Session.put_clocks.Goals as goal
 
--- the clocks' nodes are input nodes
-abbrev HasInputs : HeldSession → Type 0
-HasInputs session = All (λ clock. level_of session.core.circuit.graph clock.node ≡ INPUT_LEVEL) session.core.clocks
+pub put_states-requires-clause-some : goal.put_states-requires-clause-some
+put_states-requires-clause-some g c = c.self.invariant.0.some
+
+pub put_states-requires-clause-sound : goal.put_states-requires-clause-sound
+put_states-requires-clause-sound g c = rw c.graph.ensures.value c.self.invariant.0.sound
+
+pub put_states-requires-clause-within : goal.put_states-requires-clause-within
+put_states-requires-clause-within g c = rw (c.graph.ensures.value, c.deref.ensures.value) c.self.invariant.0.core.clocks
 
 pub invariant_of-self : goal.invariant_of-self
-invariant_of-self c =
-    let session = the_view c.self.inside in
+invariant_of-self g c =
+    let held = c.self.invariant.0 in
+    let session = session_of c.self.invariant.0 in
+    let core = session.core in
     let stage = c.put_states.new.stage in
-    let ticks : TicksIn session.core.circuit.graph session.core.clocks session.machine stage.machine =
-    rw (c.graph.ensures.value, c.deref.ensures.value) at c.put_states.ensures.machine in
-    held-staying (placed_on session stage) session.machine (texts_of c.self.inside.kept)
-    (last-ticked session.core.circuit.graph session.core.clocks session.machine stage.machine ticks) refl c.self.invariant.1
-    (held-ticked session c.args.place stage (subst HasInputs (sym c.self.view_is) c.requires.inputs)
-    (subst IsBuilt (sym c.self.view_is) c.requires.built)
-    (rw c.deref.ensures.value at c.put_states.ensures.state) ticks c.put_states.ensures.same c.self.invariant.0)
+    let table = texts_of c.self.inside.kept in (
+      held_beside g.M.Stage.lanes g.M.Stage.states g.M.Stage.serves session stage core.count (used_texts (g.M.Stage.last stage) table)
+          (ap (λ (last : List GroupTextData). used_texts last table) c.put_states.ensures.last)
+          (subst (λ (n : ℕ). 1 ≤ n) (sym c.put_states.ensures.lanes) held.some) (rw c.graph.ensures.value at c.put_states.ensures.sound)
+          ((rw c.graph.ensures.value at c.put_states.ensures.serves) core.kept held.served) held,
+      same_among _ _ table c.put_states.ensures.last c.self.invariant.1,
+    )
 
 pub returns-clause-beat : goal.returns-clause-beat
-returns-clause-beat c =
-    let session = the_view c.self.inside in
-    let stage = c.put_states.new.stage in
-    let ticks : TicksIn session.core.circuit.graph session.core.clocks session.machine stage.machine =
-    rw (c.graph.ensures.value, c.deref.ensures.value) at c.put_states.ensures.machine in
-    let states : stage.state ≡ states_with session.core.clocks c.args.place session.core.state =
-    rw c.deref.ensures.value at c.put_states.ensures.state in
+returns-clause-beat g c =
+    let table = texts_of c.self.inside.kept in
     rw (← c.self.view_is)
-    (staying (placed_on session stage) session.machine (texts_of c.self.inside.kept)
-    (last-ticked session.core.circuit.graph session.core.clocks session.machine stage.machine ticks) refl
-    (λ (new : HeldSession). new.core ≡ with_beat session.core c.args.place)
-    (ap (λ (state : List Tern). record session.core { state = state }) states))
+    (core_given (session_of c.self.invariant.0).core _ _ _ (rw c.deref.ensures.value at c.put_states.ensures.state)
+    (ap (λ (last : List GroupTextData). used_texts last table) c.put_states.ensures.last))
 
-pub returns-clause-built : goal.returns-clause-built
-returns-clause-built c =
-    let session = the_view c.self.inside in
-    fits-ticked session.core.circuit.graph session.core.clocks session.machine c.put_states.new.stage.machine
-    (subst HasInputs (sym c.self.view_is) c.requires.inputs) (subst IsBuilt (sym c.self.view_is) c.requires.built)
-    (rw (c.graph.ensures.value, c.deref.ensures.value) at c.put_states.ensures.machine)
+pub returns-clause-fits : goal.returns-clause-fits
+returns-clause-fits g c =
+    (rw c.graph.ensures.value at c.put_states.ensures.fits)
+    (subst (λ (s : HeldSession _). g.M.Stage.fits s.stage s.core.circuit.graph) (sym c.self.view_is) c.requires.fits)
 
-pub returns-clause-stays : goal.returns-clause-stays
-returns-clause-stays c =
-    let session = the_view c.self.inside in
-    rw (← c.self.view_is)
-    (stays-ticked session.core.circuit.graph session.core.clocks session.machine c.put_states.new.stage.machine
-    (subst HasInputs (sym c.self.view_is) c.requires.inputs) (subst IsBuilt (sym c.self.view_is) c.requires.built)
-    (rw (c.graph.ensures.value, c.deref.ensures.value) at c.put_states.ensures.machine))
+pub returns-clause-stage : goal.returns-clause-stage
+returns-clause-stage g c = rw (← c.self.view_is) (rw (c.graph.ensures.value, c.deref.ensures.value) at c.put_states.ensures.did)

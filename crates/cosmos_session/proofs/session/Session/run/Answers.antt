@@ -1,5 +1,7 @@
 -- What is seen of a phase is the command's; of a report nothing is seen, and the state stays.
-use Rattle.session_meaning.proofs.OutcomeLemmas.{on_ok}
+use Rattle.script_lang.specs.declared.command.Command.TheVariants as family
+use Rattle.script_lang.specs.declared.command.Run.TheVariants as asked
+use Rattle.session_meaning.proofs.OutcomeLemmas.{obeys_alone, on_ok}
 use Rattle.session_meaning.proofs.PassingLemmas.{knows-report, nothing_seen, unseen_yet}
 use Rattle.cosmos_session.proofs.session.Session.run.Goals as goal
 
@@ -11,8 +13,10 @@ returns-in-Report-clause-seen g c = on_ok _ c.report.result (rw c.in-Report.is (
 
 pub returns-in-Report-clause-knows : goal.returns-in-Report-clause-knows
 returns-in-Report-clause-knows g c =
-    knows-report g.O.Observer.knows c.args.onlooker.now c.args.self.now c.report.new.self c.requires.knows g.L.Lines.hear g.L.Lines.part _ _ _ _ _ _
-    c.report.result c.report.ensures.obeys
+    let old = c.args.self.now in
+    let new = c.report.new.self in
+    knows-report g.O.Observer.knows c.args.onlooker.now old.core new.core c.requires.knows g.L.Lines.hear g.L.Lines.part _ _ _ _ _ _ c.report.result
+    (obeys_alone g.L.Lines.hear g.L.Lines.part g.M.Stage.did old new (family.Run asked.Report) _ _ _ _ _ _ c.report.result c.report.ensures.obeys)
 
 pub returns-in-Report-clause-unseen : goal.returns-in-Report-clause-unseen
 returns-in-Report-clause-unseen g c = unseen_yet c.args.onlooker.now _ _ _ _ c.report.result

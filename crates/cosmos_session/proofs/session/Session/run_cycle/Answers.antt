@@ -2,20 +2,16 @@
 use Rattle.std.proofs.Common.{length, ap, subst, ◌∙◌, refl, arith}
 use Rattle.std.specs.List.{range_with_len}
 use Rattle.std.proofs.lemmas.Result.{err_from_is_err_and}
-use Rattle.session_meaning.specs.Sessions.{SessionData, HeldSession, IsReady, places_of}
+use Rattle.session_meaning.specs.Sessions.{SessionData, HeldSession, IsReady, IsSession, places_of}
 use Rattle.session_meaning.specs.Effects.{with_beat}
-use Rattle.session_meaning.specs.Machines.{IsHeldSession}
 use Rattle.session_meaning.proofs.EffectLemmas.{beats-ready}
 use Rattle.session_meaning.proofs.PassingLemmas.{beat_seen, known-put}
 use Rattle.session_meaning.proofs.BeatLemmas.{beat_done, beat_stopped, places-next, places-split}
-use Rattle.session_meaning.proofs.MoveLemmas.{beats_on-more, setup-put, setup-phase}
+use Rattle.session_meaning.proofs.MoveLemmas.{beats_go_on-more, setup-put, setup-phase}
 use Rattle.cosmos_session.proofs.session.Session.run_cycle.Goals as goal
 
 pub put_clocks-requires-clause-place : goal.put_clocks-requires-clause-place
 put_clocks-requires-clause-place g c = omega (arith, ap places_of c.loop-place.invariant.setup.clocks, c.loop-place.invariant.end)
-
-pub put_clocks-requires-clause-inputs : goal.put_clocks-requires-clause-inputs
-put_clocks-requires-clause-inputs g c = rw (c.loop-place.invariant.setup.clocks, c.loop-place.invariant.setup.circuit) c.requires.inputs
 
 pub settle_and_tell-requires-clause-room : goal.settle_and_tell-requires-clause-room
 settle_and_tell-requires-clause-room g c =
@@ -27,10 +23,10 @@ pub settle_and_tell-requires-clause-knows : goal.settle_and_tell-requires-clause
 settle_and_tell-requires-clause-knows g c =
     let start = c.args.self.now.core in
     let now = c.loop-place.self.core in
-    let session = subst IsHeldSession c.self.view_is c.self.invariant.0 in
+    let session : IsSession start = subst (λ (s : HeldSession _). IsSession s.core) c.self.view_is c.self.invariant.0.core in
     let ready = beats-ready (range_with_len 0 c.loop-place.place) start now c.loop-place.invariant.done.lines c.loop-place.invariant.done.beats
-    session.core.ready in
-    known-put g.O.Observer.knows c.loop-place.onlooker start now c.put_clocks.new.self.core c.loop-place.place session.core c.loop-place.invariant.setup
+    session.ready in
+    known-put g.O.Observer.knows c.loop-place.onlooker start now c.put_clocks.new.self.core c.loop-place.place session c.loop-place.invariant.setup
     ready.states c.put_clocks.ensures.beat c.loop-place.invariant.knows
 
 pub returns-in_err-settle_and_tell-clause-beats : goal.returns-in_err-settle_and_tell-clause-beats
@@ -44,7 +40,7 @@ returns-in_err-settle_and_tell-clause-beats g c =
     rw stopped.1 (beat_stopped g.L.Lines.hear g.L.Lines.part start now c.settle_and_tell.new.self.core beat.state (range_with_len 0 count)
     (range_with_len 0 place) _ place (g.L.Lines.heard c.args.out.now) (g.L.Lines.heard c.loop-place.out)
     (g.L.Lines.heard c.settle_and_tell.new.out) c.in_err-settle_and_tell.field-0.0
-    (subst (λ (s : HeldSession). IsReady s.core) c.self.view_is c.self.invariant.0.core.ready) (places-split place count (omega (arith, c.loop-place.invariant.end)))
+    (subst (λ (s : HeldSession _). IsReady s.core) c.self.view_is c.self.invariant.0.core.ready) (places-split place count (omega (arith, c.loop-place.invariant.end)))
     c.loop-place.invariant.done refl
     (rw c.put_clocks.ensures.beat at c.in_err-settle_and_tell.ensures.phase))
 
@@ -67,9 +63,9 @@ loop-place-preserved g c =
           (range_with_len 0 place) place (g.L.Lines.heard c.args.out.now) (g.L.Lines.heard c.loop-place.out)
           (g.L.Lines.heard c.settle_and_tell.new.out) c.loop-place.invariant.done refl
           (rw c.put_clocks.ensures.beat at c.in_ok-settle_and_tell.ensures.phase));
-      moves = rw (places-next place) (beats_on-more start now put next (range_with_len 0 place) place c.loop-place.invariant.moves
-          c.put_clocks.ensures.beat c.put_clocks.ensures.stays c.settle_and_tell.ensures.moves);
-      built = c.settle_and_tell.ensures.built;
+      stage = rw (places-next place) (beats_go_on-more g.M.Stage.did start now put next (range_with_len 0 place) place c.loop-place.invariant.stage
+          c.put_clocks.ensures.beat c.put_clocks.ensures.stage c.settle_and_tell.ensures.stage);
+      fits = c.settle_and_tell.ensures.fits;
       setup = setup-phase start.core now.core put.core next.core place c.loop-place.invariant.setup c.put_clocks.ensures.beat c.settle_and_tell.ensures.setup;
       room = c.settle_and_tell.ensures.room ∙ c.loop-place.invariant.room;
       line = c.settle_and_tell.ensures.line ∙ c.loop-place.invariant.line;

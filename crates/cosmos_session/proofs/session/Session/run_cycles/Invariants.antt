@@ -1,18 +1,17 @@
--- The cycles before this one are run, with their lines heard, by the machine that is there.
+-- The cycles before this one are run, with their lines heard, on the stage, which fits.
 use Rattle.std.proofs.Common.{◌≡◌}
 use Rattle.session_meaning.specs.Sessions.{places_of}
 use Rattle.session_meaning.specs.Effects.{places_in}
-use Rattle.session_meaning.specs.Machines.{IsBuilt}
 use Rattle.session_meaning.specs.Passing.{SeesBeats}
-use Rattle.session_meaning.specs.Stages.{BeatsMove, SameSetup}
+use Rattle.session_meaning.specs.Stages.{BeatsOn, SameSetup}
 use Rattle.session_meaning.proofs.BeatLemmas.{BeatsDone}
 use Rattle.cosmos_session.proofs.session.Session.run_cycles.Given as goal
 
 abbrev pub invariant-loop-cycle : goal.invariant-loop-cycle
 invariant-loop-cycle g l = record {
   done : BeatsDone g.L.Lines.hear l.fn.self.core l.self.core (places_in (places_of l.fn.self.core.clocks) l._cycle) (g.L.Lines.heard l.fn.out) (g.L.Lines.heard l.out);
-  moves : BeatsMove (places_in (places_of l.fn.self.core.clocks) l._cycle) l.fn.self l.self;
-  built : IsBuilt l.self;
+  stage : BeatsOn g.M.Stage.did (places_in (places_of l.fn.self.core.clocks) l._cycle) l.fn.self l.self;
+  fits : g.M.Stage.fits l.self.stage l.self.core.circuit.graph;
   setup : SameSetup l.fn.self.core l.self.core;
   room : l.room ≡ l.fn.room;
   line : g.L.Lines.room l.out ≡ g.L.Lines.room l.fn.out;

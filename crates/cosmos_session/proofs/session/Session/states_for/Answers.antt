@@ -4,33 +4,34 @@ use Rattle.ternary.specs.declared.tern.Tern.{Tern}
 use Rattle.path_meaning.specs.Graphs.{nodes}
 use Rattle.session_meaning.specs.Refusals.{first_refusal, place_refusal}
 use Rattle.session_meaning.proofs.ValueLemmas.{states-within}
-use Rattle.cosmos_session.specs.contracts.session.Session.{the_view}
+use Rattle.session_meaning.proofs.StayingLemmas.{session_of}
+use Rattle.cosmos_session.proofs.session.Session.states_for.Given.{Over}
 use Rattle.cosmos_session.proofs.session.Session.states_for.Goals.{In_default}
 use Rattle.cosmos_session.proofs.session.Session.states_for.Goals as goal
 
 -- no place of a value is refused
-none : (c : In_default) → first_refusal (place_refusal (the_view c.self.inside).core.circuit (the_view c.self.inside).core.vectors) c.args.list.now ≡ None
-none c = sym (rw (c.in_default.is, c.items.ensures) at c.place_refusal.ensures)
+none : (g : Over) (c : In_default g) → first_refusal (place_refusal (session_of c.self.invariant.0).core.circuit (session_of c.self.invariant.0).core.vectors) c.args.list.now ≡ None
+none g c = sym (rw (c.in_default.is, c.items.ensures) at c.place_refusal.ensures)
 
 pub returns-in-Some-clause-refused : goal.returns-in-Some-clause-refused
-returns-in-Some-clause-refused c = rw (← c.self.view_is, ← c.items.ensures, ← c.in-Some.ensures) refl
+returns-in-Some-clause-refused g c = rw (← c.self.view_is, ← c.items.ensures, ← c.in-Some.ensures) refl
 
 pub all_states-requires-clause-netlist : goal.all_states-requires-clause-netlist
-all_states-requires-clause-netlist c = c.self.invariant.0.core.ready.netlist
+all_states-requires-clause-netlist g c = c.self.invariant.0.core.ready.netlist
 
 pub all_states-requires-clause-within : goal.all_states-requires-clause-within
-all_states-requires-clause-within c = c.self.invariant.0.core.vectors
+all_states-requires-clause-within g c = c.self.invariant.0.core.vectors
 
 pub returns-clause-allowed : goal.returns-clause-allowed
-returns-clause-allowed c =
-    rw (← c.self.view_is, none (goal.at.returns-clause-allowed c).In_default) (rw c.items-2.ensures at c.all_states.ensures.allowed)
+returns-clause-allowed g c =
+    rw (← c.self.view_is, none g (goal.at.returns-clause-allowed g c).In_default) (rw c.items-2.ensures at c.all_states.ensures.allowed)
 
 pub returns-clause-states : goal.returns-clause-states
-returns-clause-states c = rw (← c.self.view_is, ← c.items-2.ensures) c.all_states.ensures.states
+returns-clause-states g c = rw (← c.self.view_is, ← c.items-2.ensures) c.all_states.ensures.states
 
 pub returns-clause-within : goal.returns-clause-within
-returns-clause-within c =
-    let core = (the_view c.self.inside).core in
+returns-clause-within g c =
+    let core = (session_of c.self.invariant.0).core in
     let held = c.self.invariant.0.core in
     rw (← c.self.view_is)
     (IfOk-weaker c.all_states.result _ _
@@ -38,5 +39,5 @@ returns-clause-within c =
     (states-within core.circuit held.ready.netlist core.vectors held.vectors c.items-2.result.now)) c.all_states.ensures.states)
 
 pub returns-clause-refused : goal.returns-clause-refused
-returns-clause-refused c =
-    rw (← c.self.view_is, none (goal.at.returns-clause-refused c).In_default) (rw c.items-2.ensures at c.all_states.ensures.refused)
+returns-clause-refused g c =
+    rw (← c.self.view_is, none g (goal.at.returns-clause-refused g c).In_default) (rw c.items-2.ensures at c.all_states.ensures.refused)

@@ -1,40 +1,42 @@
 use Rattle.std.proofs.Common.{[], ◌∷◌, false, refl, subst}
+use Rattle.std.proofs.lemmas.Result.{err_from_is_err_and}
 use Rattle.script_lang.specs.declared.command.Command.TheVariants as family
 use Rattle.script_lang.specs.declared.command.Run.TheVariants as asked
 use Rattle.session_meaning.specs.Effects.{wave_by}
-use Rattle.session_meaning.specs.Machines.{IsHeldSession}
+use Rattle.session_meaning.specs.Sessions.{HeldSession, IsSession}
 use Rattle.session_meaning.proofs.OutcomeLemmas.{ready_obeys, on_ok}
-use Rattle.session_meaning.proofs.MoveLemmas.{step-readied}
+use Rattle.session_meaning.proofs.MoveLemmas.{step_readied}
 use Rattle.session_meaning.proofs.PassingLemmas.{known-readied, sees_one, sees-readied, unseen_sink}
+use Rattle.cosmos_session.proofs.UnreadyLemmas.{unready_told}
 use Rattle.cosmos_session.proofs.session.Session.step.Goals as goal
 
 pub returns-clause-obeys : goal.returns-clause-obeys
 returns-clause-obeys g c =
+    let old = c.args.self.now in
+    let mid = c.prepare.new.self in
+    let new = c.take_step.new.self in
+    let ready = c.in_ok-prepare.ensures.readies in
     let stepped = c.take_step.ensures.step in
-    ready_obeys g.L.Lines.hear g.L.Lines.part c.args.self.now c.prepare.new.self c.take_step.new.self (family.Run asked.Step) _ _ _ _ _ _ c.tell_wave.result refl refl
-    (λ lines done. (lines, done)) c.in_ok-prepare.ensures
+    ready_obeys g.L.Lines.hear g.L.Lines.part g.M.Stage.did old mid new (family.Run asked.Step) _ _ _ _ _ _ c.tell_wave.result refl refl
+    (λ lines done. (lines, done)) ready
     (record {
-      lines = wave_by c.take_step.new.self.core 1 false ∷ [];
+      lines = wave_by new.core 1 false ∷ [];
       done = record { next = stepped.next; step = stepped.step; moved = stepped.moved; wrote = refl };
       sent = rw c.reserve.ensures.heard at c.tell_wave.ensures.sent;
     })
     c.tell_wave.ensures.cause (rw c.reserve.ensures.refusals at c.tell_wave.ensures.refusals)
-
-pub returns-clause-machine : goal.returns-clause-machine
-returns-clause-machine g c =
-    on_ok _ c.tell_wave.result
-    (step-readied c.args.self.now c.prepare.new.self c.take_step.new.self _ _ c.in_ok-prepare.ensures c.take_step.ensures.machine)
+    (on_ok _ c.tell_wave.result (step_readied g.M.Stage.did old mid new _ _ ready c.take_step.ensures.stage))
 
 pub take_step-requires-clause-knows : goal.take_step-requires-clause-knows
 take_step-requires-clause-knows g c =
-    known-readied g.O.Observer.knows c.args.onlooker.now c.args.self.now c.prepare.new.self _ _
-    (subst IsHeldSession c.self.view_is c.self.invariant.0).core c.in_ok-prepare.ensures c.requires.knows
+    known-readied g.O.Observer.knows c.args.onlooker.now g.M.Stage.did c.args.self.now c.prepare.new.self _ _
+    (subst (λ (s : HeldSession _). IsSession s.core) c.self.view_is c.self.invariant.0.core) c.in_ok-prepare.ensures.readies c.requires.knows
 
 pub returns-clause-seen : goal.returns-clause-seen
 returns-clause-seen g c =
     on_ok _ c.tell_wave.result
-    (sees-readied g.O.Observer.begin g.O.Observer.see g.O.Observer.rest c.args.self.now c.prepare.new.self _ _ c.in_ok-prepare.ensures asked.Step _ _
-    (sees_one g.O.Observer.begin g.O.Observer.see g.O.Observer.rest _ _ _ _ c.take_step.ensures.seen))
+    (sees-readied g.O.Observer.begin g.O.Observer.see g.O.Observer.rest g.M.Stage.did c.args.self.now c.prepare.new.self _ _ c.in_ok-prepare.ensures.readies
+    asked.Step _ _ (sees_one g.O.Observer.begin g.O.Observer.see g.O.Observer.rest _ _ _ _ c.take_step.ensures.seen))
 
 pub returns-clause-knows : goal.returns-clause-knows
 returns-clause-knows g c = on_ok _ c.tell_wave.result c.take_step.ensures.knows
@@ -43,3 +45,11 @@ pub returns-clause-unseen : goal.returns-clause-unseen
 returns-clause-unseen g c =
     unseen_sink c.args.onlooker.now c.take_step.new.onlooker _ _ _ _ c.tell_wave.result c.tell_wave.ensures.cause
     (rw c.reserve.ensures.faults at c.tell_wave.ensures.faults) (rw c.reserve.ensures.refusals at c.tell_wave.ensures.refusals)
+
+pub returns-in_err-prepare-clause-obeys : goal.returns-in_err-prepare-clause-obeys
+returns-in_err-prepare-clause-obeys g c =
+    let stopped = err_from_is_err_and c.from_residual-in_err-prepare.result c.from_residual-in_err-prepare.ensures.1 in
+    unready_told g.L.Lines.hear g.L.Lines.part g.M.Stage.did c.args.self.now c.prepare.new.self (family.Run asked.Step)
+    (g.L.Lines.heard c.args.out.now) (g.L.Lines.heard c.reserve.new.self) (g.A.Analyst.analysed c.args.analyst.now) (g.A.Analyst.analysed c.prepare.new.analyst)
+    (g.L.Lines.refusals c.args.out.now) (g.L.Lines.refusals c.reserve.new.self) c.in_err-prepare.field-0.0 stopped.0 c.from_residual-in_err-prepare.result refl
+    refl c.reserve.ensures.heard c.reserve.ensures.refusals stopped.1 stopped.2 c.in_err-prepare.ensures.readies

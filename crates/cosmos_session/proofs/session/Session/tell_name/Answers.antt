@@ -6,7 +6,7 @@ use Rattle.netlist.specs.Names.{node_of}
 use Rattle.netlist.specs.Circuits.{CircuitData}
 use Rattle.node_words.specs.Words.{list_of, node_or_list}
 use Rattle.session_meaning.specs.Refusals.{nodes_named}
-use Rattle.cosmos_session.specs.contracts.session.Session.{the_view}
+use Rattle.session_meaning.proofs.StayingLemmas.{session_of}
 use Rattle.session_meaning.proofs.ValueLemmas.{name-within}
 use Rattle.cosmos_session.proofs.session.Session.tell_name.Goals as goal
 
@@ -25,18 +25,18 @@ list_alone c vectors name list count none is all =
 
 pub show-requires-clause-within : goal.show-requires-clause-within
 show-requires-clause-within g c =
-    let core = (the_view c.self.inside).core in
+    let core = (session_of c.self.invariant.0).core in
     let held = c.self.invariant.0.core in
-    rw c.state-state.ensures
+    rw c.column-state.ensures.value
     (subst (λ (count : ℕ). All (λ (one : ℕ). one < count) (c.in-Node.node ∷ [])) (sym held.ready.states)
     (node_alone core.circuit core.vectors c.args.name.now c.in-Node.node (nodes core.circuit.graph) c.in-Node.ensures
     (name-within core.circuit held.ready.netlist core.vectors held.vectors c.args.name.now)))
 
 pub show-requires-in-Vector-clause-within : goal.show-requires-in-Vector-clause-within
 show-requires-in-Vector-clause-within g c =
-    let core = (the_view c.self.inside).core in
+    let core = (session_of c.self.invariant.0).core in
     let held = c.self.invariant.0.core in
-    rw c.state-state.ensures
+    rw c.column-state.ensures.value
     (subst (λ (count : ℕ). All (λ (one : ℕ). one < count) c.in-Vector.nodes.now) (sym held.ready.states)
     (list_alone core.circuit core.vectors c.args.name.now c.in-Vector.nodes.now (nodes core.circuit.graph) c.in-Vector.ensures.0 c.in-Vector.ensures.1
     (name-within core.circuit held.ready.netlist core.vectors held.vectors c.args.name.now)))

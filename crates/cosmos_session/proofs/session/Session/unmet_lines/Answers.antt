@@ -12,13 +12,13 @@ use Rattle.cosmos_session.proofs.ItemLemmas.{item_stops, of_item}
 use Rattle.cosmos_session.proofs.session.Session.unmet_lines.Goals as goal
 
 pub returns-in-Some-clause-refused : goal.returns-in-Some-clause-refused
-returns-in-Some-clause-refused c = rw (← c.self.view_is, ← c.in-Some.ensures) refl
+returns-in-Some-clause-refused g c = rw (← c.self.view_is, ← c.in-Some.ensures) refl
 
 pub returns-in_err-add_unmet-clause-refused : goal.returns-in_err-add_unmet-clause-refused
-returns-in_err-add_unmet-clause-refused c =
+returns-in_err-add_unmet-clause-refused g c =
     let core = c.args.self.now.core in
     let none : first_refusal (place_refusal core.circuit core.vectors) c.args.list.now ≡ None =
-    subst (λ (s : HeldSession). first_refusal (place_refusal s.core.circuit s.core.vectors) c.args.list.now ≡ None) c.self.view_is
+    subst (λ (s : HeldSession _). first_refusal (place_refusal s.core.circuit s.core.vectors) c.args.list.now ≡ None) c.self.view_is
     (sym (rw c.in_default.is at c.place_refusal.ensures)) in
     let refusal = λ (one : List ℕ × Value). given_refusal none_at (letters_given core.circuit core.vectors one) in
     let stopped = err_from_is_err_and c.from_residual.result c.from_residual.ensures.1 in
@@ -28,7 +28,7 @@ returns-in_err-add_unmet-clause-refused c =
     (item_stops refusal c.loop-name-item.result c.items.result.now _ c.items.ensures c.in_err-add_unmet.ensures.refused))
 
 pub loop-name-preserved : goal.loop-name-preserved
-loop-name-preserved c =
+loop-name-preserved g c =
     let core = c.args.self.now.core in
     let list = c.args.list.now in
     let place = c.loop-name.name-index in
@@ -47,10 +47,10 @@ loop-name-preserved c =
     }
 
 pub returns-clause-allowed : goal.returns-clause-allowed
-returns-clause-allowed c =
+returns-clause-allowed g c =
     let core = c.args.self.now.core in
     let none : first_refusal (place_refusal core.circuit core.vectors) c.args.list.now ≡ None =
-    subst (λ (s : HeldSession). first_refusal (place_refusal s.core.circuit s.core.vectors) c.args.list.now ≡ None) c.self.view_is
+    subst (λ (s : HeldSession _). first_refusal (place_refusal s.core.circuit s.core.vectors) c.args.list.now ≡ None) c.self.view_is
     (sym (rw c.in_default.is at c.place_refusal.ensures)) in
     rw none
     (sym c.loop-name.invariant.allowed
@@ -58,6 +58,6 @@ returns-clause-allowed c =
     (drop_all c.loop-name.name-index c.args.list.now (omega arith)))
 
 pub returns-clause-lines : goal.returns-clause-lines
-returns-clause-lines c =
+returns-clause-lines g c =
     given-end c.loop-name.lines.items _ _ c.loop-name.invariant.lines
     (ap (unmet_lines c.args.self.now.core) (drop_all c.loop-name.name-index c.args.list.now (omega arith)))

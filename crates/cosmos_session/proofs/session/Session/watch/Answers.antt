@@ -4,7 +4,7 @@ use Rattle.path_meaning.specs.Graphs.{nodes}
 use Rattle.session_meaning.specs.declared.TheConstants.{MOST_WATCHED}
 use Rattle.session_meaning.specs.Sessions.{IsSession}
 use Rattle.session_meaning.specs.Refusals.{all_named}
-use Rattle.cosmos_session.specs.contracts.session.Session.{the_view}
+use Rattle.session_meaning.proofs.StayingLemmas.{session_of}
 use Rattle.session_meaning.proofs.ItemLemmas.{watch-allowed}
 use Rattle.session_meaning.proofs.ValueLemmas.{IsSession-watched, names-within}
 use Rattle.cosmos_session.proofs.session.Session.watch.Goals as goal
@@ -20,11 +20,11 @@ few_some : (found : Option (Vec ℕ Global)) (list : Vec ℕ Global) (most : ℕ
 few_some found list most is few = subst (λ (one : Option (Vec ℕ Global)). IfSome one (λ (two : Vec ℕ Global). length two.items ≤ most)) is few
 
 pub returns-in-Some-clause-quiet : goal.returns-in-Some-clause-quiet
-returns-in-Some-clause-quiet c = (rw (← c.self.view_is, ← c.items.ensures, ← c.in-Some.ensures) refl, refl)
+returns-in-Some-clause-quiet g c = (rw (← c.self.view_is, ← c.items.ensures, ← c.in-Some.ensures) refl, refl)
 
 pub invariant_of-self-2 : goal.invariant_of-self-2
-invariant_of-self-2 c =
-    let core = (the_view c.self.inside).core in
+invariant_of-self-2 g c =
+    let core = (session_of c.self.invariant.0).core in
     let held = c.self.invariant.0 in
     let more = c.in-Some-found.nodes.items in
     let named : more ≡ all_named core.circuit core.vectors c.args.names.now =
@@ -39,14 +39,17 @@ invariant_of-self-2 c =
         core = subst (λ (all : List ℕ). IsSession (record core { watched = all })) (sym watched)
             (IsSession-watched core (core.watched ++ more)
             (All-append (λ (node : ℕ). node < nodes core.circuit.graph) core.watched more held.core.watched (rw named inside)) few held.core);
-        machine = held.machine;
+        some = held.some;
+        sound = held.sound;
+        same = held.same;
+        served = held.served;
       },
       c.self.invariant.1,
     )
 
 pub returns-clause-quiet : goal.returns-clause-quiet
-returns-clause-quiet c =
-    let core = (the_view c.self.inside).core in
+returns-clause-quiet g c =
+    let core = (session_of c.self.invariant.0).core in
     let more = c.in-Some-found.nodes.items in
     let named : more ≡ all_named core.circuit core.vectors c.args.names.now =
     rw c.items-2.ensures at (named_some _ c.in-Some-found.nodes _ c.in-Some-found.is c.in_ok-found.ensures.some) in

@@ -1,0 +1,17 @@
+-- Letters are refused as the command of the first column is.
+use Rattle.std.proofs.Common.{◌≡◌, ℕ, List, map, refl}
+use Rattle.ternary.specs.declared.tern.Tern.{Tern}
+use Rattle.lane_script.specs.declared.command.LaneCommand.TheVariants.{Values}
+use Rattle.lane_script.specs.declared.command.ValueCommand.{ValueCommand}
+use Rattle.lane_script.specs.declared.command.ValueCommand.TheVariants as value
+use Rattle.lane_script.specs.Commands.{alone_of, in_column, value_in}
+use Rattle.session_meaning.specs.Sessions.{SessionData}
+use Rattle.session_meaning.specs.Refusals.{refusal_of, values_refusal}
+use Rattle.cosmos_session.specs.Targets.{target_at, target_of}
+
+-- by the nodes that the command gives states
+pub asked_of : (session : SessionData) (kind : ValueCommand) (list : List (List ℕ × List Tern)) →
+    values_refusal (target_at (target_of kind) session.circuit) session.circuit session.vectors (map alone_of (map (value_in 0) list))
+    ≡ refusal_of session (in_column 0 (Values kind list))
+asked_of session value.Set list = refl
+asked_of session value.Charge list = refl

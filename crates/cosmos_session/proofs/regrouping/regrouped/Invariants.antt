@@ -1,5 +1,0 @@
--- Nothing counts the looks at nodes and switches.
-use Rattle.cosmos_session.proofs.regrouping.regrouped.Given as goal
-
-abbrev pub ghosts-edit_uncounted : goal.ghosts-edit_uncounted
-ghosts-edit_uncounted a = record { name = a.blank.name; parts = a.blank.parts }

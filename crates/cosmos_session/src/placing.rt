@@ -1,0 +1,129 @@
+//! What is done to a stage: a node is given a state, room is taken, the graph is edited, and it is built.
+
+ghost use Rattle.std.specs.Prelude.{◌≡◌, ℕ, ◌+◌, ◌<◌, ◌≤◌, ◌⊎◌, [], ◌∷◌, List, Err, slice_set, IfErr, IfOk, OnErr, OnOk};
+ghost use Rattle.path_meaning.specs.Graphs.{GraphData, nodes};
+ghost use Rattle.path_meaning.specs.declared.TheConstants.{RAILS};
+ghost use Rattle.path_meaning.specs.Rails.{IsRailed};
+ghost use Rattle.circuit_texts.specs.Building.{Builds};
+ghost use Rattle.circuit_texts.specs.Sizes.{TellsRefused};
+ghost use Rattle.column_stage.specs.Acts.{Built, LeadsBy, Placed, Reserved};
+ghost use Rattle.column_stage.specs.Columns.{AreAmong, AreSound, IsSoundState, with_new_nodes};
+ghost use Rattle.column_stage.specs.Edits.{IsUndone};
+ghost use Rattle.column_stage.specs.declared.TheConstants.{NEW_NODES};
+ghost use Rattle.group_text.specs.Texts.{GroupTextData};
+ghost use Rattle.group_analysis.specs.Using.{used_texts};
+ghost use Rattle.analysis_cache.specs.Keeping.{texts_of};
+ghost use Rattle.session_meaning.specs.Stages.{IsEditing};
+
+use analysis_cache::{Analyst, Kept};
+use channel_groups::Change;
+use circuit_texts::BuildFault;
+use column_stage::{PlainStage, Stage};
+use path_meaning::Graph;
+use std::alloc::Global;
+use ternary::{NoMemory, Tern};
+
+/// Gives a node that is no rail this state.
+pub(crate) fn put_node<M: PlainStage>(graph: &Graph, node: usize, value: Tern, stage: &mut M)
+    requires one { M.lanes stage.old ≡ 1 }
+    requires sound { IsSoundState graph.now (M.states stage.old 0) }
+    requires inside { node < nodes graph.now }
+    requires no_rail { RAILS ≤ node }
+    ensures one { M.lanes stage.new ≡ 1 }
+    ensures state { M.states stage.new 0 ≡ slice_set (M.states stage.old 0) node value }
+    ensures sound { IsSoundState graph.now (M.states stage.new 0) }
+    ensures last { M.last stage.new ≡ M.last stage.old }
+    ensures serves { (kept : List GroupTextData) → M.serves stage.old graph.now kept → M.serves stage.new graph.now kept }
+    ensures fits { M.fits stage.old graph.now → M.fits stage.new graph.now }
+    ensures did { M.did (Placed graph.now node (value ∷ [])) stage.old stage.new }
+{
+    stage.place(graph, node, &[value]);
+}
+
+/// Gives a node that is no rail this state, in each column.
+pub(crate) fn put_in_all<M: Stage>(graph: &Graph, node: usize, letter: Tern, stage: &mut M)
+    requires some { 1 ≤ M.lanes stage.old }
+    requires sound { AreSound graph.now (M.lanes stage.old) (M.states stage.old) }
+    requires inside { node < nodes graph.now }
+    requires no_rail { RAILS ≤ node }
+    ensures lanes { M.lanes stage.new ≡ M.lanes stage.old }
+    ensures state { M.states stage.new 0 ≡ slice_set (M.states stage.old 0) node letter }
+    ensures sound { AreSound graph.now (M.lanes stage.new) (M.states stage.new) }
+    ensures last { M.last stage.new ≡ M.last stage.old }
+    ensures serves { (kept : List GroupTextData) → M.serves stage.old graph.now kept → M.serves stage.new graph.now kept }
+    ensures fits { M.fits stage.old graph.now → M.fits stage.new graph.now }
+    ensures did { M.did (Placed graph.now node (letter ∷ [])) stage.old stage.new }
+{
+    stage.place(graph, node, &[letter]);
+}
+
+/// Takes room for the states of as many new nodes as one edit makes at most.
+pub(crate) fn take_room<M: Stage>(stage: &mut M) -> Result<(), NoMemory>
+    requires { 1 ≤ M.lanes stage.old }
+    ensures room { OnOk result (NEW_NODES ≤ M.spare stage.new) }
+    ensures lanes { M.lanes stage.new ≡ M.lanes stage.old }
+    ensures state { M.states stage.new 0 ≡ M.states stage.old 0 }
+    ensures states { (lane : ℕ) → lane < M.lanes stage.old → M.states stage.new lane ≡ M.states stage.old lane }
+    ensures last { M.last stage.new ≡ M.last stage.old }
+    ensures serves { (g : GraphData) (kept : List GroupTextData) → M.serves stage.old g kept → M.serves stage.new g kept }
+    ensures did { M.did Reserved stage.old stage.new }
+{
+    stage.reserve()
+}
+
+/// Tells the stage, which served the graph before, of an edit of the graph: each new node is X, in room that is there.
+pub(crate) fn edit_stage<M: Stage>(
+    alloc: Global,
+    graph: &Graph,
+    change: &Change,
+    stage: &mut M,
+    kept: &mut Kept,
+)
+    requires some { 1 ≤ M.lanes stage.old }
+    requires before { (before : GraphData) × IsUndone before graph.now change.now × AreSound before (M.lanes stage.old) (M.states stage.old)
+        × (nodes graph.now ≤ nodes before + M.spare stage.old) × M.serves stage.old before (used_texts (M.last stage.old) (texts_of kept.old)) }
+    requires last { AreAmong (M.last stage.old) (texts_of kept.old) }
+    ensures lanes { M.lanes stage.new ≡ M.lanes stage.old }
+    ensures state { M.states stage.new 0 ≡ with_new_nodes (M.states stage.old 0) (nodes graph.now) }
+    ensures states { (lane : ℕ) → lane < M.lanes stage.old → M.states stage.new lane ≡ with_new_nodes (M.states stage.old lane) (nodes graph.now) }
+    ensures kept { used_texts (M.last stage.new) (texts_of kept.new) ≡ used_texts (M.last stage.old) (texts_of kept.old) }
+    ensures last { AreAmong (M.last stage.new) (texts_of kept.new) }
+    ensures bound { kept.new.bound ≡ kept.old.bound }
+    ensures serves { M.serves stage.new graph.now (used_texts (M.last stage.old) (texts_of kept.old)) }
+    ensures did { LeadsBy M.did IsEditing stage.old stage.new }
+{
+    stage.edit(alloc, graph, change, kept);
+}
+
+/// Gets what takes steps of the graph, as `Stage::build` does.
+pub(crate) fn build_stage<M: Stage, A: Analyst>(
+    alloc: Global,
+    graph: &Graph,
+    large: usize,
+    stage: &mut M,
+    kept: &mut Kept,
+    analyst: &mut A,
+) -> Result<u64, BuildFault>
+    requires railed { IsRailed graph.now }
+    requires some { 1 ≤ M.lanes stage.old }
+    requires sound { AreSound graph.now (M.lanes stage.old) (M.states stage.old) }
+    requires serves { M.serves stage.old graph.now (used_texts (M.last stage.old) (texts_of kept.old)) }
+    requires last { AreAmong (M.last stage.old) (texts_of kept.old) }
+    ensures fits { OnOk result (M.fits stage.new graph.now) }
+    ensures serves { M.serves stage.new graph.now (used_texts (M.last stage.new) (texts_of kept.new)) }
+    ensures lanes { M.lanes stage.new ≡ M.lanes stage.old }
+    ensures state { M.states stage.new 0 ≡ M.states stage.old 0 }
+    ensures states { (lane : ℕ) → lane < M.lanes stage.old → M.states stage.new lane ≡ M.states stage.old lane }
+    ensures builds { IfOk result (Builds large graph.now kept.old.bound (used_texts (M.last stage.old) (texts_of kept.old)) (used_texts (M.last stage.new) (texts_of kept.new))
+        (A.analysed analyst.old) (A.analysed analyst.new)) }
+    ensures last { AreAmong (M.last stage.new) (texts_of kept.new) }
+    ensures bound { kept.new.bound ≡ kept.old.bound }
+    ensures cut_off { result ≡ Err BuildFault.NoMemory → M.cuts large graph.now kept.old.bound (used_texts (M.last stage.old) (texts_of kept.old)) (used_texts (M.last stage.new) (texts_of kept.new))
+        (A.analysed analyst.old) (A.analysed analyst.new) }
+    ensures refused { IfErr result (λ fault. (fault ≡ BuildFault.NoMemory)
+        ⊎ (TellsRefused large graph.now fault × (kept.new ≡ kept.old) × (A.analysed analyst.new ≡ A.analysed analyst.old))) }
+    ensures err { OnErr result (stage.new ≡ stage.old) }
+    ensures did { OnOk result (M.did (Built large graph.now) stage.old stage.new) }
+{
+    stage.build(alloc, graph, large, kept, analyst)
+}
