@@ -1,15 +1,17 @@
 //! What moves columns: a machine that steps them together, or one that takes them in turn.
-ghost use Rattle.std.specs.Prelude.{◌≡◌, ℕ, ◌<◌, ◌≤◌, ◌⊎◌, length, slice_index_or, slice_set, Err, IfOk, IfErr, OnOk};
+ghost use Rattle.std.specs.Prelude.{◌≡◌, ℕ, ◌<◌, ◌≤◌, ◌⊎◌, length, slice_index_or, slice_set, Err, IfOk, IfErr};
 ghost use Rattle.path_meaning.specs.declared.TheConstants.{RAILS};
 ghost use Rattle.path_meaning.specs.Words.{nodes, IsRailed, IsStep};
 ghost use Rattle.oscillation_x.specs.declared.settling.TheConstants.{MOST_LIMIT};
 ghost use Rattle.oscillation_x.specs.declared.settling.Settled.{Settled};
 ghost use Rattle.oscillation_x.specs.Settling.{Settles};
 ghost use Rattle.analysis_cache.specs.Keeping.{texts_of};
+ghost use Rattle.circuit_texts.specs.Building.{Builds};
 ghost use Rattle.circuit_texts.specs.Sizes.{TellsRefused};
-ghost use Rattle.lane_machine.specs.Building.{HasBuilt, IsCutInColumns};
+ghost use Rattle.lane_machine.specs.Building.{IsCutInColumns};
 ghost use Rattle.lane_machine.specs.Columns.{column, HasSoundLane, HasStates};
 ghost use Rattle.lane_machine.specs.Moving.{lanes_of, highs_of, lows_of, column_in, FitsInColumns};
+ghost use Rattle.lane_machine.specs.Running.{AreColumns};
 ghost use Rattle.lane_machine.specs.Turns.{FitsInTurn};
 
 use crate::machine::LaneMachine;
@@ -39,8 +41,8 @@ impl ColumnMachine {
     /// There are 1 to 64 columns; the bits from the last one on may be anything. Code comes from what is kept;
     /// texts that aren't kept are analysed first, each once, in the order of the groups, and kept. A group that is too
     /// large for a text is refused if it has more members than `large`: the first such group is told and nothing is
-    /// analysed. Out of memory, nothing was analysed, or a prefix of what is new; or all of it, if there was none for
-    /// the columns alone.
+    /// analysed. The count is that of the new texts. Out of memory, nothing was analysed, or a prefix of what is new; or
+    /// all of it, if there was none for the columns alone.
     pub fn build<A: Analyst>(
         alloc: Global,
         graph: &Graph,
@@ -50,23 +52,23 @@ impl ColumnMachine {
         large: usize,
         kept: &mut Kept,
         analyst: &mut A,
-    ) -> Result<ColumnMachine, BuildFault>
+    ) -> Result<(ColumnMachine, u64), BuildFault>
         requires some { 1 ≤ lanes }
         requires few { lanes ≤ 64 }
         requires highs { length hi.now ≡ nodes graph.now }
         requires lows { length lo.now ≡ nodes graph.now }
         requires railed { IsRailed graph.now }
         requires sound { (lane : ℕ) → lane < lanes → HasSoundLane graph.now hi.now lo.now lane }
-        ensures fits { IfOk result (FitsInColumns graph.now) }
-        ensures fresh { IfOk result (λ machine. (lanes_of machine ≡ lanes) × (highs_of machine ≡ hi.now) × (lows_of machine ≡ lo.now)) }
-        ensures builds { OnOk result (HasBuilt large graph.now kept.old.bound (texts_of kept.old) (texts_of kept.new) (A.analysed analyst.old) (A.analysed analyst.new)) }
+        ensures fits { IfOk result (λ made. FitsInColumns graph.now made.0) }
+        ensures fresh { IfOk result (λ made. (lanes_of made.0 ≡ lanes) × (highs_of made.0 ≡ hi.now) × (lows_of made.0 ≡ lo.now)) }
+        ensures builds { IfOk result (λ made. Builds large graph.now kept.old.bound (texts_of kept.old) (texts_of kept.new) (A.analysed analyst.old) (A.analysed analyst.new) made.1) }
         ensures bound { kept.new.bound ≡ kept.old.bound }
         ensures cut_off { result ≡ Err BuildFault.NoMemory → IsCutInColumns large graph.now kept.old.bound (texts_of kept.old) (texts_of kept.new) (A.analysed analyst.old) (A.analysed analyst.new) }
         ensures refused { IfErr result (λ fault. (fault ≡ BuildFault.NoMemory)
             ⊎ (TellsRefused large graph.now fault × (kept.new ≡ kept.old) × (A.analysed analyst.new ≡ A.analysed analyst.old))) }
     {
         let state = some_state(alloc, graph.nodes())?;
-        let (machine, _fresh) = Machine::build(
+        let (machine, fresh) = Machine::build(
             alloc,
             graph,
             &state,
@@ -77,16 +79,17 @@ impl ColumnMachine {
         )?;
         if machine.has_wide_groups() {
             let turns = TurnMachine::of(alloc, lanes, machine, hi, lo)?;
-            return Ok(ColumnMachine::InTurn(turns));
+            return Ok((ColumnMachine::InTurn(turns), fresh));
         }
         let columns = LaneMachine::of_machine(alloc, graph, lanes, machine, hi, lo)?;
-        Ok(ColumnMachine::Together(columns))
+        Ok((ColumnMachine::Together(columns), fresh))
     }
 
-    /// How many columns there are.
+    /// How many columns there are. In each of them the words are the rails of states.
     pub fn lanes(&self) -> u32
         ensures value { result ≡ lanes_of self.now }
         ensures few { result ≤ 64 }
+        ensures columns { AreColumns (lanes_of self.now) (highs_of self.now) (lows_of self.now) }
     {
         match self {
             ColumnMachine::Together(machine) => machine.lanes(),

@@ -121,6 +121,7 @@ impl LaneMachine {
     pub fn lanes(&self) -> u32
         ensures value { result ≡ self.now.lanes }
         ensures few { result ≤ 64 }
+        ensures columns { AreColumns self.now.lanes self.now.hi self.now.lo }
     {
         self.lanes
     }

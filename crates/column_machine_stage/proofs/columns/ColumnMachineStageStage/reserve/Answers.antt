@@ -1,0 +1,17 @@
+-- Where room is taken the states stay, and there is no machine, or the same one.
+use Rattle.column_machine_stage.proofs.ServingLemmas.{serves_roomed}
+use Rattle.column_machine_stage.proofs.columns.ColumnMachineStageStage.reserve.Goals as goal
+
+pub returns-clause-lanes : goal.returns-clause-lanes
+returns-clause-lanes c = c.take_room.ensures.same.lanes
+
+pub returns-clause-states : goal.returns-clause-states
+returns-clause-states c = c.take_room.ensures.same.each
+
+pub returns-clause-serves : goal.returns-clause-serves
+returns-clause-serves c = λ g kept serves.
+    serves_roomed g kept c.args.self.now c.take_room.new.self c.take_room.result c.take_room.ensures.loose c.take_room.ensures.err
+    c.take_room.ensures.large c.take_room.ensures.stale serves
+
+pub returns-clause-did : goal.returns-clause-did
+returns-clause-did c = c.take_room.ensures.same

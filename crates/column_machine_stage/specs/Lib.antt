@@ -1,0 +1,4 @@
+pub mod Stages
+pub mod Acts
+pub mod Moving
+pub mod Laws

@@ -1,6 +1,0 @@
-use Rattle.std.proofs.Common.{◌≡◌, ◌++◌, drop, map}
-use Rattle.lane_script.specs.Commands.{alone_of, value_in}
-use Rattle.lane_session.proofs.given.first_values.Given as goal
-
-abbrev pub invariant-loop-name : goal.invariant-loop-name
-invariant-loop-name l = l.list ++ map alone_of (map (value_in 0) (drop l.name-index l.values)) ≡ map alone_of (map (value_in 0) l.values)

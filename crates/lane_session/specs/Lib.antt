@@ -1,5 +1,0 @@
-pub mod LaneSessions
-pub mod Rows
-pub mod Outcomes
-pub mod Stages
-pub mod Laws
